@@ -1,0 +1,87 @@
+ghost use Rattle.std.specs.Prelude.{◌≡◌, ℕ, List, IfSome, IfNone};
+ghost use Rattle.sr_ids.specs.declared.id.Id as ids;
+ghost use Rattle.sr_ids.specs.Spelling.{SpellsId, IsStart, IsEnd};
+
+use crate::Id;
+use crate::neighbour::{id_after, id_before};
+use sr_bytes::read_decimal;
+
+/// The id that a word spells, as XADD takes it: `ms-seq`, or `ms` for the sequence number 0.
+///
+/// Each part has 1 to 20 decimal digits, leading zeros allowed, and fits 64 bits.
+///
+/// Source: Redis documentation, "Streams", section "Entry IDs".
+pub fn parse_strict(text: &[u8]) -> Option<Id>
+    ensures found { IfSome result (SpellsId 0 text.now) }
+    ensures none { IfNone result ((id : ids.Id) → SpellsId 0 text.now id → ⊥) }
+{
+    parse_written(text, 0)
+}
+
+/// The first id of the range that starts here: `-`, `+`, an id, or `(` before an id, which it leaves out.
+///
+/// `(` before the greatest id is no start, nor is `(` before `-` or `+`.
+///
+/// Source: Redis documentation, command XRANGE.
+pub fn parse_start(text: &[u8]) -> Option<Id>
+    ensures found { IfSome result (IsStart text.now) }
+    ensures none { IfNone result ((id : ids.Id) → IsStart text.now id → ⊥) }
+{
+    match text {
+        b"-" => Some(Id { ms: 0, seq: 0 }),
+        b"+" => Some(Id {
+            ms: u64::MAX,
+            seq: u64::MAX,
+        }),
+        [b'(', digits @ ..] => id_after(parse_written(digits, 0)?),
+        _ => parse_written(text, 0),
+    }
+}
+
+/// The last id of the range that ends here: `-`, `+`, an id, or `(` before an id, which it leaves out.
+///
+/// `ms` alone stands for the last id of that millisecond. `(` before 0-0 is no end, nor is `(` before `-` or
+/// `+`.
+///
+/// Source: Redis documentation, command XRANGE.
+pub fn parse_end(text: &[u8]) -> Option<Id>
+    ensures found { IfSome result (IsEnd text.now) }
+    ensures none { IfNone result ((id : ids.Id) → IsEnd text.now id → ⊥) }
+{
+    match text {
+        b"-" => Some(Id { ms: 0, seq: 0 }),
+        b"+" => Some(Id {
+            ms: u64::MAX,
+            seq: u64::MAX,
+        }),
+        [b'(', digits @ ..] => id_before(parse_written(digits, u64::MAX)?),
+        _ => parse_written(text, u64::MAX),
+    }
+}
+
+/// The id that digits spell, where a missing sequence number stands for `missing`.
+fn parse_written(text: &[u8], missing: u64) -> Option<Id>
+    ensures found { IfSome result (SpellsId missing text.now) }
+    ensures none { IfNone result ((id : ids.Id) → SpellsId missing text.now id → ⊥) }
+{
+    match text.iter().position(|byte| *byte == b'-') {
+        None => {
+            let ms = read_decimal(text, 20)?;
+            Some(Id { ms, seq: missing })
+        }
+        Some(dash) => {
+            let ms = read_decimal(&text[..dash], 20)?;
+            let seq = read_decimal(&text[dash + 1..], 20)?;
+            Some(Id { ms, seq })
+        }
+    }
+}
+
+/// No text is read to two ids: neither as a word, nor as the start of a range or its end.
+pub fn one_reading()
+    ensures written { (missing : ℕ) (text : List ℕ) (a b : ids.Id) →
+        SpellsId missing text a → SpellsId missing text b → a ≡ b }
+    ensures start { (text : List ℕ) (a b : ids.Id) → IsStart text a → IsStart text b → a ≡ b }
+    ensures end { (text : List ℕ) (a b : ids.Id) → IsEnd text a → IsEnd text b → a ≡ b }
+{
+}

@@ -1,0 +1,29 @@
+ghost use Rattle.std.specs.Prelude.{◌≡◌, ◌≤◌, take, drop};
+ghost use Rattle.sr_ids.specs.Spelling.{SpellsId, spelling};
+
+use crate::Id;
+use itoa::Buffer;
+
+/// Writes the spelling of an id at the front of `out`, and answers how many bytes it has.
+///
+/// It is the one spelling without leading zeros, as replies have it, and `parse_strict` reads it back.
+///
+/// Source: Redis documentation, "Streams", section "Entry IDs".
+pub fn write_id(id: Id, out: &mut [u8; 41]) -> usize
+    ensures short { result ≤ 41 }
+    ensures text { take result out.new ≡ spelling id }
+    ensures rest { drop result out.new ≡ drop result out.old }
+    ensures read_back { SpellsId 0 (take result out.new) id }
+{
+    let mut buffer = Buffer::new();
+    let mut len = 0;
+    let ms = buffer.format(id.ms).as_bytes();
+    out[..ms.len()].copy_from_slice(ms);
+    len += ms.len();
+    out[len] = b'-';
+    len += 1;
+    let mut buffer = Buffer::new();
+    let seq = buffer.format(id.seq).as_bytes();
+    out[len..len + seq.len()].copy_from_slice(seq);
+    len + seq.len()
+}
