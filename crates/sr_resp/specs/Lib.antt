@@ -1,0 +1,4 @@
+pub mod Code
+pub mod Reply
+pub mod Request
+pub mod Stream
