@@ -1,0 +1,4 @@
+pub mod Name
+pub mod Number
+pub mod Form
+pub mod Command

@@ -1,0 +1,16 @@
+/// Why words are no command. Of several reasons the first in this order is answered.
+#[derive(Clone, Copy, Debug, PartialEq, Eq)]
+pub enum CallFault {
+    /// No command has this name.
+    Unknown,
+    /// The command takes more words, or fewer.
+    Arity,
+    /// The words do not fit the command's form.
+    Syntax,
+    /// A word in the place of a number is none, or one out of its range.
+    Number,
+    /// A word in the place of an id is none.
+    BadId,
+    /// Memory ran out. The words are a command.
+    Memory,
+}
