@@ -1,12 +1,14 @@
 -- Which words are a command, and which command; and else the first reason why they are none.
 -- Source: Redis documentation, the page of each command.
 
-use Rattle.std.specs.Prelude.{◌≡◌, ℕ, ℤ, List, length, Option, Some, None, ⊤}
+use Rattle.std.specs.Prelude.{◌≡◌, ℕ, ℤ, List, length, Option, Some, None, Result, Ok, Err, ⊤}
 use Rattle.sr_ids.specs.declared.id.Id.{Id}
 use Rattle.sr_ids.specs.Spelling.{SpellsId, IsStart, IsEnd}
 use Rattle.sr_args.specs.declared.name.CommandName.{CommandName}
 use Rattle.sr_args.specs.declared.call.Call.{Call}
 use Rattle.sr_args.specs.declared.call.Call.TheVariants.{Ping, Xadd, Xlen, Xrange}
+use Rattle.sr_args.specs.declared.call.Command.{Command}
+use Rattle.sr_args.specs.declared.call.Command.TheVariants as command
 use Rattle.sr_args.specs.declared.fault.CallFault.{CallFault}
 use Rattle.sr_args.specs.declared.fault.CallFault.TheVariants as faults
 use Rattle.sr_args.specs.Name.{IsCounted}
@@ -45,8 +47,8 @@ pub record IsWellCounted (words : List Word) (command : CommandName) : Type 0 wh
 
 -- the words are the call
 pub record IsCall (words : List Word) (call : Call) : Type 0 where
-  pub command : CommandName
-  pub counted : IsWellCounted words command
+  pub name : CommandName
+  pub counted : IsWellCounted words name
   pub reading : Reading
   pub instance : IsInstance words reading
   pub means : Means reading call
@@ -61,3 +63,12 @@ Refuses words faults.Syntax = (command : CommandName) × IsWellCounted words com
 Refuses words faults.Number = (command : CommandName) × IsWellCounted words command × (reading : Reading) × IsInstance words reading × (HasNumbers reading → ⊥)
 Refuses words faults.BadId = (command : CommandName) × IsWellCounted words command × (reading : Reading) × IsInstance words reading × HasNumbers reading × (HasIds reading → ⊥)
 Refuses words faults.Memory = (call : Call) × IsCall words call
+
+-- the words are what the request asks for
+abbrev pub IsCommand : List Word → Command → Type 0
+IsCommand words (command.Call call) = IsCall words call
+
+-- a right answer to the words: the command that they are, or the reason why they are none
+abbrev pub Answers : List Word → Result Command CallFault → Type 0
+Answers words (Ok command) = IsCommand words command
+Answers words (Err fault) = Refuses words fault
