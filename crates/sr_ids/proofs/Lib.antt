@@ -1,0 +1,4 @@
+pub mod EndLemmas
+pub mod IdLemmas
+pub mod SpellingLemmas
+pub mod StartLemmas
