@@ -1,5 +1,5 @@
--- Which form a end has is seen from its first byte, and no text is read to two ends.
-use Rattle.std.proofs.Common.{◌≡◌, ℕ, ◌<◌, List, [], ◌∷◌, ◌++◌, get_or, sym, ap, ◌∙◌, arith}
+-- Which form an end has is seen from its first byte, and no text is read to two ends.
+use Rattle.std.proofs.Common.{◌≡◌, ℕ, ◌<◌, List, [], ◌++◌, get_or, sym, ap, ◌∙◌, arith}
 use Rattle.std.specs.Prelude.{codes}
 use Rattle.std.specs.Char.{digit_value}
 use Rattle.sr_ids.specs.declared.id.Id.{Id}

@@ -1,9 +1,9 @@
 -- Which form a start has is seen from its first byte, and no text is read to two starts.
-use Rattle.std.proofs.Common.{◌≡◌, ℕ, ◌<◌, List, [], ◌∷◌, ◌++◌, get_or, sym, ap, ◌∙◌, arith}
+use Rattle.std.proofs.Common.{◌≡◌, ℕ, ◌<◌, List, [], ◌++◌, get_or, sym, ap, ◌∙◌, arith}
 use Rattle.std.specs.Prelude.{codes}
 use Rattle.std.specs.Char.{digit_value}
 use Rattle.sr_ids.specs.declared.id.Id.{Id}
-use Rattle.sr_ids.specs.Id.{IsId, IsNext, least_id, greatest_id}
+use Rattle.sr_ids.specs.Id.{IsNext, least_id, greatest_id}
 use Rattle.sr_ids.specs.Spelling.{SpellsId, IsStart}
 use Rattle.sr_ids.specs.Spelling.IsStart.{at_least, at_greatest, at_written, after_written}
 use Rattle.sr_ids.proofs.IdLemmas.{IsNext-one}
