@@ -1,0 +1,71 @@
+ghost use Rattle.std.specs.Prelude.{◌≡◌, ℕ, ◌≤◌, ◌<◌, List, Option, Bool, true, false, length, IfOk, OnOk, OnErr};
+ghost use Rattle.std.specs.Io.KnownBytes.{ReadConsumes};
+
+use std::io::{ErrorKind, Read};
+
+/// A read failed.
+#[derive(Clone, Copy, Debug, PartialEq, Eq)]
+pub struct ReadFailed;
+
+/// Where a session's bytes come from.
+pub trait Source {
+    /// The bytes that it will give from here on, where they are known.
+    ghost remaining: { Self → Option (List ℕ) };
+
+    /// Whether it came to its end.
+    ghost ended: { Self → Bool };
+
+    /// Whether a read failed.
+    ghost failed: { Self → Bool };
+
+    /// Reads some bytes to the front of `buffer`, and answers how many. It is 0 at the end of the source alone,
+    /// or where the buffer has no room.
+    fn read(&mut self, buffer: &mut [u8]) -> Result<usize, ReadFailed>
+        ensures bound { IfOk result (λ count. count ≤ length buffer.new) }
+        ensures bytes { ReadConsumes (remaining self.old) (remaining self.new) result buffer.new }
+        ensures end { IfOk result (λ count. count ≡ 0 → 0 < length buffer.new → ended self.new ≡ true) }
+        ensures ok { OnOk result (failed self.new ≡ failed self.old) }
+        ensures err { OnErr result (failed self.new ≡ true) };
+}
+
+/// The bytes of a reader. An interrupted read is tried again.
+#[derive(Drop)]
+pub struct ReadFrom<R: Read> {
+    reader: R,
+    ended: bool,
+    failed: bool,
+}
+
+impl<R: Read> ReadFrom<R> {
+    /// The bytes that this reader gives.
+    pub fn new(reader: R) -> ReadFrom<R> {
+        ReadFrom {
+            reader,
+            ended: false,
+            failed: false,
+        }
+    }
+}
+
+impl<R: Read> Source for ReadFrom<R> {
+    ghost remaining = { λ s. R.remaining s.reader };
+
+    ghost ended = { λ s. s.ended };
+
+    ghost failed = { λ s. s.failed };
+
+    fn read(&mut self, buffer: &mut [u8]) -> Result<usize, ReadFailed> {
+        for _ in 0..u64::MAX {
+            match self.reader.read(buffer) {
+                Ok(count) => {
+                    self.ended = count == 0;
+                    return Ok(count);
+                }
+                Err(error) if error.kind() == ErrorKind::Interrupted => {}
+                Err(_) => break,
+            }
+        }
+        self.failed = true;
+        Err(ReadFailed)
+    }
+}
