@@ -2,7 +2,7 @@
 -- Source: RESP2 protocol specification, "Sending commands to a Redis server"; Redis documentation, the pages of the
 -- commands.
 
-use Rattle.std.specs.Prelude.{◌≡◌, ℕ, List, [], ◌∷◌, ◌++◌, max, min}
+use Rattle.std.specs.Prelude.{◌≡◌, ℕ, List, [], ◌∷◌, ◌++◌, max, min, Bool, IsTrue}
 use Rattle.sr_resp.specs.Request.{Words}
 use Rattle.sr_resp.specs.Reply.{error_reply, reply_text}
 use Rattle.sr_resp.specs.declared.code.ErrCode.{ErrCode}
@@ -29,18 +29,18 @@ pub record Served : Type 0 where
   pub keys : Keys
 
 -- the moment is one that the clock may tell, but not before the last one, and at most 2 ^ 63 - 1
-pub record IsMoment (may_tell : ℕ → Type 0) (last moment : ℕ) : Type 0 where
+pub record IsMoment (may_tell : ℕ → Bool) (last moment : ℕ) : Type 0 where
   pub told : ℕ
-  pub by_clock : may_tell told
+  pub by_clock : IsTrue (may_tell told)
   pub value : moment ≡ max last (min told 0x7fff_ffff_ffff_ffff)
 
 -- the text answers one request: it refuses the words, or it is the reply of the command that they are
-pub data Answers (may_tell : ℕ → Type 0) (old : Served) (words : Words) (text : List ℕ) (new : Served) : Type 0 where
+pub data Answers (may_tell : ℕ → Bool) (old : Served) (words : Words) (text : List ℕ) (new : Served) : Type 0 where
   refuses : (fault : CallFault) → Refuses words fault → text ≡ reply_text (error_reply (code_of fault)) → new ≡ old → Answers may_tell old words text new
   executes : (call : Call) (moment : ℕ) → IsCall words call → IsMoment may_tell old.moment moment → text ≡ reply_text (executed old.keys moment call).answer → new ≡ record { moment = moment; keys = (executed old.keys moment call).keys } → Answers may_tell old words text new
 
 -- the text answers the requests, one after another
-abbrev pub AreAnswered : (ℕ → Type 0) → Served → List Words → List ℕ → Served → Type 0
+abbrev pub AreAnswered : (ℕ → Bool) → Served → List Words → List ℕ → Served → Type 0
 AreAnswered may_tell old [] text new = (text ≡ []) × (new ≡ old)
 AreAnswered may_tell old (words ∷ requests) text new =
     (first : List ℕ) × (others : List ℕ) × (middle : Served) × Answers may_tell old words first middle × AreAnswered may_tell middle requests others new × (text ≡ first ++ others)

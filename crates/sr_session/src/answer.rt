@@ -28,3 +28,50 @@ fn next_moment<C: Clock>(clock: &C, last: u64) -> u64
 {
     last.max(clock.now().min(i64::MAX as u64))
 }
+
+/// The reply to one request, and the moment of the last command after it.
+///
+/// A request that is refused, for want of memory too, changes nothing.
+fn reply_to<C: Clock>(
+    alloc: Global,
+    space: &mut Space,
+    clock: &C,
+    last: u64,
+    words: &[Name],
+) -> (Reply, u64)
+    requires { 0 < length words.now }
+    ensures { Answers (C.may_tell clock.now) (record { moment = last; keys = space.old }) words.now
+        (reply_text result.0) (record { moment = result.1; keys = space.new }) }
+{
+    let call = match read_call(alloc, words) {
+        Ok(Command::Call(call)) => call,
+        Err(fault) => return (Reply::error(alloc, code_of_fault(fault)), last),
+    };
+    let moment = next_moment(clock, last);
+    match space.exec(alloc, moment, &call) {
+        Ok(Outcome::Reply { send, keep: _ }) => (send, moment),
+        Err(_) => (Reply::error(alloc, ErrCode::Memory), last),
+    }
+}
+
+/// Answers one request: its reply is appended to `out`. Answers the moment of the last command after it.
+///
+/// An `Err` leaves `out` as it was; the command was carried out all the same.
+pub(crate) fn answer_request<C: Clock>(
+    alloc: Global,
+    space: &mut Space,
+    clock: &C,
+    last: u64,
+    words: &[Name],
+    out: &mut Vec<u8>,
+) -> Result<u64, AllocError>
+    requires { 0 < length words.now }
+    ensures ok { IfOk result (λ moment. (text : List ℕ) × (out.new.items ≡ out.old.items ++ text)
+        × Answers (C.may_tell clock.now) (record { moment = last; keys = space.old }) words.now text
+            (record { moment = moment; keys = space.new })) }
+    ensures err { OnErr result (out.new.items ≡ out.old.items) }
+{
+    let (reply, moment) = reply_to(alloc, space, clock, last, words);
+    append_reply(out, &reply)?;
+    Ok(moment)
+}

@@ -1,5 +1,6 @@
-ghost use Rattle.std.specs.Prelude.{◌≡◌, ℕ, ◌≤◌, ◌<◌, List, Option, Bool, true, false, length, IfOk, OnOk, OnErr};
+ghost use Rattle.std.specs.Prelude.{◌≡◌, ℕ, ◌≤◌, ◌<◌, List, Option, None, Bool, true, false, length, IfOk, OnOk, OnErr};
 ghost use Rattle.std.specs.Io.KnownBytes.{ReadConsumes};
+ghost use Rattle.sr_session.specs.Source.{CountsReads};
 
 use std::io::{ErrorKind, Read};
 
@@ -18,12 +19,16 @@ pub trait Source {
     /// Whether a read failed.
     ghost failed: { Self → Bool };
 
+    /// How many reads there were, where that is known.
+    ghost reads: { Self → Option ℕ };
+
     /// Reads some bytes to the front of `buffer`, and answers how many. It is 0 at the end of the source alone,
     /// or where the buffer has no room.
     fn read(&mut self, buffer: &mut [u8]) -> Result<usize, ReadFailed>
         ensures bound { IfOk result (λ count. count ≤ length buffer.new) }
         ensures bytes { ReadConsumes (remaining self.old) (remaining self.new) result buffer.new }
         ensures end { IfOk result (λ count. count ≡ 0 → 0 < length buffer.new → ended self.new ≡ true) }
+        ensures count { CountsReads (reads self.old) (reads self.new) 1 }
         ensures ok { OnOk result (failed self.new ≡ failed self.old) }
         ensures err { OnErr result (failed self.new ≡ true) };
 }
@@ -53,6 +58,8 @@ impl<R: Read> Source for ReadFrom<R> {
     ghost ended = { λ s. s.ended };
 
     ghost failed = { λ s. s.failed };
+
+    ghost reads = { λ _. None };
 
     fn read(&mut self, buffer: &mut [u8]) -> Result<usize, ReadFailed> {
         for _ in 0..u64::MAX {
