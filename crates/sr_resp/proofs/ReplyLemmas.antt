@@ -1,5 +1,5 @@
 -- Replies one after another: how many they are.
-use Rattle.std.proofs.Common.{◌≡◌, ℕ, ◌+◌, ◌<◌, ◌≤◌, suc, zero, List, [], ◌∷◌, ◌++◌, length, subst, sym, arith}
+use Rattle.std.proofs.Common.{◌≡◌, ℕ, ◌+◌, ◌≤◌, suc, zero, List, [], ◌∷◌, ◌++◌, length, subst, arith}
 use Rattle.sr_resp.specs.declared.reply.Part.{Part}
 use Rattle.sr_resp.specs.declared.reply.Part.TheVariants.{Array}
 use Rattle.sr_resp.specs.Reply.{AreReplies, IsReply, items_of}

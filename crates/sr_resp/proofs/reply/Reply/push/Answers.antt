@@ -16,10 +16,10 @@ invariant_of-self-2 c =
     let parts = c.self.inside.others.items in
     let joined : c.append.new.self.items ≡ parts ++ (item.first ∷ item.others.items) = grind (arith, append_assoc, c.in_ok-append.ensures.items, c.in_ok-push.ensures.items, c.reserve.ensures.items) in
     elim c.match-self.branch [
-        in-Array w ↦
-            let more = IsReply-push header parts (item.first ∷ item.others.items) w.in-Array.items w.in-Array.is c.self.invariant c.item.invariant in
-            rw (w.self-inside-is, joined) more
-        | in_default w ↦
-            let array : header ≡ Array (length c.requires.array.0) = cc (c.self.view_is, c.requires.array.1) in
-            absurd (w.in_default.not-Array (length c.requires.array.0) array)
+      | in-Array w ↦
+          let more = IsReply-push header parts (item.first ∷ item.others.items) w.in-Array.items w.in-Array.is c.self.invariant c.item.invariant in
+          rw (w.self-inside-is, joined) more
+      | in_default w ↦
+          let array : header ≡ Array (length c.requires.array.0) = cc (c.self.view_is, c.requires.array.1) in
+          absurd (w.in_default.not-Array (length c.requires.array.0) array)
     ]
