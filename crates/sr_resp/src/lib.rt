@@ -2,7 +2,9 @@
 #![tactic(auto)]
 
 mod code;
+mod encoding;
 mod reply;
 
 pub use code::{ErrCode, Word};
+pub use encoding::{append_reply, encode};
 pub use reply::{Part, Reply};

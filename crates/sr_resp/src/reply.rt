@@ -144,6 +144,13 @@ impl Reply {
         Ok(())
     }
 
+    /// Its first part, and the parts behind it.
+    pub(crate) fn parts(&self) -> (&Part, &[Part])
+        ensures { result.0.now ∷ result.1.now ≡ self.now }
+    {
+        (&self.first, self.others.as_slice())
+    }
+
     /// A second reply that is equal to this one.
     pub fn copy(&self, alloc: Global) -> Result<Reply, AllocError>
         ensures { IfOk result (λ r. r ≡ self.now) }
