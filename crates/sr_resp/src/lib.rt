@@ -2,7 +2,11 @@
 #![tactic(auto)]
 
 mod code;
+mod encoding;
 mod reply;
+mod send;
 
 pub use code::{ErrCode, Word};
+pub use encoding::{append_reply, encode};
 pub use reply::{Part, Reply};
+pub use send::{SendFault, send_all};

@@ -1,0 +1,4 @@
+pub mod EncodingLemmas
+pub mod EqualityLemmas
+pub mod ReplyLemmas
+pub mod SendLemmas
