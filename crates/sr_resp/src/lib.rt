@@ -9,4 +9,4 @@ mod send;
 pub use code::{ErrCode, Word};
 pub use encoding::{append_reply, encode};
 pub use reply::{Part, Reply};
-pub use send::{SendFault, send_all};
+pub use send::{SendFault, Sink, WriteFailed, WriteTo, send_all};

@@ -1,47 +1,82 @@
-ghost use Rattle.std.specs.Prelude.{◌≡◌, ◌<◌, ◌≤◌, length, take, IfSome, IfNone, IfErr, OnOk};
-ghost use Rattle.std.specs.Io.KnownBytes.{Appends, Keeps};
+ghost use Rattle.std.specs.Prelude.{◌≡◌, ℕ, ◌<◌, ◌≤◌, List, Option, Bool, true, length, take, IfOk, IfErr, OnOk, OnErr};
+ghost use Rattle.std.specs.Io.KnownBytes.{Appends, WriteAppends};
 
 use std::io::{ErrorKind, Write};
 
-/// The writer failed: it got the first `sent` bytes.
+/// A write failed, or took none of the bytes.
+#[derive(Clone, Copy, Debug, PartialEq, Eq)]
+pub struct WriteFailed;
+
+/// Where replies go.
+pub trait Sink {
+    /// The bytes that it got, where they are known.
+    ghost contents: { Self → Option (List ℕ) };
+
+    /// Whether a write failed.
+    ghost failed: { Self → Bool };
+
+    /// Writes some of the bytes, at least one where there are any, and answers how many.
+    fn write(&mut self, bytes: &[u8]) -> Result<usize, WriteFailed>
+        ensures bound { IfOk result (λ count. count ≤ length bytes.now) }
+        ensures some { IfOk result (λ count. 0 < length bytes.now → 0 < count) }
+        ensures bytes { WriteAppends (contents self.old) (contents self.new) result bytes.now }
+        ensures err { OnErr result (failed self.new ≡ true) };
+}
+
+/// The bytes go to a writer. An interrupted write is tried again; a write of 0 bytes is a failed one.
+#[derive(Drop)]
+pub struct WriteTo<W: Write + Drop> {
+    writer: W,
+    failed: bool,
+}
+
+impl<W: Write + Drop> WriteTo<W> {
+    /// A sink into this writer.
+    pub fn new(writer: W) -> WriteTo<W> {
+        WriteTo {
+            writer,
+            failed: false,
+        }
+    }
+}
+
+impl<W: Write + Drop> Sink for WriteTo<W> {
+    ghost contents = { λ s. W.contents s.writer };
+
+    ghost failed = { λ s. s.failed };
+
+    fn write(&mut self, bytes: &[u8]) -> Result<usize, WriteFailed> {
+        for _ in 0..u64::MAX {
+            match self.writer.write(bytes) {
+                Ok(count) if count > 0 || bytes.is_empty() => return Ok(count),
+                Err(fault) if fault.kind() == ErrorKind::Interrupted => {}
+                _ => break,
+            }
+        }
+        self.failed = true;
+        Err(WriteFailed)
+    }
+}
+
+/// The sink failed: it got the first `sent` bytes.
 #[derive(Clone, Copy, Debug, PartialEq, Eq)]
 pub struct SendFault {
     pub sent: usize,
 }
 
-/// Writes all of the bytes. An interrupted write is tried again; a write of 0 bytes is a fault.
-pub fn send_all<W: Write>(writer: &mut W, bytes: &[u8]) -> Result<(), SendFault>
-    ensures ok { OnOk result (Appends (W.contents writer.old) (W.contents writer.new) bytes.now) }
+/// Writes all of the bytes.
+pub fn send_all<W: Sink>(sink: &mut W, bytes: &[u8]) -> Result<(), SendFault>
+    ensures ok { OnOk result (Appends (W.contents sink.old) (W.contents sink.new) bytes.now) }
     ensures err { IfErr result (λ fault. (fault.sent < length bytes.now)
-        × Appends (W.contents writer.old) (W.contents writer.new) (take fault.sent bytes.now)) }
+        × Appends (W.contents sink.old) (W.contents sink.new) (take fault.sent bytes.now)) }
+    ensures failed { OnErr result (W.failed sink.new ≡ true) }
 {
     let mut sent = 0;
-    for _ in 0..u64::MAX {
-        if sent == bytes.len() {
-            break;
+    while sent < bytes.len() {
+        match sink.write(&bytes[sent..]) {
+            Ok(count) => sent += count,
+            Err(WriteFailed) => return Err(SendFault { sent }),
         }
-        match send_some(writer, &bytes[sent..]) {
-            Some(more) => sent += more,
-            None => break,
-        }
-    }
-    if sent < bytes.len() {
-        return Err(SendFault { sent });
     }
     Ok(())
-}
-
-/// One write: how many bytes the writer took, 0 where it was interrupted, or `None` where it failed or took none.
-fn send_some<W: Write>(writer: &mut W, bytes: &[u8]) -> Option<usize>
-    ensures bound { IfSome result (λ n. n ≤ length bytes.now) }
-    ensures some { IfSome result (λ n.
-        Appends (W.contents writer.old) (W.contents writer.new) (take n bytes.now)) }
-    ensures none { IfNone result (Keeps (W.contents writer.old) (W.contents writer.new)) }
-{
-    match writer.write(bytes) {
-        Ok(0) => None,
-        Ok(n) => Some(n),
-        Err(fault) if fault.kind() == ErrorKind::Interrupted => Some(0),
-        Err(_) => None,
-    }
 }

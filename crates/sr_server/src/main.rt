@@ -1,0 +1,3 @@
+//! The server.
+#![tactic(auto)]
+fn main() {}
