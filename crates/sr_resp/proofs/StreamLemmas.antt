@@ -3,11 +3,11 @@ use Rattle.std.proofs.Common.{◌≡◌, ◌≢◌, ◌⊎◌, inl, inr, ℕ, su
 use Rattle.std.specs.Prelude.{MatchBool, OnOk}
 use Rattle.std.specs.Result.{is_ok}
 use Rattle.std.proofs.lemmas.Bool.{MatchBool-at_false}
-use Rattle.std.proofs.lemmas.List.{append_assoc, append-nil, append_cancel_left, append_cancel_right, length-append}
+use Rattle.std.proofs.lemmas.List.{append_assoc, append-nil, append_cancel_left, append_cancel_right, length-append, nil_from_length}
 use Rattle.sr_resp.specs.Reply.{line_end}
 use Rattle.sr_resp.specs.Request.{Words, header, IsRequest, IsEmpty, Spells}
 use Rattle.sr_resp.specs.Stream.{AreSpelled, requests_in, Splits, IsPartial, IsFault, Progress, Stands, Advances}
-use Rattle.sr_resp.specs.Reading.{Halt, More, Bad, item_at, Sorts}
+use Rattle.sr_resp.specs.Reading.{Halt, More, Bad, item_at, Parses, Sorts}
 use Rattle.sr_resp.proofs.Exact.{same_read, nil_left}
 use Rattle.sr_resp.proofs.RequestGrammar.{item_exact}
 
@@ -93,13 +93,17 @@ Splits-empty stream xs rest item after p e is =
 
 -- ---- a reader
 
+end_stands : (failed : Bool) (rest : List ℕ) → MatchBool failed (IsFault rest) (IsPartial rest) → MatchBool failed (IsFault rest) ((rest ≡ rest) × IsPartial rest)
+end_stands true rest fault = fault
+end_stands false rest partial = (refl, partial)
+
 Sorts-advances : (old new : Progress) (piece : List ℕ) → old.failed ≡ false → Sorts (record old { rest = old.rest ++ piece }) new → Advances old new piece
 Sorts-advances old new piece working s = λ taken given st.
     let end : (old.rest ≡ st.rest) × IsPartial st.rest = MatchBool-at_false (IsFault st.rest) ((old.rest ≡ st.rest) × IsPartial st.rest) working st.end in
-    let found : Splits (st.rest ++ piece) s.requests s.found.rest = subst (λ (t : List ℕ). Splits (t ++ piece) s.requests s.found.rest) end.0 s.found.stream in
-    let whole = Splits-append taken piece (given ++ old.waiting) s.requests st.rest s.found.rest st.stream found in
+    let found : Splits (st.rest ++ piece) s.requests new.rest = subst (λ (t : List ℕ). Splits (t ++ piece) s.requests new.rest) end.0 s.found.stream in
+    let whole = Splits-append taken piece (given ++ old.waiting) s.requests st.rest new.rest st.stream found in
     let waiting : (given ++ old.waiting) ++ s.requests ≡ given ++ new.waiting = append_assoc given old.waiting s.requests ∙ ap (λ (ws : List Words). given ++ ws) (sym s.waiting) in
-    record { rest = s.found.rest; stream = subst (λ (ws : List Words). Splits (taken ++ piece) ws s.found.rest) waiting whole; end = s.found.end }
+    record { rest = new.rest; stream = subst (λ (ws : List Words). Splits (taken ++ piece) ws new.rest) waiting whole; end = end_stands new.failed new.rest s.found.end }
 
 -- the same, told of the reader's fields
 pub fields_advance : (old new : Progress) (waiting : List Words) (rest bytes piece : List ℕ) (failed : Bool) → record { waiting = waiting; rest = rest; failed = failed } ≡ old
@@ -117,13 +121,22 @@ pub Stands-nothing : Stands [] [] (record { waiting = []; rest = []; failed = fa
 unfolding item_at
 Stands-nothing = record { rest = []; stream = Splits-nothing []; end = (refl, partial_from_more [] refl) }
 
-pub Stands-waits : (bytes : List ℕ) (requests : List Words) (rest : List ℕ) → Splits bytes requests rest → item_at rest ≡ Err More
-    → Stands bytes [] (record { waiting = requests; rest = rest; failed = false })
-Stands-waits bytes requests rest split e = record { rest = rest; stream = split; end = (refl, partial_from_more rest e) }
+-- nothing was read of as many bytes as before
+Parses-nothing : (bytes : List ℕ) (requests : List Words) (rest : List ℕ) (failed : Bool) → Parses bytes requests rest failed → length rest ≡ length bytes → Parses bytes [] bytes failed
+Parses-nothing bytes requests rest failed p len =
+    let lengths : length bytes ≡ length (p.stream.spelled ++ rest) = ap length p.stream.whole in
+    let none : p.stream.spelled ≡ [] = nil_from_length p.stream.spelled (omega (arith, lengths, length-append p.stream.spelled rest)) in
+    let same : rest ≡ bytes = sym (p.stream.whole ∙ ap (λ (t : List ℕ). t ++ rest) none) in
+    record { stream = Splits-nothing bytes; end = subst (λ (t : List ℕ). MatchBool failed (IsFault t) (IsPartial t)) same p.end }
 
-pub Stands-failed : (bytes : List ℕ) (requests : List Words) (rest : List ℕ) → Splits bytes requests rest → item_at rest ≡ Err Bad
-    → Stands bytes [] (record { waiting = requests; rest = rest; failed = true })
-Stands-failed bytes requests rest split e = record { rest = rest; stream = split; end = fault_from_bad rest e }
+-- told of the reader's fields: nothing waits that did not before
+pub nothing_sorts : (old : Progress) (waiting requests : List Words) (bytes held rest : List ℕ) (before failed : Bool) → record { waiting = waiting; rest = held; failed = before } ≡ old
+    → bytes ≡ held → Parses bytes requests rest failed → length rest ≡ length bytes → Sorts old (record { waiting = waiting; rest = held; failed = failed })
+nothing_sorts old waiting requests bytes held rest before failed is same p len =
+    let found : Parses held [] held failed = subst (λ (t : List ℕ). Parses t [] t failed) same (Parses-nothing bytes requests rest failed p len) in
+    let after : Progress = record { waiting = waiting; rest = held; failed = failed } in
+    let sorted : Sorts (record { waiting = waiting; rest = held; failed = before }) after = record { requests = []; waiting = sym (append-nil waiting); found = found } in
+    subst (λ (o : Progress). Sorts o after) is sorted
 
 -- ---- one reading
 

@@ -1,13 +1,13 @@
 -- Reading a request from the front of some bytes: the value and the bytes behind it, or why it stopped.
 -- Nothing that callers see speaks of this; it mirrors the code, from which the definitions in Request are shown.
 
-use Rattle.std.specs.Prelude.{◌≡◌, ℕ, zero, suc, ◌+◌, ◌-◌, ◌*◌, List, [], ◌∷◌, ◌++◌, length, take, drop, Option, Some, None, Result, Ok, Err, nat_lt, nat_le, ◌==◌, ◌&&◌, if◌then◌else◌, codes, min}
+use Rattle.std.specs.Prelude.{◌≡◌, ℕ, zero, suc, ◌+◌, ◌-◌, ◌*◌, List, [], ◌∷◌, ◌++◌, length, take, drop, Option, Some, None, Result, Ok, Err, nat_lt, nat_le, ◌==◌, ◌&&◌, if◌then◌else◌, codes, min, Bool, MatchBool}
 use Rattle.std.specs.Char.{digit_value}
 use Rattle.sr_resp.specs.declared.parse.Stop.{Stop}
 use Rattle.sr_resp.specs.declared.parse.Stop.TheVariants as stops
 use Rattle.sr_resp.specs.Reply.{line_end}
 use Rattle.sr_resp.specs.Request.{Words}
-use Rattle.sr_resp.specs.Stream.{Progress, Stands}
+use Rattle.sr_resp.specs.Stream.{Splits, IsPartial, IsFault, Progress}
 
 -- the bytes end too early, or one of them stands where it cannot
 pub data Halt : Type 0 where
@@ -85,8 +85,14 @@ item_at bytes = do
   mark ← literal_at (codes "*") bytes
   array_at mark.1
 
+-- the bytes are these requests, with empty commands among them, and then the rest, where a fault stands or from where
+-- bytes are lacking
+pub record Parses (bytes : List ℕ) (requests : List Words) (rest : List ℕ) (failed : Bool) : Type 0 where
+  pub stream : Splits bytes requests rest
+  pub end : MatchBool failed (IsFault rest) (IsPartial rest)
+
 -- the requests that stand whole among the bytes of the rest wait behind the others
 pub record Sorts (old new : Progress) : Type 0 where
   pub requests : List Words
   pub waiting : new.waiting ≡ old.waiting ++ requests
-  pub found : Stands old.rest [] (record new { waiting = requests })
+  pub found : Parses old.rest requests new.rest new.failed

@@ -19,7 +19,7 @@ const MAX_WORD_BYTES: usize = 1_048_576;
 const MAX_REQUEST_BYTES: usize = 16_777_216;
 
 /// Why reading stopped before the end of what is to be read.
-#[derive(Clone, Copy)]
+#[derive(Drop)]
 pub enum Stop {
     /// The bytes end first.
     More,

@@ -1,5 +1,5 @@
 ghost use Rattle.std.specs.Prelude.{◌≡◌, ◌⊎◌, ℕ, ◌∷◌, ◌++◌, [], List, Option, false, true, IfNone, IfOk, IfSome, IsErrOf, OnErr, OnOk};
-ghost use Rattle.sr_resp.specs.Reading.{Sorts};
+ghost use Rattle.sr_resp.specs.Reading.{Parses, Sorts};
 ghost use Rattle.sr_resp.specs.Request.{Words, Spells};
 ghost use Rattle.sr_resp.specs.Stream.{Stands, Advances, Splits, IsPartial, IsFault};
 ghost use Rattle.sr_resp.specs.declared.reader.ReadFault.TheVariants.{Memory};
@@ -96,6 +96,11 @@ impl Reader {
             rest,
             failed,
         } = parse_all(alloc, self.rest.as_slice())?;
+        // A long request comes in many pieces: until it is whole, its bytes stay where they are.
+        if rest.len() == self.rest.len() {
+            self.failed = failed;
+            return Ok(());
+        }
         let rest = Vec::from_slice(alloc, rest)?;
         self.waiting.append(&mut requests)?;
         self.rest = rest;
@@ -116,7 +121,7 @@ impl Reader {
 
 /// The requests that stand whole at the front of the bytes, and what is behind them.
 fn parse_all(alloc: Global, bytes: &[u8]) -> Result<Parsed<'_>, AllocError>
-    ensures { IfOk result (λ p. Stands bytes.now [] (record { waiting = p.requests.items; rest = p.rest.now; failed = p.failed })) }
+    ensures { IfOk result (λ p. Parses bytes.now p.requests.items p.rest.now p.failed) }
 {
     let mut requests = VecDeque::new(alloc);
     let mut rest = bytes;

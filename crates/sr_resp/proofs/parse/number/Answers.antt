@@ -1,8 +1,6 @@
-use Rattle.std.proofs.Common.{◌≡◌, ◌<◌, ◌≤◌, ◌+◌, ◌*◌, ◌∙◌, sym, ap, subst, arith, inl, inr, refl, Ok}
-use Rattle.std.specs.Char.{digit_value}
+use Rattle.std.proofs.Common.{◌∙◌, sym, arith, inl, inr, refl}
 use Rattle.std.proofs.lemmas.Result.{err_from_is_err_and}
-use Rattle.sr_resp.specs.Reading.{◌>>=◌, Stops, digits_at}
-use Rattle.sr_resp.proofs.ReadingSteps.{IsAt, digits_lack, digit_fits, digit_is_too_many, no_digit, digits_end, Stops-then, Stops-along}
+use Rattle.sr_resp.proofs.ReadingSteps.{digits_lack, digit_fits, digit_is_too_many, no_digit, digits_end, Stops-then, Stops-along}
 use Rattle.sr_resp.proofs.parse.number.Goals as goal
 use Rattle.sr_resp.proofs.parse.number.Goals.{then-count-ge-MAX_DIGITS-via-then-count-ge-MAX_DIGITS, then-count-ge-MAX_DIGITS-via-else-count-ge-MAX_DIGITS+then-value-most}
 

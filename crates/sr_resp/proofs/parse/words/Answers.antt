@@ -1,6 +1,5 @@
-use Rattle.std.proofs.Common.{◌≡◌, ◌++◌, ◌∷◌, [], arith}
+use Rattle.std.proofs.Common.{arith}
 use Rattle.std.proofs.lemmas.Result.{err_from_is_err_and}
-use Rattle.sr_resp.specs.Reading.{words_at}
 use Rattle.sr_resp.proofs.ReadingSteps.{words_go_on, words_stop, words_end}
 use Rattle.sr_resp.proofs.parse.words.Goals as goal
 
