@@ -1,4 +1,11 @@
+pub mod Choice
 pub mod EncodingLemmas
 pub mod EqualityLemmas
+pub mod Exact
+pub mod Parts
+pub mod ReadingSteps
 pub mod ReplyLemmas
+pub mod RequestGrammar
 pub mod SendLemmas
+pub mod StreamLemmas
+pub mod WordGrammar

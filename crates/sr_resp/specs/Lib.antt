@@ -1,4 +1,5 @@
 pub mod Code
+pub mod Reading
 pub mod Reply
 pub mod Request
 pub mod Stream

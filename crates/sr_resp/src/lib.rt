@@ -3,10 +3,13 @@
 
 mod code;
 mod encoding;
+mod parse;
+mod reader;
 mod reply;
 mod send;
 
 pub use code::{ErrCode, Word};
 pub use encoding::{append_reply, encode};
+pub use reader::{ReadFault, Reader, one_reading, one_spelling};
 pub use reply::{Part, Reply};
 pub use send::{SendFault, Sink, WriteFailed, WriteTo, send_all};

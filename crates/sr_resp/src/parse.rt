@@ -1,0 +1,169 @@
+ghost use Rattle.std.specs.Prelude.{◌≡◌, ◌≤◌, length, IfOk};
+ghost use Rattle.sr_resp.specs.Reading.{Gives, literal_at, digits_at, word_at, words_at, array_at, item_at};
+ghost use Rattle.sr_resp.specs.declared.parse.Stop.TheVariants.{Memory};
+
+use sr_bytes::Name;
+use std::alloc::{AllocError, AllocFailed, Global};
+use std::marker::Model;
+
+/// How many digits a header's number has at most.
+const MAX_DIGITS: usize = 10;
+
+/// How many words a request has at most.
+const MAX_WORDS: usize = 4096;
+
+/// How many bytes a word has at most.
+const MAX_WORD_BYTES: usize = 1_048_576;
+
+/// How many bytes the words of a request have at most, taken together.
+const MAX_REQUEST_BYTES: usize = 16_777_216;
+
+/// Why reading stopped before the end of what is to be read.
+#[derive(Drop)]
+pub enum Stop {
+    /// The bytes end first.
+    More,
+    /// A byte stands where it cannot.
+    Bad,
+    /// Memory ran out.
+    Memory,
+}
+
+impl From<AllocError> for Stop {
+    ghost from_gives = { λ _ e. e ≡ Memory };
+
+    fn from(_e: AllocError) -> Stop {
+        Stop::Memory
+    }
+}
+
+impl<T: Drop> From<AllocFailed<T>> for Stop {
+    ghost from_gives = { λ _ e. e ≡ Memory };
+
+    fn from(_e: AllocFailed<T>) -> Stop {
+        Stop::Memory
+    }
+}
+
+/// The words of a request.
+#[derive(Drop)]
+pub struct Request {
+    words: Vec<Name>,
+}
+
+impl Model for Request {
+    ghost use Rattle.std.specs.Prelude.{List, ℕ};
+
+    ghost Value = { List (List ℕ) };
+
+    ghost view = { λ r. r.words.items };
+}
+
+impl Request {
+    /// Its words, given out without taking memory.
+    pub fn into_words(self) -> Vec<Name>
+        ensures { result.items ≡ self }
+    {
+        let Request { words } = self;
+        words
+    }
+}
+
+/// The bytes behind a text that has to stand at the front.
+#[tactic(auto, using(std::proofs::lemmas::List::drop_more, std::proofs::lemmas::List::drop_all))]
+fn literal<'a>(text: &[u8], bytes: &'a [u8]) -> Result<&'a [u8], Stop>
+    ensures { Gives (λ x. (tt, x.now)) result (literal_at text.now bytes.now) }
+{
+    let mut rest = bytes;
+    for expected in text {
+        match rest {
+            [] => return Err(Stop::More),
+            [byte, after @ ..] => {
+                if byte != expected {
+                    return Err(Stop::Bad);
+                }
+                rest = after;
+            }
+        }
+    }
+    Ok(rest)
+}
+
+/// The number on the line at the front, of at most 10 digits and not above `most`, and the bytes behind the line.
+fn number(bytes: &[u8], most: usize) -> Result<(usize, &[u8]), Stop>
+    requires { most ≤ 16777216 }
+    ensures exact { Gives (λ x. (x.0, x.1.now)) result (digits_at most 0 0 bytes.now) }
+    ensures small { IfOk result (λ x. x.0 ≤ most) }
+{
+    let mut value = 0;
+    for (count, byte) in bytes.iter().enumerate() {
+        let Some(digit) = char::from(*byte).to_digit(10) else {
+            if count == 0 {
+                return Err(Stop::Bad);
+            }
+            return Ok((value, literal(b"\r\n", &bytes[count..])?));
+        };
+        value = value * 10 + digit as usize;
+        if count >= MAX_DIGITS || value > most {
+            return Err(Stop::Bad);
+        }
+    }
+    Err(Stop::More)
+}
+
+/// The word at the front, of at most `room` bytes, and the bytes behind it.
+#[tactic(auto, unfolding(crate::specs::Reading::word_at))]
+fn word(alloc: Global, room: usize, bytes: &[u8]) -> Result<(Name, &[u8]), Stop>
+    requires { room ≤ 16777216 }
+    ensures exact { Gives (λ x. (x.0, x.1.now)) result (word_at room bytes.now) }
+    ensures small { IfOk result (λ x. length x.0 ≤ room) }
+{
+    let rest = literal(b"$", bytes)?;
+    let (len, rest) = number(rest, room.min(MAX_WORD_BYTES))?;
+    if rest.len() < len {
+        return Err(Stop::More);
+    }
+    let (word, rest) = rest.split_at(len);
+    let rest = literal(b"\r\n", rest)?;
+    Ok((Name::new(Vec::from_slice(alloc, word)?), rest))
+}
+
+/// So many words, and the bytes behind them.
+fn words(alloc: Global, count: usize, bytes: &[u8]) -> Result<(Vec<Name>, &[u8]), Stop>
+    ensures { Gives (λ x. (x.0.items, x.1.now)) result (words_at count 16777216 bytes.now) }
+{
+    let mut words = Vec::with_capacity(alloc, count)?;
+    let mut room = MAX_REQUEST_BYTES;
+    let mut rest = bytes;
+    for _ in 0..count {
+        let (word, after) = word(alloc, room, rest)?;
+        room -= word.len();
+        words.push(word)?;
+        rest = after;
+    }
+    Ok((words, rest))
+}
+
+/// What stands behind the `*`: a request, or no command, and the bytes behind it.
+#[tactic(auto, unfolding(crate::specs::Reading::array_at))]
+fn array(alloc: Global, bytes: &[u8]) -> Result<(Option<Request>, &[u8]), Stop>
+    ensures { Gives (λ x. (x.0, x.1.now)) result (array_at bytes.now) }
+{
+    if let [b'-', ..] = bytes {
+        return Ok((None, literal(b"-1\r\n", bytes)?));
+    }
+    let (count, rest) = number(bytes, MAX_WORDS)?;
+    if count == 0 {
+        return Ok((None, rest));
+    }
+    let (words, rest) = words(alloc, count, rest)?;
+    Ok((Some(Request { words }), rest))
+}
+
+/// The request at the front, or no command, and the bytes behind it.
+#[tactic(auto, unfolding(crate::specs::Reading::item_at))]
+pub fn item(alloc: Global, bytes: &[u8]) -> Result<(Option<Request>, &[u8]), Stop>
+    ensures { Gives (λ x. (x.0, x.1.now)) result (item_at bytes.now) }
+{
+    array(alloc, literal(b"*", bytes)?)
+}

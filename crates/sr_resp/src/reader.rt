@@ -1,0 +1,280 @@
+ghost use Rattle.std.specs.Prelude.{◌≡◌, ◌⊎◌, ℕ, ◌∷◌, ◌++◌, [], List, Option, false, true, IfNone, IfOk, IfSome, IsErrOf, OnErr, OnOk};
+ghost use Rattle.sr_resp.specs.Reading.{Parses, Sorts};
+ghost use Rattle.sr_resp.specs.Request.{Words, Spells};
+ghost use Rattle.sr_resp.specs.Stream.{Stands, Advances, Splits, IsPartial, IsFault};
+ghost use Rattle.sr_resp.specs.declared.reader.ReadFault.TheVariants.{Memory};
+
+use crate::parse::{Request, Stop, item};
+use sr_bytes::Name;
+use std::alloc::{AllocError, AllocFailed, Global};
+use std::collections::VecDeque;
+use std::marker::Model;
+
+/// Why a piece was refused.
+#[derive(Clone, Copy, Debug, PartialEq, Eq)]
+pub enum ReadFault {
+    /// Memory ran out. The piece was not taken, and the reader is as it was before.
+    Memory,
+    /// The stream went wrong. Every later piece is refused alike; requests that stood whole before are still handed
+    /// out.
+    Protocol,
+}
+
+/// Reads the requests of a stream that comes in pieces of any size.
+///
+/// Source: RESP2 protocol specification, "Sending commands to a Redis server".
+#[derive(Drop)]
+pub struct Reader {
+    waiting: VecDeque<Request>,
+    rest: Vec<u8>,
+    failed: bool,
+}
+
+impl Model for Reader {
+    ghost use Rattle.sr_resp.specs.Stream.{Progress};
+
+    ghost Value = { Progress };
+
+    ghost view = { λ r. record { waiting = r.waiting.items; rest = r.rest.items; failed = r.failed } };
+}
+
+/// The requests at the front of some bytes.
+#[derive(Drop)]
+struct Parsed<'a> {
+    requests: VecDeque<Request>,
+    /// The bytes behind them.
+    rest: &'a [u8],
+    /// Whether no request can come there, however the bytes go on.
+    failed: bool,
+}
+
+impl Reader {
+    /// A reader at the start of a stream. It takes no memory.
+    pub fn new(alloc: Global) -> Reader
+        ensures { Stands [] [] result }
+    {
+        Reader {
+            waiting: VecDeque::new(alloc),
+            rest: Vec::new(alloc),
+            failed: false,
+        }
+    }
+
+    /// Takes the next piece of the stream.
+    pub fn feed(&mut self, alloc: Global, piece: &[u8]) -> Result<(), ReadFault>
+        ensures ok { OnOk result (self.new.failed ≡ false) }
+        ensures advances { OnOk result (Advances self.old self.new piece.now) }
+        ensures protocol { IsErrOf result ReadFault.Protocol → (self.new.failed ≡ true) × Advances self.old self.new piece.now }
+        ensures memory { IsErrOf result ReadFault.Memory → self.new ≡ self.old }
+        // after a fault every piece is refused, and what waits stays
+        ensures failed { self.old.failed ≡ true → (result ≡ Err ReadFault.Protocol) × (self.new ≡ self.old) }
+    {
+        if self.failed {
+            return Err(ReadFault::Protocol);
+        }
+        let before = self.rest.len();
+        if self.rest.extend_from_slice(piece).is_err() {
+            return Err(ReadFault::Memory);
+        }
+        if self.sort_out(alloc).is_err() {
+            self.rest.truncate(before);
+            return Err(ReadFault::Memory);
+        }
+        if self.failed {
+            return Err(ReadFault::Protocol);
+        }
+        Ok(())
+    }
+
+    /// Lets the requests wait that stand whole among the bytes of the rest.
+    fn sort_out(&mut self, alloc: Global) -> Result<(), AllocError>
+        ensures ok { OnOk result (Sorts self.old self.new) }
+        ensures err { OnErr result (self.new ≡ self.old) }
+    {
+        let Parsed {
+            mut requests,
+            rest,
+            failed,
+        } = parse_all(alloc, self.rest.as_slice())?;
+        // A long request comes in many pieces: until it is whole, its bytes stay where they are.
+        if rest.len() == self.rest.len() {
+            self.failed = failed;
+            return Ok(());
+        }
+        let rest = Vec::from_slice(alloc, rest)?;
+        self.waiting.append(&mut requests)?;
+        self.rest = rest;
+        self.failed = failed;
+        Ok(())
+    }
+
+    /// Hands out the oldest request that waits. It takes no memory.
+    pub fn next_request(&mut self) -> Option<Vec<Name>>
+        ensures some { IfSome result (λ words. self.old ≡ record self.new { waiting = words.items ∷ self.new.waiting }) }
+        ensures given { IfSome result (λ words. (taken : List ℕ) (given : List Words) → Stands taken given self.old → Stands taken (given ++ words.items ∷ []) self.new) }
+        ensures none { IfNone result ((self.old.waiting ≡ []) × (self.new ≡ self.old)) }
+    {
+        let request = self.waiting.pop_front()?;
+        Some(request.into_words())
+    }
+}
+
+/// The requests that stand whole at the front of the bytes, and what is behind them.
+fn parse_all(alloc: Global, bytes: &[u8]) -> Result<Parsed<'_>, AllocError>
+    ensures { IfOk result (λ p. Parses bytes.now p.requests.items p.rest.now p.failed) }
+{
+    let mut requests = VecDeque::new(alloc);
+    let mut rest = bytes;
+    loop {
+        let (command, after) = match item(alloc, rest) {
+            Ok(read) => read,
+            Err(Stop::More) => {
+                return Ok(Parsed {
+                    requests,
+                    rest,
+                    failed: false,
+                });
+            }
+            Err(Stop::Bad) => {
+                return Ok(Parsed {
+                    requests,
+                    rest,
+                    failed: true,
+                });
+            }
+            Err(Stop::Memory) => return Err(AllocError),
+        };
+        if let Some(request) = command {
+            requests.push_back(request)?;
+        }
+        rest = after;
+    }
+}
+
+/// No spelling of a request, or of no command, begins another.
+pub fn one_spelling()
+    ensures { (a b x y : List ℕ) (m n : Option Words) → Spells a m → Spells b n → a ++ x ≡ b ++ y → (a ≡ b) × (m ≡ n) }
+{}
+
+/// A stream is read in one way: up to a rest that is part of a spelling, or a fault, it has these requests and no
+/// others.
+pub fn one_reading()
+    ensures { (stream : List ℕ) (xs ys : List Words) (u v : List ℕ) → Splits stream xs u → (IsPartial u ⊎ IsFault u) → Splits stream ys v → (IsPartial v ⊎ IsFault v) → (xs ≡ ys) × (u ≡ v) }
+{}
+
+impl From<AllocError> for ReadFault {
+    ghost from_gives = { λ _ e. e ≡ Memory };
+
+    fn from(_e: AllocError) -> ReadFault {
+        ReadFault::Memory
+    }
+}
+
+#[cfg(test)]
+mod tests {
+    use super::*;
+
+    /// Feeds the bytes one by one. Gives the place of the first byte that was refused.
+    fn place_of_fault(alloc: Global, reader: &mut Reader, bytes: &[u8]) -> Option<usize> {
+        bytes
+            .iter()
+            .position(|byte| reader.feed(alloc, &[*byte]).is_err())
+    }
+
+    /// How many requests wait, which are handed out.
+    fn count(reader: &mut Reader) -> usize {
+        let mut requests = 0;
+        for _ in 0..100 {
+            if reader.next_request().is_some() {
+                requests += 1;
+            }
+        }
+        requests
+    }
+
+    #[test]
+    fn finds_a_fault_at_its_first_byte(rt: HostRuntime) {
+        let alloc = rt.alloc();
+        let rows: [(&[u8], Option<usize>, usize); 20] = [
+            (b"*4097", Some(4), 0),
+            (b"*4096\r\n$", None, 0),
+            (b"*00000000001", Some(11), 0),
+            (b"*0000000001\r\n$0000000001\r\na\r\n", None, 1),
+            (b"*1\r\n$1048577", Some(11), 0),
+            (b"*1\r\n$1048576\r\n", None, 0),
+            (b"*-2", Some(2), 0),
+            (b"*-1\r\n", None, 0),
+            (b"*-01", Some(2), 0),
+            (b"*1\r\n$4\r\nPING\n", Some(12), 0),
+            (b"*1\r\n$4\r\nPING\r\n", None, 1),
+            (b"$1", Some(0), 0),
+            (b"*1\r\n$4\r\nPING\r\n$1", Some(14), 1),
+            (b"*\r", Some(1), 0),
+            (b"*1\n", Some(2), 0),
+            (b"*1\r\n\r", Some(4), 0),
+            (b"*1\r\n$-", Some(5), 0),
+            (b"*0\r\n*-1\r\n*1\r\n$4\r\nping\r\n", None, 1),
+            (b"*1\r\n$1\r\na\r\n*1\r\n$1\r\nb\r\n", None, 2),
+            (b"*0000000000\r\n*2\r\n$0\r\n\r\n$1\r\n\n\r\n", None, 1),
+        ];
+        for (bytes, fault, requests) in rows {
+            let mut reader = Reader::new(alloc);
+            assert_eq!(rt;
+                place_of_fault(alloc, &mut reader, bytes),
+                fault,
+                "at {bytes:?}"
+            );
+            assert_eq!(rt; count(&mut reader), requests, "at {bytes:?}");
+
+            let mut whole = Reader::new(alloc);
+            assert_eq!(rt;
+                whole.feed(alloc, bytes).is_err(),
+                fault.is_some(),
+                "at {bytes:?}"
+            );
+            assert_eq!(rt; count(&mut whole), requests, "at {bytes:?}");
+        }
+    }
+
+    #[test]
+    fn reads_the_same_however_it_is_cut(rt: HostRuntime) {
+        let alloc = rt.alloc();
+        let bytes = b"*0\r\n*-1\r\n*1\r\n$4\r\nping\r\n*2\r\n$3\r\nGET\r\n$2\r\n\r\n\r\n";
+        for cut in 0..=bytes.len() {
+            let (front, behind) = bytes.as_slice().split_at(cut);
+            let mut reader = Reader::new(alloc);
+            assert!(rt; reader.feed(alloc, front).is_ok(), "cut at {cut}");
+            assert!(rt; reader.feed(alloc, behind).is_ok(), "cut at {cut}");
+            let Some(ping) = reader.next_request() else {
+                panic!(rt; "no request, cut at {cut}");
+            };
+            assert_eq!(rt; ping.len(), 1);
+            assert!(rt; ping[0].as_slice() == b"ping".as_slice());
+            let Some(get) = reader.next_request() else {
+                panic!(rt; "one request, cut at {cut}");
+            };
+            assert_eq!(rt; get.len(), 2);
+            assert!(rt; get[0].as_slice() == b"GET".as_slice());
+            assert!(rt; get[1].as_slice() == b"\r\n".as_slice());
+            assert!(rt; reader.next_request().is_none());
+        }
+    }
+
+    #[test]
+    fn holds_at_most_16_mebibytes_of_words(rt: HostRuntime) {
+        let alloc = rt.alloc();
+        let mut word = Vec::new(alloc);
+        assert!(rt; word.extend_from_slice(b"$1048576\r\n").is_ok());
+        assert!(rt; word.resize(1_048_586, b'a').is_ok());
+        assert!(rt; word.extend_from_slice(b"\r\n").is_ok());
+        for (last, taken) in [(b"$0", true), (b"$1", false)] {
+            let mut reader = Reader::new(alloc);
+            assert!(rt; reader.feed(alloc, b"*17\r\n").is_ok());
+            for _ in 0..16 {
+                assert!(rt; reader.feed(alloc, word.as_slice()).is_ok());
+            }
+            assert!(rt; reader.feed(alloc, b"$").is_ok());
+            assert_eq!(rt; reader.feed(alloc, &last[1..]).is_ok(), taken);
+        }
+    }
+}
