@@ -1,4 +1,4 @@
-ghost use Rattle.std.specs.Prelude.{◌≡◌, ◌≤◌, length, IfOk};
+ghost use Rattle.std.specs.Prelude.{◌≡◌, ◌<◌, ◌≤◌, length, vec_len, IfOk};
 ghost use Rattle.sr_resp.specs.Reading.{Gives, literal_at, digits_at, word_at, words_at, array_at, item_at};
 ghost use Rattle.sr_resp.specs.declared.parse.Stop.TheVariants.{Memory};
 
@@ -45,24 +45,27 @@ impl<T: Drop> From<AllocFailed<T>> for Stop {
     }
 }
 
-/// The words of a request.
+/// The words of a request, at least one.
 #[derive(Drop)]
 pub struct Request {
     words: Vec<Name>,
 }
 
 impl Model for Request {
-    ghost use Rattle.std.specs.Prelude.{List, ℕ};
+    ghost use Rattle.std.specs.Prelude.{List, ℕ, ◌<◌, length};
 
     ghost Value = { List (List ℕ) };
 
     ghost view = { λ r. r.words.items };
+
+    ghost invariant = { λ r. 0 < length r.words.items };
 }
 
 impl Request {
     /// Its words, given out without taking memory.
     pub fn into_words(self) -> Vec<Name>
-        ensures { result.items ≡ self }
+        ensures words { result.items ≡ self }
+        ensures some { 0 < vec_len result }
     {
         let Request { words } = self;
         words
@@ -130,7 +133,8 @@ fn word(alloc: Global, room: usize, bytes: &[u8]) -> Result<(Name, &[u8]), Stop>
 
 /// So many words, and the bytes behind them.
 fn words(alloc: Global, count: usize, bytes: &[u8]) -> Result<(Vec<Name>, &[u8]), Stop>
-    ensures { Gives (λ x. (x.0.items, x.1.now)) result (words_at count 16777216 bytes.now) }
+    ensures exact { Gives (λ x. (x.0.items, x.1.now)) result (words_at count 16777216 bytes.now) }
+    ensures len { IfOk result (λ x. vec_len x.0 ≡ count) }
 {
     let mut words = Vec::with_capacity(alloc, count)?;
     let mut room = MAX_REQUEST_BYTES;

@@ -1,4 +1,4 @@
-ghost use Rattle.std.specs.Prelude.{◌≡◌, ◌⊎◌, ℕ, ◌∷◌, ◌++◌, [], List, Option, false, true, IfNone, IfOk, IfSome, IsErrOf, OnErr, OnOk};
+ghost use Rattle.std.specs.Prelude.{◌≡◌, ◌<◌, ◌⊎◌, ℕ, ◌∷◌, ◌++◌, [], List, Option, false, true, IfNone, IfOk, IfSome, IsErrOf, OnErr, OnOk, vec_len};
 ghost use Rattle.sr_resp.specs.Reading.{Parses, Sorts};
 ghost use Rattle.sr_resp.specs.Request.{Words, Spells};
 ghost use Rattle.sr_resp.specs.Stream.{Stands, Advances, Splits, IsPartial, IsFault};
@@ -51,7 +51,8 @@ struct Parsed<'a> {
 impl Reader {
     /// A reader at the start of a stream. It takes no memory.
     pub fn new(alloc: Global) -> Reader
-        ensures { Stands [] [] result }
+        ensures stands { Stands [] [] result }
+        ensures fresh { (result.waiting ≡ []) × (result.failed ≡ false) }
     {
         Reader {
             waiting: VecDeque::new(alloc),
@@ -111,6 +112,7 @@ impl Reader {
     /// Hands out the oldest request that waits. It takes no memory.
     pub fn next_request(&mut self) -> Option<Vec<Name>>
         ensures some { IfSome result (λ words. self.old ≡ record self.new { waiting = words.items ∷ self.new.waiting }) }
+        ensures words { IfSome result (λ words. 0 < vec_len words) }
         ensures given { IfSome result (λ words. (taken : List ℕ) (given : List Words) → Stands taken given self.old → Stands taken (given ++ words.items ∷ []) self.new) }
         ensures none { IfNone result ((self.old.waiting ≡ []) × (self.new ≡ self.old)) }
     {
