@@ -68,7 +68,10 @@ impl PartialEq for Name {
 
     ghost laws = { Prim.search (comparing, rules) };
 
-    fn eq(&self, other: &Name) -> bool {
+    fn eq(&self, other: &Name) -> bool
+        ensures value { result ≡ pointwise nat_eq self.now other.now }
+        ensures exact { IsTrue result ↔ (self.now ≡ other.now) }
+    {
         self.bytes.as_slice() == other.bytes.as_slice()
     }
 }

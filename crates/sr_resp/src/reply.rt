@@ -1,4 +1,7 @@
 ghost use Rattle.std.specs.Prelude.{◌≡◌, ◌↔◌, ◌∷◌, [], ◌++◌, List, IsTrue, IfOk, OnOk, OnErr};
+ghost use Rattle.std.specs.Cmp.Lexicographic.{pointwise, lists_per, lists_equiv};
+ghost use Rattle.sr_resp.specs.contracts.reply.PartPartialEq.TheImpl.Laws as part_partial_eq;
+ghost use Rattle.sr_resp.specs.contracts.reply.PartEq.TheImpl.Laws as part_eq;
 
 use crate::{ErrCode, Word};
 use sr_bytes::Name;
@@ -154,13 +157,23 @@ impl Reply {
             others,
         })
     }
+}
 
-    /// Whether both replies say the same.
-    pub fn is_same(&self, other: &Reply) -> bool
-        ensures { IsTrue result ↔ (self.now ≡ other.now) }
+impl PartialEq for Reply {
+    ghost eq = { pointwise ⟦<Part as PartialEq>⟧.eq };
+
+    ghost laws = { lists_per part_partial_eq.laws-law };
+
+    fn eq(&self, other: &Reply) -> bool
+        ensures value { result ≡ pointwise ⟦<Part as PartialEq>⟧.eq self.now other.now }
+        ensures exact { IsTrue result ↔ (self.now ≡ other.now) }
     {
         self.first == other.first && self.others.as_slice() == other.others.as_slice()
     }
+}
+
+impl Eq for Reply {
+    ghost laws = { lists_equiv part_eq.laws-law };
 }
 
 /// A second part that is equal to this one.
