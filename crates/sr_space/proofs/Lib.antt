@@ -1,2 +1,3 @@
 pub mod EntriesLemmas
 pub mod KeysLemmas
+pub mod RangeLemmas
