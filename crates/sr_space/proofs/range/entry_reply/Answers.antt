@@ -1,9 +1,7 @@
-use Rattle.std.proofs.Common.{◌≡◌, ◌<◌, ◌≤◌, List, [], ◌∷◌, length, take, ◌∙◌, ap, arith}
+use Rattle.std.proofs.Common.{◌≡◌, [], ◌∷◌, take, arith}
 use Rattle.std.proofs.lemmas.List.{take_all}
 use Rattle.std.specs.List.{flat_map}
-use Rattle.sr_ids.specs.Spelling.{spelling}
-use Rattle.sr_resp.specs.Reply.{Answer, array_of, bulk_string}
-use Rattle.sr_space.specs.Effect.{entry_answer}
+use Rattle.sr_resp.specs.Reply.{array_of}
 use Rattle.sr_space.proofs.RangeLemmas.{pair_answers, entry_answer-parts}
 use Rattle.sr_space.proofs.range.entry_reply.Goals as goal
 
