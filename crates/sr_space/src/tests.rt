@@ -59,28 +59,33 @@ fn sent(space: &mut Space, alloc: Global, call: &Call) -> Result<Reply, AllocErr
     Ok(send)
 }
 
+/// The array of these replies.
+fn array(alloc: Global, items: Vec<Reply>) -> Result<Reply, AllocError> {
+    let mut reply = Reply::empty_array(alloc);
+    for item in items {
+        reply.push(item)?;
+    }
+    Ok(reply)
+}
+
 /// `[[id, [f, value]], ..]`
 fn listed(alloc: Global, entries: &[(&str, &str)]) -> Result<Reply, AllocError> {
-    let mut list = Reply::empty_array(alloc);
+    let mut list = Vec::new(alloc);
     for (id, value) in entries {
-        let mut fields = Reply::empty_array(alloc);
-        fields.push(bulk(alloc, "f")?)?;
-        fields.push(bulk(alloc, value)?)?;
-        let mut entry = Reply::empty_array(alloc);
-        entry.push(bulk(alloc, id)?)?;
-        entry.push(fields)?;
-        list.push(entry)?;
+        let fields = vec![in alloc; bulk(alloc, "f")?, bulk(alloc, value)?]?;
+        let entry = vec![in alloc; bulk(alloc, id)?, array(alloc, fields)?]?;
+        list.push(array(alloc, entry)?)?;
     }
-    Ok(list)
+    array(alloc, list)
 }
 
 /// Gives the stream `s` the entries 1-0, 2-0 and 3-0.
 fn add_three(space: &mut Space, alloc: Global) -> Result<Reply, AllocError> {
-    let mut replies = Reply::empty_array(alloc);
+    let mut replies = Vec::new(alloc);
     for (ms, value) in [(1, "a"), (2, "b"), (3, "c")] {
         replies.push(sent(space, alloc, &xadd(alloc, "s", ms, 0, value)?)?)?;
     }
-    Ok(replies)
+    array(alloc, replies)
 }
 
 #[test]
@@ -111,11 +116,12 @@ fn an_entry_is_replied_by_its_id(rt: HostRuntime) -> Result<(), Fail> {
     let alloc = rt.alloc();
     let mut space = Space::new(alloc, RandomState::new(&rt)?);
     let added = add_three(&mut space, alloc)?;
-    let mut ids = Reply::empty_array(alloc);
-    for id in ["1-0", "2-0", "3-0"] {
-        ids.push(bulk(alloc, id)?)?;
-    }
-    assert!(rt; added == ids);
+    let ids = vec![in alloc;
+        bulk(alloc, "1-0")?,
+        bulk(alloc, "2-0")?,
+        bulk(alloc, "3-0")?,
+    ]?;
+    assert!(rt; added == array(alloc, ids)?);
     Ok(())
 }
 
@@ -200,12 +206,12 @@ fn keys_keep_apart(rt: HostRuntime) -> Result<(), Fail> {
 
 /// What XLEN and XRANGE reply at the keys `s` and `t`.
 fn seen(space: &mut Space, alloc: Global) -> Result<Reply, AllocError> {
-    let mut replies = Reply::empty_array(alloc);
+    let mut replies = Vec::new(alloc);
     for key in ["s", "t"] {
         replies.push(sent(space, alloc, &xlen(alloc, key)?)?)?;
         replies.push(sent(space, alloc, &xrange(alloc, key, 0, LAST, None)?)?)?;
     }
-    Ok(replies)
+    array(alloc, replies)
 }
 
 /// Carries out commands, each of which is tried again where memory is refused to it.
