@@ -1,7 +1,7 @@
 -- The keys of a server, in the order in which they were made, each with the entries of its stream.
 -- Source: Redis documentation, "Streams", and the pages of XADD and XLEN.
 
-use Rattle.std.specs.Prelude.{◌≡◌, ℕ, List, [], ◌∷◌, ◌++◌, Option, Some, None, nat_eq, if◌then◌else◌}
+use Rattle.std.specs.Prelude.{ℕ, List, [], ◌∷◌, ◌++◌, nat_eq, if◌then◌else◌}
 use Rattle.std.specs.Cmp.Lexicographic.{pointwise}
 use Rattle.sr_space.specs.declared.entries.Entry.{Entry}
 

@@ -4,6 +4,8 @@
 mod entries;
 mod range;
 mod space;
+#[cfg(test)]
+mod tests;
 
 pub use entries::Entry;
 pub use space::{Outcome, Space};

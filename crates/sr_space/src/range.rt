@@ -47,17 +47,43 @@ pub(crate) fn range_reply(
     ensures { IfOk result (λ reply.
         reply ≡ array_of (map entry_answer (counted count (entries_between start end entries.now)))) }
 {
-    let from = entries.partition_point(|entry| entry.id < start);
-    let past = entries.partition_point(|entry| entry.id <= end);
-    let most = match count {
-        None => usize::MAX,
-        Some(n) => usize::try_from(n).unwrap_or(0),
-    };
+    entries_reply(alloc, at_most(between(entries, start, end), count))
+}
+
+/// Entries as an array of them.
+fn entries_reply(alloc: Global, entries: &[Entry]) -> Result<Reply, AllocError>
+    ensures { IfOk result (λ reply. reply ≡ array_of (map entry_answer entries.now)) }
+{
     let mut reply = Reply::empty_array(alloc);
-    if from < past {
-        for entry in entries[from..past].iter().take(most) {
-            reply.push(entry_reply(alloc, entry)?)?;
-        }
+    for entry in entries {
+        reply.push(entry_reply(alloc, entry)?)?;
     }
     Ok(reply)
+}
+
+/// The entries from `start` to `end`, both included, found by binary search.
+fn between(entries: &[Entry], start: Id, end: Id) -> &[Entry]
+    requires { AreRising entries.now }
+    ensures { result.now ≡ entries_between start end entries.now }
+{
+    let from = entries.partition_point(|entry| entry.id < start);
+    let past = entries.partition_point(|entry| entry.id <= end);
+    if from < past {
+        &entries[from..past]
+    } else {
+        &[]
+    }
+}
+
+/// As many entries from the front as COUNT says.
+fn at_most(entries: &[Entry], count: Option<i64>) -> &[Entry]
+    ensures { result.now ≡ counted count entries.now }
+{
+    match count {
+        None => entries,
+        Some(n) => {
+            let most = usize::try_from(n).unwrap_or(0);
+            &entries[..most.min(entries.len())]
+        }
+    }
 }

@@ -1,0 +1,3 @@
+pub mod EntriesLemmas
+pub mod KeysLemmas
+pub mod RangeLemmas

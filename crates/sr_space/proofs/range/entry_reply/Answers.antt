@@ -1,0 +1,19 @@
+use Rattle.std.proofs.Common.{◌≡◌, [], ◌∷◌, take, arith}
+use Rattle.std.proofs.lemmas.List.{take_all}
+use Rattle.std.specs.List.{flat_map}
+use Rattle.sr_resp.specs.Reply.{array_of}
+use Rattle.sr_space.proofs.RangeLemmas.{pair_answers, entry_answer-parts}
+use Rattle.sr_space.proofs.range.entry_reply.Goals as goal
+
+pub push-requires-3 : goal.push-requires-3
+push-requires-3 c = record { array = (c.in_ok-id_reply.field-0 ∷ [], c.in_ok-push-3.ensures.ok [] c.empty_array-reply.ensures) }
+
+pub returns : goal.returns
+returns c =
+    let pairs = c.args.entry.now.fields in
+    let begun = c.in_ok-push-3.ensures.ok [] c.empty_array-reply.ensures in
+    let whole = c.in_ok-push-4.ensures.ok (c.in_ok-id_reply.field-0 ∷ []) begun in
+    let items = c.as_slice-field-items.result.now in
+    let all : take c.loop-field.field-index items ≡ items = take_all c.loop-field.field-index items (omega arith) in
+    let fields : c.loop-field.fields ≡ array_of (flat_map pair_answers pairs) = cc (c.loop-field.invariant.1, all, c.as_slice-field-items.ensures) in
+    entry_answer-parts c.args.entry.now c.push-3.new.self c.in_ok-id_reply.field-0 c.loop-field.fields c.in_ok-id_reply.ensures fields whole
