@@ -83,5 +83,4 @@ pub fn one_reading()
         SpellsId missing text a → SpellsId missing text b → a ≡ b }
     ensures start { (text : List ℕ) (a b : ids.Id) → IsStart text a → IsStart text b → a ≡ b }
     ensures end { (text : List ℕ) (a b : ids.Id) → IsEnd text a → IsEnd text b → a ≡ b }
-{
-}
+{}

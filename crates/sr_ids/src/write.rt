@@ -16,14 +16,13 @@ pub fn write_id(id: Id, out: &mut [u8; 41]) -> usize
     ensures read_back { SpellsId 0 (take result out.new) id }
 {
     let mut buffer = Buffer::new();
-    let mut len = 0;
     let ms = buffer.format(id.ms).as_bytes();
-    out[..ms.len()].copy_from_slice(ms);
-    len += ms.len();
-    out[len] = b'-';
-    len += 1;
     let mut buffer = Buffer::new();
     let seq = buffer.format(id.seq).as_bytes();
-    out[len..len + seq.len()].copy_from_slice(seq);
-    len + seq.len()
+    let dash = ms.len();
+    let len = dash + 1 + seq.len();
+    out[..dash].copy_from_slice(ms);
+    out[dash] = b'-';
+    out[dash + 1..len].copy_from_slice(seq);
+    len
 }

@@ -1,0 +1,6 @@
+pub mod EndLemmas
+pub mod IdLemmas
+pub mod ReadingLemmas
+pub mod SpellingLemmas
+pub mod StartLemmas
+pub mod WritingLemmas
