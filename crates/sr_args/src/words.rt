@@ -1,0 +1,86 @@
+use crate::OptionName;
+use crate::name::option_named;
+use sr_bytes::Name;
+
+/// The words of PING, in the places of its form.
+#[derive(Clone, Copy)]
+pub(crate) struct PingWords<'a> {
+    pub(crate) message: Option<&'a Name>,
+}
+
+/// The words of XADD, in the places of its form.
+#[derive(Clone, Copy)]
+pub(crate) struct XaddWords<'a> {
+    pub(crate) key: &'a Name,
+    pub(crate) id: &'a Name,
+    /// Each field with its value, at least one.
+    pub(crate) fields: &'a [[Name; 2]],
+}
+
+/// The words of XLEN, in the places of its form.
+#[derive(Clone, Copy)]
+pub(crate) struct XlenWords<'a> {
+    pub(crate) key: &'a Name,
+}
+
+/// The words of XRANGE, in the places of its form.
+#[derive(Clone, Copy)]
+pub(crate) struct XrangeWords<'a> {
+    pub(crate) key: &'a Name,
+    pub(crate) start: &'a Name,
+    pub(crate) end: &'a Name,
+    pub(crate) count: Option<&'a Name>,
+}
+
+/// `[message]`
+pub(crate) fn ping_words(words: &[Name]) -> Option<PingWords<'_>> {
+    let Some((message, rest)) = words.split_first() else {
+        return Some(PingWords { message: None });
+    };
+    rest.is_empty().then_some(PingWords {
+        message: Some(message),
+    })
+}
+
+/// `key id field value [field value ..]`
+pub(crate) fn xadd_words(words: &[Name]) -> Option<XaddWords<'_>> {
+    let (key, rest) = words.split_first()?;
+    let (id, rest) = rest.split_first()?;
+    let (fields, alone) = rest.as_chunks::<2>();
+    if fields.is_empty() || !alone.is_empty() {
+        return None;
+    }
+    Some(XaddWords { key, id, fields })
+}
+
+/// `key`
+pub(crate) fn xlen_words(words: &[Name]) -> Option<XlenWords<'_>> {
+    let (key, rest) = words.split_first()?;
+    rest.is_empty().then_some(XlenWords { key })
+}
+
+/// `key start end [COUNT int]`
+pub(crate) fn xrange_words(words: &[Name]) -> Option<XrangeWords<'_>> {
+    let (key, rest) = words.split_first()?;
+    let (start, rest) = rest.split_first()?;
+    let (end, rest) = rest.split_first()?;
+    let count = optional(OptionName::Count, rest)?;
+    Some(XrangeWords {
+        key,
+        start,
+        end,
+        count,
+    })
+}
+
+/// `[OPTION word]` at the end of a form: the word, where it is written.
+fn optional(name: OptionName, words: &[Name]) -> Option<Option<&Name>> {
+    let Some((option, rest)) = words.split_first() else {
+        return Some(None);
+    };
+    if option_named(option)? != name {
+        return None;
+    }
+    let (word, rest) = rest.split_first()?;
+    rest.is_empty().then_some(Some(word))
+}
