@@ -1,3 +1,10 @@
+ghost use Rattle.std.specs.Prelude.{map, Option, IfSome, IfNone};
+ghost use Rattle.std.specs.Option.{option_copied};
+ghost use Rattle.sr_args.specs.declared.name.CommandName.TheVariants as commands;
+ghost use Rattle.sr_args.specs.Form as forms;
+ghost use Rattle.sr_args.specs.Form.{Word, ping, xadd, xlen, xrange, Fits};
+ghost use Rattle.sr_args.specs.Reader.{Reads, field_and_value};
+
 use crate::OptionName;
 use crate::name::option_named;
 use sr_bytes::Name;
@@ -33,17 +40,26 @@ pub(crate) struct XrangeWords<'a> {
 }
 
 /// `[message]`
-pub(crate) fn ping_words(words: &[Name]) -> Option<PingWords<'_>> {
+pub(crate) fn ping_words(words: &[Name]) -> Option<PingWords<'_>>
+    ensures found { IfSome result (λ read. Reads commands.Ping words.now (ping (option_copied read.message))) }
+    ensures none { IfNone result ((reading : forms.Reading) → Reads commands.Ping words.now reading → ⊥) }
+{
     let Some((message, rest)) = words.split_first() else {
         return Some(PingWords { message: None });
     };
-    rest.is_empty().then_some(PingWords {
+    if !rest.is_empty() {
+        return None;
+    }
+    Some(PingWords {
         message: Some(message),
     })
 }
 
 /// `key id field value [field value ..]`
-pub(crate) fn xadd_words(words: &[Name]) -> Option<XaddWords<'_>> {
+pub(crate) fn xadd_words(words: &[Name]) -> Option<XaddWords<'_>>
+    ensures found { IfSome result (λ read. Reads commands.Xadd words.now (xadd read.key.now read.id.now (map field_and_value read.fields.now))) }
+    ensures none { IfNone result ((reading : forms.Reading) → Reads commands.Xadd words.now reading → ⊥) }
+{
     let (key, rest) = words.split_first()?;
     let (id, rest) = rest.split_first()?;
     let (fields, alone) = rest.as_chunks::<2>();
@@ -54,13 +70,22 @@ pub(crate) fn xadd_words(words: &[Name]) -> Option<XaddWords<'_>> {
 }
 
 /// `key`
-pub(crate) fn xlen_words(words: &[Name]) -> Option<XlenWords<'_>> {
+pub(crate) fn xlen_words(words: &[Name]) -> Option<XlenWords<'_>>
+    ensures found { IfSome result (λ read. Reads commands.Xlen words.now (xlen read.key.now)) }
+    ensures none { IfNone result ((reading : forms.Reading) → Reads commands.Xlen words.now reading → ⊥) }
+{
     let (key, rest) = words.split_first()?;
-    rest.is_empty().then_some(XlenWords { key })
+    if !rest.is_empty() {
+        return None;
+    }
+    Some(XlenWords { key })
 }
 
 /// `key start end [COUNT int]`
-pub(crate) fn xrange_words(words: &[Name]) -> Option<XrangeWords<'_>> {
+pub(crate) fn xrange_words(words: &[Name]) -> Option<XrangeWords<'_>>
+    ensures found { IfSome result (λ read. Reads commands.Xrange words.now (xrange read.key.now read.start.now read.end.now (option_copied read.count))) }
+    ensures none { IfNone result ((reading : forms.Reading) → Reads commands.Xrange words.now reading → ⊥) }
+{
     let (key, rest) = words.split_first()?;
     let (start, rest) = rest.split_first()?;
     let (end, rest) = rest.split_first()?;
@@ -74,7 +99,10 @@ pub(crate) fn xrange_words(words: &[Name]) -> Option<XrangeWords<'_>> {
 }
 
 /// `[OPTION word]` at the end of a form: the word, where it is written.
-fn optional(name: OptionName, words: &[Name]) -> Option<Option<&Name>> {
+fn optional(name: OptionName, words: &[Name]) -> Option<Option<&Name>>
+    ensures found { IfSome result (λ read. Fits words.now (forms.optional name (option_copied read))) }
+    ensures none { IfNone result ((word : Option Word) → Fits words.now (forms.optional name word) → ⊥) }
+{
     let Some((option, rest)) = words.split_first() else {
         return Some(None);
     };
@@ -82,5 +110,8 @@ fn optional(name: OptionName, words: &[Name]) -> Option<Option<&Name>> {
         return None;
     }
     let (word, rest) = rest.split_first()?;
-    rest.is_empty().then_some(Some(word))
+    if !rest.is_empty() {
+        return None;
+    }
+    Some(Some(word))
 }
