@@ -1,5 +1,5 @@
 -- No words are two readings, and no reading means two calls.
-use Rattle.std.proofs.Common.{◌≡◌, ℕ, List, [], ◌∷◌, Option, Some, None, refl, sym, ap, ◌∙◌}
+use Rattle.std.proofs.Common.{◌≡◌, List, [], ◌∷◌, Option, Some, None, refl, sym, ap, ◌∙◌}
 use Rattle.std.specs.List.{flat_map}
 use Rattle.sr_ids.proofs.SpellingLemmas.{SpellsId-one}
 use Rattle.sr_ids.proofs.StartLemmas.{IsStart-one}

@@ -1,10 +1,10 @@
 -- How many words a reading has, and where its options begin.
-use Rattle.std.proofs.Common.{◌≡◌, ◌≢◌, ℕ, ◌+◌, ◌*◌, ◌<◌, ◌≤◌, suc, zero, List, [], ◌∷◌, length, map, take, drop, Option, Some, None, refl, ap, arith}
+use Rattle.std.proofs.Common.{◌≡◌, ℕ, ◌*◌, ◌≤◌, suc, zero, List, [], ◌∷◌, length, map, Option, Some, None, refl, arith}
 use Rattle.std.specs.List.{flat_map}
 use Rattle.std.specs.Simd.{first_chunks}
 use Rattle.sr_args.specs.declared.name.OptionName.{OptionName}
 use Rattle.sr_args.specs.declared.name.CommandName.TheVariants as commands
-use Rattle.sr_args.specs.Form.{Word, Reading, Fits, form, pair, optional, ping, xadd, xlen, xrange}
+use Rattle.sr_args.specs.Form.{Word, Reading, Fits, pair, optional, ping, xadd, xlen, xrange}
 use Rattle.sr_args.specs.Reader.{Reads, field_and_value}
 
 -- the words of places are as many as the places

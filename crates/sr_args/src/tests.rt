@@ -66,13 +66,13 @@ fn first_fault_is_answered(rt: HostRuntime) {
 #[test]
 fn calls_are_read(rt: HostRuntime) {
     for line in ["PING", "ping"] {
-        match read(&rt, line) {
+        match &read(&rt, line) {
             Ok(Command::Call(Call::Ping { message })) => assert!(rt; message.is_none(), "{line}"),
             Ok(_) => assert!(rt; false, "{line}"),
-            Err(fault) => assert_eq!(rt; fault, CallFault::Memory, "{line}"),
+            Err(fault) => assert_eq!(rt; *fault, CallFault::Memory, "{line}"),
         }
     }
-    match read(&rt, "PiNg hello") {
+    match &read(&rt, "PiNg hello") {
         Ok(
             Command::Call(
                 Call::Ping {
@@ -80,24 +80,24 @@ fn calls_are_read(rt: HostRuntime) {
                 },
             ),
         ) => {
-            assert!(rt; is_text(&message, b"hello"));
+            assert!(rt; is_text(message, b"hello"));
         }
         Ok(_) => assert!(rt; false),
-        Err(fault) => assert_eq!(rt; fault, CallFault::Memory),
+        Err(fault) => assert_eq!(rt; *fault, CallFault::Memory),
     }
-    match read(&rt, "XADD s 5 a 1 b 2") {
+    match &read(&rt, "XADD s 5 a 1 b 2") {
         Ok(Command::Call(Call::Xadd { key, id, fields })) => {
-            assert!(rt; is_text(&key, b"s"));
-            assert_eq!(rt; id, Id { ms: 5, seq: 0 });
-            assert!(rt; are_texts(&fields, &[(b"a", b"1"), (b"b", b"2")]));
+            assert!(rt; is_text(key, b"s"));
+            assert_eq!(rt; *id, Id { ms: 5, seq: 0 });
+            assert!(rt; are_texts(fields, &[(b"a", b"1"), (b"b", b"2")]));
         }
         Ok(_) => assert!(rt; false),
-        Err(fault) => assert_eq!(rt; fault, CallFault::Memory),
+        Err(fault) => assert_eq!(rt; *fault, CallFault::Memory),
     }
-    match read(&rt, "xlen s") {
-        Ok(Command::Call(Call::Xlen { key })) => assert!(rt; is_text(&key, b"s")),
+    match &read(&rt, "xlen s") {
+        Ok(Command::Call(Call::Xlen { key })) => assert!(rt; is_text(key, b"s")),
         Ok(_) => assert!(rt; false),
-        Err(fault) => assert_eq!(rt; fault, CallFault::Memory),
+        Err(fault) => assert_eq!(rt; *fault, CallFault::Memory),
     }
 }
 
@@ -114,7 +114,7 @@ fn range_is_read(rt: HostRuntime) {
         ("XRANGE s 5-1 (7-3 count -7", (5, 1), (7, 2), Some(-7)),
         ("XRANGE s 5 7 Count 007", (5, 0), (7, u64::MAX), Some(7)),
     ] {
-        match read(&rt, line) {
+        match &read(&rt, line) {
             Ok(
                 Command::Call(
                     Call::Xrange {
@@ -125,13 +125,13 @@ fn range_is_read(rt: HostRuntime) {
                     },
                 ),
             ) => {
-                assert!(rt; is_text(&key, b"s"), "{line}");
+                assert!(rt; is_text(key, b"s"), "{line}");
                 assert_eq!(rt; (from.ms, from.seq), start, "{line}");
                 assert_eq!(rt; (until.ms, until.seq), end, "{line}");
-                assert_eq!(rt; count, want, "{line}");
+                assert_eq!(rt; *count, want, "{line}");
             }
             Ok(_) => assert!(rt; false, "{line}"),
-            Err(fault) => assert_eq!(rt; fault, CallFault::Memory, "{line}"),
+            Err(fault) => assert_eq!(rt; *fault, CallFault::Memory, "{line}"),
         }
     }
 }

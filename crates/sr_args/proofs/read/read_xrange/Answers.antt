@@ -1,4 +1,4 @@
-use Rattle.std.proofs.Common.{◌≡◌, Err, refl}
+use Rattle.std.proofs.Common.{◌≡◌, refl}
 use Rattle.std.proofs.lemmas.Result.{err_from_is_err_and}
 use Rattle.std.specs.Option.{option_copied}
 use Rattle.sr_args.specs.declared.call.Call.TheVariants.{Xrange}

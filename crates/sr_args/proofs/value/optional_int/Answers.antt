@@ -1,5 +1,3 @@
-use Rattle.std.proofs.Common.{◌≡◌, ℤ, Some, None}
-use Rattle.sr_args.specs.Command.{IsOptionalInt}
 use Rattle.sr_args.proofs.NumberLemmas.{IsOptionalInt-none}
 use Rattle.sr_args.proofs.value.optional_int.Goals as goal
 
