@@ -1,7 +1,7 @@
 -- Which words are a command, and which command; and else the first reason why they are none.
 -- Source: Redis documentation, the page of each command.
 
-use Rattle.std.specs.Prelude.{◌≡◌, ℕ, ℤ, List, length, Option, Some, None, Result, Ok, Err, ⊤}
+use Rattle.std.specs.Prelude.{◌≡◌, ℤ, List, length, Option, Some, None, Result, Ok, Err, ⊤}
 use Rattle.sr_ids.specs.declared.id.Id.{Id}
 use Rattle.sr_ids.specs.Spelling.{SpellsId, IsStart, IsEnd}
 use Rattle.sr_args.specs.declared.name.CommandName.{CommandName}

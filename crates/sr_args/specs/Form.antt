@@ -1,7 +1,7 @@
 -- The forms of commands: which words stand in which place.
 -- Source: Redis documentation, the page of each command, "Syntax".
 
-use Rattle.std.specs.Prelude.{◌≡◌, ◌≢◌, ℕ, List, [], ◌∷◌, ◌++◌, Option, Some, None, ⊤}
+use Rattle.std.specs.Prelude.{◌≡◌, ◌≢◌, ℕ, List, [], ◌∷◌, Option, Some, None, ⊤}
 use Rattle.std.specs.List.{flat_map}
 use Rattle.sr_args.specs.declared.name.CommandName.{CommandName}
 use Rattle.sr_args.specs.declared.name.CommandName.TheVariants as commands

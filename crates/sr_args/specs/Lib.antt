@@ -2,3 +2,4 @@ pub mod Name
 pub mod Number
 pub mod Form
 pub mod Command
+pub mod Reader

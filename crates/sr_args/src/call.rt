@@ -7,11 +7,19 @@ use sr_ids::Id;
 #[derive(Drop)]
 pub enum Call {
     /// PING, with the message to send back.
-    Ping { message: Option<Name> },
+    Ping {
+        message: Option<Name>,
+    },
     /// XADD: an entry for the stream at a key.
-    Xadd { key: Name, id: Id, fields: Fields },
+    Xadd {
+        key: Name,
+        id: Id,
+        fields: Fields,
+    },
     /// XLEN: how many entries the stream at a key has.
-    Xlen { key: Name },
+    Xlen {
+        key: Name,
+    },
     /// XRANGE: the entries from one id to another, and how many are wanted at most.
     Xrange {
         key: Name,

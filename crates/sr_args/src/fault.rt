@@ -1,3 +1,8 @@
+ghost use Rattle.std.specs.Prelude.{◌≡◌};
+ghost use Rattle.sr_args.specs.declared.fault.CallFault.TheVariants.{Memory};
+
+use std::alloc::AllocError;
+
 /// Why words are no command. Of several reasons the first in this order is answered.
 #[derive(Clone, Copy, Debug, PartialEq, Eq)]
 pub enum CallFault {
@@ -13,4 +18,12 @@ pub enum CallFault {
     BadId,
     /// Memory ran out. The words are a command.
     Memory,
+}
+
+impl From<AllocError> for CallFault {
+    ghost from_gives = { λ _ fault. fault ≡ Memory };
+
+    fn from(_error: AllocError) -> CallFault {
+        CallFault::Memory
+    }
 }

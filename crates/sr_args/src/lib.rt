@@ -4,7 +4,14 @@
 mod call;
 mod fault;
 mod name;
+mod number;
+mod read;
+#[cfg(test)]
+mod tests;
+mod value;
+mod words;
 
 pub use call::{Call, Command};
 pub use fault::CallFault;
 pub use name::{CommandName, OptionName};
+pub use read::{one_answer, read_call};

@@ -1,0 +1,5 @@
+pub mod AnswerLemmas
+pub mod NameLemmas
+pub mod NumberLemmas
+pub mod ReadingLemmas
+pub mod WordsLemmas

@@ -1,0 +1,45 @@
+-- Numbers among the words of a command: how the code reads them, and that no word is read to two.
+use Rattle.std.proofs.Common.{◌≡◌, ℕ, List, ◌∷◌, ◌++◌, codes, Option, Some, None, IfSome, Result, Ok, Err, ℤ, pos, neg_ℤ, ◌-ℤ◌, refl, sym, ap, ◌∙◌, arith, w64, FitsSigned}
+use Rattle.std.specs.Option.{SomeIff}
+use Rattle.std.specs.Result.{OkIff, result_ok}
+use Rattle.std.proofs.lemmas.Int.{ints}
+use Rattle.std.specs.Str.Parse.{AllDigits}
+use Rattle.sr_bytes.specs.Decimal.{IsDecimal}
+use Rattle.sr_bytes.proofs.DecimalLemmas.{IsDecimal-one}
+use Rattle.sr_args.specs.Number.{IsInt}
+use Rattle.sr_args.specs.Number.IsInt.{positive, negative}
+use Rattle.sr_args.specs.Command.{IsOptionalInt}
+
+pub IsInt-from_negative : (word digits : List ℕ) (n : ℕ) (read : Option ℤ) → word ≡ 45 ∷ digits → IsDecimal 19 digits n → SomeIff read (FitsSigned w64 (pos 0 -ℤ pos n)) (pos 0 -ℤ pos n) → IfSome read (IsInt word)
+IsInt-from_negative word digits n None e d h = tt
+IsInt-from_negative word digits n (Some z) e d h = let fits = h.0 in negative digits n e d (omega (arith, ints)) (omega (arith, ints, h.1))
+
+pub IsInt-from_positive : {E : Type 0} (word : List ℕ) (n : ℕ) (read : Result ℤ E) → IsDecimal 19 word n → OkIff read (FitsSigned w64 (pos n)) (pos n) → IfSome (result_ok read) (IsInt word)
+IsInt-from_positive word n (Ok z) d h = let fits = h.0 in positive n d (omega (arith, ints)) (omega (arith, ints, h.1))
+IsInt-from_positive word n (Err e) d h = tt
+
+-- a word that writes no number writes none in an optional place
+pub IsOptionalInt-none : (word : List ℕ) → ((z : ℤ) → IsInt word z → ⊥) → (z : Option ℤ) → IsOptionalInt (Some word) z → ⊥
+IsOptionalInt-none word none None h = h
+IsOptionalInt-none word none (Some z) h = none z h
+
+-- digits do not begin with a dash
+IsDecimal-no_dash : (word digits : List ℕ) (n : ℕ) → word ≡ codes "-" ++ digits → IsDecimal 19 word n → ⊥
+IsDecimal-no_dash word digits n e d = let dash : AllDigits 10 (45 ∷ digits) = rw e at d.each in omega (arith, dash.0)
+
+pub IsInt-one : (word : List ℕ) (x y : ℤ) → IsInt word x → IsInt word y → x ≡ y
+IsInt-one word x y (positive m d _ e) (positive n f _ g) = e ∙ ap pos (IsDecimal-one d f) ∙ sym g
+IsInt-one word x y (positive m d _ e) (negative digits n w f _ g) = absurd (IsDecimal-no_dash word digits m w d)
+IsInt-one word x y (negative digits m w d _ e) (positive n f _ g) = absurd (IsDecimal-no_dash word digits n w f)
+IsInt-one word x y (negative ds m v d _ e) (negative es n w f _ g) =
+    let behind : ds ≡ es = cc (v, w) in
+    let same : m ≡ n = IsDecimal-one (rw behind at d) f in
+    e ∙ ap (λ (k : ℕ). neg_ℤ (pos k)) same ∙ sym g
+
+pub IsOptionalInt-one : (word : Option (List ℕ)) (x y : Option ℤ) → IsOptionalInt word x → IsOptionalInt word y → x ≡ y
+IsOptionalInt-one None None None p q = refl
+IsOptionalInt-one (Some word) (Some x) (Some y) p q = ap Some (IsInt-one word x y p q)
+IsOptionalInt-one None (Some x) y p q = absurd p
+IsOptionalInt-one None None (Some y) p q = absurd q
+IsOptionalInt-one (Some word) None y p q = absurd p
+IsOptionalInt-one (Some word) (Some x) None p q = absurd q

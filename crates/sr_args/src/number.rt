@@ -1,0 +1,17 @@
+ghost use Rattle.std.specs.Prelude.{ℤ, IfSome, IfNone};
+ghost use Rattle.sr_args.specs.Number.{IsInt};
+
+use sr_bytes::read_decimal;
+
+/// The number that a word writes in 1 to 19 digits, behind a `-` where it is below 0.
+///
+/// `None` where the word writes none, and where the number does not fit 64 bits with a sign.
+pub(crate) fn read_int(word: &[u8]) -> Option<i64>
+    ensures found { IfSome result (IsInt word.now) }
+    ensures none { IfNone result ((z : ℤ) → IsInt word.now z → ⊥) }
+{
+    match word {
+        [b'-', digits @ ..] => 0i64.checked_sub_unsigned(read_decimal(digits, 19)?),
+        _ => i64::try_from(read_decimal(word, 19)?).ok(),
+    }
+}
