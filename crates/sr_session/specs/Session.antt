@@ -25,13 +25,22 @@ served session keys = record { moment = session.moment; keys = keys }
 abbrev pub untouched : Keys → Served
 untouched keys = record { moment = 0; keys = keys }
 
--- every request of the bytes taken is answered, and what is left can become a further one
-pub record GoesOn (may_tell : ℕ → Bool) (found : Keys) (taken written : List ℕ) (session : Between) (keys : Keys) : Type 0 where
+-- the requests handed out so far are answered
+pub record IsAnswering (may_tell : ℕ → Bool) (found : Keys) (taken written : List ℕ) (session : Between) (keys : Keys) : Type 0 where
   pub requests : List Words
   pub stands : Stands taken requests session.progress
+  pub answered : AreAnswered may_tell (untouched found) requests written (served session keys)
+
+-- from here to there the text was written, whatever was found, taken and written before
+abbrev pub Writes : (ℕ → Bool) → List ℕ → Between → Keys → Between → Keys → Type 0
+Writes may_tell text old before new after =
+    (found : Keys) (taken written : List ℕ) → IsAnswering may_tell found taken written old before → IsAnswering may_tell found taken (written ++ text) new after
+
+-- every request of the bytes taken is answered, and what is left can become a further one
+pub record GoesOn (may_tell : ℕ → Bool) (found : Keys) (taken written : List ℕ) (session : Between) (keys : Keys) : Type 0 where
+  pub answering : IsAnswering may_tell found taken written session keys
   pub none_wait : session.progress.waiting ≡ []
   pub sound : session.progress.failed ≡ false
-  pub answered : AreAnswered may_tell (untouched found) requests written (served session keys)
 
 abbrev pub protocol_text : List ℕ
 protocol_text = reply_text (error_reply Protocol)
@@ -54,7 +63,7 @@ pub record IsBroken (may_tell : ℕ → Bool) (found : Keys) (taken written : Li
   pub stream : Splits taken requests rest
   pub fault : IsFault rest
   pub answered : AreAnswered may_tell (untouched found) requests text (record { moment = moment; keys = keys })
-  pub written : written ≡ text ++ protocol_text
+  pub behind : written ≡ text ++ protocol_text
 
 -- every request of a front of the bytes taken is answered
 pub record IsCutOff (may_tell : ℕ → Bool) (found : Keys) (taken written : List ℕ) : Type 0 where

@@ -1,10 +1,10 @@
-ghost use Rattle.std.specs.Prelude.{◌≡◌, ◌≤◌, ℕ, List, Option, Some, true};
+ghost use Rattle.std.specs.Prelude.{◌≡◌, ◌+◌, ◌<◌, ◌≤◌, ℕ, List, true, length, min, take, IfOk, IfErr, OnErr};
 ghost use Rattle.std.specs.Io.KnownBytes.{Appends, Consumes};
 ghost use Rattle.sr_session.specs.Session.{EndsAs};
 ghost use Rattle.sr_session.specs.Source.{CountsReads};
 
 use crate::session::{Session, SessionFault};
-use crate::{Clock, Source};
+use crate::{Clock, ReadFailed, Source};
 use sr_resp::{Sink, send_all};
 use sr_space::Space;
 use std::alloc::Global;
@@ -59,27 +59,40 @@ pub fn run_session<R: Source, W: Sink, C: Clock>(
     let mut session = Session::new(alloc);
     let mut buffer = [0; PIECE];
     let mut out = Vec::new(alloc);
-    let mut sent: usize = 0;
+    let mut sent = 0;
     for _turn in 0..turns {
         let count = match reader.read(&mut buffer) {
             Ok(0) => return End::Closed,
             Ok(count) => count,
-            Err(_) => return End::ReadFault,
+            Err(ReadFailed) => return End::ReadFault,
         };
         out.clear();
-        let taken = session.take(alloc, space, clock, &buffer[..count], &mut out);
-        if taken == Err(SessionFault::Memory) {
-            return End::Memory;
+        match session.take(alloc, space, clock, &buffer[..count], &mut out) {
+            Ok(()) => match send(writer, out.as_slice(), sent) {
+                Ok(total) => sent = total,
+                Err(sent) => return End::SendFault { sent },
+            },
+            Err(SessionFault::Protocol) => match send(writer, out.as_slice(), sent) {
+                Ok(_) => return End::Protocol,
+                Err(sent) => return End::SendFault { sent },
+            },
+            Err(SessionFault::Memory) => return End::Memory,
         }
-        if let Err(fault) = send_all(writer, out.as_slice()) {
-            return End::SendFault {
-                sent: sent.saturating_add(fault.sent),
-            };
-        }
-        if taken == Err(SessionFault::Protocol) {
-            return End::Protocol;
-        }
-        sent = sent.saturating_add(out.len());
     }
     End::Turns
+}
+
+/// Sends the bytes behind so many others, and answers how many bytes were sent in all, also where the writer fails;
+/// a number beyond `usize` is its greatest.
+fn send<W: Sink>(writer: &mut W, bytes: &[u8], before: usize) -> Result<usize, usize>
+    ensures ok { IfOk result (λ total. (total ≡ min (before + length bytes.now) usize.MAX)
+        × Appends (W.contents writer.old) (W.contents writer.new) bytes.now) }
+    ensures err { IfErr result (λ total. (more : ℕ) × (more < length bytes.now) × (total ≡ min (before + more) usize.MAX)
+        × Appends (W.contents writer.old) (W.contents writer.new) (take more bytes.now)) }
+    ensures failed { OnErr result (W.failed writer.new ≡ true) }
+{
+    match send_all(writer, bytes) {
+        Ok(()) => Ok(before.saturating_add(bytes.len())),
+        Err(fault) => Err(before.saturating_add(fault.sent)),
+    }
 }

@@ -1,11 +1,11 @@
 ghost use Rattle.std.specs.Prelude.{◌≡◌, ℕ, ◌++◌, List, OnOk, OnErr, IsErrOf};
-ghost use Rattle.sr_space.specs.Keys.{Keys};
+ghost use Rattle.sr_session.specs.declared.session.SessionFault.TheVariants.{Memory};
 
 use crate::Clock;
-use crate::answer::answer_request;
-use sr_resp::{ErrCode, ReadFault, Reader, Reply, append_reply};
+use crate::answer::{answer_request, append_error};
+use sr_resp::{ErrCode, ReadFault, Reader};
 use sr_space::Space;
-use std::alloc::Global;
+use std::alloc::{AllocError, Global};
 use std::marker::Model;
 
 /// Why a session cannot go on.
@@ -15,6 +15,14 @@ pub enum SessionFault {
     Memory,
     /// The bytes are no requests. The error was appended behind the replies to the requests before it.
     Protocol,
+}
+
+impl From<AllocError> for SessionFault {
+    ghost from_gives = { λ _ fault. fault ≡ Memory };
+
+    fn from(_: AllocError) -> SessionFault {
+        SessionFault::Memory
+    }
 }
 
 /// A connection between two pieces of its input. It neither reads nor writes.
@@ -33,9 +41,9 @@ impl Model for Session {
 }
 
 impl Session {
-    ghost use Rattle.std.specs.Prelude.{◌≡◌, ℕ, ◌++◌, [], List, Bool, OnOk, OnErr, IsErrOf};
+    ghost use Rattle.std.specs.Prelude.{◌≡◌, ℕ, ◌++◌, [], List, Bool, OnOk, OnErr, IfErr, IsErrOf};
     ghost use Rattle.sr_space.specs.Keys.{Keys};
-    ghost use Rattle.sr_session.specs.Session.{GoesOn, IsBroken, IsCutOff};
+    ghost use Rattle.sr_session.specs.Session.{GoesOn, Writes, IsBroken};
 
     /// A session that has taken nothing yet. It takes no memory.
     pub fn new(alloc: Global) -> Session
@@ -64,14 +72,34 @@ impl Session {
                 → IsBroken (C.may_tell clock.now) found (taken ++ piece.now) (written ++ text) space.new) }
         ensures memory { IsErrOf result SessionFault.Memory → (text : List ℕ) × (out.new.items ≡ out.old.items ++ text) }
     {
-        let fed = self.reader.feed(alloc, piece);
-        if fed == Err(ReadFault::Memory) {
-            return Err(SessionFault::Memory);
+        match self.reader.feed(alloc, piece) {
+            Ok(()) => self.answer_waiting(alloc, space, clock, out),
+            Err(ReadFault::Protocol) => {
+                self.answer_waiting(alloc, space, clock, out)?;
+                append_error(alloc, out, ErrCode::Protocol)?;
+                Err(SessionFault::Protocol)
+            }
+            Err(ReadFault::Memory) => Err(SessionFault::Memory),
         }
-        self.answer_waiting(alloc, space, clock, out)?;
-        if fed == Err(ReadFault::Protocol) {
-            append_reply(out, &Reply::error(alloc, ErrCode::Protocol))?;
-            return Err(SessionFault::Protocol);
+    }
+
+    /// Answers the requests that wait, and appends the replies to `out`.
+    fn answer_waiting<C: Clock>(
+        &mut self,
+        alloc: Global,
+        space: &mut Space,
+        clock: &C,
+        out: &mut Vec<u8>,
+    ) -> Result<(), SessionFault>
+        ensures text { (text : List ℕ) × (out.new.items ≡ out.old.items ++ text)
+            × OnOk result (Writes (C.may_tell clock.now) text self.old space.old self.new space.new) }
+        ensures none_wait { OnOk result (self.new.progress.waiting ≡ []) }
+        ensures failed { self.new.progress.failed ≡ self.old.progress.failed }
+        ensures err { IfErr result (λ fault. fault ≡ SessionFault.Memory) }
+    {
+        while let Some(words) = self.reader.next_request() {
+            let answered = answer_request(alloc, space, clock, self.moment, words.as_slice(), out);
+            self.moment = answered?;
         }
         Ok(())
     }

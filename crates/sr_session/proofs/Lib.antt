@@ -1,0 +1,3 @@
+pub mod AnsweredLemmas
+pub mod RunLemmas
+pub mod SessionLemmas
