@@ -1,3 +1,4 @@
+pub mod CallerLemmas
 pub mod EncodingLemmas
 pub mod EqualityLemmas
 pub mod ReplyLemmas
