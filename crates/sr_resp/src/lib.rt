@@ -4,6 +4,8 @@
 mod code;
 mod encoding;
 mod reply;
+#[cfg(test)]
+mod reply_tests;
 mod send;
 
 pub use code::{ErrCode, Word};
