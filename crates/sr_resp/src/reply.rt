@@ -127,7 +127,7 @@ impl Reply {
         }
     }
 
-    /// An array of these items, of which there are few. An `Err` drops them.
+    /// An array of these items. An `Err` drops them.
     pub fn array<const N: usize>(alloc: Global, items: [Reply; N]) -> Result<Reply, AllocError>
         requires { N ≤ 64 }
         ensures { IfOk result (λ r. r ≡ array_of items.entry) }
