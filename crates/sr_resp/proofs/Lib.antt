@@ -1,3 +1,4 @@
+pub mod CallerLemmas
 pub mod Choice
 pub mod EncodingLemmas
 pub mod EqualityLemmas

@@ -6,6 +6,8 @@ mod encoding;
 mod parse;
 mod reader;
 mod reply;
+#[cfg(test)]
+mod reply_tests;
 mod send;
 
 pub use code::{ErrCode, Word};

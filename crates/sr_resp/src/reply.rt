@@ -54,7 +54,7 @@ impl Model for Reply {
 }
 
 impl Reply {
-    ghost use Rattle.std.specs.Prelude.{◌≡◌, ◌↔◌, ◌∷◌, [], ◌++◌, List, IsTrue, IfOk, OnOk, OnErr};
+    ghost use Rattle.std.specs.Prelude.{◌≡◌, ◌≤◌, ◌∷◌, [], ◌++◌, List, IfOk, OnOk, OnErr};
     ghost use Rattle.sr_resp.specs.Reply.{Answer, IsReply, IsArray, simple_string, error_reply, integer, bulk_string, null_string, null_array, array_of};
 
     /// A simple string. It takes no memory.
@@ -125,6 +125,18 @@ impl Reply {
             first: Part::Array(0),
             others: Vec::new(alloc),
         }
+    }
+
+    /// An array of these items. An `Err` drops them.
+    pub fn array<const N: usize>(alloc: Global, items: [Reply; N]) -> Result<Reply, AllocError>
+        requires { N ≤ 64 }
+        ensures { IfOk result (λ r. r ≡ array_of items.entry) }
+    {
+        let mut array = Reply::empty_array(alloc);
+        for item in items {
+            array.push(item)?;
+        }
+        Ok(array)
     }
 
     /// Adds an item at the end of an array. An `Err` drops the item and leaves the array as it was.

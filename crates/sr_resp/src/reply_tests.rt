@@ -1,0 +1,205 @@
+// What no clause says: the bytes that a client reads, and what a writer that fails was given.
+use crate::{ErrCode, Reply, SendFault, Word, WriteTo, append_reply, encode, send_all};
+use sr_bytes::Name;
+use std::alloc::{AllocError, Global};
+use std::io::{self, ErrorKind, Write};
+use std::test::Fail;
+
+#[test]
+fn each_error_is_spelled_as_its_page_says(rt: HostRuntime) -> Result<(), Fail> {
+    let rows = [
+        (ErrCode::Unknown, "-ERR unknown command\r\n"),
+        (ErrCode::Arity, "-ERR wrong number of arguments\r\n"),
+        (ErrCode::Syntax, "-ERR syntax error\r\n"),
+        (
+            ErrCode::Number,
+            "-ERR value is not an integer or out of range\r\n",
+        ),
+        (
+            ErrCode::BadId,
+            "-ERR Invalid stream ID specified as stream command argument\r\n",
+        ),
+        (ErrCode::Protocol, "-ERR Protocol error\r\n"),
+        (
+            ErrCode::IdZero,
+            "-ERR The ID specified in XADD must be greater than 0-0\r\n",
+        ),
+        (
+            ErrCode::IdSmall,
+            "-ERR The ID specified in XADD is equal or smaller than the target stream top item\r\n",
+        ),
+        (
+            ErrCode::Exhausted,
+            "-ERR The stream has exhausted the last possible ID, unable to add more items\r\n",
+        ),
+        (ErrCode::NoKey, "-ERR no such key\r\n"),
+        (
+            ErrCode::NoGroup,
+            "-NOGROUP no such key or consumer group\r\n",
+        ),
+        (
+            ErrCode::BusyGroup,
+            "-BUSYGROUP Consumer Group name already exists\r\n",
+        ),
+        (ErrCode::Memory, "-OOM out of memory\r\n"),
+        (ErrCode::Full, "-OOM history is full\r\n"),
+        (
+            ErrCode::Stale,
+            "-STALE the group changed while the plan was made\r\n",
+        ),
+        (
+            ErrCode::TooMany,
+            "-TOOMANY more than 4096 stranded entries\r\n",
+        ),
+    ];
+    for (code, spelling) in rows {
+        let text = encode(rt.alloc(), &Reply::error(rt.alloc(), code))?;
+        assert_eq!(rt; text.as_slice(), spelling.as_bytes(), "at {code:?}");
+    }
+    Ok(())
+}
+
+#[test]
+fn each_kind_of_reply_is_spelled_as_resp_says(rt: HostRuntime) -> Result<(), Fail> {
+    let alloc = rt.alloc();
+    let rows = [
+        (Reply::simple(alloc, Word::Ok), "+OK\r\n"),
+        (Reply::simple(alloc, Word::Pong), "+PONG\r\n"),
+        (Reply::int(alloc, 0), ":0\r\n"),
+        (Reply::int(alloc, i64::MIN), ":-9223372036854775808\r\n"),
+        (bulk(alloc, b"")?, "$0\r\n\r\n"),
+        (bulk(alloc, b"\r\n")?, "$2\r\n\r\n\r\n"),
+        (Reply::null_bulk(alloc), "$-1\r\n"),
+        (Reply::no_array(alloc), "*-1\r\n"),
+        (Reply::empty_array(alloc), "*0\r\n"),
+    ];
+    for (reply, spelling) in rows.iter() {
+        let text = encode(alloc, reply)?;
+        assert_eq!(rt; text.as_slice(), spelling.as_bytes());
+    }
+    Ok(())
+}
+
+#[test]
+fn an_array_of_entries_is_spelled_item_by_item(rt: HostRuntime) -> Result<(), Fail> {
+    let entries = entries(rt.alloc())?;
+    let text = encode(rt.alloc(), &entries)?;
+    let spelling = "*1\r\n*2\r\n$3\r\n1-1\r\n*2\r\n$1\r\na\r\n$1\r\nb\r\n";
+    assert_eq!(rt; text.as_slice(), spelling.as_bytes());
+    Ok(())
+}
+
+#[test]
+fn a_copy_is_equal_and_another_reply_is_not(rt: HostRuntime) -> Result<(), Fail> {
+    let entries = entries(rt.alloc())?;
+    let copy = entries.copy(rt.alloc())?;
+    assert!(rt; copy == entries);
+    assert!(rt; Reply::null_bulk(rt.alloc()) != Reply::no_array(rt.alloc()));
+    Ok(())
+}
+
+#[test]
+fn replies_are_appended_one_behind_the_other(rt: HostRuntime) -> Result<(), Fail> {
+    let mut out = Vec::new(rt.alloc());
+    append_reply(&mut out, &Reply::simple(rt.alloc(), Word::Pong))?;
+    append_reply(&mut out, &Reply::int(rt.alloc(), 7))?;
+    assert_eq!(rt; out.as_slice(), b"+PONG\r\n:7\r\n".as_slice());
+    Ok(())
+}
+
+#[test]
+fn a_failed_write_tells_how_much_was_sent(rt: HostRuntime) {
+    let turns = [Turn::Takes(3), Turn::Fails, Turn::Takes(4)];
+    let mut writer = Scripted::new(rt.alloc(), &turns);
+    assert_eq!(rt;
+        send_all(&mut WriteTo::new(&mut writer), b"+PONG\r\n"),
+        Err(SendFault { sent: 3 })
+    );
+    assert_eq!(rt; writer.got.as_slice(), b"+PO".as_slice());
+}
+
+#[test]
+fn a_write_of_no_bytes_is_not_tried_again(rt: HostRuntime) {
+    let turns = [Turn::Takes(3), Turn::Takes(0), Turn::Takes(4)];
+    let mut writer = Scripted::new(rt.alloc(), &turns);
+    assert_eq!(rt;
+        send_all(&mut WriteTo::new(&mut writer), b"+PONG\r\n"),
+        Err(SendFault { sent: 3 })
+    );
+    assert_eq!(rt; writer.got.as_slice(), b"+PO".as_slice());
+}
+
+#[test]
+fn an_interrupted_write_is_tried_again(rt: HostRuntime) {
+    let turns = [
+        Turn::Interrupted,
+        Turn::Takes(3),
+        Turn::Interrupted,
+        Turn::Takes(9),
+    ];
+    let mut writer = Scripted::new(rt.alloc(), &turns);
+    assert_eq!(rt; send_all(&mut WriteTo::new(&mut writer), b"+PONG\r\n"), Ok(()));
+    assert_eq!(rt; writer.got.as_slice(), b"+PONG\r\n".as_slice());
+}
+
+#[test]
+fn no_bytes_need_no_write(rt: HostRuntime) {
+    let mut writer = Scripted::new(rt.alloc(), &[]);
+    assert_eq!(rt; send_all(&mut WriteTo::new(&mut writer), b""), Ok(()));
+}
+
+/// The reply to XRANGE of a stream with the one entry 1-1, whose field a has the value b.
+fn entries(alloc: Global) -> Result<Reply, AllocError> {
+    let fields = Reply::array(alloc, [bulk(alloc, b"a")?, bulk(alloc, b"b")?])?;
+    let entry = Reply::array(alloc, [bulk(alloc, b"1-1")?, fields])?;
+    let mut entries = Reply::empty_array(alloc);
+    entries.push(entry)?;
+    Ok(entries)
+}
+
+fn bulk(alloc: Global, bytes: &[u8]) -> Result<Reply, AllocError> {
+    Ok(Reply::bulk(alloc, Name::new(Vec::from_slice(alloc, bytes)?)))
+}
+
+/// What a writer does at one write.
+#[derive(Clone, Copy)]
+enum Turn {
+    /// It takes so many bytes at most.
+    Takes(usize),
+    Interrupted,
+    Fails,
+}
+
+/// A writer that takes its turns one by one, and fails behind the last.
+#[derive(Drop)]
+struct Scripted<'a> {
+    got: Vec<u8>,
+    turns: std::slice::Iter<'a, Turn>,
+}
+
+impl<'a> Scripted<'a> {
+    fn new(alloc: Global, turns: &'a [Turn]) -> Scripted<'a> {
+        Scripted {
+            got: Vec::new(alloc),
+            turns: turns.iter(),
+        }
+    }
+}
+
+impl Write for Scripted<'_> {
+    fn write(&mut self, bytes: &[u8]) -> io::Result<usize> {
+        match self.turns.next() {
+            Some(Turn::Takes(most)) => {
+                let taken = bytes.len().min(*most);
+                self.got.extend_from_slice(&bytes[..taken])?;
+                Ok(taken)
+            }
+            Some(Turn::Interrupted) => Err(io::Error::from(ErrorKind::Interrupted)),
+            Some(Turn::Fails) | None => Err(io::Error::from(ErrorKind::BrokenPipe)),
+        }
+    }
+
+    fn flush(&mut self) -> io::Result<()> {
+        Ok(())
+    }
+}
