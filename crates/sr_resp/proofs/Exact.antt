@@ -1,7 +1,6 @@
 -- Readers that are exact for what texts mean. What they read is such a text, and such a text is read. Where they refuse,
 -- no such text comes, and where they wait, one can come. Two of them in a row are exact for two texts in a row.
 use Rattle.std.proofs.Common.{◌≡◌, ◌≢◌, ◌⊎◌, inl, inr, List, [], ◌∷◌, ◌++◌, Result, Ok, Err, ℕ, refl, sym, ap, subst, ◌∙◌, append_assoc}
-use Rattle.std.proofs.lemmas.List.{append-nil}
 use Rattle.sr_resp.specs.Reading.{Halt, More, Bad, ◌>>=◌}
 
 -- a text with this meaning at the front, and what is behind it

@@ -1,13 +1,13 @@
 -- The parts of a request that are read in one go: a text, a number's line, and so many bytes.
-use Rattle.std.proofs.Common.{lit<, lit≤, ◌≡◌, ◌≢◌, ◌⊎◌, inl, inr, ℕ, zero, suc, ◌+◌, ◌-◌, ◌*◌, ◌<◌, ◌≤◌, Bool, true, false, cond, eqb, ltb, List, [], ◌∷◌, ◌++◌, length, take, drop, Result, Ok, Err, codes, refl, sym, ap, subst, ◌∙◌, arith}
-use Rattle.std.proofs.lemmas.Bool.{cases_lt, cases_eq, ltb-true, ltb-false, eqb-true, eqb-false, eq-eqb, ne_eqb, lt-ltb, le-ltb}
-use Rattle.std.proofs.lemmas.List.{append_assoc, append-nil, length-append, length-take, length-replicate, take-append-drop, take_at, drop_at}
+use Rattle.std.proofs.Common.{lit<, lit≤, ◌≡◌, ◌≢◌, ◌⊎◌, inl, inr, ℕ, ◌+◌, ◌-◌, ◌*◌, ◌<◌, ◌≤◌, Bool, true, false, cond, eqb, ltb, List, [], ◌∷◌, ◌++◌, length, take, drop, Result, Ok, Err, refl, sym, ap, ◌∙◌, arith}
+use Rattle.std.proofs.lemmas.Bool.{cases_lt, cases_eq, ltb-true, ltb-false, eqb-true, eqb-false, eq-eqb, le-ltb}
+use Rattle.std.proofs.lemmas.List.{length-append, length-take, length-replicate, take-append-drop, take_at, drop_at}
 use Rattle.std.proofs.Math.ListN.{replicate}
 use Rattle.std.specs.Char.{digit_value}
 use Rattle.std.specs.Str.Parse.{AllDigits, digits_value_after}
 use Rattle.sr_resp.specs.Reply.{line_end}
-use Rattle.sr_resp.specs.Reading.{Halt, More, Bad, ◌>>=◌, literal_at, digits_at, bytes_at}
-use Rattle.sr_resp.proofs.Exact.{Front, Lacks, Example, Exact, bind_ok, bind_err, same_read, done_at}
+use Rattle.sr_resp.specs.Reading.{Halt, More, Bad, literal_at, digits_at, bytes_at}
+use Rattle.sr_resp.proofs.Exact.{Front, Lacks, Exact, bind_ok, bind_err, same_read, done_at}
 use Rattle.sr_resp.proofs.ReadingSteps.{step_digit, step_too_many, step_none, step_end}
 
 -- ---- a text

@@ -1,17 +1,16 @@
 -- The parser reads requests, and empty commands, exactly as they are spelled.
-use Rattle.std.proofs.Common.{lit<, lit≤, ◌≡◌, ◌≢◌, ◌⊎◌, inl, inr, ℕ, zero, suc, ◌+◌, ◌-◌, ◌<◌, ◌≤◌, min, Bool, true, false, cond, eqb, List, [], ◌∷◌, ◌++◌, length, Option, Some, None, Result, Ok, Err, codes, sum_by, refl, sym, ap, subst, ◌∙◌, arith}
+use Rattle.std.proofs.Common.{◌≡◌, ◌⊎◌, inl, inr, ℕ, ◌<◌, List, [], ◌∷◌, ◌++◌, length, Option, Some, None, Result, codes, refl, sym, ap, subst, ◌∙◌, arith}
 use Rattle.std.proofs.lemmas.Bool.{cases_eq, eq-eqb, ne_eqb}
 use Rattle.std.proofs.lemmas.List.{append_assoc, append-nil}
-use Rattle.std.proofs.lemmas.List.Sums.{sum_by-cons}
 use Rattle.std.specs.Char.{digit_value}
 use Rattle.std.specs.Str.Parse.{AllDigits}
 use Rattle.sr_bytes.specs.Decimal.{IsDecimal}
 use Rattle.sr_resp.specs.Reply.{line_end}
-use Rattle.sr_resp.specs.Request.{Words, header, IsWord, AreWords, IsRequest, IsEmpty, Spells}
-use Rattle.sr_resp.specs.Reading.{Halt, More, Bad, ◌>>=◌, literal_at, digits_at, bytes_at, word_at, words_at, counted_at, numbered_at, array_at, item_at}
-use Rattle.sr_resp.proofs.Exact.{Front, Lacks, Example, Exact, Joined, joined, exact_as, exact_along, IsDone, done, done_at, then_at}
-use Rattle.sr_resp.proofs.Choice.{Choice, choice, choose_at, Either, BeginsWith, BeginsWithOther}
-use Rattle.sr_resp.proofs.Parts.{IsText, literal_exact, AreBytes, bytes_exact, IsLine, line_exact}
+use Rattle.sr_resp.specs.Request.{Words, Spells}
+use Rattle.sr_resp.specs.Reading.{Halt, literal_at, digits_at, words_at, counted_at, numbered_at, array_at, item_at}
+use Rattle.sr_resp.proofs.Exact.{Exact, Joined, joined, exact_as, exact_along, IsDone, done, done_at, then_at}
+use Rattle.sr_resp.proofs.Choice.{choice, choose_at, Either, BeginsWith, BeginsWithOther}
+use Rattle.sr_resp.proofs.Parts.{IsText, literal_exact, IsLine, line_exact}
 use Rattle.sr_resp.proofs.WordGrammar.{line_decimal, decimal_line, AreWordsIn, words_exact}
 
 -- ---- behind the number of words

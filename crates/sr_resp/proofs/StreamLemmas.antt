@@ -1,13 +1,12 @@
 -- Streams, read request by request.
-use Rattle.std.proofs.Common.{◌≡◌, ◌≢◌, ◌⊎◌, inl, inr, ℕ, suc, ◌+◌, ◌<◌, Bool, true, false, List, [], ◌∷◌, ◌++◌, length, Option, Some, None, Result, Ok, Err, codes, refl, sym, ap, subst, ◌∙◌, arith}
+use Rattle.std.proofs.Common.{◌≡◌, ◌⊎◌, inl, inr, ℕ, ◌<◌, Bool, true, false, List, [], ◌∷◌, ◌++◌, length, Option, Some, None, Result, Ok, Err, codes, refl, sym, ap, subst, ◌∙◌, arith}
 use Rattle.std.specs.Prelude.{MatchBool, OnOk}
 use Rattle.std.specs.Result.{is_ok}
 use Rattle.std.proofs.lemmas.Bool.{MatchBool-at_false}
 use Rattle.std.proofs.lemmas.List.{append_assoc, append-nil, append_cancel_left, append_cancel_right, length-append, nil_from_length}
-use Rattle.sr_resp.specs.Reply.{line_end}
-use Rattle.sr_resp.specs.Request.{Words, header, IsRequest, IsEmpty, Spells}
+use Rattle.sr_resp.specs.Request.{Words, header, Spells}
 use Rattle.sr_resp.specs.Stream.{AreSpelled, requests_in, Splits, IsPartial, IsFault, Progress, Stands, Advances}
-use Rattle.sr_resp.specs.Reading.{Halt, More, Bad, item_at, Parses, Sorts}
+use Rattle.sr_resp.specs.Reading.{More, Bad, item_at, Parses, Sorts}
 use Rattle.sr_resp.proofs.Exact.{same_read, nil_left}
 use Rattle.sr_resp.proofs.RequestGrammar.{item_exact}
 

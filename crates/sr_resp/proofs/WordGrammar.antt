@@ -1,14 +1,12 @@
 -- The parser reads words exactly as they are spelled.
-use Rattle.std.proofs.Common.{lit<, lit≤, ◌≡◌, ◌≢◌, ◌⊎◌, inl, inr, ℕ, zero, suc, ◌+◌, ◌-◌, ◌<◌, ◌≤◌, min, Bool, true, false, cond, eqb, List, [], ◌∷◌, ◌++◌, length, Option, Some, None, Result, Ok, Err, codes, sum_by, refl, sym, ap, subst, ◌∙◌, arith}
-use Rattle.std.proofs.lemmas.Bool.{cases_eq, eq-eqb, ne_eqb}
+use Rattle.std.proofs.Common.{◌≡◌, ℕ, zero, suc, ◌+◌, ◌-◌, ◌≤◌, min, List, [], ◌∷◌, ◌++◌, length, codes, sum_by, refl, sym, ap, subst, ◌∙◌, arith}
 use Rattle.std.proofs.lemmas.List.{append_assoc, append-nil}
 use Rattle.std.proofs.lemmas.List.Sums.{sum_by-cons}
 use Rattle.sr_bytes.specs.Decimal.{IsDecimal}
 use Rattle.sr_resp.specs.Reply.{line_end}
-use Rattle.sr_resp.specs.Request.{Words, header, IsWord, AreWords, IsRequest, IsEmpty, Spells}
-use Rattle.sr_resp.specs.Reading.{Halt, More, Bad, ◌>>=◌, literal_at, digits_at, bytes_at, word_at, words_at, counted_at, numbered_at, array_at, item_at}
-use Rattle.sr_resp.proofs.Exact.{Front, Lacks, Example, Exact, Joined, joined, exact_as, IsDone, done, done_at, then_at}
-use Rattle.sr_resp.proofs.Choice.{Choice, choice, choose_at, Either, BeginsWith, BeginsWithOther}
+use Rattle.sr_resp.specs.Request.{Words, IsWord, AreWords}
+use Rattle.sr_resp.specs.Reading.{literal_at, digits_at, bytes_at, word_at, words_at}
+use Rattle.sr_resp.proofs.Exact.{Exact, Joined, joined, exact_as, IsDone, done, done_at, then_at}
 use Rattle.sr_resp.proofs.Parts.{IsText, literal_exact, AreBytes, bytes_exact, IsLine, line_exact}
 
 pub line_decimal : (most n : ℕ) (text : List ℕ) (line : IsLine most 0 0 text n) → IsDecimal 10 line.digits n

@@ -45,7 +45,7 @@ struct Parsed<'a> {
     /// The bytes behind them.
     rest: &'a [u8],
     /// Whether no request can come there, however the bytes go on.
-    failed: bool,
+    fault: bool,
 }
 
 impl Reader {
@@ -82,9 +82,10 @@ impl Reader {
             return Err(ReadFault::Memory);
         }
         if self.failed {
-            return Err(ReadFault::Protocol);
+            Err(ReadFault::Protocol)
+        } else {
+            Ok(())
         }
-        Ok(())
     }
 
     /// Lets the requests wait that stand whole among the bytes of the rest.
@@ -95,17 +96,17 @@ impl Reader {
         let Parsed {
             mut requests,
             rest,
-            failed,
+            fault,
         } = parse_all(alloc, self.rest.as_slice())?;
         // A long request comes in many pieces: until it is whole, its bytes stay where they are.
         if rest.len() == self.rest.len() {
-            self.failed = failed;
+            self.failed = fault;
             return Ok(());
         }
         let rest = Vec::from_slice(alloc, rest)?;
         self.waiting.append(&mut requests)?;
         self.rest = rest;
-        self.failed = failed;
+        self.failed = fault;
         Ok(())
     }
 
@@ -123,7 +124,7 @@ impl Reader {
 
 /// The requests that stand whole at the front of the bytes, and what is behind them.
 fn parse_all(alloc: Global, bytes: &[u8]) -> Result<Parsed<'_>, AllocError>
-    ensures { IfOk result (λ p. Parses bytes.now p.requests.items p.rest.now p.failed) }
+    ensures { IfOk result (λ p. Parses bytes.now p.requests.items p.rest.now p.fault) }
 {
     let mut requests = VecDeque::new(alloc);
     let mut rest = bytes;
@@ -134,14 +135,14 @@ fn parse_all(alloc: Global, bytes: &[u8]) -> Result<Parsed<'_>, AllocError>
                 return Ok(Parsed {
                     requests,
                     rest,
-                    failed: false,
+                    fault: false,
                 });
             }
             Err(Stop::Bad) => {
                 return Ok(Parsed {
                     requests,
                     rest,
-                    failed: true,
+                    fault: true,
                 });
             }
             Err(Stop::Memory) => return Err(AllocError),
@@ -176,22 +177,24 @@ impl From<AllocError> for ReadFault {
 mod tests {
     use super::*;
 
+    /// Feeds a piece, and feeds it again if memory ran out: the reader is then as it was before.
+    fn feed(alloc: Global, reader: &mut Reader, piece: &[u8]) -> Result<(), ReadFault> {
+        match reader.feed(alloc, piece) {
+            Err(ReadFault::Memory) => reader.feed(alloc, piece),
+            taken => taken,
+        }
+    }
+
     /// Feeds the bytes one by one. Gives the place of the first byte that was refused.
     fn place_of_fault(alloc: Global, reader: &mut Reader, bytes: &[u8]) -> Option<usize> {
         bytes
             .iter()
-            .position(|byte| reader.feed(alloc, &[*byte]).is_err())
+            .position(|byte| feed(alloc, reader, &[*byte]).is_err())
     }
 
-    /// How many requests wait, which are handed out.
+    /// How many requests wait, up to ten. They are handed out.
     fn count(reader: &mut Reader) -> usize {
-        let mut requests = 0;
-        for _ in 0..100 {
-            if reader.next_request().is_some() {
-                requests += 1;
-            }
-        }
-        requests
+        (0..10).filter(|_| reader.next_request().is_some()).count()
     }
 
     #[test]
@@ -221,19 +224,13 @@ mod tests {
         ];
         for (bytes, fault, requests) in rows {
             let mut reader = Reader::new(alloc);
-            assert_eq!(rt;
-                place_of_fault(alloc, &mut reader, bytes),
-                fault,
-                "at {bytes:?}"
-            );
+            let found = place_of_fault(alloc, &mut reader, bytes);
+            assert_eq!(rt; found, fault, "at {bytes:?}");
             assert_eq!(rt; count(&mut reader), requests, "at {bytes:?}");
 
             let mut whole = Reader::new(alloc);
-            assert_eq!(rt;
-                whole.feed(alloc, bytes).is_err(),
-                fault.is_some(),
-                "at {bytes:?}"
-            );
+            let refused = feed(alloc, &mut whole, bytes).is_err();
+            assert_eq!(rt; refused, fault.is_some(), "at {bytes:?}");
             assert_eq!(rt; count(&mut whole), requests, "at {bytes:?}");
         }
     }
@@ -245,38 +242,44 @@ mod tests {
         for cut in 0..=bytes.len() {
             let (front, behind) = bytes.as_slice().split_at(cut);
             let mut reader = Reader::new(alloc);
-            assert!(rt; reader.feed(alloc, front).is_ok(), "cut at {cut}");
-            assert!(rt; reader.feed(alloc, behind).is_ok(), "cut at {cut}");
-            let Some(ping) = reader.next_request() else {
-                panic!(rt; "no request, cut at {cut}");
+            assert!(rt; feed(alloc, &mut reader, front).is_ok(), "cut at {cut}");
+            assert!(rt; feed(alloc, &mut reader, behind).is_ok(), "cut at {cut}");
+            let (Some(ping), Some(get)) = (reader.next_request(), reader.next_request()) else {
+                panic!(rt; "fewer than two requests, cut at {cut}");
             };
+            assert!(rt; reader.next_request().is_none());
             assert_eq!(rt; ping.len(), 1);
             assert!(rt; ping[0].as_slice() == b"ping".as_slice());
-            let Some(get) = reader.next_request() else {
-                panic!(rt; "one request, cut at {cut}");
-            };
             assert_eq!(rt; get.len(), 2);
             assert!(rt; get[0].as_slice() == b"GET".as_slice());
             assert!(rt; get[1].as_slice() == b"\r\n".as_slice());
-            assert!(rt; reader.next_request().is_none());
         }
+    }
+
+    /// The front of a request with 16 words of 1,048,576 bytes, and the header of one word more.
+    fn long_request(alloc: Global, header: &[u8]) -> Result<Vec<u8>, AllocError> {
+        let word = Vec::from_elem(alloc, b'a', 1_048_576)?;
+        let mut bytes = Vec::from_slice(alloc, b"*17\r\n")?;
+        for _ in 0..16 {
+            bytes.extend_from_slice(b"$1048576\r\n")?;
+            bytes.extend_from_slice(word.as_slice())?;
+            bytes.extend_from_slice(b"\r\n")?;
+        }
+        bytes.extend_from_slice(header)?;
+        Ok(bytes)
     }
 
     #[test]
     fn holds_at_most_16_mebibytes_of_words(rt: HostRuntime) {
         let alloc = rt.alloc();
-        let mut word = Vec::new(alloc);
-        assert!(rt; word.extend_from_slice(b"$1048576\r\n").is_ok());
-        assert!(rt; word.resize(1_048_586, b'a').is_ok());
-        assert!(rt; word.extend_from_slice(b"\r\n").is_ok());
-        for (last, taken) in [(b"$0", true), (b"$1", false)] {
+        for (header, passes) in [(b"$0", true), (b"$1", false)] {
+            let Ok(bytes) = long_request(alloc, header).or_else(|_| long_request(alloc, header))
+            else {
+                panic!(rt; "no memory for the request");
+            };
             let mut reader = Reader::new(alloc);
-            assert!(rt; reader.feed(alloc, b"*17\r\n").is_ok());
-            for _ in 0..16 {
-                assert!(rt; reader.feed(alloc, word.as_slice()).is_ok());
-            }
-            assert!(rt; reader.feed(alloc, b"$").is_ok());
-            assert_eq!(rt; reader.feed(alloc, &last[1..]).is_ok(), taken);
+            let taken = feed(alloc, &mut reader, bytes.as_slice()).is_ok();
+            assert_eq!(rt; taken, passes);
         }
     }
 }

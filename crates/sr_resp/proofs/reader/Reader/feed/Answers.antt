@@ -1,13 +1,22 @@
 use Rattle.std.proofs.Common.{◌∙◌, refl, sym, ap}
-use Rattle.sr_resp.specs.Stream.{Progress}
+use Rattle.sr_resp.specs.Stream.{Progress, Advances}
 use Rattle.sr_resp.proofs.StreamLemmas.{fields_advance, at_ok}
 use Rattle.sr_resp.proofs.reader.Reader.feed.Goals as goal
+use Rattle.sr_resp.proofs.reader.Reader.feed.Goals.{then-self-2, else-self-2}
 
-pub returns-then-self-2-clause-protocol : goal.returns-then-self-2-clause-protocol
-returns-then-self-2-clause-protocol c = λ _. (
-  sym (ap (λ (p : Progress). p.failed) c.self-2.view_is) ∙ c.if-self-2.true,
-  fields_advance _ _ _ _ _ _ _ c.self.view_is c.if-self.false (c.extend_from_slice.ensures.items ∙ rw c.if-is_err.ensures.negation refl) (at_ok c.sort_out.result _ c.if-is_err-2.ensures.negation c.sort_out.ensures.ok),
-)
+advances : (c : goal.Joined-self-2) → Advances c.args.self.now c.sort_out.new.self c.args.piece.now
+advances c = fields_advance _ _ _ _ _ _ _ c.self.view_is c.if-self.false (c.extend_from_slice.ensures.items ∙ rw c.if-is_err.ensures.negation refl) (at_ok c.sort_out.result _ c.if-is_err-2.ensures.negation c.sort_out.ensures.ok)
+
+pub returns-clause-protocol : goal.returns-clause-protocol
+returns-clause-protocol c = λ is.
+    elim c.if-self-2.branch [
+      | then-self-2 w ↦ (sym (ap (λ (p : Progress). p.failed) c.self-2.view_is) ∙ w.if-self-2.true, advances c)
+      | else-self-2 w ↦ absurd cc
+    ]
 
 pub returns-clause-advances : goal.returns-clause-advances
-returns-clause-advances c = fields_advance _ _ _ _ _ _ _ c.self.view_is c.if-self.false (c.extend_from_slice.ensures.items ∙ rw c.if-is_err.ensures.negation refl) (at_ok c.sort_out.result _ c.if-is_err-2.ensures.negation c.sort_out.ensures.ok)
+returns-clause-advances c =
+    elim c.if-self-2.branch [
+      | then-self-2 w ↦ rw w.result-is tt
+      | else-self-2 w ↦ rw w.result-is (advances c)
+    ]
