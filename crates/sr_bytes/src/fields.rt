@@ -40,7 +40,7 @@ impl Fields {
         ensures { IfOk result (λ f. f ≡ self.now) }
     {
         let mut pairs = Vec::with_capacity(alloc, self.pairs.len())?;
-        for (field, value) in self.pairs.as_slice() {
+        for (field, value) in self.as_slice() {
             let field = field.copy(alloc)?;
             let value = value.copy(alloc)?;
             pairs.push((field, value))?;

@@ -9,3 +9,6 @@ mod name;
 pub use decimal::read_decimal;
 pub use fields::Fields;
 pub use name::Name;
+
+#[cfg(test)]
+mod tests;
