@@ -1,7 +1,7 @@
 -- Requests, and how RESP2 spells them: an array of bulk strings, with limits on its size.
 -- Source: RESP2 protocol specification, "Sending commands to a Redis server", "Arrays" and "Bulk strings".
 
-use Rattle.std.specs.Prelude.{◌≡◌, ◌≢◌, ℕ, ◌<◌, ◌≤◌, ◌⊎◌, List, [], ◌∷◌, ◌++◌, Option, Some, None, length, codes, sum_by}
+use Rattle.std.specs.Prelude.{◌≡◌, ℕ, ◌<◌, ◌≤◌, ◌⊎◌, List, [], ◌∷◌, ◌++◌, Option, Some, None, length, codes, sum_by}
 use Rattle.sr_bytes.specs.Decimal.{IsDecimal}
 use Rattle.sr_resp.specs.Reply.{line_end}
 

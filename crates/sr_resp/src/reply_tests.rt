@@ -138,7 +138,10 @@ fn an_interrupted_write_is_tried_again(rt: HostRuntime) {
         Turn::Takes(9),
     ];
     let mut writer = Scripted::new(rt.alloc(), &turns);
-    assert_eq!(rt; send_all(&mut WriteTo::new(&mut writer), b"+PONG\r\n"), Ok(()));
+    assert_eq!(rt;
+        send_all(&mut WriteTo::new(&mut writer), b"+PONG\r\n"),
+        Ok(())
+    );
     assert_eq!(rt; writer.got.as_slice(), b"+PONG\r\n".as_slice());
 }
 

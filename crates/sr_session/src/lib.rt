@@ -10,4 +10,4 @@ mod source;
 pub use clock::Clock;
 pub use run::{End, run_session};
 pub use session::{Session, SessionFault};
-pub use source::{ReadFrom, ReadFailed, Source};
+pub use source::{ReadFailed, ReadFrom, Source};
