@@ -2,7 +2,7 @@
 use Rattle.std.proofs.Common.{◌≡◌, ◌⊎◌, inl, inr, ℕ, cond, eqb, List, [], ◌∷◌, ◌++◌, Result, Ok, Err, refl, sym, ap, ◌∙◌}
 use Rattle.std.proofs.lemmas.Bool.{cases_eq, eq-eqb, ne_eqb}
 use Rattle.sr_resp.specs.Reading.{Halt, More, Bad}
-use Rattle.sr_resp.proofs.Exact.{Front, Lacks, Exact}
+use Rattle.sr_resp.proofs.Exact.{Front, Lacks, Exact, ok_or_err, more_or_bad}
 
 abbrev pub choose_at : {X : Type 0} → ℕ → (List ℕ → Result (X × List ℕ) Halt) → (List ℕ → Result (X × List ℕ) Halt) → List ℕ → Result (X × List ℕ) Halt
 choose_at c r s [] = s []
@@ -37,15 +37,9 @@ chosen_one c b bytes r s e = rw (eq-eqb b c e) refl
 chosen_two : {X : Type 0} (c b : ℕ) (bytes : List ℕ) (r s : List ℕ → Result (X × List ℕ) Halt) → (b ≡ c → ⊥) → choose_at c r s (b ∷ bytes) ≡ s (b ∷ bytes)
 chosen_two c b bytes r s ne = rw (ne_eqb b c ne) refl
 
-more_is_not : {A : Type 0} (r : Result A Halt) (x : A) → r ≡ Err More → r ≡ Ok x → ⊥
-more_is_not r x p q = cc
-
-more_is_not_bad : {A : Type 0} (r : Result A Halt) → r ≡ Err More → r ≡ Err Bad → ⊥
-more_is_not_bad r p q = cc
-
 choice_reads : (X : Type 0) (c : ℕ) (R S : List ℕ → X → Type 0) (r s : List ℕ → Result (X × List ℕ) Halt) → Choice X c R S r s
     → (bytes : List ℕ) (x : X) (rest : List ℕ) → choose_at c r s bytes ≡ Ok (x, rest) → Front X (Either X R S) bytes x rest
-choice_reads X c R S r s h [] x rest e = absurd (more_is_not (s []) (x, rest) h.waits e)
+choice_reads X c R S r s h [] x rest e = absurd (ok_or_err (s []) (x, rest) More e h.waits)
 choice_reads X c R S r s h (b ∷ bytes) x rest e =
     elim (cases_eq b c) [
       | inl same ↦ let f = h.one.reads (b ∷ bytes) x rest (sym (chosen_one c b bytes r s same) ∙ e) in record { front = f.front; is = inl f.is; whole = f.whole }
@@ -65,7 +59,7 @@ choice_again X c R S r s h front x rest (inr q) =
 
 choice_refuses : (X : Type 0) (c : ℕ) (R S : List ℕ → X → Type 0) (r s : List ℕ → Result (X × List ℕ) Halt) → Choice X c R S r s
     → (bytes : List ℕ) → choose_at c r s bytes ≡ Err Bad → (more text after : List ℕ) (x : X) → Either X R S text x → bytes ++ more ≡ text ++ after → ⊥
-choice_refuses X c R S r s h [] e more text after x q same = more_is_not_bad (s []) h.waits e
+choice_refuses X c R S r s h [] e more text after x q same = more_or_bad (s []) h.waits e
 choice_refuses X c R S r s h (b ∷ bytes) e more text after x (inl q) same =
     let begins = h.one_begins text x q in
     let whole : b ∷ (bytes ++ more) ≡ c ∷ (begins.behind ++ after) = same ∙ ap (λ (t : List ℕ). t ++ after) begins.spelled in

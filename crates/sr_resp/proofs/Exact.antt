@@ -48,6 +48,12 @@ same_read X x y u v r p q =
     let both : let a : X × List ℕ = (x, u) in let b : X × List ℕ = (y, v) in a ≡ b = cc in
     (ap (λ (a : X × List ℕ). a.0) both, ap (λ (a : X × List ℕ). a.1) both)
 
+pub ok_or_err : {A : Type 0} (r : Result A Halt) (x : A) (d : Halt) → r ≡ Ok x → r ≡ Err d → ⊥
+ok_or_err r x d p q = cc
+
+pub more_or_bad : {A : Type 0} (r : Result A Halt) → r ≡ Err More → r ≡ Err Bad → ⊥
+more_or_bad r p q = cc
+
 pub nil_left : (xs ys : List ℕ) → xs ++ ys ≡ [] → xs ≡ []
 nil_left [] ys e = refl
 nil_left (x ∷ xs) ys e = absurd cc

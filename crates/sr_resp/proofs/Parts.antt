@@ -7,7 +7,7 @@ use Rattle.std.specs.Char.{digit_value}
 use Rattle.std.specs.Str.Parse.{AllDigits, digits_value_after}
 use Rattle.sr_resp.specs.Reply.{line_end}
 use Rattle.sr_resp.specs.Reading.{Halt, More, Bad, literal_at, digits_at, bytes_at}
-use Rattle.sr_resp.proofs.Exact.{Front, Lacks, Exact, bind_ok, bind_err, same_read, done_at}
+use Rattle.sr_resp.proofs.Exact.{Front, Lacks, Exact, bind_ok, bind_err, same_read, done_at, ok_or_err, more_or_bad}
 use Rattle.sr_resp.proofs.ReadingSteps.{step_digit, step_too_many, step_none, step_end}
 
 -- ---- a text
@@ -166,12 +166,6 @@ step_of most count value b =
           ]
       | inr other ↦ elim (cases_eq count 0) [ inl none ↦ none_yet other none | inr some ↦ ends other some ]
     ]
-
-ok_or_err : {A : Type 0} (r : Result A Halt) (x : A) (d : Halt) → r ≡ Ok x → r ≡ Err d → ⊥
-ok_or_err r x d p q = cc
-
-more_or_bad : {A : Type 0} (r : Result A Halt) → r ≡ Err More → r ≡ Err Bad → ⊥
-more_or_bad r p q = cc
 
 digits_value_after-ge : (n : ℕ) (ds : List ℕ) → n ≤ digits_value_after 10 n ds
 digits_value_after-ge n [] = omega arith

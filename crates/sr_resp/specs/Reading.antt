@@ -1,5 +1,5 @@
--- Reading a request from the front of some bytes: the value and the bytes behind it, or why it stopped.
--- Nothing that callers see speaks of this; it mirrors the code, from which the definitions in Request are shown.
+-- What the parser's functions read at the front of some bytes: a value and the bytes behind it, or why they stop.
+-- No public contract speaks of this. The lemmas in proofs/ show that it is exact for the spellings in Request.
 
 use Rattle.std.specs.Prelude.{◌≡◌, ℕ, zero, suc, ◌+◌, ◌-◌, ◌*◌, List, [], ◌∷◌, ◌++◌, length, take, drop, Option, Some, None, Result, Ok, Err, nat_lt, nat_le, ◌==◌, ◌&&◌, if◌then◌else◌, codes, min, Bool, MatchBool}
 use Rattle.std.specs.Char.{digit_value}

@@ -6,7 +6,7 @@ ghost use Rattle.sr_resp.specs.declared.reader.ReadFault.TheVariants.{Memory};
 
 use crate::parse::{Request, Stop, item};
 use sr_bytes::Name;
-use std::alloc::{AllocError, AllocFailed, Global};
+use std::alloc::{AllocError, Global};
 use std::collections::VecDeque;
 use std::marker::Model;
 
@@ -20,13 +20,24 @@ pub enum ReadFault {
     Protocol,
 }
 
+impl From<AllocError> for ReadFault {
+    ghost from_gives = { λ _ e. e ≡ Memory };
+
+    fn from(_e: AllocError) -> ReadFault {
+        ReadFault::Memory
+    }
+}
+
 /// Reads the requests of a stream that comes in pieces of any size.
 ///
 /// Source: RESP2 protocol specification, "Sending commands to a Redis server".
 #[derive(Drop)]
 pub struct Reader {
+    /// The requests that stood whole and are not handed out yet, oldest first.
     waiting: VecDeque<Request>,
+    /// The bytes behind them.
     rest: Vec<u8>,
+    /// Whether the stream went wrong.
     failed: bool,
 }
 
@@ -74,9 +85,7 @@ impl Reader {
             return Err(ReadFault::Protocol);
         }
         let before = self.rest.len();
-        if self.rest.extend_from_slice(piece).is_err() {
-            return Err(ReadFault::Memory);
-        }
+        self.rest.extend_from_slice(piece)?;
         if self.sort_out(alloc).is_err() {
             self.rest.truncate(before);
             return Err(ReadFault::Memory);
@@ -88,7 +97,7 @@ impl Reader {
         }
     }
 
-    /// Lets the requests wait that stand whole among the bytes of the rest.
+    /// Moves the requests that stand whole at the front of the rest to those that wait.
     fn sort_out(&mut self, alloc: Global) -> Result<(), AllocError>
         ensures ok { OnOk result (Sorts self.old self.new) }
         ensures err { OnErr result (self.new ≡ self.old) }
@@ -98,7 +107,7 @@ impl Reader {
             rest,
             fault,
         } = parse_all(alloc, self.rest.as_slice())?;
-        // A long request comes in many pieces: until it is whole, its bytes stay where they are.
+        // A long request comes in many pieces. Until it is whole its bytes stay where they are.
         if rest.len() == self.rest.len() {
             self.failed = fault;
             return Ok(());
@@ -164,14 +173,6 @@ pub fn one_spelling()
 pub fn one_reading()
     ensures { (stream : List ℕ) (xs ys : List Words) (u v : List ℕ) → Splits stream xs u → (IsPartial u ⊎ IsFault u) → Splits stream ys v → (IsPartial v ⊎ IsFault v) → (xs ≡ ys) × (u ≡ v) }
 {}
-
-impl From<AllocError> for ReadFault {
-    ghost from_gives = { λ _ e. e ≡ Memory };
-
-    fn from(_e: AllocError) -> ReadFault {
-        ReadFault::Memory
-    }
-}
 
 #[cfg(test)]
 mod tests {
