@@ -1,3 +1,4 @@
 pub mod EntriesLemmas
 pub mod KeysLemmas
+pub mod LawLemmas
 pub mod RangeLemmas

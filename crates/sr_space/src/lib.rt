@@ -2,10 +2,12 @@
 #![tactic(auto)]
 
 mod entries;
+mod laws;
 mod range;
 mod space;
 #[cfg(test)]
 mod tests;
 
 pub use entries::Entry;
+pub use laws::one_stream_grows;
 pub use space::{Outcome, Space};
