@@ -8,7 +8,6 @@ mod clock;
 mod fault;
 mod options;
 mod start;
-
 #[cfg(test)]
 mod tests;
 

@@ -32,7 +32,10 @@ where
 {
     match read_options(rt.alloc(), words) {
         Ok(()) => report(err, serve(rt, reader, out)),
-        Err(error) if error.kind() == clap::error::ErrorKind::OutOfMemory => report(err, Err(Fault::StartMemory)),
+        Err(error) if error.kind() == clap::error::ErrorKind::OutOfMemory => report(
+            err,
+            Err(Fault::StartMemory),
+        ),
         Err(error) => {
             let _ = write!(err, "{error}");
             REFUSED
