@@ -20,17 +20,13 @@ length-ping [] reading r = omega arith
 length-ping (x ∷ []) reading r = omega arith
 length-ping (x ∷ y ∷ words) (ping None) r = absurd r.fits
 length-ping (x ∷ y ∷ words) (ping (Some m)) r = absurd r.fits.1
-length-ping words (xadd key id fields) r = let e = r.command_is in cc
-length-ping words (xlen key) r = let e = r.command_is in cc
-length-ping words (xrange key start end count) r = let e = r.command_is in cc
+length-ping words reading r = let other = r.command_is in cc
 
 pub length-xlen : (words : List Word) (reading : Reading) → Reads commands.Xlen words reading → length words ≤ 1
 length-xlen [] reading r = omega arith
 length-xlen (x ∷ []) reading r = omega arith
 length-xlen (x ∷ y ∷ words) (xlen key) r = absurd r.fits.1
-length-xlen words (ping message) r = let e = r.command_is in cc
-length-xlen words (xadd key id fields) r = let e = r.command_is in cc
-length-xlen words (xrange key start end count) r = let e = r.command_is in cc
+length-xlen words reading r = let other = r.command_is in cc
 
 -- each field has a value, and there is one
 pub length-fields : (words : List Word) (fields : List (Word × Word)) → Fits words (flat_map pair fields) → length words ≡ 2 * length fields
@@ -43,9 +39,7 @@ length-fields (w ∷ v ∷ words) (p ∷ fields) f = omega (arith, length-fields
 pub length-xadd : (key id : Word) (words : List Word) (reading : Reading) → Reads commands.Xadd (key ∷ id ∷ words) reading → (n : ℕ) × (length words ≡ 2 * suc n)
 length-xadd k i words (xadd key id []) r = absurd (r.fit refl)
 length-xadd k i words (xadd key id (p ∷ fields)) r = (length fields, length-fields words (p ∷ fields) r.fits.1.1)
-length-xadd k i words (ping message) r = let e = r.command_is in cc
-length-xadd k i words (xlen key) r = let e = r.command_is in cc
-length-xadd k i words (xrange key start end count) r = let e = r.command_is in cc
+length-xadd k i words reading r = let other = r.command_is in cc
 
 -- words two by two are fields, each with its value
 pub Fits-fields : (n : ℕ) (words : List Word) → length words ≡ 2 * n → Fits words (flat_map pair (map field_and_value (first_chunks 2 n words)))
