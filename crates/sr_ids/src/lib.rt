@@ -9,3 +9,6 @@ mod write;
 pub use id::Id;
 pub use parse::{one_reading, parse_end, parse_start, parse_strict};
 pub use write::write_id;
+
+#[cfg(test)]
+mod tests;

@@ -6,6 +6,13 @@ use crate::Id;
 use crate::neighbour::{id_after, id_before};
 use sr_bytes::read_decimal;
 
+const LEAST: Id = Id { ms: 0, seq: 0 };
+
+const GREATEST: Id = Id {
+    ms: u64::MAX,
+    seq: u64::MAX,
+};
+
 /// The id that a word spells, as XADD takes it: `ms-seq`, or `ms` for the sequence number 0.
 ///
 /// Each part has 1 to 20 decimal digits, leading zeros allowed, and fits 64 bits.
@@ -28,11 +35,8 @@ pub fn parse_start(text: &[u8]) -> Option<Id>
     ensures none { IfNone result ((id : ids.Id) → IsStart text.now id → ⊥) }
 {
     match text {
-        b"-" => Some(Id { ms: 0, seq: 0 }),
-        b"+" => Some(Id {
-            ms: u64::MAX,
-            seq: u64::MAX,
-        }),
+        b"-" => Some(LEAST),
+        b"+" => Some(GREATEST),
         [b'(', digits @ ..] => id_after(parse_written(digits, 0)?),
         _ => parse_written(text, 0),
     }
@@ -49,11 +53,8 @@ pub fn parse_end(text: &[u8]) -> Option<Id>
     ensures none { IfNone result ((id : ids.Id) → IsEnd text.now id → ⊥) }
 {
     match text {
-        b"-" => Some(Id { ms: 0, seq: 0 }),
-        b"+" => Some(Id {
-            ms: u64::MAX,
-            seq: u64::MAX,
-        }),
+        b"-" => Some(LEAST),
+        b"+" => Some(GREATEST),
         [b'(', digits @ ..] => id_before(parse_written(digits, u64::MAX)?),
         _ => parse_written(text, u64::MAX),
     }

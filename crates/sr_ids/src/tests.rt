@@ -1,0 +1,114 @@
+//! Spellings beside the ids that they are read as, and ids beside their spellings.
+use crate::{Id, parse_end, parse_start, parse_strict, write_id};
+
+const LAST: u64 = 18446744073709551615;
+
+fn id(ms: u64, seq: u64) -> Option<Id> {
+    Some(Id { ms, seq })
+}
+
+#[test]
+fn strict_words_are_read(rt: HostRuntime) {
+    let rows = [
+        ("5", id(5, 0)),
+        ("5-1", id(5, 1)),
+        ("0-0", id(0, 0)),
+        ("00005-01", id(5, 1)),
+        ("00000000000000000005", id(5, 0)),
+        ("00000000000000000005-00000000000000000001", id(5, 1)),
+        ("18446744073709551615-18446744073709551615", id(LAST, LAST)),
+    ];
+    for (text, want) in rows {
+        assert_eq!(rt; parse_strict(text.as_bytes()), want, "at {text}");
+    }
+}
+
+#[test]
+fn other_words_are_no_strict_ids(rt: HostRuntime) {
+    let rows = [
+        "",
+        "-",
+        "+",
+        "5-",
+        "-5",
+        "+5",
+        "5-*",
+        "*",
+        "x",
+        "5-1-1",
+        "5--1",
+        " 5",
+        "5 ",
+        "(5",
+        "000000000000000000005",
+        "5-000000000000000000001",
+        "18446744073709551616",
+        "5-18446744073709551616",
+    ];
+    for text in rows {
+        assert_eq!(rt; parse_strict(text.as_bytes()), None, "at {text}");
+    }
+}
+
+#[test]
+fn starts_are_read(rt: HostRuntime) {
+    let rows = [
+        ("-", id(0, 0)),
+        ("+", id(LAST, LAST)),
+        ("5", id(5, 0)),
+        ("5-1", id(5, 1)),
+        ("(4-1", id(4, 2)),
+        ("(5", id(5, 1)),
+        ("(5-18446744073709551615", id(6, 0)),
+        ("(18446744073709551615-18446744073709551615", None),
+        ("(-", None),
+        ("(+", None),
+        ("(", None),
+        ("((5", None),
+        ("5(", None),
+        ("", None),
+    ];
+    for (text, want) in rows {
+        assert_eq!(rt; parse_start(text.as_bytes()), want, "at {text}");
+    }
+}
+
+#[test]
+fn ends_are_read(rt: HostRuntime) {
+    let rows = [
+        ("-", id(0, 0)),
+        ("+", id(LAST, LAST)),
+        ("5", id(5, LAST)),
+        ("5-1", id(5, 1)),
+        ("(5", id(5, 18446744073709551614)),
+        ("(0", id(0, 18446744073709551614)),
+        ("(5-0", id(4, LAST)),
+        ("(4-1", id(4, 0)),
+        ("(0-0", None),
+        ("(-", None),
+        ("(+", None),
+        ("(", None),
+        ("((5", None),
+        ("", None),
+    ];
+    for (text, want) in rows {
+        assert_eq!(rt; parse_end(text.as_bytes()), want, "at {text}");
+    }
+}
+
+#[test]
+fn ids_are_written(rt: HostRuntime) {
+    let rows = [
+        (0, 0, "0-0"),
+        (1, 1, "1-1"),
+        (1526919030474, 55, "1526919030474-55"),
+        (LAST, LAST, "18446744073709551615-18446744073709551615"),
+    ];
+    for (ms, seq, want) in rows {
+        let mut out = [b'.'; 41];
+        let len = write_id(Id { ms, seq }, &mut out);
+        assert_eq!(rt; len, want.len(), "at {want}");
+        assert_eq!(rt; &out[..len], want.as_bytes(), "at {want}");
+        assert!(rt; out[len..].iter().all(|byte| *byte == b'.'), "at {want}");
+    }
+}
