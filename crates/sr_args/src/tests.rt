@@ -46,6 +46,8 @@ fn first_fault_is_answered(rt: HostRuntime) {
         ("XRANGE s - + LIMIT 5", CallFault::Syntax),
         ("XRANGE s ! + COUNT x", CallFault::Number),
         ("XRANGE s - + COUNT 9223372036854775808", CallFault::Number),
+        ("XRANGE s - + COUNT +1", CallFault::Number),
+        ("XRANGE s - + COUNT ", CallFault::Number),
         ("XADD s x a b", CallFault::BadId),
         ("XADD s 5-* a b", CallFault::BadId),
         ("XRANGE s (- +", CallFault::BadId),

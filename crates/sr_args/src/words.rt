@@ -1,4 +1,4 @@
-ghost use Rattle.std.specs.Prelude.{map, Option, IfSome, IfNone};
+ghost use Rattle.std.specs.Prelude.{◌≡◌, List, [], ◌∷◌, map, Option, IfSome, IfNone, OnSome};
 ghost use Rattle.std.specs.Option.{option_copied};
 ghost use Rattle.sr_args.specs.declared.name.CommandName.TheVariants as commands;
 ghost use Rattle.sr_args.specs.Form as forms;
@@ -47,9 +47,7 @@ pub(crate) fn ping_words(words: &[Name]) -> Option<PingWords<'_>>
     let Some((message, rest)) = words.split_first() else {
         return Some(PingWords { message: None });
     };
-    if !rest.is_empty() {
-        return None;
-    }
+    ended(rest)?;
     Some(PingWords {
         message: Some(message),
     })
@@ -75,9 +73,7 @@ pub(crate) fn xlen_words(words: &[Name]) -> Option<XlenWords<'_>>
     ensures none { IfNone result ((reading : forms.Reading) → Reads commands.Xlen words.now reading → ⊥) }
 {
     let (key, rest) = words.split_first()?;
-    if !rest.is_empty() {
-        return None;
-    }
+    ended(rest)?;
     Some(XlenWords { key })
 }
 
@@ -110,8 +106,17 @@ fn optional(name: OptionName, words: &[Name]) -> Option<Option<&Name>>
         return None;
     }
     let (word, rest) = rest.split_first()?;
-    if !rest.is_empty() {
-        return None;
-    }
+    ended(rest)?;
     Some(Some(word))
+}
+
+/// The end of a form: no word is left.
+fn ended(words: &[Name]) -> Option<()>
+    ensures found { OnSome result (words.now ≡ []) }
+    ensures none { IfNone result ((word : Word) × (rest : List Word) × (words.now ≡ word ∷ rest)) }
+{
+    match words.split_first() {
+        None => Some(()),
+        Some(_) => None,
+    }
 }

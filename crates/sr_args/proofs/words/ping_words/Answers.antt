@@ -1,7 +1,0 @@
-use Rattle.std.proofs.Common.{arith}
-use Rattle.std.proofs.lemmas.Bool.Decides.{nat_tests}
-use Rattle.sr_args.proofs.WordsLemmas.{length-ping}
-use Rattle.sr_args.proofs.words.ping_words.Goals as goal
-
-pub returns-then-not-is_empty-clause-none : goal.returns-then-not-is_empty-clause-none
-returns-then-not-is_empty-clause-none c = λ reading r. grind (arith, nat_tests, length-ping c.args.words.now reading r)
