@@ -5,25 +5,21 @@
 #![tactic(auto)]
 
 mod clock;
+mod command_line;
 mod fault;
 mod options;
+mod report;
 mod start;
 #[cfg(test)]
 mod tests;
 
-use crate::start::{refuse_words, start};
+use crate::command_line::{refuse_words, words};
+use crate::start::start;
 use std::process::ExitCode;
-use std::rt::Env;
-use std::{env, io};
-
-/// The words of the command line, the program's name first.
-fn command_line(rt: &(impl Env + AllocGlobal)) -> io::Result<Vec<String>> {
-    Ok(env::args(rt)?.collect(rt.alloc())?)
-}
 
 fn main(rt: HostRuntime) -> ExitCode {
     let mut err = rt.stderr();
-    let status = match command_line(&rt) {
+    let status = match words(&rt) {
         Ok(words) => start(&rt, words.as_slice(), rt.stdin(), rt.stdout(), &mut err),
         Err(error) => refuse_words(&mut err, error),
     };

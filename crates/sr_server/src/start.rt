@@ -1,84 +1,79 @@
-ghost use Rattle.std.specs.Prelude.{◌≡◌};
-ghost use Rattle.sr_server.specs.Fault.{status_of};
+ghost use Rattle.std.specs.Prelude.{◌≡◌, ◌≤◌, ℕ, List, [], ◌∷◌, map, codes, true, OnOk, IsErrOf};
+ghost use Rattle.std.specs.Io.KnownBytes.{Appends, Consumes};
+ghost use Rattle.sr_server.specs.Fault.{Serves};
 
 use crate::clock::SystemClock;
 use crate::fault::{Fault, outcome};
 use crate::options::read_options;
-use sr_resp::WriteTo;
-use sr_session::{ReadFrom, run_session};
+use crate::report::{refuse, report};
+use sr_resp::{Sink, WriteTo};
+use sr_session::{Clock, ReadFrom, Source, run_session};
 use sr_space::Space;
+use std::alloc::Global;
 use std::convert::AsStr;
 use std::hash::RandomState;
-use std::io::{Error, ErrorKind, Read, Write};
+use std::io::{Read, Write};
 use std::random::RandomSource;
-use std::rt::Clock;
+use std::rt;
 
 /// How often a session reads at most.
 const TURNS: u64 = 1 << 40;
 
-/// The status where the command line is refused.
-const REFUSED: u8 = 2;
-
 /// Runs the program: reads the command line, whose first word is the program's name, and serves one connection.
 ///
 /// Answers the status that it ends with. What is said besides the replies goes to `err`.
-pub(crate) fn start<R, S, I, O, E>(rt: &R, words: &[S], reader: I, out: O, err: &mut E) -> u8
+pub(crate) fn start<R, S, I, O, E>(rt: &R, words: &[S], reader: I, writer: O, err: &mut E) -> u8
 where
-    R: AllocGlobal + Clock + RandomSource,
+    R: AllocGlobal + rt::Clock + RandomSource,
     S: AsStr,
     I: Read + Drop,
     O: Write + Drop,
     E: Write,
+    ensures accepted { (name : List ℕ) → map S.text words.now ≡ name ∷ codes "--stdio" ∷ [] → result ≤ 1 }
+    ensures missing { (name : List ℕ) → map S.text words.now ≡ name ∷ [] → 1 ≤ result }
 {
     match read_options(rt.alloc(), words) {
-        Ok(()) => report(err, serve(rt, reader, out)),
-        Err(error) if error.kind() == clap::error::ErrorKind::OutOfMemory => report(
-            err,
-            Err(Fault::StartMemory),
-        ),
-        Err(error) => {
-            let _ = write!(err, "{error}");
-            REFUSED
-        }
+        Ok(()) => report(err, connect(rt, reader, writer)),
+        Err(error) => refuse(err, &error),
     }
 }
 
-/// Serves one connection to its end.
-fn serve<R, I, O>(rt: &R, reader: I, out: O) -> Result<(), Fault>
+/// Serves the connection of a reader and a writer, with the system's clock.
+fn connect<R, I, O>(rt: &R, reader: I, writer: O) -> Result<(), Fault>
 where
-    R: AllocGlobal + Clock + RandomSource,
+    R: AllocGlobal + rt::Clock + RandomSource,
     I: Read + Drop,
     O: Write + Drop,
 {
     let Ok(hasher) = RandomState::new(rt) else {
         return Err(Fault::NoRandomSource);
     };
-    let alloc = rt.alloc();
-    let mut space = Space::new(alloc, hasher);
     let mut source = ReadFrom::new(reader);
-    let mut sink = WriteTo::new(out);
+    let mut sink = WriteTo::new(writer);
     let clock = SystemClock::new(rt);
-    outcome(run_session(alloc, &mut source, &mut sink, &mut space, &clock, TURNS))
+    serve(rt.alloc(), hasher, &clock, &mut source, &mut sink)
 }
 
-/// Says what went wrong, if anything, and answers the status.
-pub(crate) fn report<E: Write>(err: &mut E, outcome: Result<(), Fault>) -> u8
-    ensures { result ≡ status_of outcome }
+/// Serves one connection to its end, from no keys on.
+fn serve<C: Clock, I: Source, O: Sink>(
+    alloc: Global,
+    hasher: RandomState,
+    clock: &C,
+    source: &mut I,
+    sink: &mut O,
+) -> Result<(), Fault>
+    // what was taken from the source, and written to the sink
+    ensures served { (taken written : List ℕ)
+        × Consumes (I.remaining source.old) (I.remaining source.new) taken
+        × Appends (O.contents sink.old) (O.contents sink.new) written
+        × Serves (C.may_tell clock.now) taken written result }
+
+    // each outcome has its cause
+    ensures ok { OnOk result (I.ended source.new ≡ true) }
+    ensures read { IsErrOf result Fault.Read → I.failed source.new ≡ true }
+    ensures write { IsErrOf result Fault.Write → O.failed sink.new ≡ true }
 {
-    match outcome {
-        Ok(()) => 0,
-        Err(fault) => {
-            let _ = writeln!(err, "{fault}");
-            1
-        }
-    }
-}
-
-/// Says why there are no words of a command line, and answers the status.
-pub(crate) fn refuse_words<E: Write>(err: &mut E, error: Error) -> u8 {
-    if error.kind() == ErrorKind::OutOfMemory {
-        return report(err, Err(Fault::StartMemory));
-    }
-    let _ = writeln!(err, "error: the command line is not UTF-8");
-    REFUSED
+    let mut space = Space::new(alloc, hasher);
+    let end = run_session(alloc, source, sink, &mut space, clock, TURNS);
+    outcome(end)
 }

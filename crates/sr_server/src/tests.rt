@@ -1,6 +1,8 @@
 //! The program over memory: the words of the command line, input, output, standard error and the status.
+use crate::clock::SystemClock;
 use crate::fault::outcome;
-use crate::start::{report, start};
+use crate::report::report;
+use crate::start::start;
 use sr_session::End;
 use std::alloc::Global;
 use std::io::{self, Error, ErrorKind, Read, Write};
@@ -9,21 +11,17 @@ use std::rt::Clock;
 use std::test::Fail;
 use std::time::Duration;
 
-/// A reader that fails.
+/// A reader or a writer that fails.
 #[derive(Drop)]
-struct BrokenReader;
+struct Broken;
 
-impl Read for BrokenReader {
+impl Read for Broken {
     fn read(&mut self, _: &mut [u8]) -> io::Result<usize> {
         Err(Error::from(ErrorKind::ConnectionReset))
     }
 }
 
-/// A writer that fails.
-#[derive(Drop)]
-struct BrokenWriter;
-
-impl Write for BrokenWriter {
+impl Write for Broken {
     fn write(&mut self, _: &[u8]) -> io::Result<usize> {
         Err(Error::from(ErrorKind::BrokenPipe))
     }
@@ -33,13 +31,14 @@ impl Write for BrokenWriter {
     }
 }
 
-/// A system with a clock, and without a random source.
+/// A system with no random source, whose clock tells this time or fails.
 #[derive(Drop)]
-struct Predictable {
+struct StillSystem {
     alloc: Global,
+    time: Option<Duration>,
 }
 
-impl Alloc for Predictable {
+impl Alloc for StillSystem {
     type A = Global;
 
     fn alloc(&self) -> Global {
@@ -47,35 +46,59 @@ impl Alloc for Predictable {
     }
 }
 
-impl Clock for Predictable {
+impl Clock for StillSystem {
     fn monotonic(&self) -> io::Result<Duration> {
-        Ok(Duration::ZERO)
+        self.since_1970()
     }
 
     fn since_1970(&self) -> io::Result<Duration> {
-        Ok(Duration::ZERO)
+        self.time.ok_or(Error::from(ErrorKind::Unsupported))
     }
 }
 
-impl RandomSource for Predictable {
+impl RandomSource for StillSystem {
     fn fill_bytes(&self, _: &mut [u8]) -> io::Result<()> {
         Err(Error::from(ErrorKind::Unsupported))
     }
+}
+
+/// How the program ended, and what it wrote.
+#[derive(Drop)]
+struct Ended {
+    status: u8,
+    out: Vec<u8>,
+    err: Vec<u8>,
+}
+
+impl Ended {
+    fn is(&self, status: u8, out: &str, err: &str) -> bool {
+        self.status == status
+            && self.out.as_slice() == out.as_bytes()
+            && self.err.as_slice() == err.as_bytes()
+    }
+}
+
+/// Runs the program with these words, over this input.
+fn run<R, I>(rt: &R, words: &[&str], reader: I) -> Ended
+where
+    R: AllocGlobal + Clock + RandomSource,
+    I: Read + Drop,
+{
+    let mut out = Vec::new(rt.alloc());
+    let mut err = Vec::new(rt.alloc());
+    let status = start(rt, words, reader, &mut out, &mut err);
+    Ended { status, out, err }
 }
 
 const STDIO: [&str; 2] = ["sr_server", "--stdio"];
 
 const PING: &str = "*1\r\n$4\r\nPING\r\n";
 
-const XLEN: &str = "*2\r\n$4\r\nXLEN\r\n$1\r\ns\r\n";
-
 const XADD: &str = "*5\r\n$4\r\nXADD\r\n$1\r\ns\r\n$3\r\n1-1\r\n$1\r\na\r\n$1\r\nb\r\n";
 
-const XRANGE: &str = "*4\r\n$6\r\nXRANGE\r\n$1\r\ns\r\n$1\r\n-\r\n$1\r\n+\r\n";
+const XLEN: &str = "*2\r\n$4\r\nXLEN\r\n$1\r\ns\r\n";
 
-fn is(bytes: &[u8], text: &str) -> bool {
-    bytes == text.as_bytes()
-}
+const XRANGE: &str = "*4\r\n$6\r\nXRANGE\r\n$1\r\ns\r\n$1\r\n-\r\n$1\r\n+\r\n";
 
 #[test]
 fn command_lines_are_refused(rt: HostRuntime) -> Result<(), Fail> {
@@ -90,12 +113,10 @@ fn command_lines_are_refused(rt: HostRuntime) -> Result<(), Fail> {
     ];
     for row in rows {
         let words: Vec<&str> = row.split(' ').collect(rt.alloc())?;
-        let mut out = Vec::new(rt.alloc());
-        let mut err = Vec::new(rt.alloc());
-        let status = start(&rt, words.as_slice(), PING.as_bytes(), &mut out, &mut err);
-        assert_eq!(rt; status, 2, "at {row}");
-        assert!(rt; out.is_empty(), "at {row}");
-        assert!(rt; !err.is_empty(), "at {row}");
+        let ended = run(&rt, words.as_slice(), PING.as_bytes());
+        assert_eq!(rt; ended.status, 2, "at {row}");
+        assert!(rt; ended.out.is_empty(), "at {row}");
+        assert!(rt; !ended.err.is_empty(), "at {row}");
     }
     Ok(())
 }
@@ -103,62 +124,45 @@ fn command_lines_are_refused(rt: HostRuntime) -> Result<(), Fail> {
 #[test]
 fn stored_run(rt: HostRuntime) -> Result<(), Fail> {
     let input = format!(in rt.alloc(); "{PING}{XADD}{XLEN}{XRANGE}")?;
-    let mut out = Vec::new(rt.alloc());
-    let mut err = Vec::new(rt.alloc());
-    let status = start(&rt, STDIO.as_slice(), input.as_bytes(), &mut out, &mut err);
-    assert_eq!(rt; status, 0);
     let replies =
         "+PONG\r\n$3\r\n1-1\r\n:1\r\n*1\r\n*2\r\n$3\r\n1-1\r\n*2\r\n$1\r\na\r\n$1\r\nb\r\n";
-    assert!(rt; is(out.as_slice(), replies));
-    assert!(rt; err.is_empty());
+    let ended = run(&rt, STDIO.as_slice(), input.as_bytes());
+    assert!(rt; ended.is(0, replies, ""));
     Ok(())
 }
 
 #[test]
 fn inputs_end_the_program(rt: HostRuntime) {
     let rows = [
-        ("", "", "", 0),
-        ("*2\r\n$4\r\nXLEN\r\n$1\r\n", "", "", 0),
+        ("", 0, "", ""),
+        ("*2\r\n$4\r\nXLEN\r\n$1\r\n", 0, "", ""),
         (
             "$1\r\n",
+            1,
             "-ERR Protocol error\r\n",
             "session: protocol error\n",
-            1,
         ),
     ];
-    for (input, replies, line, want) in rows {
-        let mut out = Vec::new(rt.alloc());
-        let mut err = Vec::new(rt.alloc());
-        let status = start(&rt, STDIO.as_slice(), input.as_bytes(), &mut out, &mut err);
-        assert_eq!(rt; status, want, "at {input}");
-        assert!(rt; is(out.as_slice(), replies), "at {input}");
-        assert!(rt; is(err.as_slice(), line), "at {input}");
+    for (input, status, replies, line) in rows {
+        let ended = run(&rt, STDIO.as_slice(), input.as_bytes());
+        assert!(rt; ended.is(status, replies, line), "at {input}");
     }
 }
 
 #[test]
 fn failing_reader_ends_the_program(rt: HostRuntime) {
-    let mut out = Vec::new(rt.alloc());
-    let mut err = Vec::new(rt.alloc());
-    let reader = XLEN.as_bytes().chain(BrokenReader);
-    let status = start(&rt, STDIO.as_slice(), reader, &mut out, &mut err);
-    assert_eq!(rt; status, 1);
-    assert!(rt; is(out.as_slice(), ":0\r\n"), "the reply before the fault");
-    assert!(rt; is(err.as_slice(), "session: read fault\n"));
+    let at_once = run(&rt, STDIO.as_slice(), Broken);
+    assert!(rt; at_once.is(1, "", "session: read fault\n"));
+    let behind_a_request = run(&rt, STDIO.as_slice(), XLEN.as_bytes().chain(Broken));
+    assert!(rt; behind_a_request.is(1, ":0\r\n", "session: read fault\n"));
 }
 
 #[test]
 fn failing_writer_ends_the_program(rt: HostRuntime) {
     let mut err = Vec::new(rt.alloc());
-    let status = start(
-        &rt,
-        STDIO.as_slice(),
-        XLEN.as_bytes(),
-        BrokenWriter,
-        &mut err,
-    );
+    let status = start(&rt, STDIO.as_slice(), XLEN.as_bytes(), Broken, &mut err);
     assert_eq!(rt; status, 1);
-    assert!(rt; is(err.as_slice(), "session: write fault\n"));
+    assert_eq!(rt; err.as_slice(), "session: write fault\n".as_bytes());
 }
 
 #[test]
@@ -173,53 +177,72 @@ fn full_writer_ends_the_program(rt: HostRuntime) {
         &mut err,
     );
     assert_eq!(rt; status, 1);
-    assert!(rt; is(&room, ":0\r"), "a front of the reply");
-    assert!(rt; is(err.as_slice(), "session: write fault\n"));
+    assert_eq!(rt; &room[..], ":0\r".as_bytes());
+    assert_eq!(rt; err.as_slice(), "session: write fault\n".as_bytes());
 }
 
 #[test]
 fn failing_standard_error_keeps_the_status(rt: HostRuntime) {
     let mut out = Vec::new(rt.alloc());
-    let status = start(
-        &rt,
-        STDIO.as_slice(),
-        "$1\r\n".as_bytes(),
-        &mut out,
-        &mut BrokenWriter,
+    assert_eq!(rt;
+        start(
+            &rt,
+            STDIO.as_slice(),
+            "$1\r\n".as_bytes(),
+            &mut out,
+            &mut Broken
+        ),
+        1
     );
-    assert_eq!(rt; status, 1);
+    assert_eq!(rt;
+        start(&rt, &STDIO[..1], PING.as_bytes(), &mut out, &mut Broken),
+        2
+    );
 }
 
 #[test]
 fn random_source_is_needed(rt: HostRuntime) {
-    let system = Predictable { alloc: rt.alloc() };
-    let mut out = Vec::new(rt.alloc());
-    let mut err = Vec::new(rt.alloc());
-    let status = start(
-        &system,
-        STDIO.as_slice(),
-        PING.as_bytes(),
-        &mut out,
-        &mut err,
-    );
-    assert_eq!(rt; status, 1);
-    assert!(rt; out.is_empty());
-    assert!(rt; is(err.as_slice(), "start: no random source\n"));
+    let system = StillSystem {
+        alloc: rt.alloc(),
+        time: None,
+    };
+    let ended = run(&system, STDIO.as_slice(), PING.as_bytes());
+    assert!(rt; ended.is(1, "", "start: no random source\n"));
 }
 
 #[test]
 fn ends_have_their_lines(rt: HostRuntime) {
     let rows = [
-        (End::Closed, "", 0),
-        (End::Protocol, "session: protocol error\n", 1),
-        (End::ReadFault, "session: read fault\n", 1),
-        (End::SendFault { sent: 3 }, "session: write fault\n", 1),
-        (End::Turns, "session: too many reads\n", 1),
-        (End::Memory, "session: out of memory\n", 1),
+        (End::Closed, 0, ""),
+        (End::Protocol, 1, "session: protocol error\n"),
+        (End::ReadFault, 1, "session: read fault\n"),
+        (End::SendFault { sent: 3 }, 1, "session: write fault\n"),
+        (End::Turns, 1, "session: too many reads\n"),
+        (End::Memory, 1, "session: out of memory\n"),
     ];
-    for (end, line, want) in rows {
+    for (end, status, line) in rows {
         let mut err = Vec::new(rt.alloc());
-        assert_eq!(rt; report(&mut err, outcome(end)), want, "at {end:?}");
-        assert!(rt; is(err.as_slice(), line), "at {end:?}");
+        assert_eq!(rt; report(&mut err, outcome(end)), status, "at {end:?}");
+        assert_eq!(rt; err.as_slice(), line.as_bytes(), "at {end:?}");
+    }
+}
+
+#[test]
+fn clock_tells_milliseconds(rt: HostRuntime) {
+    let rows = [
+        (
+            Some(Duration::new(1_526_919_030, 474_999_999)),
+            1_526_919_030_474,
+        ),
+        (Some(Duration::ZERO), 0),
+        (None, 0),
+    ];
+    for (time, want) in rows {
+        let system = StillSystem {
+            alloc: rt.alloc(),
+            time,
+        };
+        let told = sr_session::Clock::now(&SystemClock::new(&system));
+        assert_eq!(rt; told, want);
     }
 }
