@@ -92,7 +92,7 @@ pub(crate) fn answer_request<C: Clock>(
     requires { 0 < length words.now }
     ensures ok { IfOk result (λ moment. (text : List ℕ) × (out.new.items ≡ out.old.items ++ text)
         × Answers (C.may_tell clock.now) (record { moment = last; keys = space.old }) words.now text
-            (record { moment = moment; keys = space.new })) }
+        (record { moment = moment; keys = space.new })) }
     ensures err { OnErr result (out.new.items ≡ out.old.items) }
 {
     let (reply, moment) = reply_to(alloc, space, clock, last, words);

@@ -6,8 +6,10 @@ mod clock;
 mod run;
 mod session;
 mod source;
+#[cfg(test)]
+mod tests;
 
 pub use clock::Clock;
 pub use run::{End, run_session};
 pub use session::{Session, SessionFault};
-pub use source::{ReadFrom, ReadFailed, Source};
+pub use source::{ReadFailed, ReadFrom, Source};

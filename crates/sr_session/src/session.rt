@@ -66,10 +66,10 @@ impl Session {
     ) -> Result<(), SessionFault>
         ensures ok { OnOk result ((text : List ℕ) × (out.new.items ≡ out.old.items ++ text)
             × ((found : Keys) (taken written : List ℕ) → GoesOn (C.may_tell clock.now) found taken written self.old space.old
-                → GoesOn (C.may_tell clock.now) found (taken ++ piece.now) (written ++ text) self.new space.new)) }
+            → GoesOn (C.may_tell clock.now) found (taken ++ piece.now) (written ++ text) self.new space.new)) }
         ensures protocol { IsErrOf result SessionFault.Protocol → (text : List ℕ) × (out.new.items ≡ out.old.items ++ text)
             × ((found : Keys) (taken written : List ℕ) → GoesOn (C.may_tell clock.now) found taken written self.old space.old
-                → IsBroken (C.may_tell clock.now) found (taken ++ piece.now) (written ++ text) space.new) }
+            → IsBroken (C.may_tell clock.now) found (taken ++ piece.now) (written ++ text) space.new) }
         ensures memory { IsErrOf result SessionFault.Memory → (text : List ℕ) × (out.new.items ≡ out.old.items ++ text) }
     {
         match self.reader.feed(alloc, piece) {

@@ -1,4 +1,4 @@
-use Rattle.std.proofs.Common.{◌≡◌, ℕ, ◌+◌, ◌++◌, List, [], take, inl, inr, refl, sym, ap, ◌∙◌, subst, arith}
+use Rattle.std.proofs.Common.{ℕ, ◌+◌, ◌++◌, List, [], take, inl, inr, refl, subst, arith}
 use Rattle.std.specs.Io.KnownBytes.{Appends}
 use Rattle.std.proofs.KnownBytes.{Consumes-nil, Consumes-trans, Appends-nil, Appends-trans}
 use Rattle.sr_session.proofs.SessionLemmas.{IsAnswered-from_goes_on}
@@ -41,21 +41,25 @@ returns-in-Err-send-clause-session g c =
     let text = c.in-Ok-take.ensures.ok in
     let part = c.in-Err-send.ensures.err in
     let same = sent_is_text _ _ _ text.0 c.as_slice.ensures.value text.1 c.clear.ensures.items in
-    let goes = text.2 c.args.space.now b.0 b.1 b.4 in
-    (b.0 ++ take c.in-Ok.count c.read.new.buffer, b.1 ++ take part.0 c.as_slice.result.now,
-     Consumes-trans _ _ _ b.0 _ b.2 c.in-Ok.ensures.bytes.0,
-     Appends-trans _ _ _ b.1 _ b.3 part.3,
-     IsFront-from_part _ _ _ b.1 text.0 c.as_slice.result.now _ c.loop-turn.sent part.0 _ (inl (IsAnswered-from_goes_on _ _ _ _ _ _ goes)) same part.1 b.5 part.2)
+    let goes = text.2 c.args.space.now b.0 b.1 b.4 in (
+      b.0 ++ take c.in-Ok.count c.read.new.buffer,
+      b.1 ++ take part.0 c.as_slice.result.now,
+      Consumes-trans _ _ _ b.0 _ b.2 c.in-Ok.ensures.bytes.0,
+      Appends-trans _ _ _ b.1 _ b.3 part.3,
+      IsFront-from_part _ _ _ b.1 text.0 c.as_slice.result.now _ c.loop-turn.sent part.0 _ (inl (IsAnswered-from_goes_on _ _ _ _ _ _ goes)) same part.1 b.5 part.2,
+    )
 
 pub returns-in-Ok-send-2-clause-session : goal.returns-in-Ok-send-2-clause-session
 returns-in-Ok-send-2-clause-session g c =
     let b = c.loop-turn.invariant.bytes in
     let text = (rw c.in-Err-Protocol.field-0-is at c.in-Err-Protocol.ensures).protocol refl in
-    let same = sent_is_text _ _ _ text.0 c.as_slice-in-Err-Protocol.ensures.value text.1 c.clear.ensures.items in
-    (b.0 ++ take c.in-Ok.count c.read.new.buffer, b.1 ++ text.0,
-     Consumes-trans _ _ _ b.0 _ b.2 c.in-Ok.ensures.bytes.0,
-     Appends-trans _ _ _ b.1 _ b.3 (subst (λ (s : List ℕ). Appends (g.W.Sink.contents c.loop-turn.writer) (g.W.Sink.contents c.send-in-Err-Protocol.new.writer) s) same c.in-Ok-send-2.ensures.ok.1),
-     text.2 c.args.space.now b.0 b.1 b.4)
+    let same = sent_is_text _ _ _ text.0 c.as_slice-in-Err-Protocol.ensures.value text.1 c.clear.ensures.items in (
+      b.0 ++ take c.in-Ok.count c.read.new.buffer,
+      b.1 ++ text.0,
+      Consumes-trans _ _ _ b.0 _ b.2 c.in-Ok.ensures.bytes.0,
+      Appends-trans _ _ _ b.1 _ b.3 (subst (λ (s : List ℕ). Appends (g.W.Sink.contents c.loop-turn.writer) (g.W.Sink.contents c.send-in-Err-Protocol.new.writer) s) same c.in-Ok-send-2.ensures.ok.1),
+      text.2 c.args.space.now b.0 b.1 b.4,
+    )
 
 pub returns-in-Err-send-2-clause-session : goal.returns-in-Err-send-2-clause-session
 returns-in-Err-send-2-clause-session g c =
@@ -63,19 +67,23 @@ returns-in-Err-send-2-clause-session g c =
     let text = (rw c.in-Err-Protocol.field-0-is at c.in-Err-Protocol.ensures).protocol refl in
     let part = c.in-Err-send-2.ensures.err in
     let same = sent_is_text _ _ _ text.0 c.as_slice-in-Err-Protocol.ensures.value text.1 c.clear.ensures.items in
-    let broken = text.2 c.args.space.now b.0 b.1 b.4 in
-    (b.0 ++ take c.in-Ok.count c.read.new.buffer, b.1 ++ take part.0 c.as_slice-in-Err-Protocol.result.now,
-     Consumes-trans _ _ _ b.0 _ b.2 c.in-Ok.ensures.bytes.0,
-     Appends-trans _ _ _ b.1 _ b.3 part.3,
-     IsFront-from_part _ _ _ b.1 text.0 c.as_slice-in-Err-Protocol.result.now _ c.loop-turn.sent part.0 _ (inr broken) same part.1 b.5 part.2)
+    let broken = text.2 c.args.space.now b.0 b.1 b.4 in (
+      b.0 ++ take c.in-Ok.count c.read.new.buffer,
+      b.1 ++ take part.0 c.as_slice-in-Err-Protocol.result.now,
+      Consumes-trans _ _ _ b.0 _ b.2 c.in-Ok.ensures.bytes.0,
+      Appends-trans _ _ _ b.1 _ b.3 part.3,
+      IsFront-from_part _ _ _ b.1 text.0 c.as_slice-in-Err-Protocol.result.now _ c.loop-turn.sent part.0 _ (inr broken) same part.1 b.5 part.2,
+    )
 
 pub returns-in-Err-Memory-clause-session : goal.returns-in-Err-Memory-clause-session
 returns-in-Err-Memory-clause-session g c =
-    let b = c.loop-turn.invariant.bytes in
-    (b.0 ++ take c.in-Ok.count c.read.new.buffer, b.1,
-     Consumes-trans _ _ _ b.0 _ b.2 c.in-Ok.ensures.bytes.0,
-     b.3,
-     record { front = b.0; more = take c.in-Ok.count c.read.new.buffer; keys = c.loop-turn.space; whole = refl; answered = IsAnswered-from_goes_on _ _ _ _ _ _ b.4 })
+    let b = c.loop-turn.invariant.bytes in (
+      b.0 ++ take c.in-Ok.count c.read.new.buffer,
+      b.1,
+      Consumes-trans _ _ _ b.0 _ b.2 c.in-Ok.ensures.bytes.0,
+      b.3,
+      record { front = b.0; more = take c.in-Ok.count c.read.new.buffer; keys = c.loop-turn.space; whole = refl; answered = IsAnswered-from_goes_on _ _ _ _ _ _ b.4 },
+    )
 
 pub loop-turn-preserved : goal.loop-turn-preserved
 loop-turn-preserved g c =
@@ -85,10 +93,13 @@ loop-turn-preserved g c =
     let goes = text.2 c.args.space.now b.0 b.1 b.4 in
     let total = c.in-Ok-send.ensures.ok in
     record {
-      bytes = (b.0 ++ take c.in-Ok.count c.read.new.buffer, b.1 ++ text.0,
+      bytes = (
+        b.0 ++ take c.in-Ok.count c.read.new.buffer,
+        b.1 ++ text.0,
         Consumes-trans _ _ _ b.0 _ b.2 c.in-Ok.ensures.bytes.0,
         Appends-trans _ _ _ b.1 _ b.3 (subst (λ (s : List ℕ). Appends (g.W.Sink.contents c.loop-turn.writer) (g.W.Sink.contents c.send.new.writer) s) same total.1),
         goes,
-        sent_all c.loop-turn.sent b.1 text.0 c.as_slice.result.now _ same b.5 total.0);
+        sent_all c.loop-turn.sent b.1 text.0 c.as_slice.result.now _ same b.5 total.0,
+      );
       reads = CountsReads-more _ _ _ _ c.loop-turn.invariant.reads c.in-Ok.ensures.count;
     }

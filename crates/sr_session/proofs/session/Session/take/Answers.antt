@@ -1,4 +1,4 @@
-use Rattle.std.proofs.Common.{refl, ap, ◌∙◌, ◌++◌}
+use Rattle.std.proofs.Common.{refl, ◌∙◌, ◌++◌}
 use Rattle.sr_session.specs.Session.{protocol_text}
 use Rattle.sr_session.proofs.SessionLemmas.{GoesOn-more, IsBroken-more, on_ok_both, appended_twice}
 use Rattle.sr_session.proofs.session.Session.take.Goals as goal
@@ -12,6 +12,8 @@ returns-in-Ok-clause-ok g c =
 pub returns-in_ok-append_error-in-Err-Protocol-clause-protocol : goal.returns-in_ok-append_error-in-Err-Protocol-clause-protocol
 returns-in_ok-append_error-in-Err-Protocol-clause-protocol g c = λ _.
     let t = c.in_ok-answer_waiting-in-Err-Protocol.ensures.text in
-    let broken = (rw c.in-Err-Protocol.field-0-is at c.in-Err-Protocol.ensures).protocol refl in
-    (t.0 ++ protocol_text, appended_twice _ _ _ t.0 protocol_text t.1 c.in_ok-append_error-in-Err-Protocol.ensures.ok,
-     IsBroken-more _ c.args.piece.now t.0 _ _ _ _ _ _ c.self.view_is broken.1 refl t.2 c.in_ok-answer_waiting-in-Err-Protocol.ensures.none_wait (c.in_ok-answer_waiting-in-Err-Protocol.ensures.failed ∙ broken.0))
+    let broken = (rw c.in-Err-Protocol.field-0-is at c.in-Err-Protocol.ensures).protocol refl in (
+      t.0 ++ protocol_text,
+      appended_twice _ _ _ t.0 protocol_text t.1 c.in_ok-append_error-in-Err-Protocol.ensures.ok,
+      IsBroken-more _ c.args.piece.now t.0 _ _ _ _ _ _ c.self.view_is broken.1 refl t.2 c.in_ok-answer_waiting-in-Err-Protocol.ensures.none_wait (c.in_ok-answer_waiting-in-Err-Protocol.ensures.failed ∙ broken.0),
+    )
