@@ -6,6 +6,8 @@ mod clock;
 mod run;
 mod session;
 mod source;
+#[cfg(test)]
+mod tests;
 
 pub use clock::Clock;
 pub use run::{End, run_session};

@@ -1,4 +1,4 @@
-use Rattle.std.proofs.Common.{◌≡◌, refl, ap, ◌∙◌}
+use Rattle.std.proofs.Common.{◌≡◌, ap}
 use Rattle.sr_resp.specs.Reply.{reply_text}
 use Rattle.sr_args.specs.declared.fault.CallFault.TheVariants as faults
 use Rattle.sr_space.specs.Keys.{Keys}

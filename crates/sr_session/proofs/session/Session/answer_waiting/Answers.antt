@@ -1,4 +1,4 @@
-use Rattle.std.proofs.Common.{◌≡◌, ℕ, List, ◌++◌, sym, ap, ◌∙◌}
+use Rattle.std.proofs.Common.{◌++◌, sym, ap, ◌∙◌}
 use Rattle.sr_resp.specs.Stream.{Progress}
 use Rattle.sr_session.proofs.SessionLemmas.{Writes-more, appended_twice}
 use Rattle.sr_session.proofs.session.Session.answer_waiting.Goals as goal

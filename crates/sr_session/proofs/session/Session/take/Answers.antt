@@ -1,4 +1,4 @@
-use Rattle.std.proofs.Common.{refl, ap, ◌∙◌, ◌++◌}
+use Rattle.std.proofs.Common.{refl, ◌∙◌, ◌++◌}
 use Rattle.sr_session.specs.Session.{protocol_text}
 use Rattle.sr_session.proofs.SessionLemmas.{GoesOn-more, IsBroken-more, on_ok_both, appended_twice}
 use Rattle.sr_session.proofs.session.Session.take.Goals as goal
