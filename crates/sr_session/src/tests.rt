@@ -283,6 +283,38 @@ fn refusals_are_written_out(rt: HostRuntime) -> Result<(), Fail> {
     Ok(())
 }
 
+#[test]
+fn replies_are_written_out(rt: HostRuntime) -> Result<(), Fail> {
+    for (lines, replies) in [
+        ("PING hello", "$5\r\nhello\r\n"),
+        ("XLEN s\nXRANGE s - +", ":0\r\n*0\r\n"),
+        (
+            "XADD s 1-1 a b\nXADD t 1-1 c d\nXLEN s\nXRANGE t - +",
+            "$3\r\n1-1\r\n$3\r\n1-1\r\n:1\r\n*1\r\n*2\r\n$3\r\n1-1\r\n*2\r\n$1\r\nc\r\n$1\r\nd\r\n",
+        ),
+        (
+            "XADD s 18446744073709551615-18446744073709551615 a b\nXADD s 5-1 a b",
+            "$41\r\n18446744073709551615-18446744073709551615\r\n-ERR The stream has exhausted the last possible ID, unable to add more items\r\n",
+        ),
+        (
+            "XADD s 1-1 a b\nXADD s 2-1 a b\nXRANGE s - + COUNT 1\nXRANGE s (1-1 + COUNT 9",
+            "$3\r\n1-1\r\n$3\r\n2-1\r\n*1\r\n*2\r\n$3\r\n1-1\r\n*2\r\n$1\r\na\r\n$1\r\nb\r\n*1\r\n*2\r\n$3\r\n2-1\r\n*2\r\n$1\r\na\r\n$1\r\nb\r\n",
+        ),
+        (
+            "XADD s 1-1 a b\nXADD s 2-1 a b\nXRANGE s 2 2\nXRANGE s - (2-1\nXRANGE s 3 +\nXRANGE s 2 1\nXRANGE s - + COUNT -1",
+            "$3\r\n1-1\r\n$3\r\n2-1\r\n*1\r\n*2\r\n$3\r\n2-1\r\n*2\r\n$1\r\na\r\n$1\r\nb\r\n*1\r\n*2\r\n$3\r\n1-1\r\n*2\r\n$1\r\na\r\n$1\r\nb\r\n*0\r\n*0\r\n*0\r\n",
+        ),
+    ] {
+        let bytes = spelled(rt.alloc(), lines)?;
+        let reader = Pieces::new(bytes.as_slice(), 4096, 4096);
+        assert!(rt;
+            gives(&rt, reader, End::Closed, replies.as_bytes())?,
+            "{lines}"
+        );
+    }
+    Ok(())
+}
+
 /// Each read of it is interrupted once.
 #[derive(Drop)]
 struct Interrupted<'a> {

@@ -1,10 +1,10 @@
-// What no clause says: that commands succeed while there is memory, what they reply to requests worked by hand, and that a
-// refusal of memory leaves the keys as they were.
+// What no clause says: that commands succeed while there is memory. What they reply to requests that were worked by hand is
+// tested from bytes to bytes, in sr_session.
 use crate::{Outcome, Space};
 use sr_args::Call;
 use sr_bytes::{Fields, Name};
 use sr_ids::Id;
-use sr_resp::{ErrCode, Reply, Word};
+use sr_resp::Reply;
 use std::alloc::{AllocError, Global};
 use std::hash::RandomState;
 use std::process::Abort;
@@ -79,131 +79,6 @@ fn listed(alloc: Global, entries: &[(&str, &str)]) -> Result<Reply, AllocError> 
     array(alloc, list)
 }
 
-/// Gives the stream `s` the entries 1-0, 2-0 and 3-0.
-fn add_three(space: &mut Space, alloc: Global) -> Result<Reply, AllocError> {
-    let mut replies = Vec::new(alloc);
-    for (ms, value) in [(1, "a"), (2, "b"), (3, "c")] {
-        replies.push(sent(space, alloc, &xadd(alloc, "s", ms, 0, value)?)?)?;
-    }
-    array(alloc, replies)
-}
-
-#[test]
-fn ping_replies_pong_or_its_message(rt: HostRuntime) -> Result<(), Fail> {
-    let alloc = rt.alloc();
-    let mut space = Space::new(alloc, RandomState::new(&rt)?);
-    let pong = sent(&mut space, alloc, &Call::Ping { message: None })?;
-    assert!(rt; pong == Reply::simple(alloc, Word::Pong));
-    let message = Some(name(alloc, "hello")?);
-    let echo = sent(&mut space, alloc, &Call::Ping { message })?;
-    assert!(rt; echo == bulk(alloc, "hello")?);
-    Ok(())
-}
-
-#[test]
-fn a_missing_key_has_no_entries(rt: HostRuntime) -> Result<(), Fail> {
-    let alloc = rt.alloc();
-    let mut space = Space::new(alloc, RandomState::new(&rt)?);
-    let len = sent(&mut space, alloc, &xlen(alloc, "s")?)?;
-    assert!(rt; len == Reply::int(alloc, 0));
-    let range = sent(&mut space, alloc, &xrange(alloc, "s", 0, LAST, None)?)?;
-    assert!(rt; range == Reply::empty_array(alloc));
-    Ok(())
-}
-
-#[test]
-fn an_entry_is_replied_by_its_id(rt: HostRuntime) -> Result<(), Fail> {
-    let alloc = rt.alloc();
-    let mut space = Space::new(alloc, RandomState::new(&rt)?);
-    let added = add_three(&mut space, alloc)?;
-    let ids = vec![in alloc;
-        bulk(alloc, "1-0")?,
-        bulk(alloc, "2-0")?,
-        bulk(alloc, "3-0")?,
-    ]?;
-    assert!(rt; added == array(alloc, ids)?);
-    Ok(())
-}
-
-#[test]
-fn refused_ids_add_nothing(rt: HostRuntime) -> Result<(), Fail> {
-    let alloc = rt.alloc();
-    let mut space = Space::new(alloc, RandomState::new(&rt)?);
-    let added = add_three(&mut space, alloc)?;
-    let rows = [
-        ("s", 3, 0, ErrCode::IdSmall),
-        ("s", 2, LAST, ErrCode::IdSmall),
-        ("s", 0, 0, ErrCode::IdZero),
-        ("other", 0, 0, ErrCode::IdZero),
-    ];
-    for (key, ms, seq, code) in rows {
-        let reply = sent(&mut space, alloc, &xadd(alloc, key, ms, seq, "x")?)?;
-        assert!(rt; reply == Reply::error(alloc, code), "at {ms}-{seq}");
-        let len = sent(&mut space, alloc, &xlen(alloc, "s")?)?;
-        assert!(rt; len == Reply::int(alloc, 3), "after {ms}-{seq}");
-    }
-    Ok(())
-}
-
-#[test]
-fn no_id_follows_the_greatest(rt: HostRuntime) -> Result<(), Fail> {
-    let alloc = rt.alloc();
-    let mut space = Space::new(alloc, RandomState::new(&rt)?);
-    let reply = sent(&mut space, alloc, &xadd(alloc, "s", LAST, LAST, "a")?)?;
-    let greatest = bulk(alloc, "18446744073709551615-18446744073709551615")?;
-    assert!(rt; reply == greatest);
-    for (ms, seq, code) in [
-        (5, 0, ErrCode::Exhausted),
-        (LAST, LAST, ErrCode::Exhausted),
-        (0, 0, ErrCode::IdZero),
-    ] {
-        let reply = sent(&mut space, alloc, &xadd(alloc, "s", ms, seq, "x")?)?;
-        assert!(rt; reply == Reply::error(alloc, code), "at {ms}-{seq}");
-    }
-    Ok(())
-}
-
-#[test]
-fn ranges_list_what_lies_in_them(rt: HostRuntime) -> Result<(), Fail> {
-    let alloc = rt.alloc();
-    let mut space = Space::new(alloc, RandomState::new(&rt)?);
-    let added = add_three(&mut space, alloc)?;
-    let all = [("1-0", "a"), ("2-0", "b"), ("3-0", "c")];
-    let rows = [
-        (0, LAST, None, 0, 3),
-        (0, LAST, Some(1), 0, 1),
-        (0, LAST, Some(9), 0, 3),
-        (0, LAST, Some(0), 0, 0),
-        (0, LAST, Some(-1), 0, 0),
-        (2, 2, None, 1, 2),
-        (2, LAST, Some(1), 1, 2),
-        (1, 2, None, 0, 2),
-        (4, LAST, None, 0, 0),
-        (3, 1, None, 0, 0),
-    ];
-    for (from, to, count, first, past) in rows {
-        let call = xrange(alloc, "s", from, to, count)?;
-        let range = sent(&mut space, alloc, &call)?;
-        let want = listed(alloc, all.get(first..past).ok_or("the row")?)?;
-        assert!(rt; range == want, "from {from} to {to}, COUNT {count:?}");
-    }
-    Ok(())
-}
-
-#[test]
-fn keys_keep_apart(rt: HostRuntime) -> Result<(), Fail> {
-    let alloc = rt.alloc();
-    let mut space = Space::new(alloc, RandomState::new(&rt)?);
-    let added = add_three(&mut space, alloc)?;
-    let reply = sent(&mut space, alloc, &xadd(alloc, "t", 1, 0, "z")?)?;
-    assert!(rt; reply == bulk(alloc, "1-0")?);
-    let range = sent(&mut space, alloc, &xrange(alloc, "t", 0, LAST, None)?)?;
-    assert!(rt; range == listed(alloc, &[("1-0", "z")])?);
-    let len = sent(&mut space, alloc, &xlen(alloc, "s")?)?;
-    assert!(rt; len == Reply::int(alloc, 3));
-    Ok(())
-}
-
 /// What XLEN and XRANGE reply at the keys `s` and `t`.
 fn seen(space: &mut Space, alloc: Global) -> Result<Reply, AllocError> {
     let mut replies = Vec::new(alloc);
@@ -228,7 +103,7 @@ fn carry_out(rt: &impl Abort, space: &mut Space, alloc: Global) -> Result<(), Al
         let before = seen(space, alloc)?;
         if sent(space, alloc, call).is_err() {
             assert!(rt; seen(space, alloc)? == before);
-            let again = sent(space, alloc, call)?;
+            let _again = sent(space, alloc, call)?;
         }
     }
     let want = [("1-0", "a"), ("2-0", "b")];
@@ -237,10 +112,11 @@ fn carry_out(rt: &impl Abort, space: &mut Space, alloc: Global) -> Result<(), Al
     Ok(())
 }
 
-/// It shows the most where each of its allocations fails in turn. A refusal between the commands ends it.
+/// It shows the most where each of its allocations fails in turn.
 #[test]
 fn refused_memory_leaves_the_keys(rt: HostRuntime) -> Result<(), Fail> {
     let mut space = Space::new(rt.alloc(), RandomState::new(&rt)?);
-    let refused = carry_out(&rt, &mut space, rt.alloc()).is_err();
+    // It ends early where a refusal came between the commands.
+    let _ended = carry_out(&rt, &mut space, rt.alloc());
     Ok(())
 }
