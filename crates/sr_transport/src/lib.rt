@@ -2,6 +2,8 @@
 //! cheapest assignment and of a shortage.
 #![tactic(auto)]
 
+mod check;
 mod problem;
 
+pub use check::{check_prices, check_shortage};
 pub use problem::Problem;
