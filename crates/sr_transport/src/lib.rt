@@ -7,3 +7,6 @@ mod problem;
 
 pub use check::{check_prices, check_shortage};
 pub use problem::Problem;
+
+#[cfg(test)]
+mod tests;
