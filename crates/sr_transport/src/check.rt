@@ -8,6 +8,7 @@ use crate::problem::Problem;
 
 /// Whether `assign` is an assignment and `prices` show that no other costs less: entry i goes to `assign[i]`, and
 /// there is a price for each consumer. Lists of another length are a no. It takes no memory.
+#[tactic(auto, using(crate::proofs::CallerLemmas::prices_show_cheapest))]
 pub fn check_prices(problem: &Problem, assign: &[usize], prices: &[u64]) -> bool
     ensures exact { IsTrue result ↔ (IsAssignment problem.now assign.now × ShowsCheapest problem.now assign.now prices.now) }
     ensures cheapest { IsTrue result → IsAssignment problem.now assign.now × IsCheapest problem.now assign.now }
@@ -16,6 +17,7 @@ pub fn check_prices(problem: &Problem, assign: &[usize], prices: &[u64]) -> bool
 }
 
 /// Whether `set` names entries, rising, for which there are too few places. It takes no memory.
+#[tactic(auto, using(crate::proofs::CallerLemmas::shortage_excludes))]
 pub fn check_shortage(problem: &Problem, set: &[usize]) -> bool
     ensures exact { IsTrue result ↔ IsShortage problem.now set.now }
     ensures none { IsTrue result → HasNoAssignment problem.now }
