@@ -1,17 +1,13 @@
 -- Sums over the numbers below a bound: how they compare, and how a sum over a list is one over its values.
-use Rattle.std.proofs.Common.{◌≡◌, ℕ, zero, suc, ◌+◌, ◌*◌, ◌<◌, ◌≤◌, ◌==◌, cond, List, [], ◌∷◌, length, get_or, take, refl, sym, ap, ◌∙◌, inl, inr, arith, add-one, eq-eqb}
+use Rattle.std.proofs.Common.{◌≡◌, ℕ, zero, suc, ◌+◌, ◌*◌, ◌<◌, ◌≤◌, ◌==◌, cond, List, [], ◌∷◌, length, get_or, take, refl, sym, ap, ◌∙◌, inl, inr, arith, eq-eqb}
 use Rattle.std.specs.List.{All, sum_by}
 use Rattle.std.proofs.Math.Nat.{mul-add}
 use Rattle.std.proofs.Math.Seq.{take-length}
-use Rattle.std.proofs.lemmas.Bool.{cases_eq, cases_lt, ne_eqb}
+use Rattle.std.proofs.lemmas.Bool.{cases_eq, ne_eqb}
 use Rattle.std.proofs.lemmas.List.Elements.{All-head, All-tail}
 use Rattle.std.proofs.lemmas.List.Sums.{sum_by-cons, sum_by_more}
 use Rattle.sr_transport.specs.Sum.{sum_below}
 use Rattle.sr_transport.specs.Assignment.{load}
-
--- one more term
-pub sum_below_more : (f : ℕ → ℕ) (n : ℕ) → sum_below f (n + 1) ≡ sum_below f n + f n
-sum_below_more f n = rw add-one refl
 
 pub sum_below-same : (f g : ℕ → ℕ) (n : ℕ) → ((k : ℕ) → k < n → f k ≡ g k) → sum_below f n ≡ sum_below g n
 sum_below-same f g zero h = refl
@@ -27,15 +23,6 @@ pub sum_below-le_pairs : (f g h k : ℕ → ℕ) (n : ℕ) → ((i : ℕ) → i 
 sum_below-le_pairs f g h k zero le = omega arith
 sum_below-le_pairs f g h k (suc n) le =
     omega (arith, sum_below-le_pairs f g h k n (λ i l. le i (omega arith)), le n (omega arith))
-
--- the sum so far is within the whole sum
-pub sum_below_within : (f : ℕ → ℕ) (m n : ℕ) → m ≤ n → sum_below f m ≤ sum_below f n
-sum_below_within f m zero le = let none : m ≡ 0 = omega arith in rw none (omega arith)
-sum_below_within f m (suc n) le =
-    elim (cases_lt m (suc n)) [
-      | inl lt ↦ omega (arith, sum_below_within f m n (omega arith))
-      | inr ge ↦ let same : m ≡ suc n = omega arith in rw same (omega arith)
-    ]
 
 -- a sum of terms up to some number
 pub sum_below-le_most : (f : ℕ → ℕ) (most n : ℕ) → ((k : ℕ) → k < n → f k ≤ most) → sum_below f n ≤ n * most
@@ -56,7 +43,7 @@ sum_by-take_below w xs (suc n) le =
 pub sum_by_below : (w : ℕ → ℕ) (xs : List ℕ) → sum_by w xs ≡ sum_below (λ i. w (get_or xs i 0)) (length xs)
 sum_by_below w xs = sym (ap (sum_by w) (take-length xs)) ∙ sum_by-take_below w xs (length xs) (omega arith)
 
--- the load of a consumer by the first entry
+-- the load of a consumer with the first entry, which goes to it or to another
 load-cons_same : (x : ℕ) (xs : List ℕ) (c : ℕ) → x ≡ c → load (x ∷ xs) c ≡ 1 + load xs c
 load-cons_same x xs c e = sum_by-cons (λ y. cond (y == c) 1 0) x xs ∙ ap (λ b. cond b 1 0 + load xs c) (eq-eqb x c e)
 
