@@ -1,0 +1,2 @@
+//! The solver.
+#![tactic(auto)]

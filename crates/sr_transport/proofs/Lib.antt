@@ -1,0 +1,3 @@
+pub mod SumLemmas
+pub mod LimitLemmas
+pub mod CallerLemmas

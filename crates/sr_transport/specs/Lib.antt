@@ -1,0 +1,4 @@
+pub mod Sum
+pub mod Problem
+pub mod Assignment
+pub mod Certificate
