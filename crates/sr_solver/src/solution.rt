@@ -1,0 +1,87 @@
+use crate::label::Label;
+use crate::path::{raise, shift};
+use crate::search::search;
+use crate::shortage::stranded;
+
+use sr_transport::Problem;
+use std::alloc::{AllocError, Global};
+
+/// What solves a problem.
+#[derive(Drop)]
+pub enum Solved {
+    /// A cheapest assignment: entry i goes to `assign[i]`; a price for each consumer that shows it; and its total.
+    Best { assign: Vec<usize>, prices: Vec<u64>, total: u64 },
+    /// There is no assignment: entries, rising, for which there are too few places.
+    Short { set: Vec<usize> },
+}
+
+/// Solves a transportation problem: gives a cheapest assignment with prices that show it, or entries for which there
+/// are too few places.
+///
+/// The entries are placed one after another, each along a shortest path that makes place for it.
+///
+/// Source: the method of successive shortest paths (J. Edmonds, R. M. Karp, 1972).
+pub fn solve(alloc: Global, problem: &Problem) -> Result<Solved, AllocError> {
+    let consumers = problem.consumers();
+    let mut assign = vec![in alloc; consumers; problem.entries()]?;
+    let mut prices = vec![in alloc; 0u64; consumers]?;
+    let mut loads = vec![in alloc; 0u64; consumers]?;
+    let mut labels = vec![in alloc; Label::none(); consumers]?;
+    match place_all(problem, &mut assign, &mut prices, &mut loads, &mut labels) {
+        None => {
+            let total = total(problem, &assign);
+            Ok(Solved::Best {
+                assign,
+                prices,
+                total,
+            })
+        }
+        Some(entry) => {
+            let set = stranded(alloc, &assign, &labels, entry)?;
+            Ok(Solved::Short { set })
+        }
+    }
+}
+
+/// Places entry after entry, and gives the first for which there is no place.
+fn place_all(
+    problem: &Problem,
+    assign: &mut [usize],
+    prices: &mut [u64],
+    loads: &mut [u64],
+    labels: &mut [Label],
+) -> Option<usize> {
+    for entry in 0..problem.entries() {
+        if !place(problem, entry, assign, prices, loads, labels) {
+            return Some(entry);
+        }
+    }
+    None
+}
+
+/// Places one entry, where there is a place for it.
+fn place(
+    problem: &Problem,
+    entry: usize,
+    assign: &mut [usize],
+    prices: &mut [u64],
+    loads: &mut [u64],
+    labels: &mut [Label],
+) -> bool {
+    let Some(end) = search(problem, entry, assign, prices, loads, labels) else {
+        return false;
+    };
+    raise(prices, labels, labels[end].dist);
+    shift(assign, labels, end);
+    loads[end] += 1;
+    true
+}
+
+/// What an assignment costs.
+fn total(problem: &Problem, assign: &[usize]) -> u64 {
+    let mut total = 0;
+    for (entry, consumer) in assign.iter().enumerate() {
+        total += problem.cost(entry, *consumer).unwrap();
+    }
+    total
+}
