@@ -1,7 +1,7 @@
 -- What shows an assignment to be a cheapest one, and what shows that there is none.
 -- Source: linear programming duality and complementary slackness; P. Hall, "On representatives of subsets", 1935.
 
-use Rattle.std.specs.Prelude.{◌≡◌, ℕ, ◌+◌, ◌<◌, ◌≤◌, List, length, slice_index, EachIndex, All, Bool, true, false, ◌||◌, is_some, if◌then◌else◌}
+use Rattle.std.specs.Prelude.{◌≡◌, ℕ, ◌+◌, ◌<◌, ◌≤◌, List, length, slice_index, EachIndex, All, Bool, is_some, if◌then◌else◌}
 use Rattle.std.specs.List.{list_any}
 use Rattle.sr_transport.specs.Sum.{sum_below}
 use Rattle.std.specs.List.Sorted.{IsStrictlyIncreasing}

@@ -1,7 +1,7 @@
 -- The transportation problem: rooms, entries, costs.
 -- Source: F. L. Hitchcock, "The distribution of a product from several sources to numerous localities", 1941.
 
-use Rattle.std.specs.Prelude.{◌≡◌, ℕ, ◌+◌, ◌*◌, ◌^◌, ◌<◌, ◌≤◌, List, length, slice_index, slice_index_or, All, Option, Some, None, IsSome, IfSome, unwrap_or}
+use Rattle.std.specs.Prelude.{◌≡◌, ℕ, ◌+◌, ◌*◌, ◌^◌, ◌<◌, ◌≤◌, List, length, slice_index, slice_index_or, All, Option, None, IsSome, IfSome, unwrap_or}
 
 -- a problem: how many entries each consumer has room for, how many entries there are, and what each pair costs, row by
 -- entry, None where the pair is not allowed
