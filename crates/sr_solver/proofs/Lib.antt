@@ -1,0 +1,3 @@
+pub mod PathLemmas
+pub mod LabelLemmas
+pub mod SearchLemmas
