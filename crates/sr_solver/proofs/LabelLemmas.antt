@@ -99,3 +99,6 @@ way_kept p k xs prices old new c same closed way =
             )
       ];
     }
+
+pub same_way : (old new : Label) → new ≡ old → IsSameWay old new
+same_way old new e = record { hops = ap (λ l. l.hops) e; dist = ap (λ l. l.dist) e; mover = ap (λ l. l.mover) e }

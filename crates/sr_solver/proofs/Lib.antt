@@ -1,3 +1,5 @@
 pub mod PathLemmas
 pub mod LabelLemmas
 pub mod SearchLemmas
+pub mod CloseLemmas
+pub mod OfferLemmas

@@ -1,13 +1,14 @@
 -- The state between two placements.
 
 use Rattle.std.specs.Prelude.{◌≡◌, ℕ, ◌*◌, ◌^◌, ◌<◌, ◌≤◌, List, length, slice_index}
-use Rattle.sr_transport.specs.Problem.{Transport, consumers, room_of, IsAllowed}
+use Rattle.sr_transport.specs.Problem.{Transport, IsWithinLimits, consumers, room_of, IsAllowed}
 use Rattle.sr_transport.specs.Assignment.{load}
 use Rattle.sr_transport.specs.Certificate.{IsLeast}
 
 -- the first k entries are placed, and the prices show that none can be placed for less; the others stand past the last
 -- consumer
 pub record IsPlaced (p : Transport) (k : ℕ) (xs prices : List ℕ) : Type 0 where
+  pub limits : IsWithinLimits p.rooms p.entries p.costs
   pub every : length xs ≡ p.entries
   pub one_each : length prices ≡ consumers p
   pub placed : (i : ℕ) → i < k → IsAllowed p i (slice_index xs i)

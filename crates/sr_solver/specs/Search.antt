@@ -71,6 +71,12 @@ AreAllClosed p labels =
 abbrev pub IsRound : Transport → ℕ → List ℕ → List ℕ → List Label → Type 0
 IsRound p k xs prices labels = IsSearch p k xs prices labels (consumers p) k
 
+-- the search after consumer t is closed, and its entries below `upto` are offered
+pub record IsClosed (p : Transport) (k : ℕ) (xs prices : List ℕ) (old new : List Label) (t upto : ℕ) : Type 0 where
+  pub search : IsSearch p k xs prices new t upto
+  pub closed : (label_at new t).closed ≡ true
+  pub fewer : open_count new < open_count old
+
 -- the search found a path that ends at a consumer with room
 pub record IsEnd (p : Transport) (k : ℕ) (xs prices : List ℕ) (labels : List Label) (end : ℕ) : Type 0 where
   pub search : IsRound p k xs prices labels

@@ -1,5 +1,5 @@
 ghost use Rattle.std.specs.Prelude.{◌≡◌, ℕ, ◌+◌, ◌^◌, ◌<◌, ◌≤◌, length, slice_index, IfSome, IfNone};
-ghost use Rattle.sr_transport.specs.Problem.{consumers, room_of, IsAllowed};
+ghost use Rattle.sr_transport.specs.Problem.{IsWithinLimits, consumers, room_of, IsAllowed};
 ghost use Rattle.sr_transport.specs.Assignment.{load};
 ghost use Rattle.sr_transport.specs.Certificate.{IsLeast};
 ghost use Rattle.sr_solver.specs.Labels.{no_label, label_at, open_count};
@@ -124,6 +124,7 @@ fn close(problem: &Problem, entry: usize, near: usize, assign: &[usize], prices:
 
 /// Offers an entry that stands at the consumer `near` to each consumer.
 fn offer_from(problem: &Problem, near: usize, mover: usize, prices: &[u64], labels: &mut [Label])
+    requires limits { IsWithinLimits problem.now.rooms problem.now.entries problem.now.costs }
     requires entry { mover < problem.now.entries }
     requires allowed { IsAllowed problem.now mover near }
     requires least { IsLeast problem.now prices.now mover near }

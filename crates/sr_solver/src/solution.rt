@@ -104,7 +104,8 @@ fn place(
 
 /// What an assignment costs.
 fn total(problem: &Problem, assign: &[usize]) -> u64
-    requires { IsAssignment problem.now assign.now }
+    requires limits { IsWithinLimits problem.now.rooms problem.now.entries problem.now.costs }
+    requires assignment { IsAssignment problem.now assign.now }
     ensures { result ≡ total_of problem.now assign.now }
 {
     let mut total = 0;
