@@ -3,3 +3,4 @@ pub mod LabelLemmas
 pub mod SearchLemmas
 pub mod CloseLemmas
 pub mod OfferLemmas
+pub mod PlaceLemmas
