@@ -4,3 +4,5 @@ pub mod SearchLemmas
 pub mod CloseLemmas
 pub mod OfferLemmas
 pub mod PlaceLemmas
+pub mod ShortageLemmas
+pub mod SolvedLemmas

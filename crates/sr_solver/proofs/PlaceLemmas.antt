@@ -1,7 +1,8 @@
 -- One entry is placed: the prices rise, and the entries move along the path.
 use Rattle.std.proofs.Common.{◌≡◌, ℕ, zero, suc, ◌+◌, ◌*◌, ◌^◌, ◌<◌, ◌≤◌, ◌==◌, ◌⊎◌, Bool, true, false, cond, List, length, get_or, refl, sym, ap, ◌∙◌, subst, inl, inr, arith, eq-eqb}
 use Rattle.std.proofs.lemmas.Bool.{cases_eq, cases_lt, false≢true, ne_eqb}
-use Rattle.std.proofs.lemmas.List.{get_or_past}
+use Rattle.std.proofs.Math.ListN.{set, length-set}
+use Rattle.std.proofs.lemmas.List.{get_or_past, get_or-set_same, get_or-set_other}
 use Rattle.sr_transport.specs.Problem.{Transport, IsWithinLimits, consumers, room_of, cost_of, IsAllowed}
 use Rattle.sr_transport.specs.Assignment.{load}
 use Rattle.sr_transport.specs.Certificate.{IsLeast}
@@ -269,5 +270,29 @@ placed_more p k xs prices labels end raised new placed found ltk rise shifted =
         | inl closed ↦
             omega (arith, (rising.rise c lt).closed closed, placed.low c lt, end_near p k xs prices labels end placed found)
         | inr is_open ↦ omega (arith, (rising.rise c lt).stays is_open, placed.low c lt)
+      ];
+    }
+
+-- the loads count it
+pub loads_more : (p : Transport) (k : ℕ) (xs prices loads : List ℕ) (labels : List Label) (end : ℕ) (new : List ℕ)
+    → AreLoads p xs loads → IsEnd p k xs prices labels end → AreShifted labels k end xs new
+    → AreLoads p new (set loads end (get_or loads end 0 + 1))
+loads_more p k xs prices loads labels end new counted found shifted =
+    let in_loads : end < length loads = omega (arith, found.nearest.consumer, counted.one_each) in
+    record {
+      one_each = length-set loads end (get_or loads end 0 + 1) ∙ counted.one_each;
+      each = λ c lt.
+      let load_at : load new c ≡ load xs c + one_at end c = shifted.loads c (omega (arith, lt, found.search.one_each)) in
+      elim (cases_eq c end) [
+        | inl e ↦
+            let here : get_or (set loads end (get_or loads end 0 + 1)) c 0 ≡ get_or loads end 0 + 1 =
+            rw e (get_or-set_same loads end (get_or loads end 0 + 1) 0 in_loads) in
+            let before : get_or loads end 0 ≡ load xs c = rw (← e) (counted.each c lt) in
+            omega (arith, here, before, load_at, one_at_same end c (sym e))
+        | inr ne ↦
+            let here : get_or (set loads end (get_or loads end 0 + 1)) c 0 ≡ get_or loads c 0 =
+            get_or-set_other loads end c (get_or loads end 0 + 1) 0 ne in
+            let other : end ≡ c → ⊥ = λ e. ne (sym e) in
+            omega (arith, here, counted.each c lt, load_at, one_at_other end c other)
       ];
     }

@@ -39,18 +39,25 @@ pub fn solve(alloc: Global, problem: &Problem) -> Result<Solved, AllocError>
     let mut loads = vec![in alloc; 0u64; consumers]?;
     let mut labels = vec![in alloc; Label::none(); consumers]?;
     match place_all(problem, &mut assign, &mut prices, &mut loads, &mut labels) {
-        None => {
-            let total = total(problem, &assign);
-            Ok(Solved::Best {
-                assign,
-                prices,
-                total,
-            })
-        }
+        None => Ok(best(problem, assign, prices)),
         Some(entry) => {
             let set = stranded(alloc, &assign, &labels, entry)?;
             Ok(Solved::Short { set })
         }
+    }
+}
+
+/// The answer where every entry is placed.
+fn best(problem: &Problem, assign: Vec<usize>, prices: Vec<u64>) -> Solved
+    requires { IsPlaced problem.now problem.now.entries assign.items prices.items }
+    ensures solution { IsSolution problem.now result }
+    ensures optimal { IsOptimal problem.now result }
+{
+    let total = total(problem, &assign);
+    Solved::Best {
+        assign,
+        prices,
+        total,
     }
 }
 
