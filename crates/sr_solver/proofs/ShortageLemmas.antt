@@ -165,3 +165,9 @@ stuck_short p k xs prices labels stuck =
       (All-weaker (IsStranded labels xs k) (λ i. i < p.entries) (λ i h. omega (arith, h.0, stuck.entry)) before are) stuck.entry;
       too_few = omega (arith, places, stranded_held p k xs prices labels stuck, length-append before (k ∷ []));
     }
+
+-- the same, where the lists are known by equations
+pub stuck_short_is : (p : Transport) (k : ℕ) (xs prices : List ℕ) (labels : List Label) (ys : List ℕ) (others : List Label) (set : List ℕ)
+    → IsStuck p k xs prices labels → ys ≡ xs → others ≡ labels → set ≡ stranded_below others ys k ++ k ∷ [] → IsShortage p set
+stuck_short_is p k xs prices labels ys others set stuck same_xs same_labels is_set =
+    rw is_set (rw same_xs (rw same_labels (stuck_short p k xs prices labels stuck)))
