@@ -1,17 +1,15 @@
 -- Labels: what an offer leaves, how many are open, and what stays of a way.
-use Rattle.std.proofs.Common.{◌≡◌, ℕ, zero, suc, ◌+◌, ◌*◌, ◌^◌, ◌<◌, ◌≤◌, ◌⊎◌, Bool, true, false, not, cond, List, [], ◌∷◌, length, get_or, Option, Some, None, refl, sym, ap, ◌∙◌, subst, inl, inr, arith}
+use Rattle.std.proofs.Common.{◌≡◌, ℕ, suc, ◌+◌, ◌<◌, ◌≤◌, ◌⊎◌, Bool, true, false, not, cond, List, [], ◌∷◌, length, get_or, Option, Some, None, refl, ap, ◌∙◌, inl, inr, arith}
 use Rattle.std.specs.Prelude.{IsSome, unwrap_or}
-use Rattle.std.specs.List.{sum_by, count_by}
-use Rattle.std.proofs.Math.ListN.{set, length-set}
-use Rattle.std.proofs.lemmas.Bool.{cases_eq, false≢true}
-use Rattle.std.proofs.lemmas.List.{get_or-set_same, get_or-set_other, get_or_past}
+use Rattle.std.proofs.Math.ListN.{set}
+use Rattle.std.proofs.lemmas.Bool.{false≢true}
 use Rattle.std.proofs.lemmas.List.Sums.{sum_by-set, sum_by-cons, get_or-le-sum_by, count_by-le-length}
-use Rattle.sr_transport.specs.Problem.{Transport, consumers, cost_at, cost_of, IsAllowed}
+use Rattle.sr_transport.specs.Problem.{Transport}
 use Rattle.sr_solver.specs.declared.label.Label.{Label}
 use Rattle.sr_solver.specs.declared.label.Offer.{Offer}
-use Rattle.sr_solver.specs.Labels.{no_label, label_at, open_count, priced}
-use Rattle.sr_solver.specs.Offers.{IsKept, IsTaken, IsOffered}
-use Rattle.sr_solver.specs.Search.{IsFirstStep, IsNextStep, IsWay}
+use Rattle.sr_solver.specs.Labels.{no_label, label_at, open_count}
+use Rattle.sr_solver.specs.Offers.{IsTaken, IsOffered}
+use Rattle.sr_solver.specs.Search.{IsWay}
 
 -- the offer left the label as it was
 pub record IsLeft (cost : Option ℕ) (price : ℕ) (offer : Offer) (old new : Label) : Type 0 where
@@ -76,7 +74,7 @@ pub record IsSameWay (old new : Label) : Type 0 where
 pub way_kept : (p : Transport) (k : ℕ) (xs prices : List ℕ) (old new : List Label) (c : ℕ)
     → IsSameWay (label_at old c) (label_at new c)
     → ((x : ℕ) → (label_at old x).closed ≡ true
-        → IsSameWay (label_at old x) (label_at new x) × ((label_at new x).closed ≡ true))
+    → IsSameWay (label_at old x) (label_at new x) × ((label_at new x).closed ≡ true))
     → IsWay p k xs prices old c → IsWay p k xs prices new c
 way_kept p k xs prices old new c same closed way =
     record {
@@ -84,18 +82,18 @@ way_kept p k xs prices old new c same closed way =
       step = elim way.step [
         | inl first ↦ inl (
             record { mover = same.mover ∙ first.mover; hops = same.hops ∙ first.hops; dist = same.dist ∙ first.dist }
-          )
+            )
         | inr next ↦
             let from = closed (get_or xs (label_at old c).mover 0) next.closed in
             inr (
-              rw same.mover (
-                record {
-                  earlier = rw same.mover next.earlier;
-                  closed = from.1;
-                  hops = omega (arith, same.hops, next.hops, from.0.hops);
-                  dist = rw same.mover (omega (arith, same.dist, next.dist, from.0.dist));
-                }
-              )
+            rw same.mover (
+            record {
+              earlier = rw same.mover next.earlier;
+              closed = from.1;
+              hops = omega (arith, same.hops, next.hops, from.0.hops);
+              dist = rw same.mover (omega (arith, same.dist, next.dist, from.0.dist));
+            }
+            )
             )
       ];
     }

@@ -1,18 +1,15 @@
 -- One more entry of a closed consumer is offered.
-use Rattle.std.proofs.Common.{◌≡◌, ℕ, zero, suc, ◌+◌, ◌*◌, ◌^◌, ◌<◌, ◌≤◌, ◌⊎◌, Bool, true, false, not, cond, List, [], ◌∷◌, length, get_or, Option, Some, None, refl, sym, ap, ◌∙◌, subst, inl, inr, arith}
-use Rattle.std.specs.Prelude.{IsSome, unwrap_or}
+use Rattle.std.proofs.Common.{◌≡◌, ℕ, ◌+◌, ◌^◌, ◌<◌, ◌≤◌, ◌⊎◌, true, false, List, length, get_or, sym, ap, ◌∙◌, inl, inr, arith}
 use Rattle.std.proofs.lemmas.Bool.{cases_eq, cases_lt, false≢true}
 use Rattle.std.proofs.lemmas.List.{get_or_past}
-use Rattle.sr_transport.specs.Problem.{Transport, IsWithinLimits, consumers, room_of, cost_at, cost_of, IsAllowed}
-use Rattle.sr_transport.specs.Assignment.{load}
+use Rattle.sr_transport.specs.Problem.{Transport, IsWithinLimits, consumers, cost_at, IsAllowed}
 use Rattle.sr_transport.specs.Certificate.{IsLeast}
 use Rattle.sr_solver.specs.declared.label.Label.{Label}
-use Rattle.sr_solver.specs.declared.label.Offer.{Offer}
 use Rattle.sr_solver.specs.Labels.{no_label, label_at, open_count, priced}
-use Rattle.sr_solver.specs.Offers.{IsKept, IsTaken, IsOffered, AreOffered, offer_of}
+use Rattle.sr_solver.specs.Offers.{AreOffered, offer_of}
 use Rattle.sr_solver.specs.Placed.{IsPlaced}
-use Rattle.sr_solver.specs.Search.{IsFirstStep, IsNextStep, IsWay, IsWithin, IsSearch, IsNearest, IsRound}
-use Rattle.sr_solver.proofs.LabelLemmas.{IsLeft, IsChanged, offered_split, open_count_same, IsSameWay, way_kept, same_way}
+use Rattle.sr_solver.specs.Search.{IsWithin, IsSearch}
+use Rattle.sr_solver.proofs.LabelLemmas.{offered_split, open_count_same, IsSameWay, way_kept, same_way}
 use Rattle.sr_solver.proofs.SearchLemmas.{cost_small, search_skips}
 use Rattle.sr_solver.specs.Search.{IsClosed}
 
@@ -47,15 +44,15 @@ offered_at p prices t i old new every offered c =
             | inr changed ↦
                 let taken = changed.taken in
                 inr (
-                  record {
-                    allowed = (lt, changed.allowed);
-                    was_open = taken.not_closed;
-                    hops = taken.hops;
-                    dist = taken.dist;
-                    mover = taken.mover;
-                    still_open = taken.still_open;
-                    nearer = taken.nearer;
-                  }
+                record {
+                  allowed = (lt, changed.allowed);
+                  was_open = taken.not_closed;
+                  hops = taken.hops;
+                  dist = taken.dist;
+                  mover = taken.mover;
+                  still_open = taken.still_open;
+                  nearer = taken.nearer;
+                }
                 )
           ]
     ]
@@ -113,7 +110,7 @@ within_offered p k xs prices old new t i search ltt closed least offering c allo
           elim (left.no_nearer allowed) [
             | inl was ↦ (
               search.reached c allowed.0 was,
-              omega (arith, search.latest c allowed.0 was ltt, least c allowed)
+              omega (arith, search.latest c allowed.0 was ltt, least c allowed),
             )
             | inr within ↦ within
           ] in
@@ -143,17 +140,17 @@ offer_search p k xs prices old new t i limits search ltt closed lti stands least
             record {
               allowed = rw mover fresh.allowed;
               step = inr (
-                rw mover (
+                  rw mover (
                   rw stands (
-                    record {
-                      earlier = rw mover lti;
-                      closed = ap (λ l. l.closed) (offering.kept t closed) ∙ closed;
-                      hops = omega (arith, fresh.hops, (kept_same t closed).hops);
-                      dist = rw mover (rw stands (omega (arith, fresh.dist, (kept_same t closed).dist)));
-                    }
+                  record {
+                    earlier = rw mover lti;
+                    closed = ap (λ l. l.closed) (offering.kept t closed) ∙ closed;
+                    hops = omega (arith, fresh.hops, (kept_same t closed).hops);
+                    dist = rw mover (rw stands (omega (arith, fresh.dist, (kept_same t closed).dist)));
+                  }
                   )
-                )
-              );
+                  )
+                  );
             }
       ];
       long = λ c lt up. elim (offering.at c) [
@@ -168,42 +165,42 @@ offer_search p k xs prices old new t i limits search ltt closed lti stands least
         | inr fresh ↦ omega (arith, search.few_closed t ltt closed, fresh.hops, offering.count)
       ];
       few_closed = λ c lt now.
-      omega (arith, search.few_closed c lt (offering.back c now), (kept_same c (offering.back c now)).hops, offering.count);
+          omega (arith, search.few_closed c lt (offering.back c now), (kept_same c (offering.back c now)).hops, offering.count);
       reached = λ c lt now. omega (arith, search.reached c lt (offering.back c now), (kept_same c (offering.back c now)).hops);
       full = λ c lt now. search.full c lt (offering.back c now);
       nearer = λ c d lt ltd now not_now up.
-      let was = offering.back c now in
-      elim (offering.at d) [
-        | inl left ↦
-            let was_open : (label_at old d).closed ≡ false = sym (ap (λ l. l.closed) left.same) ∙ not_now in
-            omega (
-              arith,
-              search.nearer c d lt ltd was was_open (omega (arith, up, (same d left.same).hops)),
-              (kept_same c was).dist,
-              (same d left.same).dist
-            )
-        | inr fresh ↦
-            omega (arith, search.latest c lt was ltt, (kept_same c was).dist, fresh.dist, least d fresh.allowed)
-      ];
+          let was = offering.back c now in
+          elim (offering.at d) [
+            | inl left ↦
+                let was_open : (label_at old d).closed ≡ false = sym (ap (λ l. l.closed) left.same) ∙ not_now in
+                omega (
+                  arith,
+                  search.nearer c d lt ltd was was_open (omega (arith, up, (same d left.same).hops)),
+                  (kept_same c was).dist,
+                  (same d left.same).dist,
+                )
+            | inr fresh ↦
+                omega (arith, search.latest c lt was ltt, (kept_same c was).dist, fresh.dist, least d fresh.allowed)
+          ];
       latest = λ c lt now ltt'.
-      let was = offering.back c now in
-      omega (arith, search.latest c lt was ltt, (kept_same c was).dist, (kept_same t closed).dist);
+          let was = offering.back c now in
+          omega (arith, search.latest c lt was ltt, (kept_same c was).dist, (kept_same t closed).dist);
       new_offered = λ c allowed. within_kept p prices t i old new offering 0 0 k c (search.new_offered c allowed);
       offered = λ j c lt now upto allowed.
-      let was = offering.back (get_or xs j 0) now in
-      let from = kept_same (get_or xs j 0) was in
-      elim (cases_eq j i) [
-        | inl e ↦
-            let here : get_or xs j 0 ≡ t = ap (λ x. get_or xs x 0) e ∙ stands in
-            let far = within_offered p k xs prices old new t i search ltt closed least offering c (rw (← e) allowed) in
-            rw from.dist (rw here (rw e far))
-        | inr ne ↦
-            let before : get_or xs j 0 ≡ t → j < i = λ h. omega (arith, upto h, ne) in
-            let far = search.offered j c lt was before allowed in
-            rw from.dist (
-              within_kept p prices t i old new offering (label_at old (get_or xs j 0)).dist (priced p prices j (get_or xs j 0)) j c far
-            )
-      ];
+          let was = offering.back (get_or xs j 0) now in
+          let from = kept_same (get_or xs j 0) was in
+          elim (cases_eq j i) [
+            | inl e ↦
+                let here : get_or xs j 0 ≡ t = ap (λ x. get_or xs x 0) e ∙ stands in
+                let far = within_offered p k xs prices old new t i search ltt closed least offering c (rw (← e) allowed) in
+                rw from.dist (rw here (rw e far))
+            | inr ne ↦
+                let before : get_or xs j 0 ≡ t → j < i = λ h. omega (arith, upto h, ne) in
+                let far = search.offered j c lt was before allowed in
+                rw from.dist (
+                within_kept p prices t i old new offering (label_at old (get_or xs j 0)).dist (priced p prices j (get_or xs j 0)) j c far
+                )
+          ];
     }
 
 -- what the loop over the entries at t keeps: an entry there is offered
@@ -249,5 +246,5 @@ dist_small p k xs prices labels t upto placed le search c lt closed =
       arith,
       price_small p k xs prices placed le c lt,
       hops_small p k xs prices labels t upto placed search c lt closed,
-      search.long c lt (search.reached c lt closed)
+      search.long c lt (search.reached c lt closed),
     )

@@ -1,5 +1,5 @@
 -- A move of the entries along a path.
-use Rattle.std.proofs.Common.{◌≡◌, ℕ, ◌+◌, ◌<◌, ◌≤◌, ◌==◌, ◌⊎◌, Bool, true, false, cond, List, length, get_or, refl, sym, ap, ◌∙◌, subst, inl, inr, arith}
+use Rattle.std.proofs.Common.{◌≡◌, ℕ, ◌+◌, ◌<◌, ◌==◌, ◌⊎◌, Bool, false, cond, List, length, get_or, refl, ap, ◌∙◌, inl, inr, arith}
 use Rattle.std.proofs.Math.ListN.{set, length-set}
 use Rattle.std.proofs.lemmas.Bool.{cases_eq, ne_eqb}
 use Rattle.std.proofs.lemmas.List.{get_or-set_same, get_or-set_other}
@@ -31,12 +31,12 @@ moved_more labels k end old new place i j mover lt shifting =
       | inl same ↦
           let at : get_or (set new i place) j 0 ≡ place = rw same (get_or-set_same new i place 0 lt) in
           inr (
-            record {
-              consumer = omega (arith, shifting.consumer, at);
-              reached = rw at shifting.reached;
-              mover = rw at (cc);
-              passed = rw at shifting.passed;
-            }
+          record {
+            consumer = omega (arith, shifting.consumer, at);
+            reached = rw at shifting.reached;
+            mover = rw at (cc);
+            passed = rw at shifting.passed;
+          }
           )
       | inr other ↦
           let at : get_or (set new i place) j 0 ≡ get_or new j 0 = get_or-set_other new i j place 0 other in
@@ -74,14 +74,14 @@ shifting_more labels k end old new place paths shifting not_new =
     elim step.from [
       | inl at_new ↦ absurd (not_new at_new.0)
       | inr from ↦ record {
-          every = length-set new mover place ∙ shifting.every;
-          consumer = rw still from.0;
-          reached = rw still from.2;
-          passed = inl (rw still from.1);
-          loads = λ c in_range. omega (arith, load-set new mover place c lt, shifting.loads c in_range);
-          moved = λ i. moved_more labels k end old new place mover i refl lt shifting;
-          still = still_more labels k end old new place mover (get_or new mover 0) step.fewer still shifting;
-        }
+        every = length-set new mover place ∙ shifting.every;
+        consumer = rw still from.0;
+        reached = rw still from.2;
+        passed = inl (rw still from.1);
+        loads = λ c in_range. omega (arith, load-set new mover place c lt, shifting.loads c in_range);
+        moved = λ i. moved_more labels k end old new place mover i refl lt shifting;
+        still = still_more labels k end old new place mover (get_or new mover 0) step.fewer still shifting;
+      }
     ]
 
 -- the last move, of the new entry
@@ -99,10 +99,10 @@ shifted_last labels k end old new place paths shifting is_new =
     record {
       every = length-set new mover place ∙ shifting.every;
       loads = λ c in_range.
-      let one : Bool → ℕ = λ b. cond b 1 0 in
-      let other : one (get_or new mover 0 == c) ≡ one false =
-      ap one (ne_eqb (get_or new mover 0) c (λ e. omega (arith, nowhere, e, in_range))) in
-      omega (arith, load-set new mover place c lt, shifting.loads c in_range, other);
+          let one : Bool → ℕ = λ b. cond b 1 0 in
+          let other : one (get_or new mover 0 == c) ≡ one false =
+          ap one (ne_eqb (get_or new mover 0) c (λ e. omega (arith, nowhere, e, in_range))) in
+          omega (arith, load-set new mover place c lt, shifting.loads c in_range, other);
       moved = λ i. moved_more labels k end old new place mover i refl lt shifting;
       first = omega (arith, at, shifting.consumer);
     }

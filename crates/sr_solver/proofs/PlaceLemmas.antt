@@ -1,16 +1,16 @@
 -- One entry is placed: the prices rise, and the entries move along the path.
-use Rattle.std.proofs.Common.{◌≡◌, ℕ, zero, suc, ◌+◌, ◌*◌, ◌^◌, ◌<◌, ◌≤◌, ◌==◌, ◌⊎◌, Bool, true, false, cond, List, length, get_or, refl, sym, ap, ◌∙◌, subst, inl, inr, arith, eq-eqb}
+use Rattle.std.proofs.Common.{◌≡◌, ℕ, ◌+◌, ◌^◌, ◌<◌, ◌≤◌, ◌==◌, ◌⊎◌, Bool, true, false, cond, List, length, get_or, refl, sym, ap, ◌∙◌, subst, inl, inr, arith, eq-eqb}
 use Rattle.std.proofs.lemmas.Bool.{cases_eq, cases_lt, false≢true, ne_eqb}
 use Rattle.std.proofs.Math.ListN.{set, length-set}
 use Rattle.std.proofs.lemmas.List.{get_or_past, get_or-set_same, get_or-set_other}
-use Rattle.sr_transport.specs.Problem.{Transport, IsWithinLimits, consumers, room_of, cost_of, IsAllowed}
+use Rattle.sr_transport.specs.Problem.{Transport, consumers, room_of, IsAllowed}
 use Rattle.sr_transport.specs.Assignment.{load}
 use Rattle.sr_transport.specs.Certificate.{IsLeast}
 use Rattle.sr_solver.specs.declared.label.Label.{Label}
 use Rattle.sr_solver.specs.Labels.{no_label, label_at, open_count, priced}
 use Rattle.sr_solver.specs.Placed.{IsPlaced, AreLoads}
-use Rattle.sr_solver.specs.Search.{IsFirstStep, IsNextStep, IsWay, IsWithin, IsSearch, IsNearest, IsRound, IsEnd}
-use Rattle.sr_solver.specs.Path.{IsRaised, AreRaised, IsStep, ArePaths, IsMoved, AreShifted}
+use Rattle.sr_solver.specs.Search.{IsWay, IsWithin, IsRound, IsEnd}
+use Rattle.sr_solver.specs.Path.{IsRaised, AreRaised, IsStep, ArePaths, AreShifted}
 use Rattle.sr_solver.proofs.LabelLemmas.{open_count-above}
 
 cases_bool : (b : Bool) → (b ≡ true) ⊎ (b ≡ false)
@@ -79,7 +79,7 @@ step_of_way p k xs prices labels c lt placed search way =
             from = inr (
               omega (arith, within, search.one_each),
               next.closed,
-              search.reached (get_or xs (label_at labels c).mover 0) within next.closed
+              search.reached (get_or xs (label_at labels c).mover 0) within next.closed,
             );
           }
     ]
@@ -152,7 +152,7 @@ least_moved p k xs prices labels end raised rising i x lt mover way passed =
       | inl first ↦
           let new : i ≡ k = sym mover ∙ first.mover in
           rw new (
-            least_raised p k xs prices labels end raised rising 0 0 k x lt rising.found.search.new_offered (omega (arith, first.dist)) passed
+          least_raised p k xs prices labels end raised rising 0 0 k x lt rising.found.search.new_offered (omega (arith, first.dist)) passed
           )
       | inr next ↦
           let earlier : i < k = omega (arith, mover, next.earlier) in
@@ -178,7 +178,7 @@ least_stays p k xs prices labels end raised rising i lti =
             arith,
             (rising.rise (get_or xs i 0) lt).stays is_open,
             rising.placed.least i lti c allowed,
-            no_price_falls p k xs prices labels end raised rising c allowed.0
+            no_price_falls p k xs prices labels end raised rising c allowed.0,
           )
     ]
 
@@ -190,7 +190,7 @@ filled_raised p k xs prices labels end raised rising c lt above =
     elim (cases_bool (label_at labels c).closed) [
       | inl closed ↦ (
         rising.found.search.full c lt closed,
-        λ e. false≢true (sym rising.found.nearest.not_closed ∙ ap (λ x. (label_at labels x).closed) e ∙ closed)
+        λ e. false≢true (sym rising.found.nearest.not_closed ∙ ap (λ x. (label_at labels x).closed) e ∙ closed),
       )
       | inr is_open ↦
           let full : load xs c ≡ room_of p c = rising.placed.filled c lt (omega (arith, above, (rising.rise c lt).stays is_open)) in
@@ -208,10 +208,9 @@ placed_shifted p k xs prices labels end raised new rising ltk shifted i lt =
     elim (shifted.moved i) [
       | inr moved ↦
           let within : get_or new i 0 < consumers p = omega (arith, moved.consumer, search.one_each) in
-          let way = search.way (get_or new i 0) within moved.reached in
-          (
+          let way = search.way (get_or new i 0) within moved.reached in (
             (let P : ℕ → Type 0 = λ j. IsAllowed p j (get_or new i 0) in subst P moved.mover way.allowed),
-            least_moved p k xs prices labels end raised rising i (get_or new i 0) within moved.mover way moved.passed
+            least_moved p k xs prices labels end raised rising i (get_or new i 0) within moved.mover way moved.passed,
           )
       | inl same ↦
           let earlier : i < k =
@@ -220,10 +219,9 @@ placed_shifted p k xs prices labels end raised new rising ltk shifted i lt =
                 let here : get_or new k 0 ≡ get_or xs k 0 = rw (← e) same in
                 absurd (omega (arith, here, rising.placed.waiting k (omega arith) ltk, shifted.first, search.one_each))
             | inr ne ↦ omega (arith, lt, ne)
-          ] in
-          (
+          ] in (
             rw same (rising.placed.placed i earlier),
-            rw same (least_stays p k xs prices labels end raised rising i earlier)
+            rw same (least_stays p k xs prices labels end raised rising i earlier),
           )
     ]
 
@@ -264,8 +262,8 @@ placed_more p k xs prices labels end raised new placed found ltk rise shifted =
       ];
       least = λ i lt. (placed_shifted p k xs prices labels end raised new rising ltk shifted i lt).1;
       filled = λ c lt above.
-      let full = filled_raised p k xs prices labels end raised rising c lt above in
-      omega (arith, loads c lt, one_at_other end c full.1, full.0);
+          let full = filled_raised p k xs prices labels end raised rising c lt above in
+          omega (arith, loads c lt, one_at_other end c full.1, full.0);
       low = λ c lt. elim (cases_bool (label_at labels c).closed) [
         | inl closed ↦
             omega (arith, (rising.rise c lt).closed closed, placed.low c lt, end_near p k xs prices labels end placed found)
@@ -282,17 +280,17 @@ loads_more p k xs prices loads labels end new counted found shifted =
     record {
       one_each = length-set loads end (get_or loads end 0 + 1) ∙ counted.one_each;
       each = λ c lt.
-      let load_at : load new c ≡ load xs c + one_at end c = shifted.loads c (omega (arith, lt, found.search.one_each)) in
-      elim (cases_eq c end) [
-        | inl e ↦
-            let here : get_or (set loads end (get_or loads end 0 + 1)) c 0 ≡ get_or loads end 0 + 1 =
-            rw e (get_or-set_same loads end (get_or loads end 0 + 1) 0 in_loads) in
-            let before : get_or loads end 0 ≡ load xs c = rw (← e) (counted.each c lt) in
-            omega (arith, here, before, load_at, one_at_same end c (sym e))
-        | inr ne ↦
-            let here : get_or (set loads end (get_or loads end 0 + 1)) c 0 ≡ get_or loads c 0 =
-            get_or-set_other loads end c (get_or loads end 0 + 1) 0 ne in
-            let other : end ≡ c → ⊥ = λ e. ne (sym e) in
-            omega (arith, here, counted.each c lt, load_at, one_at_other end c other)
-      ];
+          let load_at : load new c ≡ load xs c + one_at end c = shifted.loads c (omega (arith, lt, found.search.one_each)) in
+          elim (cases_eq c end) [
+            | inl e ↦
+                let here : get_or (set loads end (get_or loads end 0 + 1)) c 0 ≡ get_or loads end 0 + 1 =
+                rw e (get_or-set_same loads end (get_or loads end 0 + 1) 0 in_loads) in
+                let before : get_or loads end 0 ≡ load xs c = rw (← e) (counted.each c lt) in
+                omega (arith, here, before, load_at, one_at_same end c (sym e))
+            | inr ne ↦
+                let here : get_or (set loads end (get_or loads end 0 + 1)) c 0 ≡ get_or loads c 0 =
+                get_or-set_other loads end c (get_or loads end 0 + 1) 0 ne in
+                let other : end ≡ c → ⊥ = λ e. ne (sym e) in
+                omega (arith, here, counted.each c lt, load_at, one_at_other end c other)
+          ];
     }

@@ -1,21 +1,15 @@
 -- The search: its start, a consumer that is closed, and one offer more.
-use Rattle.std.proofs.Common.{◌≡◌, ℕ, zero, suc, ◌+◌, ◌*◌, ◌^◌, ◌<◌, ◌≤◌, ◌⊎◌, Bool, true, false, not, cond, List, [], ◌∷◌, length, get_or, Option, Some, None, refl, sym, ap, ◌∙◌, subst, inl, inr, arith}
-use Rattle.std.specs.Prelude.{IsSome, IfSome, unwrap_or}
-use Rattle.std.specs.List.{All}
-use Rattle.std.proofs.Math.ListN.{set, length-set}
-use Rattle.std.proofs.lemmas.Bool.{cases_eq, cases_lt, false≢true}
-use Rattle.std.proofs.lemmas.List.{get_or-set_same, get_or-set_other, get_or_past}
+use Rattle.std.proofs.Common.{◌≡◌, ℕ, ◌+◌, ◌*◌, ◌^◌, ◌<◌, ◌≤◌, true, false, List, length, get_or, Option, Some, None, ap, inl, inr, arith}
+use Rattle.std.specs.Prelude.{IfSome, unwrap_or}
+use Rattle.std.proofs.lemmas.Bool.{cases_lt, false≢true}
+use Rattle.std.proofs.lemmas.List.{get_or_past}
 use Rattle.std.proofs.lemmas.List.Elements.{All-get_or}
-use Rattle.sr_transport.specs.Problem.{Transport, IsWithinLimits, consumers, room_of, cost_at, cost_of, IsAllowed}
-use Rattle.sr_transport.specs.Assignment.{load}
-use Rattle.sr_transport.specs.Certificate.{IsLeast}
+use Rattle.sr_transport.specs.Problem.{Transport, IsWithinLimits, consumers, cost_at, cost_of, IsAllowed}
 use Rattle.sr_solver.specs.declared.label.Label.{Label}
-use Rattle.sr_solver.specs.declared.label.Offer.{Offer}
-use Rattle.sr_solver.specs.Labels.{no_label, label_at, open_count, priced}
-use Rattle.sr_solver.specs.Offers.{IsKept, IsTaken, IsOffered, AreOffered, offer_of}
-use Rattle.sr_solver.specs.Placed.{IsPlaced}
-use Rattle.sr_solver.specs.Search.{IsFirstStep, IsNextStep, IsWay, IsWithin, IsSearch, IsNearest, IsRound, first_offer, IsStarted}
-use Rattle.sr_solver.proofs.LabelLemmas.{IsLeft, IsChanged, offered_split, open_count_same, open_count-set_closed, open_count-le, IsSameWay, way_kept}
+use Rattle.sr_solver.specs.Labels.{no_label, label_at}
+use Rattle.sr_solver.specs.Offers.{IsOffered}
+use Rattle.sr_solver.specs.Search.{IsFirstStep, IsSearch, IsRound, first_offer, IsStarted}
+use Rattle.sr_solver.proofs.LabelLemmas.{offered_split, open_count-le}
 
 -- the costs that are within the limits
 some_small : (cost : Option ℕ) → IfSome cost (λ c. c ≤ 2 ^ 40) → unwrap_or cost 0 ≤ 2 ^ 40
@@ -49,11 +43,11 @@ fresh p k prices label c lt offered =
             still_open = ap (λ l. l.closed) none;
             reached = λ above. absurd (let hops : label.hops ≡ 0 = ap (λ l. l.hops) none in omega arith);
             offered = λ allowed. absurd (
-              elim (left.no_nearer allowed.1) [
-                | inl is_closed ↦ false≢true is_closed
-                | inr near ↦ omega (arith, near.0)
-              ]
-            );
+                elim (left.no_nearer allowed.1) [
+                  | inl is_closed ↦ false≢true is_closed
+                  | inr near ↦ omega (arith, near.0)
+                ]
+                );
           }
       | inr changed ↦
           let taken = changed.taken in
@@ -61,7 +55,7 @@ fresh p k prices label c lt offered =
             still_open = taken.still_open;
             reached = λ above. (
               (lt, changed.allowed),
-              record { mover = taken.mover; hops = taken.hops; dist = omega (arith, taken.dist) }
+              record { mover = taken.mover; hops = taken.hops; dist = omega (arith, taken.dist) },
             );
             offered = λ allowed. omega (arith, taken.hops);
           }
@@ -83,11 +77,11 @@ started_round p k xs prices labels limits started =
     record {
       one_each = started.one_each;
       way = λ c lt above.
-      let first = (each c lt).reached above in
-      record { allowed = rw first.1.mover first.0; step = inl first.1 };
+          let first = (each c lt).reached above in
+          record { allowed = rw first.1.mover first.0; step = inl first.1 };
       long = λ c lt above.
-      let first = ((each c lt).reached above).1 in
-      omega (arith, first.dist, first.hops, cost_small p limits k c);
+          let first = ((each c lt).reached above).1 in
+          omega (arith, first.dist, first.hops, cost_small p limits k c);
       few = λ c lt above. omega (arith, ((each c lt).reached above).1.hops, open_count-le labels, started.one_each);
       few_closed = λ c lt is_closed. absurd (none_closed c is_closed);
       reached = λ c lt is_closed. absurd (none_closed c is_closed);
@@ -95,9 +89,9 @@ started_round p k xs prices labels limits started =
       nearer = λ c d lt ltd is_closed not_closed above. absurd (none_closed c is_closed);
       latest = λ c lt is_closed ltt. absurd (none_closed c is_closed);
       new_offered = λ c allowed.
-      let above = (each c allowed.0).offered allowed in
-      let first = ((each c allowed.0).reached above).1 in
-      (above, omega (arith, first.dist));
+          let above = (each c allowed.0).offered allowed in
+          let first = ((each c allowed.0).reached above).1 in
+          (above, omega (arith, first.dist));
       offered = λ i c lt is_closed upto allowed. absurd (none_closed (get_or xs i 0) is_closed);
     }
 
@@ -105,7 +99,7 @@ started_round p k xs prices labels limits started =
 pub search_seen : (p : Transport) (k : ℕ) (xs prices : List ℕ) (labels : List Label) (t upto s upto' : ℕ)
     → IsSearch p k xs prices labels t upto
     → ((c : ℕ) → c < consumers p → (label_at labels c).closed ≡ true → s < consumers p
-        → (label_at labels c).dist ≤ (label_at labels s).dist)
+    → (label_at labels c).dist ≤ (label_at labels s).dist)
     → ((i : ℕ) → i < k → (get_or xs i 0 ≡ s → i < upto') → get_or xs i 0 ≡ t → i < upto)
     → IsSearch p k xs prices labels s upto'
 search_seen p k xs prices labels t upto s upto' search latest covers = record {
@@ -128,9 +122,9 @@ pub search_skips : (p : Transport) (k : ℕ) (xs prices : List ℕ) (labels : Li
 search_skips p k xs prices labels t i search elsewhere =
     search_seen p k xs prices labels t i t (i + 1) search search.latest
     (λ j lt within here.
-      let below : j < i + 1 = within here in
-      let other : j ≡ i → ⊥ = λ e. elsewhere (rw (← e) here) in
-      omega (arith, below, other))
+    let below : j < i + 1 = within here in
+    let other : j ≡ i → ⊥ = λ e. elsewhere (rw (← e) here) in
+    omega (arith, below, other))
 
 -- where all entries are offered, the round is over
 pub search_round : (p : Transport) (k : ℕ) (xs prices : List ℕ) (labels : List Label) (t : ℕ)

@@ -1,10 +1,9 @@
 -- Where no path ends at a consumer with room, the new entry and the entries at closed consumers have too few places.
-use Rattle.std.proofs.Common.{◌≡◌, ℕ, zero, suc, ◌+◌, ◌-◌, ◌*◌, ◌<◌, ◌≤◌, ◌⊎◌, Bool, true, false, cond, List, [], ◌∷◌, ◌++◌, length, get_or, refl, sym, ap, ◌∙◌, subst, inl, inr, arith, length-append, append-nil}
+use Rattle.std.proofs.Common.{◌≡◌, ℕ, zero, suc, ◌+◌, ◌*◌, ◌<◌, ◌≤◌, ◌⊎◌, Bool, true, false, cond, List, [], ◌∷◌, ◌++◌, length, get_or, refl, ap, ◌∙◌, inl, inr, arith, length-append, append-nil}
 use Rattle.std.specs.Prelude.{is_some}
-use Rattle.std.specs.List.{All, Any, list_any, sum_by}
+use Rattle.std.specs.List.{All, Any}
 use Rattle.std.specs.List.Sorted.{IsStrictlyIncreasing}
-use Rattle.std.proofs.Math.Nat.{mul-le-mul_left}
-use Rattle.std.proofs.lemmas.Bool.{cases_eq, cases_lt, false≢true}
+use Rattle.std.proofs.lemmas.Bool.{cases_eq, cases_lt}
 use Rattle.std.proofs.lemmas.List.{get_or_past, get_or_append_left, get_or_push}
 use Rattle.std.proofs.lemmas.List.Elements.{All-nil, All-append, All-push, All-weaker, All-get_or, All-from_get_or}
 use Rattle.std.proofs.lemmas.List.Folds.{Any-from_list_any}
@@ -15,7 +14,7 @@ use Rattle.sr_transport.specs.Certificate.{is_reached, places_of, IsShortage}
 use Rattle.sr_transport.proofs.SumLemmas.{sum_below-le, sum_by_below, sum_by-loads}
 use Rattle.sr_solver.specs.declared.label.Label.{Label}
 use Rattle.sr_solver.specs.Labels.{no_label, label_at}
-use Rattle.sr_solver.specs.Search.{IsSearch, IsRound, AreAllClosed, IsStuck}
+use Rattle.sr_solver.specs.Search.{IsStuck}
 use Rattle.sr_solver.specs.Shortage.{stranded_below}
 
 -- one more, above all of a rising list
@@ -50,7 +49,7 @@ length-stranded labels xs (suc n) =
       arith,
       length-append (stranded_below labels xs n) (cond b (n ∷ []) []),
       length_if b n,
-      length-stranded labels xs n
+      length-stranded labels xs n,
     )
 
 -- which they are
@@ -116,7 +115,7 @@ stranded_held p k xs prices labels stuck =
       sum_below_still (λ i. once labels (get_or xs i 0)) k (length xs) (omega (arith, stuck.entry, stuck.every)) waits,
       sum_by_below (once labels) xs,
       sum_by-loads (once labels) (suc (consumers p)) xs within,
-      none
+      none,
     )
 
 -- a consumer that a stranded entry or the new one is allowed is closed
@@ -162,7 +161,7 @@ stuck_short p k xs prices labels stuck =
     record {
       rising = rising_push before k (stranded_rise labels xs k) (All-weaker (IsStranded labels xs k) (λ i. i < k) (λ i h. h.0) before are);
       entries = All-push (λ i. i < p.entries) before k
-      (All-weaker (IsStranded labels xs k) (λ i. i < p.entries) (λ i h. omega (arith, h.0, stuck.entry)) before are) stuck.entry;
+          (All-weaker (IsStranded labels xs k) (λ i. i < p.entries) (λ i h. omega (arith, h.0, stuck.entry)) before are) stuck.entry;
       too_few = omega (arith, places, stranded_held p k xs prices labels stuck, length-append before (k ∷ []));
     }
 

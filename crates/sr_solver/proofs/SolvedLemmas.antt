@@ -1,5 +1,5 @@
 -- What a solution is worth.
-use Rattle.std.proofs.Common.{◌≡◌, ℕ, List, arith}
+use Rattle.std.proofs.Common.{ℕ, List, arith}
 use Rattle.sr_transport.specs.Problem.{Transport}
 use Rattle.sr_transport.specs.Assignment.{IsAssignment}
 use Rattle.sr_transport.specs.Certificate.{ShowsCheapest}

@@ -1,7 +1,6 @@
 -- What is done along a path that was found.
 
-use Rattle.std.specs.Prelude.{◌≡◌, ℕ, ◌+◌, ◌<◌, ◌≤◌, List, length, slice_index, ◌⊎◌, true, false, cond, ◌==◌}
-use Rattle.sr_transport.specs.Problem.{Transport, consumers}
+use Rattle.std.specs.Prelude.{◌≡◌, ℕ, ◌+◌, ◌<◌, List, length, slice_index, ◌⊎◌, true, false, cond, ◌==◌}
 use Rattle.sr_transport.specs.Assignment.{load}
 use Rattle.sr_solver.specs.declared.label.Label.{Label}
 use Rattle.sr_solver.specs.Labels.{label_at}

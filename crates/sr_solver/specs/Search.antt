@@ -1,7 +1,7 @@
 -- The state of the search of a path that makes place for entry k, where the entries xs are placed.
 -- Source: the invariants of Dijkstra's search over reduced costs.
 
-use Rattle.std.specs.Prelude.{◌≡◌, ℕ, ◌+◌, ◌*◌, ◌^◌, ◌<◌, ◌≤◌, List, length, slice_index, ◌⊎◌, Bool, true, false, IsTrue, ◌↔◌, Option, Some, None}
+use Rattle.std.specs.Prelude.{◌≡◌, ℕ, ◌+◌, ◌*◌, ◌^◌, ◌<◌, ◌≤◌, List, length, slice_index, ◌⊎◌, Bool, true, false, Option, Some, None}
 use Rattle.sr_transport.specs.Problem.{Transport, consumers, room_of, cost_at, IsAllowed}
 use Rattle.sr_transport.specs.Assignment.{load}
 use Rattle.sr_solver.specs.declared.label.Label.{Label}

@@ -58,9 +58,7 @@ pub fn offer_to_all(problem: &Problem, prices: &[u64], offer: Offer, labels: &mu
     requires labels_each { length labels.old ≡ consumers problem.now }
     requires dist { offer.dist ≤ 2 ^ 60 }
     requires low { (c : ℕ) → c < consumers problem.now → slice_index prices.now c ≤ 2 ^ 60 }
-    requires above {
-        (c : ℕ) → IsAllowed problem.now offer.mover c → offer.base ≤ offer.dist + priced problem.now prices.now offer.mover c
-    }
+    requires above { (c : ℕ) → IsAllowed problem.now offer.mover c → offer.base ≤ offer.dist + priced problem.now prices.now offer.mover c }
     ensures { AreOffered problem.now prices.now offer labels.old labels.new }
 {
     for consumer in 0..problem.consumers() {

@@ -11,9 +11,7 @@ pub fn raise(prices: &mut [u64], labels: &[Label], dist: u64)
     requires few { length prices.old ≤ 64 }
     requires dist { dist ≤ 2 ^ 60 }
     requires low { (c : ℕ) → c < length prices.old → slice_index prices.old c ≤ 2 ^ 60 }
-    requires near {
-        (c : ℕ) → c < length prices.old → (label_at labels.now c).closed ≡ true → (label_at labels.now c).dist ≤ dist
-    }
+    requires near { (c : ℕ) → c < length prices.old → (label_at labels.now c).closed ≡ true → (label_at labels.now c).dist ≤ dist }
     ensures { AreRaised dist labels.now prices.old prices.new }
 {
     for consumer in 0..prices.len() {

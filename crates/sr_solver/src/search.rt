@@ -8,7 +8,6 @@ ghost use Rattle.sr_solver.specs.Offers.{AreOffered, offer_of};
 ghost use Rattle.sr_solver.specs.Search.{IsStarted, IsBetter, IsNearest, AreAllClosed, IsRound, IsEnd};
 
 use crate::label::{Label, Offer, offer_to_all};
-
 use sr_transport::Problem;
 
 /// Looks for the shortest path that makes place for `entry`, and gives the consumer where it ends, which has room left.
@@ -83,7 +82,13 @@ fn nearest(problem: &Problem, loads: &[u64], labels: &[Label]) -> Option<usize>
 }
 
 /// Whether a consumer is nearer than the best so far, or as near and the only one of the two with room.
-fn is_better(problem: &Problem, loads: &[u64], labels: &[Label], consumer: usize, best: Option<usize>) -> bool
+fn is_better(
+    problem: &Problem,
+    loads: &[u64],
+    labels: &[Label],
+    consumer: usize,
+    best: Option<usize>,
+) -> bool
     requires loads_each { length loads.now ≡ consumers problem.now }
     requires labels_each { length labels.now ≡ consumers problem.now }
     requires consumer { consumer < consumers problem.now }
@@ -101,7 +106,14 @@ fn is_better(problem: &Problem, loads: &[u64], labels: &[Label], consumer: usize
 }
 
 /// Closes a consumer: offers each entry that stands there to the others.
-fn close(problem: &Problem, entry: usize, near: usize, assign: &[usize], prices: &[u64], labels: &mut [Label])
+fn close(
+    problem: &Problem,
+    entry: usize,
+    near: usize,
+    assign: &[usize],
+    prices: &[u64],
+    labels: &mut [Label],
+)
     requires entry { entry < problem.now.entries }
     requires placed { IsPlaced problem.now entry assign.now prices.now }
     requires round { IsRound problem.now entry assign.now prices.now labels.old }

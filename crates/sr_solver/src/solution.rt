@@ -10,7 +10,6 @@ use crate::label::Label;
 use crate::path::{raise, shift};
 use crate::search::search;
 use crate::shortage::stranded;
-
 use sr_transport::Problem;
 use std::alloc::{AllocError, Global};
 
@@ -18,9 +17,15 @@ use std::alloc::{AllocError, Global};
 #[derive(Drop)]
 pub enum Solved {
     /// A cheapest assignment: entry i goes to `assign[i]`; a price for each consumer that shows it; and its total.
-    Best { assign: Vec<usize>, prices: Vec<u64>, total: u64 },
+    Best {
+        assign: Vec<usize>,
+        prices: Vec<u64>,
+        total: u64,
+    },
     /// There is no assignment: entries, rising, for which there are too few places.
-    Short { set: Vec<usize> },
+    Short {
+        set: Vec<usize>,
+    },
 }
 
 /// Solves a transportation problem: gives a cheapest assignment with prices that show it, or entries for which there

@@ -7,12 +7,26 @@ use std::process::Abort;
 use std::test::Fail;
 
 /// The problem of these rooms and these rows of costs.
-fn problem(alloc: Global, rooms: &[u64], entries: usize, costs: &[Option<u64>]) -> Result<Option<Problem>, AllocError> {
-    Ok(Problem::new(Vec::from_slice(alloc, rooms)?, entries, Vec::from_slice(alloc, costs)?))
+fn problem(
+    alloc: Global,
+    rooms: &[u64],
+    entries: usize,
+    costs: &[Option<u64>],
+) -> Result<Option<Problem>, AllocError> {
+    Ok(Problem::new(
+        Vec::from_slice(alloc, rooms)?,
+        entries,
+        Vec::from_slice(alloc, costs)?,
+    ))
 }
 
 /// The total of a cheapest assignment, or `None` where there is none.
-fn total_of(alloc: Global, rooms: &[u64], entries: usize, costs: &[Option<u64>]) -> Result<Option<u64>, Fail> {
+fn total_of(
+    alloc: Global,
+    rooms: &[u64],
+    entries: usize,
+    costs: &[Option<u64>],
+) -> Result<Option<u64>, Fail> {
     let Some(problem) = problem(alloc, rooms, entries, costs)? else {
         return Ok(None);
     };
@@ -29,7 +43,17 @@ fn totals_are_those_worked_by_hand(rt: HostRuntime) -> Result<(), Fail> {
     assert!(rt; total_of(alloc, &[1, 1], 2, &two)? == Some(6));
     let turned = [Some(2), Some(200), Some(2), Some(4)];
     assert!(rt; total_of(alloc, &[1, 1], 2, &turned)? == Some(6));
-    let three = [Some(1), None, Some(5), Some(1), Some(2), None, None, Some(3), Some(9)];
+    let three = [
+        Some(1),
+        None,
+        Some(5),
+        Some(1),
+        Some(2),
+        None,
+        None,
+        Some(3),
+        Some(9),
+    ];
     assert!(rt; total_of(alloc, &[1, 1, 1], 3, &three)? == Some(9));
     let apart = [Some(7), None, None, Some(8)];
     assert!(rt; total_of(alloc, &[5, 5], 2, &apart)? == Some(15));
@@ -43,7 +67,12 @@ fn no_entry_costs_nothing(rt: HostRuntime) -> Result<(), Fail> {
         assert!(rt; false, "within the limits");
         return Ok(());
     };
-    let Solved::Best { assign, prices, total } = solve(alloc, &problem)? else {
+    let Solved::Best {
+        assign,
+        prices,
+        total,
+    } = solve(alloc, &problem)?
+    else {
         assert!(rt; false, "solved");
         return Ok(());
     };
@@ -62,7 +91,12 @@ fn the_greatest_problem_is_solved(rt: HostRuntime) -> Result<(), Fail> {
 }
 
 /// The entries of a shortage.
-fn shortage(alloc: Global, rooms: &[u64], entries: usize, costs: &[Option<u64>]) -> Result<Option<Vec<usize>>, Fail> {
+fn shortage(
+    alloc: Global,
+    rooms: &[u64],
+    entries: usize,
+    costs: &[Option<u64>],
+) -> Result<Option<Vec<usize>>, Fail> {
     let Some(problem) = problem(alloc, rooms, entries, costs)? else {
         return Ok(None);
     };

@@ -8,5 +8,5 @@ abbrev pub invariant-loop-consumer : goal.invariant-loop-consumer
 invariant-loop-consumer l = record {
   done : (c : ℕ) → c < l.consumer
       → IsOffered (cost_at l.problem l.offer.mover c) (get_or l.prices c 0) l.offer (label_at l.initial.labels c) (label_at l.labels c);
-  rest : (c : ℕ) → l.consumer ≤ c → label_at l.labels c ≡ label_at l.initial.labels c
+  rest : (c : ℕ) → l.consumer ≤ c → label_at l.labels c ≡ label_at l.initial.labels c;
 }

@@ -1,4 +1,3 @@
-use Rattle.std.proofs.Common.{rules, arith, ◌≡◌, ℕ}
 use Rattle.sr_solver.proofs.PathLemmas.{shifting_more, shifted_last}
 use Rattle.sr_solver.proofs.path.shift.Goals as goal
 

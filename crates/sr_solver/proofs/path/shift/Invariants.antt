@@ -1,4 +1,3 @@
-use Rattle.std.proofs.Common.{◌<◌}
 use Rattle.sr_solver.specs.Labels.{label_at}
 use Rattle.sr_solver.specs.Path.{IsShifting}
 use Rattle.sr_solver.proofs.path.shift.Given as goal

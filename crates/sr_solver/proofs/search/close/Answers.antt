@@ -1,7 +1,6 @@
-use Rattle.std.proofs.Common.{arith, ◌≡◌, ℕ, refl, sym}
+use Rattle.std.proofs.Common.{arith, refl}
 use Rattle.sr_solver.proofs.CloseLemmas.{closed_start}
 use Rattle.sr_solver.proofs.OfferLemmas.{closed_offer, closed_skip, price_small, dist_small, hops_small}
-use Rattle.sr_solver.proofs.SearchLemmas.{search_round}
 use Rattle.sr_solver.proofs.search.close.Goals as goal
 use Rattle.sr_solver.proofs.search.close.Goals.{then-assign-other, else-assign-other}
 
@@ -29,13 +28,13 @@ loop-other-preserved c =
     elim c.if-assign-other.branch [
       | then-assign-other w ↦
           rw w.labels-is (
-            closed_offer c.args.problem.now c.args.entry c.args.assign.now c.args.prices.now c.args.labels.now c.loop-other.labels _
-            c.args.near c.loop-other.other c.requires.placed c.requires.nearest.consumer c.loop-other-test.true w.if-assign-other.true
-            c.loop-other.invariant w.offer_from.ensures
+          closed_offer c.args.problem.now c.args.entry c.args.assign.now c.args.prices.now c.args.labels.now c.loop-other.labels _
+          c.args.near c.loop-other.other c.requires.placed c.requires.nearest.consumer c.loop-other-test.true w.if-assign-other.true
+          c.loop-other.invariant w.offer_from.ensures
           )
       | else-assign-other w ↦
           rw w.labels-is (
-            closed_skip c.args.problem.now c.args.entry c.args.assign.now c.args.prices.now c.args.labels.now c.loop-other.labels
-            c.args.near c.loop-other.other w.if-assign-other.false c.loop-other.invariant
+          closed_skip c.args.problem.now c.args.entry c.args.assign.now c.args.prices.now c.args.labels.now c.loop-other.labels
+          c.args.near c.loop-other.other w.if-assign-other.false c.loop-other.invariant
           )
     ]

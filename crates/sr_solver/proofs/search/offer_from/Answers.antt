@@ -12,5 +12,5 @@ overflow_add-offer c =
       arith,
       same,
       cost_small c.args.problem.now c.requires.limits c.args.mover c.args.near,
-      c.requires.low c.args.near c.requires.allowed.0
+      c.requires.low c.args.near c.requires.allowed.0,
     )

@@ -1,4 +1,3 @@
-use Rattle.std.proofs.Common.{length}
 use Rattle.sr_solver.specs.Labels.{open_count}
 use Rattle.sr_solver.specs.Search.{IsRound}
 use Rattle.sr_solver.proofs.search.search.Given as goal

@@ -1,4 +1,3 @@
-use Rattle.std.proofs.Common.{arith}
 use Rattle.sr_solver.proofs.PlaceLemmas.{are_paths, placed_more, loads_more}
 use Rattle.sr_solver.proofs.solution.place.Goals as goal
 

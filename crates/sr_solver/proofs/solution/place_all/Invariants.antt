@@ -7,5 +7,5 @@ abbrev pub invariant-loop-entry : goal.invariant-loop-entry
 invariant-loop-entry l = record {
   placed : IsPlaced l.problem l.entry l.assign l.prices;
   loads : AreLoads l.problem l.assign l.loads;
-  labels_each : length l.labels ≡ consumers l.problem
+  labels_each : length l.labels ≡ consumers l.problem;
 }

@@ -1,7 +1,6 @@
-use Rattle.std.proofs.Common.{◌≡◌, List, ◌∙◌, arith}
+use Rattle.std.proofs.Common.{◌∙◌, arith}
 use Rattle.std.proofs.lemmas.List.{take_at}
 use Rattle.sr_transport.proofs.CallerLemmas.{shortage_excludes}
-use Rattle.sr_solver.specs.declared.label.Label.{Label}
 use Rattle.sr_solver.proofs.ShortageLemmas.{stuck_short_is}
 use Rattle.sr_solver.proofs.solution.solve.Goals as goal
 

@@ -1,4 +1,4 @@
-use Rattle.std.proofs.Common.{◌≡◌, ℕ, get_or}
+use Rattle.std.proofs.Common.{◌≡◌, get_or}
 use Rattle.sr_transport.specs.Sum.{sum_below}
 use Rattle.sr_transport.specs.Problem.{cost_of}
 use Rattle.sr_solver.proofs.solution.total.Given as goal
