@@ -1,0 +1,7 @@
+pub mod Solved
+pub mod Labels
+pub mod Offers
+pub mod Placed
+pub mod Search
+pub mod Path
+pub mod Shortage

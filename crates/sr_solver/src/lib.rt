@@ -1,2 +1,14 @@
-//! The solver.
+//! A solver of the transportation problem: a cheapest assignment with prices that show it, or a shortage.
+//!
+//! Source: the method of successive shortest paths (R. G. Busacker, P. J. Gowen, 1961; J. Edmonds, R. M. Karp, 1972).
 #![tactic(auto)]
+
+mod label;
+mod path;
+mod search;
+mod shortage;
+mod solution;
+#[cfg(test)]
+mod tests;
+
+pub use solution::{Solved, solve};

@@ -1,0 +1,110 @@
+-- A consumer is closed, and its entries are offered one after another.
+use Rattle.std.proofs.Common.{◌≡◌, ℕ, ◌+◌, ◌<◌, ◌⊎◌, true, false, List, length, get_or, sym, ap, ◌∙◌, inl, inr, arith}
+use Rattle.std.proofs.Math.ListN.{set, length-set}
+use Rattle.std.proofs.lemmas.Bool.{cases_eq}
+use Rattle.std.proofs.lemmas.List.{get_or-set_same, get_or-set_other}
+use Rattle.sr_transport.specs.Problem.{Transport, room_of}
+use Rattle.sr_transport.specs.Assignment.{load}
+use Rattle.sr_solver.specs.declared.label.Label.{Label}
+use Rattle.sr_solver.specs.Labels.{no_label, label_at, open_count, priced}
+use Rattle.sr_solver.specs.Search.{IsWithin, IsSearch, IsNearest, IsRound, IsClosed}
+use Rattle.sr_solver.proofs.LabelLemmas.{open_count-set_closed, IsSameWay, way_kept, same_way}
+
+-- the labels before and after consumer t is closed
+record IsClosing (t : ℕ) (old new : List Label) : Type 0 where
+  every : length new ≡ length old
+  same : (c : ℕ) → IsSameWay (label_at old c) (label_at new c)
+  here : (label_at new t).closed ≡ true
+  kept : (c : ℕ) → (label_at old c).closed ≡ true → (label_at new c).closed ≡ true
+  back : (c : ℕ) → (label_at new c).closed ≡ true → (c ≡ t) ⊎ ((label_at old c).closed ≡ true)
+  still : (c : ℕ) → (label_at new c).closed ≡ false → (label_at old c).closed ≡ false
+  fewer : open_count new + 1 ≡ open_count old
+
+closing : (t : ℕ) (old : List Label) (label : Label) → t < length old → (label_at old t).closed ≡ false
+    → IsSameWay (label_at old t) label → label.closed ≡ true → IsClosing t old (set old t label)
+closing t old label lt was_open same is_closed =
+    let at : label_at (set old t label) t ≡ label = get_or-set_same old t label no_label lt in
+    let other : (c : ℕ) → (c ≡ t → ⊥) → label_at (set old t label) c ≡ label_at old c =
+    λ c ne. get_or-set_other old t c label no_label ne in
+    let here : (label_at (set old t label) t).closed ≡ true = ap (λ l. l.closed) at ∙ is_closed in
+    record {
+      every = length-set old t label;
+      same = λ c. elim (cases_eq c t) [
+        | inl e ↦ rw e (rw at same)
+        | inr ne ↦ same_way (label_at old c) (label_at (set old t label) c) (other c ne)
+      ];
+      here = here;
+      kept = λ c was. elim (cases_eq c t) [
+        | inl e ↦ rw e here
+        | inr ne ↦ ap (λ l. l.closed) (other c ne) ∙ was
+      ];
+      back = λ c now. elim (cases_eq c t) [
+        | inl e ↦ inl e
+        | inr ne ↦ inr (sym (ap (λ l. l.closed) (other c ne)) ∙ now)
+      ];
+      still = λ c now. elim (cases_eq c t) [
+        | inl e ↦ rw e was_open
+        | inr ne ↦ sym (ap (λ l. l.closed) (other c ne)) ∙ now
+      ];
+      fewer = open_count-set_closed old t label lt was_open is_closed;
+    }
+
+-- a consumer that is closed: none of its entries is offered yet
+closing_search : (p : Transport) (k : ℕ) (xs prices : List ℕ) (old new : List Label) (t : ℕ)
+    → IsRound p k xs prices old → IsNearest p old t → load xs t ≡ room_of p t → IsClosing t old new
+    → IsSearch p k xs prices new t 0
+closing_search p k xs prices old new t search nearest full closing =
+    let above : (c : ℕ) → 0 < (label_at new c).hops → 0 < (label_at old c).hops =
+    λ c up. omega (arith, up, (closing.same c).hops) in
+    let within : (dist base i c : ℕ) → IsWithin p prices old dist base i c → IsWithin p prices new dist base i c =
+    λ dist base i c w. (omega (arith, w.0, (closing.same c).hops), omega (arith, w.1, (closing.same c).dist)) in
+    record {
+      one_each = closing.every ∙ search.one_each;
+      way = λ c lt up. way_kept p k xs prices old new c (closing.same c) (λ x was. (closing.same x, closing.kept x was)) (search.way c lt (above c up));
+      long = λ c lt up. omega (arith, search.long c lt (above c up), (closing.same c).dist, (closing.same c).hops);
+      few = λ c lt up. omega (arith, search.few c lt (above c up), (closing.same c).hops, closing.fewer);
+      few_closed = λ c lt now. elim (closing.back c now) [
+        | inl e ↦ rw e (omega (arith, search.few t nearest.consumer nearest.reached, (closing.same t).hops, closing.fewer))
+        | inr was ↦ omega (arith, search.few_closed c lt was, (closing.same c).hops, closing.fewer)
+      ];
+      reached = λ c lt now. elim (closing.back c now) [
+        | inl e ↦ rw e (omega (arith, nearest.reached, (closing.same t).hops))
+        | inr was ↦ omega (arith, search.reached c lt was, (closing.same c).hops)
+      ];
+      full = λ c lt now. elim (closing.back c now) [
+        | inl e ↦ rw e full
+        | inr was ↦ search.full c lt was
+      ];
+      nearer = λ c d lt ltd now not_now up. elim (closing.back c now) [
+        | inl e ↦ rw e (omega (arith, nearest.least d ltd (above d up) (closing.still d not_now), (closing.same t).dist, (closing.same d).dist))
+        | inr was ↦
+            omega (arith, search.nearer c d lt ltd was (closing.still d not_now) (above d up), (closing.same c).dist, (closing.same d).dist)
+      ];
+      latest = λ c lt now ltt. elim (closing.back c now) [
+        | inl e ↦ rw e (omega arith)
+        | inr was ↦
+            omega (arith, search.nearer c t lt ltt was nearest.not_closed nearest.reached, (closing.same c).dist, (closing.same t).dist)
+      ];
+      new_offered = λ c allowed. within 0 0 k c (search.new_offered c allowed);
+      offered = λ i c lt now upto allowed. elim (closing.back (get_or xs i 0) now) [
+        | inl e ↦ absurd (omega (arith, upto e))
+        | inr was ↦
+            let far = search.offered i c lt was (λ e. lt) allowed in
+            let same = closing.same (get_or xs i 0) in
+            rw same.dist (within (label_at old (get_or xs i 0)).dist (priced p prices i (get_or xs i 0)) i c far)
+      ];
+    }
+
+-- before the first of its entries is offered
+pub closed_start : (p : Transport) (k : ℕ) (xs prices : List ℕ) (old : List Label) (t : ℕ) (label : Label)
+    → IsRound p k xs prices old → IsNearest p old t → load xs t ≡ room_of p t
+    → IsSameWay (label_at old t) label → label.closed ≡ true
+    → IsClosed p k xs prices old (set old t label) t 0
+closed_start p k xs prices old t label search nearest full same is_closed =
+    let done : IsClosing t old (set old t label) =
+    closing t old label (omega (arith, nearest.consumer, search.one_each)) nearest.not_closed same is_closed in
+    record {
+      search = closing_search p k xs prices old (set old t label) t search nearest full done;
+      closed = done.here;
+      fewer = omega (arith, done.fewer);
+    }

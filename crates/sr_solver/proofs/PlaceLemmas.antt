@@ -1,0 +1,296 @@
+-- One entry is placed: the prices rise, and the entries move along the path.
+use Rattle.std.proofs.Common.{◌≡◌, ℕ, ◌+◌, ◌^◌, ◌<◌, ◌≤◌, ◌==◌, ◌⊎◌, Bool, true, false, cond, List, length, get_or, refl, sym, ap, ◌∙◌, subst, inl, inr, arith, eq-eqb}
+use Rattle.std.proofs.lemmas.Bool.{cases_eq, cases_lt, false≢true, ne_eqb}
+use Rattle.std.proofs.Math.ListN.{set, length-set}
+use Rattle.std.proofs.lemmas.List.{get_or_past, get_or-set_same, get_or-set_other}
+use Rattle.sr_transport.specs.Problem.{Transport, consumers, room_of, IsAllowed}
+use Rattle.sr_transport.specs.Assignment.{load}
+use Rattle.sr_transport.specs.Certificate.{IsLeast}
+use Rattle.sr_solver.specs.declared.label.Label.{Label}
+use Rattle.sr_solver.specs.Labels.{no_label, label_at, open_count, priced}
+use Rattle.sr_solver.specs.Placed.{IsPlaced, AreLoads}
+use Rattle.sr_solver.specs.Search.{IsWay, IsWithin, IsRound, IsEnd}
+use Rattle.sr_solver.specs.Path.{IsRaised, AreRaised, IsStep, ArePaths, AreShifted}
+use Rattle.sr_solver.proofs.LabelLemmas.{open_count-above}
+
+cases_bool : (b : Bool) → (b ≡ true) ⊎ (b ≡ false)
+cases_bool true = inl refl
+cases_bool false = inr refl
+
+-- one more at the end of the path, none elsewhere
+abbrev one_at : ℕ → ℕ → ℕ
+one_at a c = cond (a == c) 1 0
+
+one_at_same : (a c : ℕ) → a ≡ c → one_at a c ≡ 1
+one_at_same a c e = let one : Bool → ℕ = λ b. cond b 1 0 in ap one (eq-eqb a c e)
+
+one_at_other : (a c : ℕ) → (a ≡ c → ⊥) → one_at a c ≡ 0
+one_at_other a c ne = let one : Bool → ℕ = λ b. cond b 1 0 in ap one (ne_eqb a c ne)
+
+-- where the path ends the price is 0, so that the path is short
+pub end_near : (p : Transport) (k : ℕ) (xs prices : List ℕ) (labels : List Label) (end : ℕ)
+    → IsPlaced p k xs prices → IsEnd p k xs prices labels end → (label_at labels end).dist ≤ 2 ^ 46
+end_near p k xs prices labels end placed found =
+    let lt = found.nearest.consumer in
+    let no_price : get_or prices end 0 ≤ 0 =
+    elim (cases_lt 0 (get_or prices end 0)) [
+      | inl above ↦ absurd (omega (arith, placed.filled end lt above, found.room))
+      | inr none ↦ none
+    ] in
+    let some_open : 0 < open_count labels =
+    open_count-above labels end (omega (arith, lt, found.search.one_each)) found.nearest.not_closed in
+    let hops : (label_at labels end).hops ≤ 64 =
+    omega (arith, found.search.few end lt found.nearest.reached, some_open, placed.limits.consumers) in
+    omega (arith, found.search.long end lt found.nearest.reached, no_price, hops)
+
+-- the closed consumers are no farther than the end of the path
+pub closed_near : (p : Transport) (k : ℕ) (xs prices : List ℕ) (labels : List Label) (end : ℕ)
+    → IsEnd p k xs prices labels end
+    → (c : ℕ) → c < consumers p → (label_at labels c).closed ≡ true → (label_at labels c).dist ≤ (label_at labels end).dist
+closed_near p k xs prices labels end found c lt closed =
+    found.search.nearer c end lt found.nearest.consumer closed found.nearest.not_closed found.nearest.reached
+
+-- the entry that moves to a reached consumer is the new one, or placed
+mover_within : (p : Transport) (k : ℕ) (xs prices : List ℕ) (labels : List Label) (c : ℕ)
+    → IsWay p k xs prices labels c → (label_at labels c).mover ≤ k
+mover_within p k xs prices labels c way =
+    elim way.step [
+      | inl first ↦ omega (arith, first.mover)
+      | inr next ↦ omega (arith, next.earlier)
+    ]
+
+-- the way to a reached consumer as a step of a path
+step_of_way : (p : Transport) (k : ℕ) (xs prices : List ℕ) (labels : List Label) (c : ℕ)
+    → k < p.entries → IsPlaced p k xs prices → IsRound p k xs prices labels → IsWay p k xs prices labels c
+    → IsStep labels k c (get_or xs (label_at labels c).mover 0)
+step_of_way p k xs prices labels c lt placed search way =
+    elim way.step [
+      | inl first ↦
+          let at : get_or xs (label_at labels c).mover 0 ≡ length labels =
+          ap (λ i. get_or xs i 0) first.mover ∙ placed.waiting k (omega arith) lt ∙ sym search.one_each in
+          let past : label_at labels (get_or xs (label_at labels c).mover 0) ≡ no_label =
+          get_or_past labels (get_or xs (label_at labels c).mover 0) no_label (omega (arith, at)) in
+          let none : (label_at labels (get_or xs (label_at labels c).mover 0)).hops ≡ 0 = ap (λ l. l.hops) past in
+          record { fewer = omega (arith, first.hops, none); from = inl (first.mover, at) }
+      | inr next ↦
+          let within = (placed.placed (label_at labels c).mover next.earlier).0 in
+          record {
+            fewer = next.hops;
+            from = inr (
+              omega (arith, within, search.one_each),
+              next.closed,
+              search.reached (get_or xs (label_at labels c).mover 0) within next.closed,
+            );
+          }
+    ]
+
+pub are_paths : (p : Transport) (k : ℕ) (xs prices : List ℕ) (labels : List Label)
+    → k < p.entries → IsPlaced p k xs prices → IsRound p k xs prices labels → ArePaths labels k xs
+are_paths p k xs prices labels lt placed search =
+    let way : (c : ℕ) → c < length labels → 0 < (label_at labels c).hops → IsWay p k xs prices labels c =
+    λ c ltc above. search.way c (omega (arith, ltc, search.one_each)) above in
+    record {
+      new = placed.waiting k (omega arith) lt ∙ sym search.one_each;
+      entry = λ c ltc above. omega (arith, mover_within p k xs prices labels c (way c ltc above), lt, placed.every);
+      step = λ c ltc above. step_of_way p k xs prices labels c lt placed search (way c ltc above);
+    }
+
+-- what is known where the path was found, and the prices rose
+record IsRising (p : Transport) (k : ℕ) (xs prices : List ℕ) (labels : List Label) (end : ℕ) (raised : List ℕ) : Type 0 where
+  placed : IsPlaced p k xs prices
+  found : IsEnd p k xs prices labels end
+  rise : (c : ℕ) → c < consumers p → IsRaised (label_at labels end).dist (label_at labels c) (get_or prices c 0) (get_or raised c 0)
+
+-- no price falls
+no_price_falls : (p : Transport) (k : ℕ) (xs prices : List ℕ) (labels : List Label) (end : ℕ) (raised : List ℕ)
+    → IsRising p k xs prices labels end raised → (c : ℕ) → c < consumers p → get_or prices c 0 ≤ get_or raised c 0
+no_price_falls p k xs prices labels end raised rising c lt =
+    elim (cases_bool (label_at labels c).closed) [
+      | inl closed ↦
+          omega (arith, (rising.rise c lt).closed closed, closed_near p k xs prices labels end rising.found c lt closed)
+      | inr is_open ↦ omega (arith, (rising.rise c lt).stays is_open)
+    ]
+
+-- what is within reach of an entry is no nearer after the rise than the end of the path
+reach_raised : (p : Transport) (k : ℕ) (xs prices : List ℕ) (labels : List Label) (end : ℕ) (raised : List ℕ)
+    → IsRising p k xs prices labels end raised
+    → (dist base i c : ℕ) → c < consumers p → IsWithin p prices labels dist base i c
+    → base + (label_at labels end).dist ≤ dist + priced p raised i c
+reach_raised p k xs prices labels end raised rising dist base i c lt within =
+    elim (cases_bool (label_at labels c).closed) [
+      | inl closed ↦ omega (arith, (rising.rise c lt).closed closed, within.1)
+      | inr is_open ↦
+          omega (arith, (rising.rise c lt).stays is_open, within.1, rising.found.nearest.least c lt within.0 is_open)
+    ]
+
+-- an entry that is at x, closed or the end of the path, by a way that is as long as its reach allows, is at a least sum
+least_raised : (p : Transport) (k : ℕ) (xs prices : List ℕ) (labels : List Label) (end : ℕ) (raised : List ℕ)
+    → IsRising p k xs prices labels end raised
+    → (dist base i x : ℕ) → x < consumers p
+    → ((c : ℕ) → IsAllowed p i c → IsWithin p prices labels dist base i c)
+    → (label_at labels x).dist + base ≡ dist + priced p prices i x
+    → ((label_at labels x).closed ≡ true) ⊎ (x ≡ end)
+    → IsLeast p raised i x
+least_raised p k xs prices labels end raised rising dist base i x lt reach tight passed c allowed =
+    let far = reach_raised p k xs prices labels end raised rising dist base i c allowed.0 (reach c allowed) in
+    elim passed [
+      | inl closed ↦ omega (arith, far, tight, (rising.rise x lt).closed closed)
+      | inr at_end ↦
+          let is_open : (label_at labels x).closed ≡ false = rw at_end rising.found.nearest.not_closed in
+          let here : (label_at labels x).dist ≡ (label_at labels end).dist = ap (λ z. (label_at labels z).dist) at_end in
+          omega (arith, far, tight, here, (rising.rise x lt).stays is_open)
+    ]
+
+-- an entry that moved
+least_moved : (p : Transport) (k : ℕ) (xs prices : List ℕ) (labels : List Label) (end : ℕ) (raised : List ℕ)
+    → IsRising p k xs prices labels end raised
+    → (i x : ℕ) → x < consumers p → (label_at labels x).mover ≡ i → IsWay p k xs prices labels x
+    → ((label_at labels x).closed ≡ true) ⊎ (x ≡ end)
+    → IsLeast p raised i x
+least_moved p k xs prices labels end raised rising i x lt mover way passed =
+    elim way.step [
+      | inl first ↦
+          let new : i ≡ k = sym mover ∙ first.mover in
+          rw new (
+          least_raised p k xs prices labels end raised rising 0 0 k x lt rising.found.search.new_offered (omega (arith, first.dist)) passed
+          )
+      | inr next ↦
+          let earlier : i < k = omega (arith, mover, next.earlier) in
+          let closed : (label_at labels (get_or xs i 0)).closed ≡ true = rw (← mover) next.closed in
+          let tight : (label_at labels x).dist + priced p prices i (get_or xs i 0) ≡ (label_at labels (get_or xs i 0)).dist + priced p prices i x =
+          rw (← mover) next.dist in
+          least_raised p k xs prices labels end raised rising (label_at labels (get_or xs i 0)).dist (priced p prices i (get_or xs i 0)) i x lt
+          (λ c allowed. rising.found.search.offered i c earlier closed (λ e. earlier) allowed) tight passed
+    ]
+
+-- an entry that stays
+least_stays : (p : Transport) (k : ℕ) (xs prices : List ℕ) (labels : List Label) (end : ℕ) (raised : List ℕ)
+    → IsRising p k xs prices labels end raised → (i : ℕ) → i < k → IsLeast p raised i (get_or xs i 0)
+least_stays p k xs prices labels end raised rising i lti =
+    let lt = (rising.placed.placed i lti).0 in
+    elim (cases_bool (label_at labels (get_or xs i 0)).closed) [
+      | inl closed ↦
+          least_raised p k xs prices labels end raised rising (label_at labels (get_or xs i 0)).dist (priced p prices i (get_or xs i 0)) i
+          (get_or xs i 0) lt (λ c allowed. rising.found.search.offered i c lti closed (λ e. lti) allowed) refl (inl closed)
+      | inr is_open ↦
+          λ c allowed.
+          omega (
+            arith,
+            (rising.rise (get_or xs i 0) lt).stays is_open,
+            rising.placed.least i lti c allowed,
+            no_price_falls p k xs prices labels end raised rising c allowed.0,
+          )
+    ]
+
+-- a consumer whose price is above 0 is filled
+filled_raised : (p : Transport) (k : ℕ) (xs prices : List ℕ) (labels : List Label) (end : ℕ) (raised : List ℕ)
+    → IsRising p k xs prices labels end raised
+    → (c : ℕ) → c < consumers p → 0 < get_or raised c 0 → (load xs c ≡ room_of p c) × (end ≡ c → ⊥)
+filled_raised p k xs prices labels end raised rising c lt above =
+    elim (cases_bool (label_at labels c).closed) [
+      | inl closed ↦ (
+        rising.found.search.full c lt closed,
+        λ e. false≢true (sym rising.found.nearest.not_closed ∙ ap (λ x. (label_at labels x).closed) e ∙ closed),
+      )
+      | inr is_open ↦
+          let full : load xs c ≡ room_of p c = rising.placed.filled c lt (omega (arith, above, (rising.rise c lt).stays is_open)) in
+          let other : end ≡ c → ⊥ =
+          λ e. let room : load xs c < room_of p c = rw (← e) rising.found.room in omega (arith, full, room) in
+          (full, other)
+    ]
+
+-- where an entry is after the shift
+placed_shifted : (p : Transport) (k : ℕ) (xs prices : List ℕ) (labels : List Label) (end : ℕ) (raised new : List ℕ)
+    → IsRising p k xs prices labels end raised → k < p.entries → AreShifted labels k end xs new
+    → (i : ℕ) → i < k + 1 → IsAllowed p i (get_or new i 0) × IsLeast p raised i (get_or new i 0)
+placed_shifted p k xs prices labels end raised new rising ltk shifted i lt =
+    let search = rising.found.search in
+    elim (shifted.moved i) [
+      | inr moved ↦
+          let within : get_or new i 0 < consumers p = omega (arith, moved.consumer, search.one_each) in
+          let way = search.way (get_or new i 0) within moved.reached in (
+            (let P : ℕ → Type 0 = λ j. IsAllowed p j (get_or new i 0) in subst P moved.mover way.allowed),
+            least_moved p k xs prices labels end raised rising i (get_or new i 0) within moved.mover way moved.passed,
+          )
+      | inl same ↦
+          let earlier : i < k =
+          elim (cases_eq i k) [
+            | inl e ↦
+                let here : get_or new k 0 ≡ get_or xs k 0 = rw (← e) same in
+                absurd (omega (arith, here, rising.placed.waiting k (omega arith) ltk, shifted.first, search.one_each))
+            | inr ne ↦ omega (arith, lt, ne)
+          ] in (
+            rw same (rising.placed.placed i earlier),
+            rw same (least_stays p k xs prices labels end raised rising i earlier),
+          )
+    ]
+
+-- the entries after the new one still wait
+waiting_shifted : (p : Transport) (k : ℕ) (xs prices : List ℕ) (labels : List Label) (end : ℕ) (raised new : List ℕ)
+    → IsRising p k xs prices labels end raised → AreShifted labels k end xs new
+    → (i : ℕ) → k + 1 ≤ i → i < p.entries → get_or new i 0 ≡ consumers p
+waiting_shifted p k xs prices labels end raised new rising shifted i later lt =
+    elim (shifted.moved i) [
+      | inl same ↦ same ∙ rising.placed.waiting i (omega arith) lt
+      | inr moved ↦
+          let within : get_or new i 0 < consumers p = omega (arith, moved.consumer, rising.found.search.one_each) in
+          let way = rising.found.search.way (get_or new i 0) within moved.reached in
+          absurd (omega (arith, moved.mover, mover_within p k xs prices labels (get_or new i 0) way))
+    ]
+
+-- one more entry is placed
+pub placed_more : (p : Transport) (k : ℕ) (xs prices : List ℕ) (labels : List Label) (end : ℕ) (raised new : List ℕ)
+    → IsPlaced p k xs prices → IsEnd p k xs prices labels end → k < p.entries
+    → AreRaised (label_at labels end).dist labels prices raised → AreShifted labels k end xs new
+    → IsPlaced p (k + 1) new raised
+placed_more p k xs prices labels end raised new placed found ltk rise shifted =
+    let rising : IsRising p k xs prices labels end raised =
+    record { placed = placed; found = found; rise = λ c lt. rise.each c (omega (arith, lt, placed.one_each)) } in
+    let loads : (c : ℕ) → c < consumers p → load new c ≡ load xs c + one_at end c =
+    λ c lt. shifted.loads c (omega (arith, lt, found.search.one_each)) in
+    record {
+      limits = placed.limits;
+      every = shifted.every ∙ placed.every;
+      one_each = rise.one_each ∙ placed.one_each;
+      placed = λ i lt. (placed_shifted p k xs prices labels end raised new rising ltk shifted i lt).0;
+      waiting = λ i later lt. waiting_shifted p k xs prices labels end raised new rising shifted i later lt;
+      in_room = λ c lt. elim (cases_eq end c) [
+        | inl e ↦
+            let room : load xs c < room_of p c = rw (← e) found.room in
+            omega (arith, loads c lt, one_at_same end c e, room)
+        | inr ne ↦ omega (arith, loads c lt, one_at_other end c ne, placed.in_room c lt)
+      ];
+      least = λ i lt. (placed_shifted p k xs prices labels end raised new rising ltk shifted i lt).1;
+      filled = λ c lt above.
+          let full = filled_raised p k xs prices labels end raised rising c lt above in
+          omega (arith, loads c lt, one_at_other end c full.1, full.0);
+      low = λ c lt. elim (cases_bool (label_at labels c).closed) [
+        | inl closed ↦
+            omega (arith, (rising.rise c lt).closed closed, placed.low c lt, end_near p k xs prices labels end placed found)
+        | inr is_open ↦ omega (arith, (rising.rise c lt).stays is_open, placed.low c lt)
+      ];
+    }
+
+-- the loads count it
+pub loads_more : (p : Transport) (k : ℕ) (xs prices loads : List ℕ) (labels : List Label) (end : ℕ) (new : List ℕ)
+    → AreLoads p xs loads → IsEnd p k xs prices labels end → AreShifted labels k end xs new
+    → AreLoads p new (set loads end (get_or loads end 0 + 1))
+loads_more p k xs prices loads labels end new counted found shifted =
+    let in_loads : end < length loads = omega (arith, found.nearest.consumer, counted.one_each) in
+    record {
+      one_each = length-set loads end (get_or loads end 0 + 1) ∙ counted.one_each;
+      each = λ c lt.
+          let load_at : load new c ≡ load xs c + one_at end c = shifted.loads c (omega (arith, lt, found.search.one_each)) in
+          elim (cases_eq c end) [
+            | inl e ↦
+                let here : get_or (set loads end (get_or loads end 0 + 1)) c 0 ≡ get_or loads end 0 + 1 =
+                rw e (get_or-set_same loads end (get_or loads end 0 + 1) 0 in_loads) in
+                let before : get_or loads end 0 ≡ load xs c = rw (← e) (counted.each c lt) in
+                omega (arith, here, before, load_at, one_at_same end c (sym e))
+            | inr ne ↦
+                let here : get_or (set loads end (get_or loads end 0 + 1)) c 0 ≡ get_or loads c 0 =
+                get_or-set_other loads end c (get_or loads end 0 + 1) 0 ne in
+                let other : end ≡ c → ⊥ = λ e. ne (sym e) in
+                omega (arith, here, counted.each c lt, load_at, one_at_other end c other)
+          ];
+    }

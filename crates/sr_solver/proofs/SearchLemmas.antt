@@ -1,0 +1,134 @@
+-- The search: its start, a consumer that is closed, and one offer more.
+use Rattle.std.proofs.Common.{◌≡◌, ℕ, ◌+◌, ◌*◌, ◌^◌, ◌<◌, ◌≤◌, true, false, List, length, get_or, Option, Some, None, ap, inl, inr, arith}
+use Rattle.std.specs.Prelude.{IfSome, unwrap_or}
+use Rattle.std.proofs.lemmas.Bool.{cases_lt, false≢true}
+use Rattle.std.proofs.lemmas.List.{get_or_past}
+use Rattle.std.proofs.lemmas.List.Elements.{All-get_or}
+use Rattle.sr_transport.specs.Problem.{Transport, IsWithinLimits, consumers, cost_at, cost_of, IsAllowed}
+use Rattle.sr_solver.specs.declared.label.Label.{Label}
+use Rattle.sr_solver.specs.Labels.{no_label, label_at}
+use Rattle.sr_solver.specs.Offers.{IsOffered}
+use Rattle.sr_solver.specs.Search.{IsFirstStep, IsSearch, IsRound, first_offer, IsStarted}
+use Rattle.sr_solver.proofs.LabelLemmas.{offered_split, open_count-le}
+
+-- the costs that are within the limits
+some_small : (cost : Option ℕ) → IfSome cost (λ c. c ≤ 2 ^ 40) → unwrap_or cost 0 ≤ 2 ^ 40
+some_small None small = omega arith
+some_small (Some c) small = small
+
+pub cost_small : (p : Transport) → IsWithinLimits p.rooms p.entries p.costs → (i c : ℕ) → cost_of p i c ≤ 2 ^ 40
+cost_small p limits i c =
+    elim (cases_lt (i * length p.rooms + c) (length p.costs)) [
+      | inl lt ↦ some_small (cost_at p i c) (All-get_or (λ cost. IfSome cost (λ n. n ≤ 2 ^ 40)) p.costs (i * length p.rooms + c) None lt limits.small_costs)
+      | inr past ↦ let none : cost_at p i c ≡ None = get_or_past p.costs (i * length p.rooms + c) None past in rw none (omega arith)
+    ]
+
+-- a consumer past the last has no label
+past_label : (labels : List Label) (c : ℕ) → length labels ≤ c → label_at labels c ≡ no_label
+past_label labels c past = get_or_past labels c no_label past
+
+-- the label of a consumer to which the new entry alone was offered
+record IsFresh (p : Transport) (k : ℕ) (prices : List ℕ) (label : Label) (c : ℕ) : Type 0 where
+  still_open : label.closed ≡ false
+  reached : 0 < label.hops → IsAllowed p k c × IsFirstStep p k prices label c
+  offered : IsAllowed p k c → 0 < label.hops
+
+fresh : (p : Transport) (k : ℕ) (prices : List ℕ) (label : Label) (c : ℕ) → c < consumers p
+    → IsOffered (cost_at p k c) (get_or prices c 0) (first_offer k) no_label label → IsFresh p k prices label c
+fresh p k prices label c lt offered =
+    elim (offered_split (cost_at p k c) (get_or prices c 0) (first_offer k) no_label label offered) [
+      | inl left ↦
+          let none : label ≡ no_label = left.same in
+          record {
+            still_open = ap (λ l. l.closed) none;
+            reached = λ above. absurd (let hops : label.hops ≡ 0 = ap (λ l. l.hops) none in omega arith);
+            offered = λ allowed. absurd (
+                elim (left.no_nearer allowed.1) [
+                  | inl is_closed ↦ false≢true is_closed
+                  | inr near ↦ omega (arith, near.0)
+                ]
+                );
+          }
+      | inr changed ↦
+          let taken = changed.taken in
+          record {
+            still_open = taken.still_open;
+            reached = λ above. (
+              (lt, changed.allowed),
+              record { mover = taken.mover; hops = taken.hops; dist = omega (arith, taken.dist) },
+            );
+            offered = λ allowed. omega (arith, taken.hops);
+          }
+    ]
+
+-- the search starts between two rounds
+pub started_round : (p : Transport) (k : ℕ) (xs prices : List ℕ) (labels : List Label)
+    → IsWithinLimits p.rooms p.entries p.costs → IsStarted p k prices labels → IsRound p k xs prices labels
+started_round p k xs prices labels limits started =
+    let each : (c : ℕ) → c < consumers p → IsFresh p k prices (label_at labels c) c =
+    λ c lt. fresh p k prices (label_at labels c) c lt (started.each c lt) in
+    let none_closed : (c : ℕ) → (label_at labels c).closed ≡ true → ⊥ =
+    λ c is_closed. elim (cases_lt c (consumers p)) [
+      | inl lt ↦ let still : (label_at labels c).closed ≡ false = (each c lt).still_open in cc
+      | inr past ↦
+          let none : label_at labels c ≡ no_label = past_label labels c (omega (arith, past, started.one_each)) in
+          let still : (label_at labels c).closed ≡ false = ap (λ l. l.closed) none in cc
+    ] in
+    record {
+      one_each = started.one_each;
+      way = λ c lt above.
+          let first = (each c lt).reached above in
+          record { allowed = rw first.1.mover first.0; step = inl first.1 };
+      long = λ c lt above.
+          let first = ((each c lt).reached above).1 in
+          omega (arith, first.dist, first.hops, cost_small p limits k c);
+      few = λ c lt above. omega (arith, ((each c lt).reached above).1.hops, open_count-le labels, started.one_each);
+      few_closed = λ c lt is_closed. absurd (none_closed c is_closed);
+      reached = λ c lt is_closed. absurd (none_closed c is_closed);
+      full = λ c lt is_closed. absurd (none_closed c is_closed);
+      nearer = λ c d lt ltd is_closed not_closed above. absurd (none_closed c is_closed);
+      latest = λ c lt is_closed ltt. absurd (none_closed c is_closed);
+      new_offered = λ c allowed.
+          let above = (each c allowed.0).offered allowed in
+          let first = ((each c allowed.0).reached above).1 in
+          (above, omega (arith, first.dist));
+      offered = λ i c lt is_closed upto allowed. absurd (none_closed (get_or xs i 0) is_closed);
+    }
+
+-- the same search, seen from another consumer
+pub search_seen : (p : Transport) (k : ℕ) (xs prices : List ℕ) (labels : List Label) (t upto s upto' : ℕ)
+    → IsSearch p k xs prices labels t upto
+    → ((c : ℕ) → c < consumers p → (label_at labels c).closed ≡ true → s < consumers p
+    → (label_at labels c).dist ≤ (label_at labels s).dist)
+    → ((i : ℕ) → i < k → (get_or xs i 0 ≡ s → i < upto') → get_or xs i 0 ≡ t → i < upto)
+    → IsSearch p k xs prices labels s upto'
+search_seen p k xs prices labels t upto s upto' search latest covers = record {
+  one_each = search.one_each;
+  way = search.way;
+  long = search.long;
+  few = search.few;
+  few_closed = search.few_closed;
+  reached = search.reached;
+  full = search.full;
+  nearer = search.nearer;
+  latest = latest;
+  new_offered = search.new_offered;
+  offered = λ i c lt is_closed within allowed. search.offered i c lt is_closed (covers i lt within) allowed;
+}
+
+-- an entry that stands elsewhere needs no offer
+pub search_skips : (p : Transport) (k : ℕ) (xs prices : List ℕ) (labels : List Label) (t i : ℕ)
+    → IsSearch p k xs prices labels t i → (get_or xs i 0 ≡ t → ⊥) → IsSearch p k xs prices labels t (i + 1)
+search_skips p k xs prices labels t i search elsewhere =
+    search_seen p k xs prices labels t i t (i + 1) search search.latest
+    (λ j lt within here.
+    let below : j < i + 1 = within here in
+    let other : j ≡ i → ⊥ = λ e. elsewhere (rw (← e) here) in
+    omega (arith, below, other))
+
+-- where all entries are offered, the round is over
+pub search_round : (p : Transport) (k : ℕ) (xs prices : List ℕ) (labels : List Label) (t : ℕ)
+    → IsSearch p k xs prices labels t k → IsRound p k xs prices labels
+search_round p k xs prices labels t search =
+    search_seen p k xs prices labels t k (consumers p) k search (λ c lt is_closed past. absurd (omega (arith, past)))
+    (λ j lt within here. lt)

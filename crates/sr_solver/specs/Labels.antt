@@ -1,0 +1,20 @@
+-- The labels of consumers in a search, as lists.
+
+use Rattle.std.specs.Prelude.{ℕ, ◌+◌, List, false, slice_index, slice_index_or, not, count_by}
+use Rattle.sr_transport.specs.Problem.{Transport, cost_of}
+use Rattle.sr_solver.specs.declared.label.Label.{Label}
+
+-- the label of a consumer that is not reached
+abbrev pub no_label : Label
+no_label = record { hops = 0; dist = 0; mover = 0; closed = false }
+
+abbrev pub label_at : List Label → ℕ → Label
+label_at labels c = slice_index_or labels c no_label
+
+-- how many labels are not closed
+abbrev pub open_count : List Label → ℕ
+open_count labels = count_by (λ l. not l.closed) labels
+
+-- what entry i costs at consumer c, with the price there
+abbrev pub priced : Transport → List ℕ → ℕ → ℕ → ℕ
+priced p prices i c = cost_of p i c + slice_index prices c

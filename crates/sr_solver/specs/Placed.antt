@@ -1,0 +1,24 @@
+-- The state between two placements.
+
+use Rattle.std.specs.Prelude.{◌≡◌, ℕ, ◌*◌, ◌^◌, ◌<◌, ◌≤◌, List, length, slice_index}
+use Rattle.sr_transport.specs.Problem.{Transport, IsWithinLimits, consumers, room_of, IsAllowed}
+use Rattle.sr_transport.specs.Assignment.{load}
+use Rattle.sr_transport.specs.Certificate.{IsLeast}
+
+-- the first k entries are placed, and the prices show that none can be placed for less; the others stand past the last
+-- consumer
+pub record IsPlaced (p : Transport) (k : ℕ) (xs prices : List ℕ) : Type 0 where
+  pub limits : IsWithinLimits p.rooms p.entries p.costs
+  pub every : length xs ≡ p.entries
+  pub one_each : length prices ≡ consumers p
+  pub placed : (i : ℕ) → i < k → IsAllowed p i (slice_index xs i)
+  pub waiting : (i : ℕ) → k ≤ i → i < p.entries → slice_index xs i ≡ consumers p
+  pub in_room : (c : ℕ) → c < consumers p → load xs c ≤ room_of p c
+  pub least : (i : ℕ) → i < k → IsLeast p prices i (slice_index xs i)
+  pub filled : (c : ℕ) → c < consumers p → 0 < slice_index prices c → load xs c ≡ room_of p c
+  pub low : (c : ℕ) → c < consumers p → slice_index prices c ≤ k * 2 ^ 46
+
+-- the loads are those of the assignment
+pub record AreLoads (p : Transport) (xs loads : List ℕ) : Type 0 where
+  pub one_each : length loads ≡ consumers p
+  pub each : (c : ℕ) → c < consumers p → slice_index loads c ≡ load xs c

@@ -1,0 +1,122 @@
+-- The state of the search of a path that makes place for entry k, where the entries xs are placed.
+-- Source: the invariants of Dijkstra's search over reduced costs.
+
+use Rattle.std.specs.Prelude.{◌≡◌, ℕ, ◌+◌, ◌*◌, ◌^◌, ◌<◌, ◌≤◌, List, length, slice_index, ◌⊎◌, Bool, true, false, Option, Some, None}
+use Rattle.sr_transport.specs.Problem.{Transport, consumers, room_of, cost_at, IsAllowed}
+use Rattle.sr_transport.specs.Assignment.{load}
+use Rattle.sr_solver.specs.declared.label.Label.{Label}
+use Rattle.sr_solver.specs.declared.label.Offer.{Offer}
+use Rattle.sr_solver.specs.Labels.{no_label, label_at, open_count, priced}
+use Rattle.sr_solver.specs.Offers.{IsOffered}
+
+-- consumer c is reached by the new entry itself
+pub record IsFirstStep (p : Transport) (k : ℕ) (prices : List ℕ) (label : Label) (c : ℕ) : Type 0 where
+  pub mover : label.mover ≡ k
+  pub hops : label.hops ≡ 1
+  pub dist : label.dist ≡ priced p prices k c
+
+-- consumer c is reached by an entry that stands at a closed consumer, whose label is `from`
+pub record IsNextStep (p : Transport) (k : ℕ) (xs prices : List ℕ) (from label : Label) (c : ℕ) : Type 0 where
+  pub earlier : label.mover < k
+  pub closed : from.closed ≡ true
+  pub hops : label.hops ≡ from.hops + 1
+  pub dist : label.dist + priced p prices label.mover (slice_index xs label.mover) ≡ from.dist + priced p prices label.mover c
+
+-- how consumer c was reached
+pub record IsWay (p : Transport) (k : ℕ) (xs prices : List ℕ) (labels : List Label) (c : ℕ) : Type 0 where
+  pub allowed : IsAllowed p (label_at labels c).mover c
+  pub step : IsFirstStep p k prices (label_at labels c) c
+      ⊎ IsNextStep p k xs prices (label_at labels (slice_index xs (label_at labels c).mover)) (label_at labels c) c
+
+-- consumer c is reached, and no farther than by an entry whose way so far has this length and this base
+abbrev pub IsWithin : Transport → List ℕ → List Label → ℕ → ℕ → ℕ → ℕ → Type 0
+IsWithin p prices labels dist base i c =
+    (0 < (label_at labels c).hops) × ((label_at labels c).dist + base ≤ dist + priced p prices i c)
+
+-- the search, where the entries at consumer t are offered up to entry `upto`, and those at each other closed consumer all
+pub record IsSearch (p : Transport) (k : ℕ) (xs prices : List ℕ) (labels : List Label) (t upto : ℕ) : Type 0 where
+  pub one_each : length labels ≡ consumers p
+  pub way : (c : ℕ) → c < consumers p → 0 < (label_at labels c).hops → IsWay p k xs prices labels c
+  pub long : (c : ℕ) → c < consumers p → 0 < (label_at labels c).hops
+      → (label_at labels c).dist ≤ slice_index prices c + (label_at labels c).hops * 2 ^ 40
+  pub few : (c : ℕ) → c < consumers p → 0 < (label_at labels c).hops
+      → (label_at labels c).hops + open_count labels ≤ consumers p + 1
+  pub few_closed : (c : ℕ) → c < consumers p → (label_at labels c).closed ≡ true
+      → (label_at labels c).hops + open_count labels ≤ consumers p
+  pub reached : (c : ℕ) → c < consumers p → (label_at labels c).closed ≡ true → 0 < (label_at labels c).hops
+  pub full : (c : ℕ) → c < consumers p → (label_at labels c).closed ≡ true → load xs c ≡ room_of p c
+  pub nearer : (c d : ℕ) → c < consumers p → d < consumers p → (label_at labels c).closed ≡ true
+      → (label_at labels d).closed ≡ false → 0 < (label_at labels d).hops → (label_at labels c).dist ≤ (label_at labels d).dist
+  pub latest : (c : ℕ) → c < consumers p → (label_at labels c).closed ≡ true → t < consumers p
+      → (label_at labels c).dist ≤ (label_at labels t).dist
+  pub new_offered : (c : ℕ) → IsAllowed p k c → IsWithin p prices labels 0 0 k c
+  pub offered : (i c : ℕ) → i < k → (label_at labels (slice_index xs i)).closed ≡ true → (slice_index xs i ≡ t → i < upto)
+      → IsAllowed p i c
+      → IsWithin p prices labels (label_at labels (slice_index xs i)).dist (priced p prices i (slice_index xs i)) i c
+
+-- consumer t is the nearest of those that are reached and not closed
+pub record IsNearest (p : Transport) (labels : List Label) (t : ℕ) : Type 0 where
+  pub consumer : t < consumers p
+  pub reached : 0 < (label_at labels t).hops
+  pub not_closed : (label_at labels t).closed ≡ false
+  pub least : (c : ℕ) → c < consumers p → 0 < (label_at labels c).hops → (label_at labels c).closed ≡ false
+      → (label_at labels t).dist ≤ (label_at labels c).dist
+
+-- no consumer is reached and not closed
+abbrev pub AreAllClosed : Transport → List Label → Type 0
+AreAllClosed p labels =
+    (c : ℕ) → c < consumers p → 0 < (label_at labels c).hops → (label_at labels c).closed ≡ true
+
+-- the search between two rounds
+abbrev pub IsRound : Transport → ℕ → List ℕ → List ℕ → List Label → Type 0
+IsRound p k xs prices labels = IsSearch p k xs prices labels (consumers p) k
+
+-- the search after consumer t is closed, and its entries below `upto` are offered
+pub record IsClosed (p : Transport) (k : ℕ) (xs prices : List ℕ) (old new : List Label) (t upto : ℕ) : Type 0 where
+  pub search : IsSearch p k xs prices new t upto
+  pub closed : (label_at new t).closed ≡ true
+  pub fewer : open_count new < open_count old
+
+-- the search found a path that ends at a consumer with room
+pub record IsEnd (p : Transport) (k : ℕ) (xs prices : List ℕ) (labels : List Label) (end : ℕ) : Type 0 where
+  pub search : IsRound p k xs prices labels
+  pub nearest : IsNearest p labels end
+  pub room : load xs end < room_of p end
+
+-- the search ended with no path
+pub record IsStuck (p : Transport) (k : ℕ) (xs prices : List ℕ) (labels : List Label) : Type 0 where
+  pub entry : k < p.entries
+  pub placed_below : (i : ℕ) → i < k → IsAllowed p i (slice_index xs i)
+  pub waiting : (i : ℕ) → k ≤ i → i < p.entries → slice_index xs i ≡ consumers p
+  pub every : length xs ≡ p.entries
+  pub search : IsRound p k xs prices labels
+  pub all_closed : AreAllClosed p labels
+
+-- the offer of the new entry
+abbrev pub first_offer : ℕ → Offer
+first_offer k = record { mover = k; dist = 0; base = 0; hops = 1 }
+
+-- the new entry was offered to each consumer, and no other entry
+pub record IsStarted (p : Transport) (k : ℕ) (prices : List ℕ) (labels : List Label) : Type 0 where
+  pub one_each : length labels ≡ consumers p
+  pub each : (c : ℕ) → c < consumers p
+      → IsOffered (cost_at p k c) (slice_index prices c) (first_offer k) no_label (label_at labels c)
+
+-- a consumer that is better than the best so far is as near; one that is not is no nearer
+abbrev pub IsBetter : List Label → ℕ → Bool → Option ℕ → Type 0
+IsBetter labels c better None = better ≡ true
+IsBetter labels c better (Some best) =
+    (better ≡ true → (label_at labels c).dist ≤ (label_at labels best).dist)
+    × (better ≡ false → (label_at labels best).dist ≤ (label_at labels c).dist)
+
+-- the best of the consumers below n
+pub record IsBestBelow (labels : List Label) (n best : ℕ) : Type 0 where
+  pub consumer : best < n
+  pub reached : 0 < (label_at labels best).hops
+  pub not_closed : (label_at labels best).closed ≡ false
+  pub least : (c : ℕ) → c < n → 0 < (label_at labels c).hops → (label_at labels c).closed ≡ false
+      → (label_at labels best).dist ≤ (label_at labels c).dist
+
+abbrev pub IsBestSoFar : List Label → ℕ → Option ℕ → Type 0
+IsBestSoFar labels n None = (c : ℕ) → c < n → 0 < (label_at labels c).hops → (label_at labels c).closed ≡ true
+IsBestSoFar labels n (Some best) = IsBestBelow labels n best

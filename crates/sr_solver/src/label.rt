@@ -1,0 +1,92 @@
+ghost use Rattle.std.specs.Prelude.{◌≡◌, ℕ, ◌+◌, ◌*◌, ◌^◌, ◌<◌, ◌≤◌, ◌&&◌, not, nat_lt, length, slice_index, IfSome};
+ghost use Rattle.sr_transport.specs.Problem.{consumers, IsAllowed};
+ghost use Rattle.sr_solver.specs.Labels.{no_label, priced};
+ghost use Rattle.sr_solver.specs.Offers.{IsOffered, AreOffered};
+
+use sr_transport::Problem;
+
+/// What a search knows of a consumer.
+#[derive(Clone, Copy)]
+pub struct Label {
+    /// How many entries move along the path to it, or 0 where the search has not reached it.
+    pub hops: usize,
+    /// The length of that path.
+    pub dist: u64,
+    /// The entry that the path's last step moves to it.
+    pub mover: usize,
+    /// Whether the entries that stand at it have been offered to the other consumers.
+    pub closed: bool,
+}
+
+impl Label {
+    /// The label of a consumer that the search has not reached.
+    pub fn none() -> Label
+        ensures { result ≡ no_label }
+    {
+        Label {
+            hops: 0,
+            dist: 0,
+            mover: 0,
+            closed: false,
+        }
+    }
+
+    /// Whether the consumer is reached, and its entries have not been offered.
+    pub fn is_open(self) -> bool
+        ensures { result ≡ (nat_lt 0 self.hops && not self.closed) }
+    {
+        0 < self.hops && !self.closed
+    }
+}
+
+/// An entry that may leave its consumer.
+#[derive(Clone, Copy)]
+pub struct Offer {
+    pub mover: usize,
+    /// The length of the path to the consumer where it stands.
+    pub dist: u64,
+    /// What it costs there, with that consumer's price.
+    pub base: u64,
+    /// How many entries move along a path that ends with this one.
+    pub hops: usize,
+}
+
+/// Offers an entry to each consumer.
+pub fn offer_to_all(problem: &Problem, prices: &[u64], offer: Offer, labels: &mut [Label])
+    requires entry { offer.mover < problem.now.entries }
+    requires prices_each { length prices.now ≡ consumers problem.now }
+    requires labels_each { length labels.old ≡ consumers problem.now }
+    requires dist { offer.dist ≤ 2 ^ 60 }
+    requires low { (c : ℕ) → c < consumers problem.now → slice_index prices.now c ≤ 2 ^ 60 }
+    requires above { (c : ℕ) → IsAllowed problem.now offer.mover c → offer.base ≤ offer.dist + priced problem.now prices.now offer.mover c }
+    ensures { AreOffered problem.now prices.now offer labels.old labels.new }
+{
+    for consumer in 0..problem.consumers() {
+        let cost = problem.cost(offer.mover, consumer);
+        let label = offered(cost, prices[consumer], offer, labels[consumer]);
+        labels[consumer] = label;
+    }
+}
+
+/// The label of a consumer after the offer of an entry that costs `cost` there.
+fn offered(cost: Option<u64>, price: u64, offer: Offer, label: Label) -> Label
+    requires dist { offer.dist ≤ 2 ^ 60 }
+    requires price { price ≤ 2 ^ 60 }
+    requires cost { IfSome cost (λ c. c ≤ 2 ^ 40) }
+    requires above { IfSome cost (λ c. offer.base ≤ offer.dist + (c + price)) }
+    ensures { IsOffered cost price offer label result }
+{
+    let Some(cost) = cost else {
+        return label;
+    };
+    let dist = offer.dist + (cost + price) - offer.base;
+    if label.closed || (0 < label.hops && label.dist <= dist) {
+        return label;
+    }
+    Label {
+        hops: offer.hops,
+        dist,
+        mover: offer.mover,
+        closed: false,
+    }
+}

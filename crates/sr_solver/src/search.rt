@@ -1,0 +1,158 @@
+ghost use Rattle.std.specs.Prelude.{◌≡◌, ℕ, ◌+◌, ◌^◌, ◌<◌, ◌≤◌, length, slice_index, IfSome, IfNone};
+ghost use Rattle.sr_transport.specs.Problem.{IsWithinLimits, consumers, room_of, IsAllowed};
+ghost use Rattle.sr_transport.specs.Assignment.{load};
+ghost use Rattle.sr_transport.specs.Certificate.{IsLeast};
+ghost use Rattle.sr_solver.specs.Labels.{no_label, label_at, open_count};
+ghost use Rattle.sr_solver.specs.Placed.{IsPlaced, AreLoads};
+ghost use Rattle.sr_solver.specs.Offers.{AreOffered, offer_of};
+ghost use Rattle.sr_solver.specs.Search.{IsStarted, IsBetter, IsNearest, AreAllClosed, IsRound, IsEnd};
+
+use crate::label::{Label, Offer, offer_to_all};
+use sr_transport::Problem;
+
+/// Looks for the shortest path that makes place for `entry`, and gives the consumer where it ends, which has room left.
+///
+/// `None` where no path ends at a consumer with room: each consumer that the search reached is full, and closed.
+pub fn search(
+    problem: &Problem,
+    entry: usize,
+    assign: &[usize],
+    prices: &[u64],
+    loads: &[u64],
+    labels: &mut [Label],
+) -> Option<usize>
+    requires entry { entry < problem.now.entries }
+    requires placed { IsPlaced problem.now entry assign.now prices.now }
+    requires loads { AreLoads problem.now assign.now loads.now }
+    requires labels { length labels.old ≡ consumers problem.now }
+    ensures end { IfSome result (IsEnd problem.now entry assign.now prices.now labels.new) }
+    ensures round { IfNone result (IsRound problem.now entry assign.now prices.now labels.new) }
+    ensures all_closed { IfNone result (AreAllClosed problem.now labels.new) }
+{
+    start(problem, entry, prices, labels);
+    while let Some(near) = nearest(problem, loads, labels) {
+        if loads[near] < problem.room(near) {
+            return Some(near);
+        }
+        close(problem, entry, near, assign, prices, labels);
+    }
+    None
+}
+
+/// Forgets the last search, and offers the new entry to each consumer.
+fn start(problem: &Problem, entry: usize, prices: &[u64], labels: &mut [Label])
+    requires entry { entry < problem.now.entries }
+    requires prices_each { length prices.now ≡ consumers problem.now }
+    requires labels_each { length labels.old ≡ consumers problem.now }
+    requires low { (c : ℕ) → c < consumers problem.now → slice_index prices.now c ≤ 2 ^ 60 }
+    ensures { IsStarted problem.now entry prices.now labels.new }
+{
+    clear(labels);
+    let offer = Offer {
+        mover: entry,
+        dist: 0,
+        base: 0,
+        hops: 1,
+    };
+    offer_to_all(problem, prices, offer, labels);
+}
+
+fn clear(labels: &mut [Label])
+    ensures { (c : ℕ) → c < length labels.old → label_at labels.new c ≡ no_label }
+{
+    for label in labels.iter_mut() {
+        *label = Label::none();
+    }
+}
+
+/// The nearest open consumer, and of equally near ones rather one with room; `None` where none is open.
+fn nearest(problem: &Problem, loads: &[u64], labels: &[Label]) -> Option<usize>
+    requires loads_each { length loads.now ≡ consumers problem.now }
+    requires labels_each { length labels.now ≡ consumers problem.now }
+    ensures some { IfSome result (IsNearest problem.now labels.now) }
+    ensures none { IfNone result (AreAllClosed problem.now labels.now) }
+{
+    let mut best = None;
+    for consumer in 0..problem.consumers() {
+        if labels[consumer].is_open() && is_better(problem, loads, labels, consumer, best) {
+            best = Some(consumer);
+        }
+    }
+    best
+}
+
+/// Whether a consumer is nearer than the best so far, or as near and the only one of the two with room.
+fn is_better(
+    problem: &Problem,
+    loads: &[u64],
+    labels: &[Label],
+    consumer: usize,
+    best: Option<usize>,
+) -> bool
+    requires loads_each { length loads.now ≡ consumers problem.now }
+    requires labels_each { length labels.now ≡ consumers problem.now }
+    requires consumer { consumer < consumers problem.now }
+    requires best { IfSome best (λ b. b < consumers problem.now) }
+    ensures { IsBetter labels.now consumer result best }
+{
+    let Some(best) = best else {
+        return true;
+    };
+    let (dist, least) = (labels[consumer].dist, labels[best].dist);
+    if dist == least {
+        return loads[consumer] < problem.room(consumer) && problem.room(best) <= loads[best];
+    }
+    dist < least
+}
+
+/// Closes a consumer: offers each entry that stands there to the others.
+fn close(
+    problem: &Problem,
+    entry: usize,
+    near: usize,
+    assign: &[usize],
+    prices: &[u64],
+    labels: &mut [Label],
+)
+    requires entry { entry < problem.now.entries }
+    requires placed { IsPlaced problem.now entry assign.now prices.now }
+    requires round { IsRound problem.now entry assign.now prices.now labels.old }
+    requires nearest { IsNearest problem.now labels.old near }
+    requires full { load assign.now near ≡ room_of problem.now near }
+    ensures round { IsRound problem.now entry assign.now prices.now labels.new }
+    ensures fewer { open_count labels.new < open_count labels.old }
+{
+    let label = labels[near];
+    labels[near] = Label {
+        closed: true,
+        ..label
+    };
+    for other in 0..entry {
+        if assign[other] == near {
+            offer_from(problem, near, other, prices, labels);
+        }
+    }
+}
+
+/// Offers an entry that stands at the consumer `near` to each consumer.
+fn offer_from(problem: &Problem, near: usize, mover: usize, prices: &[u64], labels: &mut [Label])
+    requires limits { IsWithinLimits problem.now.rooms problem.now.entries problem.now.costs }
+    requires entry { mover < problem.now.entries }
+    requires allowed { IsAllowed problem.now mover near }
+    requires least { IsLeast problem.now prices.now mover near }
+    requires prices_each { length prices.now ≡ consumers problem.now }
+    requires labels_each { length labels.old ≡ consumers problem.now }
+    requires low { (c : ℕ) → c < consumers problem.now → slice_index prices.now c ≤ 2 ^ 60 }
+    requires dist { (label_at labels.old near).dist ≤ 2 ^ 60 }
+    requires hops { (label_at labels.old near).hops ≤ 64 }
+    ensures { AreOffered problem.now prices.now (offer_of problem.now prices.now labels.old near mover) labels.old labels.new }
+{
+    let label = labels[near];
+    let offer = Offer {
+        mover,
+        dist: label.dist,
+        base: problem.cost(mover, near).unwrap() + prices[near],
+        hops: label.hops + 1,
+    };
+    offer_to_all(problem, prices, offer, labels);
+}

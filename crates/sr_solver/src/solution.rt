@@ -1,0 +1,128 @@
+ghost use Rattle.std.specs.Prelude.{◌≡◌, ℕ, ◌+◌, ◌<◌, ◌≤◌, length, slice_index, IfOk, IfSome, IfNone, IsTrue, true, false};
+ghost use Rattle.sr_transport.specs.Problem.{consumers, IsWithinLimits};
+ghost use Rattle.sr_transport.specs.Assignment.{IsAssignment, total_of};
+ghost use Rattle.sr_solver.specs.Labels.{no_label};
+ghost use Rattle.sr_solver.specs.Placed.{IsPlaced, AreLoads};
+ghost use Rattle.sr_solver.specs.Search.{IsStuck};
+ghost use Rattle.sr_solver.specs.Solved.{IsSolution, IsOptimal};
+
+use crate::label::Label;
+use crate::path::{raise, shift};
+use crate::search::search;
+use crate::shortage::stranded;
+use sr_transport::Problem;
+use std::alloc::{AllocError, Global};
+
+/// What solves a problem.
+#[derive(Drop)]
+pub enum Solved {
+    /// A cheapest assignment: entry i goes to `assign[i]`; a price for each consumer that shows it; and its total.
+    Best {
+        assign: Vec<usize>,
+        prices: Vec<u64>,
+        total: u64,
+    },
+    /// There is no assignment: entries, rising, for which there are too few places.
+    Short {
+        set: Vec<usize>,
+    },
+}
+
+/// Solves a transportation problem: gives a cheapest assignment with prices that show it, or entries for which there
+/// are too few places.
+///
+/// The entries are placed one after another, each along a shortest path that makes place for it.
+///
+/// Source: the method of successive shortest paths (J. Edmonds, R. M. Karp, 1972).
+pub fn solve(alloc: Global, problem: &Problem) -> Result<Solved, AllocError>
+    ensures solution { IfOk result (IsSolution problem.now) }
+    ensures optimal { IfOk result (IsOptimal problem.now) }
+{
+    let consumers = problem.consumers();
+    let mut assign = vec![in alloc; consumers; problem.entries()]?;
+    let mut prices = vec![in alloc; 0u64; consumers]?;
+    let mut loads = vec![in alloc; 0u64; consumers]?;
+    let mut labels = vec![in alloc; Label::none(); consumers]?;
+    match place_all(problem, &mut assign, &mut prices, &mut loads, &mut labels) {
+        None => Ok(best(problem, assign, prices)),
+        Some(entry) => {
+            let set = stranded(alloc, &assign, &labels, entry)?;
+            Ok(Solved::Short { set })
+        }
+    }
+}
+
+/// The answer where every entry is placed.
+fn best(problem: &Problem, assign: Vec<usize>, prices: Vec<u64>) -> Solved
+    requires { IsPlaced problem.now problem.now.entries assign.items prices.items }
+    ensures solution { IsSolution problem.now result }
+    ensures optimal { IsOptimal problem.now result }
+{
+    let total = total(problem, &assign);
+    Solved::Best {
+        assign,
+        prices,
+        total,
+    }
+}
+
+/// Places entry after entry, and gives the first for which there is no place.
+fn place_all(
+    problem: &Problem,
+    assign: &mut [usize],
+    prices: &mut [u64],
+    loads: &mut [u64],
+    labels: &mut [Label],
+) -> Option<usize>
+    requires placed { IsPlaced problem.now 0 assign.old prices.old }
+    requires loads { AreLoads problem.now assign.old loads.old }
+    requires labels { length labels.old ≡ consumers problem.now }
+    ensures placed { IfNone result (IsPlaced problem.now problem.now.entries assign.new prices.new) }
+    ensures stuck { IfSome result (λ entry. IsStuck problem.now entry assign.new prices.new labels.new) }
+{
+    for entry in 0..problem.entries() {
+        if !place(problem, entry, assign, prices, loads, labels) {
+            return Some(entry);
+        }
+    }
+    None
+}
+
+/// Places one entry, where there is a place for it.
+fn place(
+    problem: &Problem,
+    entry: usize,
+    assign: &mut [usize],
+    prices: &mut [u64],
+    loads: &mut [u64],
+    labels: &mut [Label],
+) -> bool
+    requires entry { entry < problem.now.entries }
+    requires placed { IsPlaced problem.now entry assign.old prices.old }
+    requires loads { AreLoads problem.now assign.old loads.old }
+    requires labels { length labels.old ≡ consumers problem.now }
+    ensures placed { result ≡ true → IsPlaced problem.now (entry + 1) assign.new prices.new }
+    ensures loads { result ≡ true → AreLoads problem.now assign.new loads.new }
+    ensures stuck { result ≡ false → IsStuck problem.now entry assign.new prices.new labels.new }
+{
+    let Some(end) = search(problem, entry, assign, prices, loads, labels) else {
+        return false;
+    };
+    raise(prices, labels, labels[end].dist);
+    shift(entry, assign, labels, end);
+    loads[end] += 1;
+    true
+}
+
+/// What an assignment costs.
+fn total(problem: &Problem, assign: &[usize]) -> u64
+    requires limits { IsWithinLimits problem.now.rooms problem.now.entries problem.now.costs }
+    requires assignment { IsAssignment problem.now assign.now }
+    ensures { result ≡ total_of problem.now assign.now }
+{
+    let mut total = 0;
+    for (entry, consumer) in assign.iter().enumerate() {
+        total += problem.cost(entry, *consumer).unwrap();
+    }
+    total
+}
