@@ -78,11 +78,13 @@ returns-in-Err-send-2-clause-session g c =
 pub returns-in-Err-Memory-clause-session : goal.returns-in-Err-Memory-clause-session
 returns-in-Err-Memory-clause-session g c =
     let b = c.loop-turn.invariant.bytes in
-    let text = (rw c.in-Err-Memory.field-0-is at c.in-Err-Memory.ensures).memory refl in
-    (b.0 ++ take c.in-Ok.count c.read.new.buffer, b.1,
-     Consumes-trans _ _ _ b.0 _ b.2 c.in-Ok.ensures.bytes.0,
-     b.3,
-     text.2 c.args.space.now b.0 b.1 b.4)
+    let text = (rw c.in-Err-Memory.field-0-is at c.in-Err-Memory.ensures).memory refl in (
+      b.0 ++ take c.in-Ok.count c.read.new.buffer,
+      b.1,
+      Consumes-trans _ _ _ b.0 _ b.2 c.in-Ok.ensures.bytes.0,
+      b.3,
+      text.2 c.args.space.now b.0 b.1 b.4,
+    )
 
 pub loop-turn-preserved : goal.loop-turn-preserved
 loop-turn-preserved g c =
