@@ -1,5 +1,5 @@
 -- The turns of a session: what was read and written so far, and one piece more.
-use Rattle.std.proofs.Common.{◌≡◌, ℕ, ◌+◌, ◌<◌, List, [], ◌++◌, Option, Some, None, Bool, length, take, drop, min, ◌⊎◌, inl, inr, ⊎_elim, refl, sym, ap, ◌∙◌, subst, append_assoc, arith}
+use Rattle.std.proofs.Common.{◌≡◌, ℕ, ◌+◌, ◌<◌, List, [], ◌++◌, Option, Some, None, Bool, length, take, drop, min, ◌⊎◌, sym, ap, ◌∙◌, subst, append_assoc, arith}
 use Rattle.std.proofs.lemmas.List.{take-append-drop, length-append, length-take}
 use Rattle.sr_space.specs.Keys.{Keys}
 use Rattle.sr_session.specs.Session.{IsAnswered, IsBroken, IsFront}

@@ -1,7 +1,7 @@
 -- A whole session: what was written for the bytes that were taken, and how it ended.
 -- Source: RESP2 protocol specification, "Sending commands to a Redis server" and "Multiple commands and pipelining".
 
-use Rattle.std.specs.Prelude.{◌≡◌, ℕ, ◌+◌, ◌⊎◌, ⊤, List, [], ◌++◌, length, min, Option, Some, None, Bool, true, false}
+use Rattle.std.specs.Prelude.{◌≡◌, ℕ, ◌⊎◌, List, [], ◌++◌, length, min, Bool, false}
 use Rattle.sr_resp.specs.Request.{Words}
 use Rattle.sr_resp.specs.Stream.{Progress, Stands, Splits, IsPartial, IsFault}
 use Rattle.sr_resp.specs.Reply.{error_reply, reply_text}
@@ -31,10 +31,11 @@ pub record IsAnswering (may_tell : ℕ → Bool) (found : Keys) (taken written :
   pub stands : Stands taken requests session.progress
   pub answered : AreAnswered may_tell (untouched found) requests written (served session keys)
 
--- from here to there the text was written, whatever was found, taken and written before
-abbrev pub Writes : (ℕ → Bool) → List ℕ → Between → Keys → Between → Keys → Type 0
-Writes may_tell text old before new after =
-    (found : Keys) (taken written : List ℕ) → IsAnswering may_tell found taken written old before → IsAnswering may_tell found taken (written ++ text) new after
+-- the requests handed out from here to there were carried out, and the text answers them, whatever came before
+pub record CarriesOut (may_tell : ℕ → Bool) (text : List ℕ) (old : Between) (before : Keys) (new : Progress) (after : Served) : Type 0 where
+  pub requests : List Words
+  pub stands : (taken : List ℕ) (given : List Words) → Stands taken given old.progress → Stands taken (given ++ requests) new
+  pub answered : AreAnswered may_tell (served old before) requests text after
 
 -- every request of the bytes taken is answered, and what is left can become a further one
 pub record GoesOn (may_tell : ℕ → Bool) (found : Keys) (taken written : List ℕ) (session : Between) (keys : Keys) : Type 0 where
@@ -65,13 +66,20 @@ pub record IsBroken (may_tell : ℕ → Bool) (found : Keys) (taken written : Li
   pub answered : AreAnswered may_tell (untouched found) requests text (record { moment = moment; keys = keys })
   pub behind : written ≡ text ++ protocol_text
 
--- every request of a front of the bytes taken is answered
-pub record IsCutOff (may_tell : ℕ → Bool) (found : Keys) (taken written : List ℕ) : Type 0 where
+-- every request of a front of the bytes taken is answered; some of the next ones were carried out, and got no reply
+pub record IsCutOff (may_tell : ℕ → Bool) (found : Keys) (taken written : List ℕ) (keys : Keys) : Type 0 where
   pub front : List ℕ
   pub more : List ℕ
-  pub keys : Keys
+  pub between : Keys
   pub whole : taken ≡ front ++ more
-  pub answered : IsAnswered may_tell found front written keys
+  pub answered : IsAnswered may_tell found front written between
+  pub carried_out : List Words
+  pub passed_over : List Words
+  pub rest : List ℕ
+  pub stream : Splits taken ((answered.requests ++ carried_out) ++ passed_over) rest
+  pub unsent : List ℕ
+  pub moment : ℕ
+  pub lead : AreAnswered may_tell (record { moment = answered.moment; keys = between }) carried_out unsent (record { moment = moment; keys = keys })
 
 -- the writer failed: what was written is a front of the answers to the bytes taken, and so many bytes
 pub record IsFront (may_tell : ℕ → Bool) (found : Keys) (taken written : List ℕ) (keys : Keys) (sent : ℕ) : Type 0 where
@@ -86,4 +94,4 @@ EndsAs may_tell found taken written keys ends.Protocol = IsBroken may_tell found
 EndsAs may_tell found taken written keys ReadFault = IsAnswered may_tell found taken written keys
 EndsAs may_tell found taken written keys (SendFault sent) = IsFront may_tell found taken written keys sent
 EndsAs may_tell found taken written keys Turns = IsAnswered may_tell found taken written keys
-EndsAs may_tell found taken written keys Memory = IsCutOff may_tell found taken written
+EndsAs may_tell found taken written keys Memory = IsCutOff may_tell found taken written keys

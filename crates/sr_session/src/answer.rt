@@ -94,6 +94,9 @@ pub(crate) fn answer_request<C: Clock>(
         × Answers (C.may_tell clock.now) (record { moment = last; keys = space.old }) words.now text
         (record { moment = moment; keys = space.new })) }
     ensures err { OnErr result (out.new.items ≡ out.old.items) }
+    ensures unsent { OnErr result ((text : List ℕ) × (moment : ℕ)
+        × Answers (C.may_tell clock.now) (record { moment = last; keys = space.old }) words.now text
+        (record { moment = moment; keys = space.new })) }
 {
     let (reply, moment) = reply_to(alloc, space, clock, last, words);
     append_reply(out, &reply)?;

@@ -43,7 +43,7 @@ impl Model for Session {
 impl Session {
     ghost use Rattle.std.specs.Prelude.{◌≡◌, ℕ, ◌++◌, [], List, Bool, OnOk, OnErr, IfErr, IsErrOf};
     ghost use Rattle.sr_space.specs.Keys.{Keys};
-    ghost use Rattle.sr_session.specs.Session.{GoesOn, Writes, IsBroken};
+    ghost use Rattle.sr_session.specs.Session.{GoesOn, CarriesOut, IsBroken, IsCutOff, served};
 
     /// A session that has taken nothing yet. It takes no memory.
     pub fn new(alloc: Global) -> Session
@@ -70,7 +70,9 @@ impl Session {
         ensures protocol { IsErrOf result SessionFault.Protocol → (text : List ℕ) × (out.new.items ≡ out.old.items ++ text)
             × ((found : Keys) (taken written : List ℕ) → GoesOn (C.may_tell clock.now) found taken written self.old space.old
             → IsBroken (C.may_tell clock.now) found (taken ++ piece.now) (written ++ text) space.new) }
-        ensures memory { IsErrOf result SessionFault.Memory → (text : List ℕ) × (out.new.items ≡ out.old.items ++ text) }
+        ensures memory { IsErrOf result SessionFault.Memory → (text : List ℕ) × (out.new.items ≡ out.old.items ++ text)
+            × ((found : Keys) (taken written : List ℕ) → GoesOn (C.may_tell clock.now) found taken written self.old space.old
+            → IsCutOff (C.may_tell clock.now) found (taken ++ piece.now) written space.new) }
     {
         match self.reader.feed(alloc, piece) {
             Ok(()) => self.answer_waiting(alloc, space, clock, out),
@@ -92,10 +94,15 @@ impl Session {
         out: &mut Vec<u8>,
     ) -> Result<(), SessionFault>
         ensures text { (text : List ℕ) × (out.new.items ≡ out.old.items ++ text)
-            × OnOk result (Writes (C.may_tell clock.now) text self.old space.old self.new space.new) }
+            × OnOk result (CarriesOut (C.may_tell clock.now) text self.old space.old self.new.progress
+            (served self.new space.new)) }
         ensures none_wait { OnOk result (self.new.progress.waiting ≡ []) }
         ensures failed { self.new.progress.failed ≡ self.old.progress.failed }
         ensures err { IfErr result (λ fault. fault ≡ SessionFault.Memory) }
+        // the last request may have been carried out with no reply
+        ensures cut_off { OnErr result ((unsent : List ℕ) × (moment : ℕ)
+            × CarriesOut (C.may_tell clock.now) unsent self.old space.old self.new.progress
+            (record { moment = moment; keys = space.new })) }
     {
         while let Some(words) = self.reader.next_request() {
             let answered = answer_request(alloc, space, clock, self.moment, words.as_slice(), out);

@@ -43,7 +43,11 @@ pub struct ReadFrom<R: Read> {
 
 impl<R: Read> ReadFrom<R> {
     /// The bytes that this reader gives.
-    pub fn new(reader: R) -> ReadFrom<R> {
+    pub fn new(reader: R) -> ReadFrom<R>
+        ensures bytes { ⟦<ReadFrom<R> as Source>⟧.remaining result ≡ R.remaining reader }
+        ensures fresh { (⟦<ReadFrom<R> as Source>⟧.ended result ≡ false)
+            × (⟦<ReadFrom<R> as Source>⟧.failed result ≡ false) }
+    {
         ReadFrom {
             reader,
             ended: false,

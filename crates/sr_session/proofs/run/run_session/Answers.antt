@@ -77,12 +77,13 @@ returns-in-Err-send-2-clause-session g c =
 
 pub returns-in-Err-Memory-clause-session : goal.returns-in-Err-Memory-clause-session
 returns-in-Err-Memory-clause-session g c =
-    let b = c.loop-turn.invariant.bytes in (
+    let b = c.loop-turn.invariant.bytes in
+    let text = (rw c.in-Err-Memory.field-0-is at c.in-Err-Memory.ensures).memory refl in (
       b.0 ++ take c.in-Ok.count c.read.new.buffer,
       b.1,
       Consumes-trans _ _ _ b.0 _ b.2 c.in-Ok.ensures.bytes.0,
       b.3,
-      record { front = b.0; more = take c.in-Ok.count c.read.new.buffer; keys = c.loop-turn.space; whole = refl; answered = IsAnswered-from_goes_on _ _ _ _ _ _ b.4 },
+      text.2 c.args.space.now b.0 b.1 b.4,
     )
 
 pub loop-turn-preserved : goal.loop-turn-preserved
