@@ -1,4 +1,4 @@
-ghost use Rattle.std.specs.Prelude.{◌≡◌, ℕ, ◌+◌, ◌*◌, ◌^◌, ◌<◌, ◌≤◌, ◌&&◌, not, nat_lt, length, slice_index, IfSome};
+ghost use Rattle.std.specs.Prelude.{◌≡◌, ℕ, ◌+◌, ◌^◌, ◌<◌, ◌≤◌, ◌&&◌, not, nat_lt, length, slice_index, IfSome};
 ghost use Rattle.sr_transport.specs.Problem.{consumers, IsAllowed};
 ghost use Rattle.sr_solver.specs.Labels.{no_label, priced};
 ghost use Rattle.sr_solver.specs.Offers.{IsOffered, AreOffered};

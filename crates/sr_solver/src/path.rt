@@ -1,5 +1,4 @@
-ghost use Rattle.std.specs.Prelude.{◌≡◌, ℕ, ◌+◌, ◌*◌, ◌^◌, ◌<◌, ◌≤◌, length, slice_index, true};
-ghost use Rattle.sr_transport.specs.Problem.{consumers};
+ghost use Rattle.std.specs.Prelude.{◌≡◌, ℕ, ◌^◌, ◌<◌, ◌≤◌, length, slice_index, true};
 ghost use Rattle.sr_solver.specs.Labels.{label_at};
 ghost use Rattle.sr_solver.specs.Path.{AreRaised, ArePaths, AreShifted};
 

@@ -1,7 +1,6 @@
-ghost use Rattle.std.specs.Prelude.{◌≡◌, ℕ, ◌+◌, ◌<◌, ◌≤◌, length, slice_index, IfOk, IfSome, IfNone, IsTrue, true, false};
+ghost use Rattle.std.specs.Prelude.{◌≡◌, ◌+◌, ◌<◌, length, IfOk, IfSome, IfNone, true, false};
 ghost use Rattle.sr_transport.specs.Problem.{consumers, IsWithinLimits};
 ghost use Rattle.sr_transport.specs.Assignment.{IsAssignment, total_of};
-ghost use Rattle.sr_solver.specs.Labels.{no_label};
 ghost use Rattle.sr_solver.specs.Placed.{IsPlaced, AreLoads};
 ghost use Rattle.sr_solver.specs.Search.{IsStuck};
 ghost use Rattle.sr_solver.specs.Solved.{IsSolution, IsOptimal};
