@@ -1,2 +1,3 @@
 pub mod Id
+pub mod Next
 pub mod Spelling

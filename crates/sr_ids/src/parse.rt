@@ -3,7 +3,7 @@ ghost use Rattle.sr_ids.specs.declared.id.Id as ids;
 ghost use Rattle.sr_ids.specs.Spelling.{SpellsId, IsStart, IsEnd};
 
 use crate::Id;
-use crate::neighbour::{id_after, id_before};
+use crate::next::{id_before, succ};
 use sr_bytes::read_decimal;
 
 const LEAST: Id = Id { ms: 0, seq: 0 };
@@ -37,7 +37,7 @@ pub fn parse_start(text: &[u8]) -> Option<Id>
     match text {
         b"-" => Some(LEAST),
         b"+" => Some(GREATEST),
-        [b'(', digits @ ..] => id_after(parse_written(digits, 0)?),
+        [b'(', digits @ ..] => succ(parse_written(digits, 0)?),
         _ => parse_written(text, 0),
     }
 }

@@ -1,5 +1,7 @@
-//! Spellings beside the ids that they are read as, and ids beside their spellings.
-use crate::{Id, parse_end, parse_start, parse_strict, write_id};
+//! Spellings beside the ids that they are read as, ids beside their spellings, and ids beside the next ones.
+use crate::{
+    Id, IdFault, next_auto, next_in, parse_end, parse_start, parse_strict, succ, write_id,
+};
 
 const LAST: u64 = 18446744073709551615;
 
@@ -111,4 +113,47 @@ fn ids_are_written(rt: HostRuntime) {
         assert_eq!(rt; &out[..len], want.as_bytes(), "at {want}");
         assert!(rt; out[len..].iter().all(|byte| *byte == b'.'), "at {want}");
     }
+}
+
+#[test]
+fn a_millisecond_has_a_next_id(rt: HostRuntime) {
+    let rows = [
+        (1, 5, 1, Ok(Id { ms: 1, seq: 6 })),
+        (1, 5, 2, Ok(Id { ms: 2, seq: 0 })),
+        (1, LAST, 1, Err(IdFault::Exhausted)),
+        (1, LAST, 2, Ok(Id { ms: 2, seq: 0 })),
+        (2, 0, 1, Err(IdFault::Small)),
+        (2, LAST, 1, Err(IdFault::Small)),
+        (LAST, LAST, LAST, Err(IdFault::Exhausted)),
+    ];
+    for (last, seq, ms, want) in rows {
+        let next = next_in(Id { ms: last, seq }, ms);
+        assert_eq!(rt; next, want, "in {ms} after {last}-{seq}");
+    }
+}
+
+#[test]
+fn a_moment_has_a_next_id(rt: HostRuntime) {
+    let rows = [
+        (1000, LAST, 10, id(1001, 0)),
+        (5, LAST, 5, id(6, 0)),
+        (5, 1, 7, id(7, 0)),
+        (5, 1, 5, id(5, 2)),
+        (LAST, LAST, 0, None),
+        (LAST, LAST, LAST, None),
+    ];
+    for (ms, seq, moment, want) in rows {
+        assert_eq!(rt;
+            next_auto(Id { ms, seq }, moment),
+            want,
+            "at {moment} after {ms}-{seq}"
+        );
+    }
+    assert_eq!(rt;
+        succ(Id {
+            ms: LAST,
+            seq: LAST
+        }),
+        None
+    );
 }

@@ -12,7 +12,7 @@ returns-in_ok-parse_written-in-40-clause-found c =
     let digits = take (length text - 1) (drop 1 text) in
     let begins : get_or text 0 0 ≡ 40 = search rules in
     let whole = from_first_byte text 40 (omega arith) begins in
-    IfSome_then c.id_after.result c.id_after.ensures.found (λ next p. after_written digits c.in_ok-parse_written-in-40.field-0 whole c.in_ok-parse_written-in-40.ensures.found p)
+    IfSome_then c.succ.result c.succ.ensures.found (λ next p. after_written digits c.in_ok-parse_written-in-40.field-0 whole c.in_ok-parse_written-in-40.ensures.found p)
 
 pub returns-in_ok-parse_written-in-40-clause-none : goal.returns-in_ok-parse_written-in-40-clause-none
 returns-in_ok-parse_written-in-40-clause-none c =
@@ -21,7 +21,7 @@ returns-in_ok-parse_written-in-40-clause-none c =
     let written = c.in_ok-parse_written-in-40.field-0 in
     let begins : get_or text 0 0 ≡ 40 = search rules in
     let whole = from_first_byte text 40 (omega arith) begins in
-    IfNone_then c.id_after.result c.id_after.ensures.none (λ none id start.
+    IfNone_then c.succ.result c.succ.ensures.none (λ none id start.
     let other = IsStart-after_written text digits id whole start in
     let same = SpellsId-one 0 digits other.0 written other.1 c.in_ok-parse_written-in-40.ensures.found in
     none id other.2.valid (rw same at other.2.above))
