@@ -1,4 +1,4 @@
-ghost use Rattle.std.specs.Prelude.{◌≡◌, ℕ, ◌<◌, ◌≤◌, List, Option, Bool, true, length, take, IfOk, IfErr, OnOk, OnErr};
+ghost use Rattle.std.specs.Prelude.{◌≡◌, ℕ, ◌<◌, ◌≤◌, List, Option, Bool, true, false, length, take, IfOk, IfErr, OnOk, OnErr};
 ghost use Rattle.std.specs.Io.KnownBytes.{Appends, WriteAppends};
 
 use std::io::{ErrorKind, Write};
@@ -20,6 +20,7 @@ pub trait Sink {
         ensures bound { IfOk result (λ count. count ≤ length bytes.now) }
         ensures some { IfOk result (λ count. 0 < length bytes.now → 0 < count) }
         ensures bytes { WriteAppends (contents self.old) (contents self.new) result bytes.now }
+        ensures ok { OnOk result (failed self.new ≡ failed self.old) }
         ensures err { OnErr result (failed self.new ≡ true) };
 }
 
@@ -32,7 +33,10 @@ pub struct WriteTo<W: Write + Drop> {
 
 impl<W: Write + Drop> WriteTo<W> {
     /// A sink into this writer.
-    pub fn new(writer: W) -> WriteTo<W> {
+    pub fn new(writer: W) -> WriteTo<W>
+        ensures bytes { ⟦<WriteTo<W> as Sink>⟧.contents result ≡ W.contents writer }
+        ensures fresh { ⟦<WriteTo<W> as Sink>⟧.failed result ≡ false }
+    {
         WriteTo {
             writer,
             failed: false,
@@ -69,6 +73,7 @@ pub fn send_all<W: Sink>(sink: &mut W, bytes: &[u8]) -> Result<(), SendFault>
     ensures ok { OnOk result (Appends (W.contents sink.old) (W.contents sink.new) bytes.now) }
     ensures err { IfErr result (λ fault. (fault.sent < length bytes.now)
         × Appends (W.contents sink.old) (W.contents sink.new) (take fault.sent bytes.now)) }
+    ensures sound { OnOk result (W.failed sink.new ≡ W.failed sink.old) }
     ensures failed { OnErr result (W.failed sink.new ≡ true) }
 {
     let mut sent = 0;

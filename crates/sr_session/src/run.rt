@@ -1,4 +1,4 @@
-ghost use Rattle.std.specs.Prelude.{◌≡◌, ◌+◌, ◌<◌, ◌≤◌, ℕ, List, true, length, min, take, IfOk, IfErr, OnErr};
+ghost use Rattle.std.specs.Prelude.{◌≡◌, ◌≢◌, ◌+◌, ◌<◌, ◌≤◌, ℕ, List, true, length, min, take, IfOk, IfErr, OnOk, OnErr};
 ghost use Rattle.std.specs.Io.KnownBytes.{Appends, Consumes};
 ghost use Rattle.sr_session.specs.Session.{EndsAs};
 ghost use Rattle.sr_session.specs.Source.{CountsReads};
@@ -55,6 +55,11 @@ pub fn run_session<R: Source, W: Sink, C: Clock>(
     ensures closed { result ≡ End.Closed → R.ended reader.new ≡ true }
     ensures read_fault { result ≡ End.ReadFault → R.failed reader.new ≡ true }
     ensures send_fault { (sent : ℕ) → result ≡ End.SendFault sent → W.failed writer.new ≡ true }
+
+    // and no cause is passed over
+    ensures heeds_end { result ≢ End.Closed → R.ended reader.new ≡ R.ended reader.old }
+    ensures heeds_read_fault { result ≢ End.ReadFault → R.failed reader.new ≡ R.failed reader.old }
+    ensures heeds_send_fault { ((sent : ℕ) → result ≢ End.SendFault sent) → W.failed writer.new ≡ W.failed writer.old }
 {
     let mut session = Session::new(alloc);
     let mut buffer = [0; PIECE];
@@ -89,6 +94,7 @@ fn send<W: Sink>(writer: &mut W, bytes: &[u8], before: usize) -> Result<usize, u
         × Appends (W.contents writer.old) (W.contents writer.new) bytes.now) }
     ensures err { IfErr result (λ total. (more : ℕ) × (more < length bytes.now) × (total ≡ min (before + more) usize.MAX)
         × Appends (W.contents writer.old) (W.contents writer.new) (take more bytes.now)) }
+    ensures sound { OnOk result (W.failed writer.new ≡ W.failed writer.old) }
     ensures failed { OnErr result (W.failed writer.new ≡ true) }
 {
     match send_all(writer, bytes) {

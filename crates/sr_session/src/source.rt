@@ -28,9 +28,11 @@ pub trait Source {
         ensures bound { IfOk result (λ count. count ≤ length buffer.new) }
         ensures bytes { ReadConsumes (remaining self.old) (remaining self.new) result buffer.new }
         ensures end { IfOk result (λ count. count ≡ 0 → 0 < length buffer.new → ended self.new ≡ true) }
+        ensures more { IfOk result (λ count. 0 < count → ended self.new ≡ ended self.old) }
         ensures count { CountsReads (reads self.old) (reads self.new) 1 }
         ensures ok { OnOk result (failed self.new ≡ failed self.old) }
-        ensures err { OnErr result (failed self.new ≡ true) };
+        ensures err { OnErr result (failed self.new ≡ true) }
+        ensures err_end { OnErr result (ended self.new ≡ ended self.old) };
 }
 
 /// The bytes of a reader. An interrupted read is tried again.
@@ -69,7 +71,9 @@ impl<R: Read> Source for ReadFrom<R> {
         for _ in 0..u64::MAX {
             match self.reader.read(buffer) {
                 Ok(count) => {
-                    self.ended = count == 0;
+                    if count == 0 {
+                        self.ended = true;
+                    }
                     return Ok(count);
                 }
                 Err(error) if error.kind() == ErrorKind::Interrupted => {}

@@ -81,7 +81,9 @@ impl Source for Pieces<'_> {
         buffer[..count].copy_from_slice(front);
         self.bytes = behind;
         self.first = self.later;
-        self.ended = count == 0;
+        if count == 0 {
+            self.ended = true;
+        }
         Ok(count)
     }
 }

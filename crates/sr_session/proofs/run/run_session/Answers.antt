@@ -1,4 +1,4 @@
-use Rattle.std.proofs.Common.{ℕ, ◌+◌, ◌++◌, List, [], take, inl, inr, refl, subst, arith}
+use Rattle.std.proofs.Common.{ℕ, ◌+◌, ◌++◌, List, [], take, inl, inr, refl, subst, arith, ◌∙◌}
 use Rattle.std.specs.Io.KnownBytes.{Appends}
 use Rattle.std.proofs.KnownBytes.{Consumes-nil, Consumes-trans, Appends-nil, Appends-trans}
 use Rattle.sr_session.proofs.SessionLemmas.{IsAnswered-from_goes_on}
@@ -9,6 +9,9 @@ pub loop-turn-init : goal.loop-turn-init
 loop-turn-init g c = record {
   bytes = ([], [], Consumes-nil _, Appends-nil _, c.new-session.ensures _ _, refl);
   reads = CountsReads-none _;
+  ended = refl;
+  read_failed = refl;
+  write_failed = refl;
 }
 
 pub returns-in-Ok-eq0-clause-reads : goal.returns-in-Ok-eq0-clause-reads
@@ -86,6 +89,12 @@ returns-in-Err-Memory-clause-session g c =
       text.2 c.args.space.now b.0 b.1 b.4,
     )
 
+pub returns-in-Err-send-clause-heeds_send_fault : goal.returns-in-Err-send-clause-heeds_send_fault
+returns-in-Err-send-clause-heeds_send_fault g c = λ other. absurd (other _ refl)
+
+pub returns-in-Err-send-2-clause-heeds_send_fault : goal.returns-in-Err-send-2-clause-heeds_send_fault
+returns-in-Err-send-2-clause-heeds_send_fault g c = λ other. absurd (other _ refl)
+
 pub loop-turn-preserved : goal.loop-turn-preserved
 loop-turn-preserved g c =
     let b = c.loop-turn.invariant.bytes in
@@ -103,4 +112,7 @@ loop-turn-preserved g c =
         sent_all c.loop-turn.sent b.1 text.0 c.as_slice.result.now _ same b.5 total.0,
       );
       reads = CountsReads-more _ _ _ _ c.loop-turn.invariant.reads c.in-Ok.ensures.count;
+      ended = c.in-Ok.ensures.more (omega arith) ∙ c.loop-turn.invariant.ended;
+      read_failed = c.in-Ok.ensures.ok ∙ c.loop-turn.invariant.read_failed;
+      write_failed = c.in-Ok-send.ensures.sound ∙ c.loop-turn.invariant.write_failed;
     }

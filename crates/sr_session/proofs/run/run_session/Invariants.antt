@@ -9,4 +9,7 @@ abbrev pub invariant-loop-turn : goal.invariant-loop-turn
 invariant-loop-turn g l = record {
   bytes : (taken : List ℕ) × (written : List ℕ) × Consumes (g.R.Source.remaining l.fn.reader) (g.R.Source.remaining l.reader) taken × Appends (g.W.Sink.contents l.fn.writer) (g.W.Sink.contents l.writer) written × GoesOn (g.C.Clock.may_tell l.clock) l.fn.space taken written l.session l.space × (l.sent ≡ min (length written) 0xffff_ffff_ffff_ffff);
   reads : CountsReads (g.R.Source.reads l.fn.reader) (g.R.Source.reads l.reader) l._turn;
+  ended : g.R.Source.ended l.reader ≡ g.R.Source.ended l.fn.reader;
+  read_failed : g.R.Source.failed l.reader ≡ g.R.Source.failed l.fn.reader;
+  write_failed : g.W.Sink.failed l.writer ≡ g.W.Sink.failed l.fn.writer;
 }

@@ -5,4 +5,4 @@ use Rattle.sr_session.proofs.source.ReadFromSource.read.Given as goal
 -- reads that were interrupted gave nothing
 abbrev pub invariant-loop : goal.invariant-loop
 invariant-loop g l =
-    (l.self.failed ≡ l.initial.self.failed) × Keeps (g.R.Read.remaining l.initial.self.reader) (g.R.Read.remaining l.self.reader)
+    (l.self.ended ≡ l.initial.self.ended) × (l.self.failed ≡ l.initial.self.failed) × Keeps (g.R.Read.remaining l.initial.self.reader) (g.R.Read.remaining l.self.reader)
