@@ -22,81 +22,45 @@ pub(crate) fn measure_all<R: AllocGlobal + Clock + Print>(rt: &R) -> io::Result<
 /// Measures the families where each entry is allowed each consumer.
 fn measure_full<R: AllocGlobal + Clock + Print>(rt: &R) -> io::Result<()> {
     let alloc = rt.alloc();
-    measure(
-        rt,
-        "random, tight",
-        rooms(alloc, TIGHT)?,
-        families::random(alloc)?,
-    )?;
-    measure(
-        rt,
-        "equal, tight",
-        rooms(alloc, TIGHT)?,
-        families::equal(alloc)?,
-    )?;
-    measure(
-        rt,
-        "rising weights, tight",
-        rooms(alloc, TIGHT)?,
-        families::rising(alloc)?,
-    )?;
-    measure(
-        rt,
-        "rising weights, slack",
-        rooms(alloc, SLACK)?,
-        families::rising(alloc)?,
-    )?;
-    measure(
-        rt,
-        "falling weights, tight",
-        rooms(alloc, TIGHT)?,
-        families::falling(alloc)?,
-    )?;
-    measure(
-        rt,
-        "falling weights, slack",
-        rooms(alloc, SLACK)?,
-        families::falling(alloc)?,
-    )?;
-    measure(
-        rt,
-        "16 classes",
-        rooms(alloc, TIGHT)?,
-        families::classes(alloc, 16)?,
-    )?;
-    measure(
-        rt,
-        "1,024 classes",
-        rooms(alloc, TIGHT)?,
-        families::classes(alloc, 1024)?,
-    )?;
-    measure(rt, "line", rooms(alloc, TIGHT)?, families::line(alloc)?)?;
-    measure(
-        rt,
-        "conveyor of 32",
-        rooms(alloc, TIGHT)?,
-        families::conveyor(alloc)?,
-    )?;
-    measure(rt, "copies", rooms(alloc, TIGHT)?, families::copies(alloc)?)
+    measure_tight(rt, "random, tight", families::random(alloc)?)?;
+    measure_tight(rt, "equal, tight", families::equal(alloc)?)?;
+    measure_tight(rt, "rising weights, tight", families::rising(alloc)?)?;
+    measure_slack(rt, "rising weights, slack", families::rising(alloc)?)?;
+    measure_tight(rt, "falling weights, tight", families::falling(alloc)?)?;
+    measure_slack(rt, "falling weights, slack", families::falling(alloc)?)?;
+    measure_tight(rt, "16 classes", families::classes(alloc, 16)?)?;
+    measure_tight(rt, "1,024 classes", families::classes(alloc, 1024)?)?;
+    measure_tight(rt, "line", families::line(alloc)?)?;
+    measure_tight(rt, "conveyor of 32", families::conveyor(alloc)?)?;
+    measure_tight(rt, "copies", families::copies(alloc)?)
 }
 
-/// Measures the families where each entry is allowed some consumers alone.
+/// Measures the families where some entries are allowed some consumers alone.
 fn measure_sparse<R: AllocGlobal + Clock + Print>(rt: &R) -> io::Result<()> {
     let alloc = rt.alloc();
-    measure(rt, "chain", rooms(alloc, TIGHT)?, families::chain(alloc)?)?;
-    measure(rt, "blocks", rooms(alloc, TIGHT)?, families::blocks(alloc)?)?;
-    measure(
-        rt,
-        "window of 8",
-        rooms(alloc, TIGHT)?,
-        families::window(alloc)?,
-    )?;
-    measure(
-        rt,
-        "shortage at the last entry",
-        one_too_few(alloc)?,
-        families::last_is_short(alloc)?,
-    )
+    measure_tight(rt, "chain", families::chain(alloc)?)?;
+    measure_tight(rt, "blocks", families::blocks(alloc)?)?;
+    measure_tight(rt, "window of 8", families::window(alloc)?)?;
+    let costs = families::last_is_short(alloc)?;
+    measure(rt, "shortage at the last entry", one_too_few(alloc)?, costs)
+}
+
+/// Measures a problem with one place for each entry.
+fn measure_tight<R: AllocGlobal + Clock + Print>(
+    rt: &R,
+    family: &str,
+    costs: Vec<Option<u64>>,
+) -> io::Result<()> {
+    measure(rt, family, rooms(rt.alloc(), TIGHT)?, costs)
+}
+
+/// Measures a problem with more places than entries.
+fn measure_slack<R: AllocGlobal + Clock + Print>(
+    rt: &R,
+    family: &str,
+    costs: Vec<Option<u64>>,
+) -> io::Result<()> {
+    measure(rt, family, rooms(rt.alloc(), SLACK)?, costs)
 }
 
 /// The same room for each consumer.
