@@ -6,3 +6,4 @@ pub mod OfferLemmas
 pub mod PlaceLemmas
 pub mod ShortageLemmas
 pub mod SolvedLemmas
+pub mod OrderLemmas

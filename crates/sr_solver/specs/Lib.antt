@@ -5,3 +5,4 @@ pub mod Placed
 pub mod Search
 pub mod Path
 pub mod Shortage
+pub mod Order

@@ -4,6 +4,7 @@
 #![tactic(auto)]
 
 mod label;
+mod order;
 mod path;
 mod search;
 mod shortage;

@@ -6,6 +6,7 @@ ghost use Rattle.sr_solver.specs.Search.{IsStuck};
 ghost use Rattle.sr_solver.specs.Solved.{IsSolution, IsOptimal};
 
 use crate::label::Label;
+use crate::order::{by_range, rename, reordered};
 use crate::path::{raise, shift};
 use crate::search::search;
 use crate::shortage::stranded;
@@ -30,10 +31,36 @@ pub enum Solved {
 /// Solves a transportation problem: gives a cheapest assignment with prices that show it, or entries for which there
 /// are too few places.
 ///
-/// The entries are placed one after another, each along a shortest path that makes place for it.
+/// The entries are placed one after another, each along a shortest path that makes place for it. Those whose costs differ
+/// most are placed first.
 ///
 /// Source: the method of successive shortest paths (J. Edmonds, R. M. Karp, 1972).
 pub fn solve(alloc: Global, problem: &Problem) -> Result<Solved, AllocError>
+    ensures solution { IfOk result (IsSolution problem.now) }
+    ensures optimal { IfOk result (IsOptimal problem.now) }
+{
+    let order = by_range(alloc, problem)?;
+    let other = reordered(alloc, problem, &order)?;
+    let mut renamed = vec![in alloc; 0usize; problem.entries()]?;
+    match solve_in_order(alloc, &other)? {
+        Solved::Best {
+            assign,
+            prices,
+            total,
+        } => {
+            rename(&order, &assign, &mut renamed);
+            Ok(Solved::Best {
+                assign: renamed,
+                prices,
+                total,
+            })
+        }
+        Solved::Short { .. } => solve_in_order(alloc, problem),
+    }
+}
+
+/// Solves a problem, placing its entries in the order they have.
+fn solve_in_order(alloc: Global, problem: &Problem) -> Result<Solved, AllocError>
     ensures solution { IfOk result (IsSolution problem.now) }
     ensures optimal { IfOk result (IsOptimal problem.now) }
 {

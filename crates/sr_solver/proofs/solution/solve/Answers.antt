@@ -1,17 +1,21 @@
 use Rattle.std.proofs.Common.{◌∙◌, arith}
 use Rattle.std.proofs.lemmas.List.{take_at}
-use Rattle.sr_transport.proofs.CallerLemmas.{shortage_excludes}
-use Rattle.sr_solver.proofs.ShortageLemmas.{stuck_short_is}
+use Rattle.sr_transport.proofs.CallerLemmas.{prices_show_cheapest}
+use Rattle.sr_solver.proofs.OrderLemmas.{renamed_solution}
 use Rattle.sr_solver.proofs.solution.solve.Goals as goal
 
-pub returns-in_ok-set-in-Some-clause-solution : goal.returns-in_ok-set-in-Some-clause-solution
-returns-in_ok-set-in-Some-clause-solution c =
-    stuck_short_is c.args.problem.now c.in-Some.entry c.place_all.new.assign c.place_all.new.prices c.place_all.new.labels
-    c.deref.result.now c.deref-in-Some.result.now c.in_ok-set-in-Some.set.items c.in-Some.ensures.stuck
-    (c.deref.ensures.value ∙ take_at c.place_all.new.assign _ c.in_ok-assign.assign.len (omega arith))
-    (c.deref-in-Some.ensures.value ∙ take_at c.place_all.new.labels _ c.in_ok-labels.labels.len (omega arith))
-    c.in_ok-set-in-Some.ensures
+pub returns-in-Best-clause-solution : goal.returns-in-Best-clause-solution
+returns-in-Best-clause-solution c =
+    let s = rw c.in-Best.is at c.in_ok-assign.ensures.solution in
+    let r =
+    renamed_solution c.args.problem.now _ c.in_ok-order.order.items c.in-Best.assign.items c.rename.new.renamed c.deref.result.now
+    c.deref-in-Best.result.now c.deref-in-Best-2.result.now _ c.in-Best.prices.items c.in-Best.total c.in_ok-order.ensures
+    c.in_ok-other.ensures.value c.deref.ensures.value c.deref-in-Best.ensures.value c.deref-in-Best-2.ensures.value
+    (take_at c.rename.new.renamed _ c.in_ok-renamed.renamed.len (omega arith)) c.rename.ensures.every c.rename.ensures.renamed
+    (s.0, s.1, s.2) in
+    (r.0, r.1, r.2, s.3)
 
-pub returns-in_ok-set-in-Some-clause-optimal : goal.returns-in_ok-set-in-Some-clause-optimal
-returns-in_ok-set-in-Some-clause-optimal c =
-    shortage_excludes c.args.problem.now c.in_ok-set-in-Some.set.items (returns-in_ok-set-in-Some-clause-solution c)
+pub returns-in-Best-clause-optimal : goal.returns-in-Best-clause-optimal
+returns-in-Best-clause-optimal c =
+    let s = returns-in-Best-clause-solution c in
+    (s.0, prices_show_cheapest c.args.problem.now _ c.in-Best.prices.items s.0 s.1)

@@ -1,0 +1,115 @@
+ghost use Rattle.std.specs.Prelude.{◌≡◌, ◌<◌, ◌≤◌, ◌++◌, length, All, IfOk};
+ghost use Rattle.sr_transport.specs.Problem.{consumers, IsWithinLimits};
+ghost use Rattle.sr_solver.specs.Order.{numbers_below, IsOrder, IsReordered, IsRenamed, row_below, rows_below};
+
+use sr_transport::Problem;
+use std::alloc::{AllocError, Global};
+
+/// The entries, those first whose costs differ most.
+pub fn by_range(alloc: Global, problem: &Problem) -> Result<Vec<usize>, AllocError>
+    ensures { IfOk result (λ order. IsOrder problem.now.entries order.items) }
+{
+    let narrow = narrownesses(alloc, problem)?;
+    let mut order = numbers(alloc, problem.entries())?;
+    order.sort_by_key(|entry| narrow.get(*entry).copied())?;
+    Ok(order)
+}
+
+/// The numbers below n, rising.
+fn numbers(alloc: Global, n: usize) -> Result<Vec<usize>, AllocError>
+    ensures { IfOk result (λ numbers. numbers.items ≡ numbers_below n) }
+{
+    let mut numbers = Vec::new(alloc);
+    for number in 0..n {
+        numbers.push(number)?;
+    }
+    Ok(numbers)
+}
+
+/// How narrow the costs of each entry are.
+fn narrownesses(alloc: Global, problem: &Problem) -> Result<Vec<u64>, AllocError> {
+    let mut narrow = Vec::new(alloc);
+    for entry in 0..problem.entries() {
+        narrow.push(narrowness(problem, entry))?;
+    }
+    Ok(narrow)
+}
+
+/// A number that is the less, the more the costs of an entry differ.
+fn narrowness(problem: &Problem, entry: usize) -> u64
+    requires { entry < problem.now.entries }
+{
+    let mut least = u64::MAX;
+    let mut greatest = 0;
+    for consumer in 0..problem.consumers() {
+        if let Some(cost) = problem.cost(entry, consumer) {
+            least = least.min(cost);
+            greatest = greatest.max(cost);
+        }
+    }
+    u64::MAX - greatest.saturating_sub(least)
+}
+
+/// The problem with its entries in this order.
+pub fn reordered(alloc: Global, problem: &Problem, order: &[usize]) -> Result<Problem, AllocError>
+    requires { IsOrder problem.now.entries order.now }
+    ensures value { IfOk result (λ q. IsReordered problem.now q order.now) }
+    ensures limits { IsWithinLimits problem.now.rooms problem.now.entries problem.now.costs }
+{
+    let rooms = rooms(alloc, problem)?;
+    let costs = rows(alloc, problem, order)?;
+    Ok(Problem::new(rooms, problem.entries(), costs).unwrap())
+}
+
+/// The rooms of a problem.
+fn rooms(alloc: Global, problem: &Problem) -> Result<Vec<u64>, AllocError>
+    ensures value { IfOk result (λ rooms. rooms.items ≡ problem.now.rooms) }
+    ensures limits { IsWithinLimits problem.now.rooms problem.now.entries problem.now.costs }
+{
+    let mut rooms = Vec::new(alloc);
+    for consumer in 0..problem.consumers() {
+        rooms.push(problem.room(consumer))?;
+    }
+    Ok(rooms)
+}
+
+/// The rows of costs in this order.
+fn rows(alloc: Global, problem: &Problem, order: &[usize]) -> Result<Vec<Option<u64>>, AllocError>
+    requires every { length order.now ≡ problem.now.entries }
+    requires below { All (λ entry. entry < problem.now.entries) order.now }
+    ensures { IfOk result (λ costs. costs.items ≡ rows_below problem.now order.now problem.now.entries) }
+{
+    let mut costs = Vec::new(alloc);
+    for place in 0..problem.entries() {
+        push_row(&mut costs, problem, order[place])?;
+    }
+    Ok(costs)
+}
+
+/// Adds the costs of an entry.
+fn push_row(
+    costs: &mut Vec<Option<u64>>,
+    problem: &Problem,
+    entry: usize,
+) -> Result<(), AllocError>
+    requires { entry < problem.now.entries }
+    ensures { IfOk result (λ done. costs.new.items ≡ costs.old.items ++ row_below problem.now entry (consumers problem.now)) }
+{
+    for consumer in 0..problem.consumers() {
+        costs.push(problem.cost(entry, consumer))?;
+    }
+    Ok(())
+}
+
+/// Gives to each entry what stands at its place in the order.
+pub fn rename(order: &[usize], assign: &[usize], renamed: &mut [usize])
+    requires order { IsOrder (length assign.now) order.now }
+    requires every { length renamed.old ≡ length assign.now }
+    requires few { length assign.now ≤ 4096 }
+    ensures every { length renamed.new ≡ length assign.now }
+    ensures renamed { IsRenamed order.now assign.now renamed.new (length assign.now) }
+{
+    for place in 0..assign.len() {
+        renamed[order[place]] = assign[place];
+    }
+}
