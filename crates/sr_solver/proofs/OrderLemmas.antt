@@ -62,9 +62,9 @@ order_sum f n order is =
 
 eqb_flips : (x y : ℕ) → (x == y) ≡ (y == x)
 eqb_flips x y = elim (cases_eq x y) [
-    | inl same ↦ eq-eqb x y same ∙ sym (eq-eqb y x (sym same))
-    | inr other ↦ ne_eqb x y other ∙ sym (ne_eqb y x (λ e. other (sym e)))
-  ]
+  | inl same ↦ eq-eqb x y same ∙ sym (eq-eqb y x (sym same))
+  | inr other ↦ ne_eqb x y other ∙ sym (ne_eqb y x (λ e. other (sym e)))
+]
 
 -- no number stands at two places
 pub order_apart : (n : ℕ) (order : List ℕ) → IsOrder n order → (j k : ℕ) → j < k → k < n → get_or order j 0 ≢ get_or order k 0
@@ -72,9 +72,9 @@ order_apart n order is j k lt below same =
     let e : ℕ → ℕ → Bool = λ x y. x == y in
     let distinct = IsDistinct-IsPermutation e eqb_flips (numbers_below n) order is
     (IsDistinct-from_apart e (numbers_below n) (λ a b d l lb.
-      let bn : b < n = omega (arith, lb, length-numbers_below n) in
-      ne_eqb (get_or (numbers_below n) a d) (get_or (numbers_below n) b d)
-      (λ eq. omega (arith, eq, l, numbers_at n a d (omega arith), numbers_at n b d bn)))) in
+    let bn : b < n = omega (arith, lb, length-numbers_below n) in
+    ne_eqb (get_or (numbers_below n) a d) (get_or (numbers_below n) b d)
+    (λ eq. omega (arith, eq, l, numbers_at n a d (omega arith), numbers_at n b d bn)))) in
     let apart = apart_from_distinct e order j k 0 distinct lt (omega (arith, below, order_length n order is)) in
     cc (apart, eq-eqb (get_or order j 0) (get_or order k 0) same)
 
@@ -116,7 +116,7 @@ rows_at p order (suc n) k c lt ltc =
       | inr later ↦
           let same : k ≡ n = omega arith in
           rw same (rw (length-rows_below p order n) at (get_or-append-add (rows_below p order n) row c None)
-            ∙ row_at p (get_or order n 0) (consumers p) c ltc)
+          ∙ row_at p (get_or order n 0) (consumers p) c ltc)
     ]
 
 -- a cost in the order
@@ -153,9 +153,9 @@ renamed_assignment p q order ys xs is re every renamed assigned =
       placement = record {
         allowed = λ i lt. order_each (λ j. IsAllowed p j (get_or xs j 0)) p.entries order is
             (λ k l.
-              let a = assigned.placement.allowed k (omega (arith, l, every_y)) in
-              let is_consumer : get_or ys k 0 < consumers p = omega (arith, a.0, same_consumers p q order re) in
-              rw (renamed k l) (is_consumer, rw (order_cost p q order re k (get_or ys k 0) l is_consumer) at a.1))
+            let a = assigned.placement.allowed k (omega (arith, l, every_y)) in
+            let is_consumer : get_or ys k 0 < consumers p = omega (arith, a.0, same_consumers p q order re) in
+            rw (renamed k l) (is_consumer, rw (order_cost p q order re k (get_or ys k 0) l is_consumer) at a.1))
             i (omega (arith, lt, every));
         in_room = λ c lt.
             omega (
@@ -175,17 +175,17 @@ renamed_shows p q order ys xs prices is re every renamed assigned shows =
       one_each = shows.one_each ∙ same_consumers p q order re;
       least = λ i lt. order_each (λ j. IsLeast p prices j (get_or xs j 0)) p.entries order is
           (λ k l.
-            let in_y : k < length ys = omega (arith, l, every_y) in
-            let is_consumer : get_or ys k 0 < consumers p =
-            omega (arith, (assigned.placement.allowed k in_y).0, same_consumers p q order re) in
-            rw (renamed k l) (λ c allowed.
-              omega (
-                arith,
-                shows.least k in_y c
+          let in_y : k < length ys = omega (arith, l, every_y) in
+          let is_consumer : get_or ys k 0 < consumers p =
+          omega (arith, (assigned.placement.allowed k in_y).0, same_consumers p q order re) in
+          rw (renamed k l) (λ c allowed.
+          omega (
+            arith,
+            shows.least k in_y c
                 (omega (arith, allowed.0, same_consumers p q order re), rw (order_cost p q order re k c l allowed.0) allowed.1),
-                order_cost_of p q order re k (get_or ys k 0) l is_consumer,
-                order_cost_of p q order re k c l allowed.0,
-              )))
+            order_cost_of p q order re k (get_or ys k 0) l is_consumer,
+            order_cost_of p q order re k c l allowed.0,
+          )))
           i (omega (arith, lt, every));
       filled = λ c lt above.
           omega (
@@ -204,11 +204,11 @@ renamed_total p q order ys xs is re every renamed assigned =
     let each : sum_below (λ k. cost_of q k (get_or ys k 0)) p.entries ≡ sum_below (λ k. cost (get_or order k 0)) p.entries =
     sum_below-same (λ k. cost_of q k (get_or ys k 0)) (λ k. cost (get_or order k 0)) p.entries
     (λ k l.
-      let in_y : k < length ys = omega (arith, l, every_y) in
-      let is_consumer : get_or ys k 0 < consumers p =
-      omega (arith, (assigned.placement.allowed k in_y).0, same_consumers p q order re) in
-      order_cost_of p q order re k (get_or ys k 0) l is_consumer
-      ∙ sym (ap (λ x. cost_of p (get_or order k 0) x) (renamed k l))) in
+    let in_y : k < length ys = omega (arith, l, every_y) in
+    let is_consumer : get_or ys k 0 < consumers p =
+    omega (arith, (assigned.placement.allowed k in_y).0, same_consumers p q order re) in
+    order_cost_of p q order re k (get_or ys k 0) l is_consumer
+    ∙ sym (ap (λ x. cost_of p (get_or order k 0) x) (renamed k l))) in
     rw every_y (rw every (each ∙ order_sum cost p.entries order is))
 
 -- the reordered problem is within the limits
@@ -218,7 +218,7 @@ row_small p limits i zero lt le = All-nil (λ cost. IfSome cost (λ c. c ≤ 2 ^
 row_small p limits i (suc n) lt le =
     All-push (λ cost. IfSome cost (λ c. c ≤ 2 ^ 40)) (row_below p i n) (cost_at p i n) (row_small p limits i n lt (omega arith))
     (All-get_or (λ cost. IfSome cost (λ c. c ≤ 2 ^ 40)) p.costs (i * consumers p + n) None
-      (omega (arith, limits.pairs, mul-add-lt i (consumers p) n p.entries lt (omega arith), mul_comm (consumers p) p.entries)) limits.small_costs)
+    (omega (arith, limits.pairs, mul-add-lt i (consumers p) n p.entries lt (omega arith), mul_comm (consumers p) p.entries)) limits.small_costs)
 
 rows_small : (p : Transport) → IsWithinLimits p.rooms p.entries p.costs → (order : List ℕ) → IsOrder p.entries order → (n : ℕ) → n ≤ p.entries
     → All (λ cost. IfSome cost (λ c. c ≤ 2 ^ 40)) (rows_below p order n)
@@ -227,7 +227,7 @@ rows_small p limits order is (suc n) le =
     All-append (λ cost. IfSome cost (λ c. c ≤ 2 ^ 40)) (rows_below p order n) (row_below p (get_or order n 0) (consumers p))
     (rows_small p limits order is n (omega arith))
     (row_small p limits (get_or order n 0) (consumers p)
-      (All-get_or (λ i. i < p.entries) order n 0 (omega (arith, order_length p.entries order is)) (order_below p.entries order is)) (omega arith))
+    (All-get_or (λ i. i < p.entries) order n 0 (omega (arith, order_length p.entries order is)) (order_below p.entries order is)) (omega arith))
 
 pub reordered_limits : (p : Transport) (order rooms : List ℕ) (costs : List (Option ℕ)) → IsWithinLimits p.rooms p.entries p.costs
     → IsOrder p.entries order → rooms ≡ p.rooms → costs ≡ rows_below p order p.entries → IsWithinLimits rooms p.entries costs

@@ -87,11 +87,7 @@ fn rows(alloc: Global, problem: &Problem, order: &[usize]) -> Result<Vec<Option<
 }
 
 /// Adds the costs of an entry.
-fn push_row(
-    costs: &mut Vec<Option<u64>>,
-    problem: &Problem,
-    entry: usize,
-) -> Result<(), AllocError>
+fn push_row(costs: &mut Vec<Option<u64>>, problem: &Problem, entry: usize) -> Result<(), AllocError>
     requires { entry < problem.now.entries }
     ensures { IfOk result (λ done. costs.new.items ≡ costs.old.items ++ row_below problem.now entry (consumers problem.now)) }
 {

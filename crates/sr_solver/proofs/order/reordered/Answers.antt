@@ -12,4 +12,4 @@ pub unwrap-requires : goal.unwrap-requires
 unwrap-requires c =
     c.new.ensures.within.1
     (rw c.entries.ensures (reordered_limits c.args.problem.now c.args.order.now c.in_ok-rooms.rooms.items c.in_ok-costs.costs.items c.rooms.ensures.limits c.requires
-      c.in_ok-rooms.ensures.value c.in_ok-costs.ensures))
+    c.in_ok-rooms.ensures.value c.in_ok-costs.ensures))
