@@ -7,12 +7,11 @@ use Rattle.sr_resp.specs.declared.code.ErrCode.{ErrCode}
 use Rattle.sr_resp.specs.declared.code.ErrCode.TheVariants.{IdZero, IdSmall, Exhausted}
 use Rattle.sr_args.specs.declared.call.Call.{Call}
 use Rattle.sr_args.specs.declared.call.Call.TheVariants.{Ping, Xadd, Xlen, Xrange}
-use Rattle.sr_space.specs.declared.entries.Entry.{Entry}
-use Rattle.sr_space.specs.Effect.{is_same_id, add_refusal, added, executed}
-use Rattle.sr_space.specs.Entries.{AreRising, is_below, last_id_or}
+use Rattle.sr_entries.specs.declared.entry.Entry.{Entry}
+use Rattle.sr_entries.specs.Entries.{AreRising, is_below, is_same_id, last_id_or}
+use Rattle.sr_entries.proofs.EntriesLemmas.{AreRising-push, is_below-true}
+use Rattle.sr_space.specs.Effect.{add_refusal, added, executed}
 use Rattle.sr_space.specs.Keys.{Key, Keys, entries_at, with_entry}
-use Rattle.sr_space.proofs.EntriesLemmas.{AreRising-push}
-use Rattle.sr_space.proofs.RangeLemmas.{is_below-true}
 
 other_key : (a b : Key) → a ≢ b → pointwise nat_eq a b ≡ false
 other_key a b apart = by (pointwise nat_eq a b) refl

@@ -1,4 +1,3 @@
-pub mod EntriesLemmas
 pub mod KeysLemmas
 pub mod LawLemmas
 pub mod RangeLemmas

@@ -3,7 +3,7 @@
 
 use Rattle.std.specs.Prelude.{ℕ, List, [], ◌∷◌, ◌++◌, nat_eq, if◌then◌else◌}
 use Rattle.std.specs.Cmp.Lexicographic.{pointwise}
-use Rattle.sr_space.specs.declared.entries.Entry.{Entry}
+use Rattle.sr_entries.specs.declared.entry.Entry.{Entry}
 
 abbrev pub Key : Type 0
 Key = List ℕ

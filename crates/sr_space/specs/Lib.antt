@@ -1,3 +1,3 @@
-pub mod Entries
 pub mod Keys
 pub mod Effect
+pub mod Layout

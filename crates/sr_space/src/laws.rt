@@ -1,8 +1,8 @@
 ghost use Rattle.std.specs.Prelude.{◌≡◌, ◌≢◌, ℕ, [], ◌∷◌, ◌++◌};
 ghost use Rattle.sr_args.specs.declared.call.Call as calls;
-ghost use Rattle.sr_space.specs.declared.entries.Entry as entries;
+ghost use Rattle.sr_entries.specs.declared.entry.Entry as entries;
 ghost use Rattle.sr_space.specs.Effect.{executed};
-ghost use Rattle.sr_space.specs.Entries.{AreRising};
+ghost use Rattle.sr_entries.specs.Entries.{AreRising};
 ghost use Rattle.sr_space.specs.Keys.{Key, Keys, entries_at, with_entry};
 
 /// An entry goes to the end of the stream at its key, and the other streams stay. Where the entries of each stream

@@ -1,11 +1,10 @@
 ghost use Rattle.std.specs.Prelude.{◌≡◌, map, IfOk};
 ghost use Rattle.sr_ids.specs.Spelling.{spelling};
 ghost use Rattle.sr_resp.specs.Reply.{array_of, bulk_string};
-ghost use Rattle.sr_space.specs.Entries.{AreRising, entries_between, counted};
-ghost use Rattle.sr_space.specs.Effect.{entry_answer};
+ghost use Rattle.sr_space.specs.Effect.{entry_answer, counted};
 
-use crate::entries::Entry;
 use sr_bytes::Name;
+use sr_entries::Entry;
 use sr_ids::{Id, write_id};
 use sr_resp::Reply;
 use std::alloc::{AllocError, Global};
@@ -35,19 +34,15 @@ fn entry_reply(alloc: Global, entry: &Entry) -> Result<Reply, AllocError>
     Ok(reply)
 }
 
-/// The entries of a range from `start` to `end`, both included, at most `count` of them.
+/// Entries as an array of them, at most `count`.
 pub(crate) fn range_reply(
     alloc: Global,
     entries: &[Entry],
-    start: Id,
-    end: Id,
     count: Option<i64>,
 ) -> Result<Reply, AllocError>
-    requires { AreRising entries.now }
-    ensures { IfOk result (λ reply.
-        reply ≡ array_of (map entry_answer (counted count (entries_between start end entries.now)))) }
+    ensures { IfOk result (λ reply. reply ≡ array_of (map entry_answer (counted count entries.now))) }
 {
-    entries_reply(alloc, at_most(between(entries, start, end), count))
+    entries_reply(alloc, at_most(entries, count))
 }
 
 /// Entries as an array of them.
@@ -59,20 +54,6 @@ fn entries_reply(alloc: Global, entries: &[Entry]) -> Result<Reply, AllocError>
         reply.push(entry_reply(alloc, entry)?)?;
     }
     Ok(reply)
-}
-
-/// The entries from `start` to `end`, both included, found by binary search.
-fn between(entries: &[Entry], start: Id, end: Id) -> &[Entry]
-    requires { AreRising entries.now }
-    ensures { result.now ≡ entries_between start end entries.now }
-{
-    let from = entries.partition_point(|entry| entry.id < start);
-    let past = entries.partition_point(|entry| entry.id <= end);
-    if from < past {
-        &entries[from..past]
-    } else {
-        &[]
-    }
 }
 
 /// As many entries from the front as COUNT says.
