@@ -1,4 +1,4 @@
--- A consumer is closed, and its entries are offered one after another.
+-- A consumer is closed, and its entries are offered to one consumer after another.
 use Rattle.std.proofs.Common.{◌≡◌, ℕ, ◌+◌, ◌<◌, ◌⊎◌, true, false, List, length, get_or, sym, ap, ◌∙◌, inl, inr, arith}
 use Rattle.std.proofs.Math.ListN.{set, length-set}
 use Rattle.std.proofs.lemmas.Bool.{cases_eq}
@@ -49,7 +49,7 @@ closing t old label lt was_open same is_closed =
       fewer = open_count-set_closed old t label lt was_open is_closed;
     }
 
--- a consumer that is closed: none of its entries is offered yet
+-- a consumer that is closed: its entries are not offered yet
 closing_search : (p : Transport) (k : ℕ) (xs prices : List ℕ) (old new : List Label) (t : ℕ)
     → IsRound p k xs prices old → IsNearest p old t → load xs t ≡ room_of p t → IsClosing t old new
     → IsSearch p k xs prices new t 0
@@ -89,13 +89,13 @@ closing_search p k xs prices old new t search nearest full closing =
       offered = λ i c lt now upto allowed. elim (closing.back (get_or xs i 0) now) [
         | inl e ↦ absurd (omega (arith, upto e))
         | inr was ↦
-            let far = search.offered i c lt was (λ e. lt) allowed in
+            let far = search.offered i c lt was (λ e. allowed.0) allowed in
             let same = closing.same (get_or xs i 0) in
             rw same.dist (within (label_at old (get_or xs i 0)).dist (priced p prices i (get_or xs i 0)) i c far)
       ];
     }
 
--- before the first of its entries is offered
+-- before its entries are offered to the first consumer
 pub closed_start : (p : Transport) (k : ℕ) (xs prices : List ℕ) (old : List Label) (t : ℕ) (label : Label)
     → IsRound p k xs prices old → IsNearest p old t → load xs t ≡ room_of p t
     → IsSameWay (label_at old t) label → label.closed ≡ true

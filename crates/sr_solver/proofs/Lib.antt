@@ -1,6 +1,8 @@
 pub mod PathLemmas
 pub mod LabelLemmas
 pub mod SearchLemmas
+pub mod TableLemmas
+pub mod MembersLemmas
 pub mod CloseLemmas
 pub mod OfferLemmas
 pub mod PlaceLemmas

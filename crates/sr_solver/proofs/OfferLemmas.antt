@@ -1,129 +1,183 @@
--- One more entry of a closed consumer is offered.
-use Rattle.std.proofs.Common.{◌≡◌, ℕ, ◌+◌, ◌^◌, ◌<◌, ◌≤◌, ◌⊎◌, true, false, List, length, get_or, sym, ap, ◌∙◌, inl, inr, arith}
+-- One consumer more is asked whether an entry of the closed one comes nearer.
+use Rattle.std.proofs.Common.{◌≡◌, ℕ, ◌+◌, ◌*◌, ◌^◌, ◌<◌, ◌≤◌, ◌⊎◌, true, false, List, length, get_or, Option, Some, None, refl, sym, ap, ◌∙◌, inl, inr, arith}
 use Rattle.std.proofs.lemmas.Bool.{cases_eq, cases_lt, false≢true}
-use Rattle.std.proofs.lemmas.List.{get_or_past}
-use Rattle.sr_transport.specs.Problem.{Transport, IsWithinLimits, consumers, cost_at, IsAllowed}
+use Rattle.sr_transport.specs.Problem.{Transport, consumers, cost_at, cost_of, IsAllowed}
 use Rattle.sr_transport.specs.Certificate.{IsLeast}
 use Rattle.sr_solver.specs.declared.label.Label.{Label}
-use Rattle.sr_solver.specs.Labels.{no_label, label_at, open_count, priced}
-use Rattle.sr_solver.specs.Offers.{AreOffered, offer_of}
+use Rattle.sr_solver.specs.Labels.{label_at, open_count, priced}
+use Rattle.sr_solver.specs.declared.table.Bound.{Bound}
+use Rattle.sr_solver.specs.Offers.{IsOfferedAt, offer_of}
+use Rattle.sr_solver.specs.Table.{IsAt, IsKnown, IsTable, IsLeastMore, IsMover, IsNoNearer}
 use Rattle.sr_solver.specs.Placed.{IsPlaced}
-use Rattle.sr_solver.specs.Search.{IsWithin, IsSearch}
+use Rattle.sr_solver.specs.Search.{IsWithin, IsSearch, IsNewAt, IsAsked}
 use Rattle.sr_solver.proofs.LabelLemmas.{offered_split, open_count_same, IsSameWay, way_kept, same_way}
-use Rattle.sr_solver.proofs.SearchLemmas.{cost_small, search_skips}
+use Rattle.sr_solver.proofs.SearchLemmas.{cost_small}
 use Rattle.sr_solver.specs.Search.{IsClosed}
 
--- what an offer leaves at consumer c: the old label, which was closed, or near enough
-record IsLeftAt (p : Transport) (prices : List ℕ) (t i : ℕ) (old new : List Label) (c : ℕ) : Type 0 where
-  same : label_at new c ≡ label_at old c
-  no_nearer : IsAllowed p i c
-      → ((label_at old c).closed ≡ true) ⊎ IsWithin p prices old (label_at old t).dist (priced p prices i t) i c
-
--- or a new label
-record IsNewAt (p : Transport) (prices : List ℕ) (t i : ℕ) (old new : List Label) (c : ℕ) : Type 0 where
-  allowed : IsAllowed p i c
-  was_open : (label_at old c).closed ≡ false
-  hops : (label_at new c).hops ≡ (label_at old t).hops + 1
-  dist : (label_at new c).dist + priced p prices i t ≡ (label_at old t).dist + priced p prices i c
-  mover : (label_at new c).mover ≡ i
-  still_open : (label_at new c).closed ≡ false
-  nearer : 0 < (label_at old c).hops → (label_at new c).dist ≤ (label_at old c).dist
-
-offered_at : (p : Transport) (prices : List ℕ) (t i : ℕ) (old new : List Label) → length old ≡ consumers p
-    → AreOffered p prices (offer_of p prices old t i) old new
-    → (c : ℕ) → IsLeftAt p prices t i old new c ⊎ IsNewAt p prices t i old new c
-offered_at p prices t i old new every offered c =
-    elim (cases_lt c (consumers p)) [
-      | inr past ↦
-          let before : label_at old c ≡ no_label = get_or_past old c no_label (omega (arith, past, every)) in
-          let after : label_at new c ≡ no_label = get_or_past new c no_label (omega (arith, past, every, offered.one_each)) in
-          inl (record { same = after ∙ sym before; no_nearer = λ allowed. absurd (omega (arith, allowed.0, past)) })
-      | inl lt ↦
-          elim (offered_split (cost_at p i c) (get_or prices c 0) (offer_of p prices old t i) (label_at old c) (label_at new c) (offered.each c lt)) [
-            | inl left ↦ inl (record { same = left.same; no_nearer = λ allowed. left.no_nearer allowed.1 })
-            | inr changed ↦
-                let taken = changed.taken in
-                inr (
-                record {
-                  allowed = (lt, changed.allowed);
-                  was_open = taken.not_closed;
-                  hops = taken.hops;
-                  dist = taken.dist;
-                  mover = taken.mover;
-                  still_open = taken.still_open;
-                  nearer = taken.nearer;
-                }
-                )
-          ]
+-- what the table tells of an entry at t: it comes no nearer to consumer b
+skip_at : (p : Transport) (prices : List ℕ) (at : ℕ → Type 0) (t b : ℕ) (labels : List Label) (known : Option Bound)
+    → IsKnown p at t b known
+    → IsNoNearer known (label_at labels t) (get_or prices t 0) (label_at labels b) (get_or prices b 0)
+    → (i : ℕ) → at i → IsAllowed p i b
+    → ((label_at labels b).closed ≡ true) ⊎ IsWithin p prices labels (label_at labels t).dist (priced p prices i t) i b
+skip_at p prices at t b labels None known far i here allowed = absurd (known i here allowed)
+skip_at p prices at t b labels (Some bound) known far i here allowed =
+    elim far [
+      | inl closed ↦ inl closed
+      | inr near ↦ inr (near.0, omega (arith, near.1, known.below i here allowed))
     ]
 
--- the labels before and after
-record IsOffering (p : Transport) (prices : List ℕ) (t i : ℕ) (old new : List Label) : Type 0 where
+pub asked_far : (p : Transport) (k : ℕ) (xs prices : List ℕ) (t b q : ℕ) (labels : List Label) (table : List (Option Bound))
+    → k ≤ p.entries → t < consumers p → b < consumers p → q ≡ t * consumers p + b → IsTable p xs table
+    → IsNoNearer (get_or table q None) (label_at labels t) (get_or prices t 0) (label_at labels b) (get_or prices b 0)
+    → IsAsked p k xs prices t b labels labels
+asked_far p k xs prices t b q labels table le ltt ltb is_pair table_is far =
+    let known : IsKnown p (IsAt xs p.entries t) t b (get_or table q None) = rw is_pair (table_is.each t b ltt ltb) in
+    record {
+      one_each = refl;
+      here = inl (
+          record {
+            same = refl;
+            no_nearer = λ i lti stands allowed.
+                skip_at p prices (IsAt xs p.entries t) t b labels (get_or table q None) known far i (omega arith, stands) allowed;
+          }
+          );
+      others = λ d ne. refl;
+    }
+
+-- no entry at t may go to consumer b
+pub asked_none : (p : Transport) (k : ℕ) (xs prices : List ℕ) (t b : ℕ) (labels : List Label)
+    → k ≤ p.entries → IsMover p (IsAt xs p.entries t) t b None → IsAsked p k xs prices t b labels labels
+asked_none p k xs prices t b labels le none = record {
+  one_each = refl;
+  here = inl (
+      record {
+        same = refl;
+        no_nearer = λ i lti stands allowed. absurd (none i (omega arith, stands) allowed);
+      }
+      );
+  others = λ d ne. refl;
+}
+
+-- an entry that stands at a consumer is placed
+pub placed_at : (p : Transport) (k : ℕ) (xs prices : List ℕ) (t i : ℕ) → IsPlaced p k xs prices → t < consumers p
+    → IsAt xs p.entries t i → i < k
+placed_at p k xs prices t i placed ltt at =
+    elim (cases_lt i k) [
+      | inl early ↦ early
+      | inr late ↦ absurd (omega (arith, placed.waiting i late at.0, at.1))
+    ]
+
+-- the entry at t that costs least more at consumer b was offered
+pub asked_mover : (p : Transport) (k : ℕ) (xs prices : List ℕ) (t b i : ℕ) (old new : List Label)
+    → IsPlaced p k xs prices → k ≤ p.entries → t < consumers p → IsLeastMore p (IsAt xs p.entries t) t b i
+    → IsOfferedAt p prices (offer_of p prices old t i) b old new
+    → IsAsked p k xs prices t b old new
+asked_mover p k xs prices t b i old new placed le ltt mover offered =
+    let least : (j : ℕ) → j < k → get_or xs j 0 ≡ t → IsAllowed p j b → cost_of p i b + cost_of p j t ≤ cost_of p j b + cost_of p i t =
+    λ j lt stands allowed. mover.least j (omega arith, stands) allowed in
+    record {
+      one_each = offered.one_each;
+      here = elim (offered_split (cost_at p i b) (get_or prices b 0) (offer_of p prices old t i) (label_at old b) (label_at new b) offered.here) [
+        | inl left ↦ inl (
+            record {
+              same = left.same;
+              no_nearer = λ j lt stands allowed. elim (left.no_nearer mover.allowed.1) [
+                | inl closed ↦ inl closed
+                | inr near ↦ inr (near.0, omega (arith, near.1, least j lt stands allowed))
+              ];
+            }
+            )
+        | inr changed ↦
+            let taken = changed.taken in
+            let same : (label_at new b).mover ≡ i = taken.mover in
+            inr (
+            record {
+              earlier = rw same (placed_at p k xs prices t i placed ltt mover.stands);
+              stands = rw same mover.stands.1;
+              allowed = rw same mover.allowed;
+              was_open = taken.not_closed;
+              still_open = taken.still_open;
+              hops = taken.hops;
+              dist = rw same taken.dist;
+              nearer = taken.nearer;
+              least = rw same least;
+            }
+            )
+      ];
+      others = offered.others;
+    }
+
+-- the labels before and after consumer b was asked
+record IsOffering (p : Transport) (k : ℕ) (xs prices : List ℕ) (t : ℕ) (old new : List Label) : Type 0 where
   every : length new ≡ length old
-  at : (c : ℕ) → IsLeftAt p prices t i old new c ⊎ IsNewAt p prices t i old new c
+  at : (c : ℕ) → (label_at new c ≡ label_at old c) ⊎ IsNewAt p k xs prices t old new c
   kept : (c : ℕ) → (label_at old c).closed ≡ true → label_at new c ≡ label_at old c
   back : (c : ℕ) → (label_at new c).closed ≡ true → (label_at old c).closed ≡ true
   count : open_count new ≡ open_count old
 
-offering : (p : Transport) (prices : List ℕ) (t i : ℕ) (old new : List Label) → length old ≡ consumers p
-    → AreOffered p prices (offer_of p prices old t i) old new → IsOffering p prices t i old new
-offering p prices t i old new every offered =
-    let at : (c : ℕ) → IsLeftAt p prices t i old new c ⊎ IsNewAt p prices t i old new c =
-    offered_at p prices t i old new every offered in
+offering : (p : Transport) (k : ℕ) (xs prices : List ℕ) (t b : ℕ) (old new : List Label)
+    → IsAsked p k xs prices t b old new → IsOffering p k xs prices t old new
+offering p k xs prices t b old new asked =
+    let at : (c : ℕ) → (label_at new c ≡ label_at old c) ⊎ IsNewAt p k xs prices t old new c =
+    λ c. elim (cases_eq c b) [
+      | inl e ↦ rw e (elim asked.here [ inl left ↦ inl left.same | inr fresh ↦ inr fresh ])
+      | inr ne ↦ inl (asked.others c ne)
+    ] in
     let closed : (c : ℕ) → (label_at new c).closed ≡ (label_at old c).closed =
     λ c. elim (at c) [
-      | inl left ↦ ap (λ l. l.closed) left.same
+      | inl same ↦ ap (λ l. l.closed) same
       | inr fresh ↦ fresh.still_open ∙ sym fresh.was_open
     ] in
     record {
-      every = offered.one_each;
+      every = asked.one_each;
       at = at;
       kept = λ c was. elim (at c) [
-        | inl left ↦ left.same
+        | inl same ↦ same
         | inr fresh ↦ absurd (false≢true (sym fresh.was_open ∙ was))
       ];
       back = λ c now. sym (closed c) ∙ now;
-      count = open_count_same new old offered.one_each (λ c lt. closed c);
+      count = open_count_same new old asked.one_each (λ c lt. closed c);
     }
 
 -- a consumer that is within reach stays so
-within_kept : (p : Transport) (prices : List ℕ) (t i : ℕ) (old new : List Label) → IsOffering p prices t i old new
+within_kept : (p : Transport) (k : ℕ) (xs prices : List ℕ) (t : ℕ) (old new : List Label) → IsOffering p k xs prices t old new
     → (dist base j c : ℕ) → IsWithin p prices old dist base j c → IsWithin p prices new dist base j c
-within_kept p prices t i old new offering dist base j c within =
+within_kept p k xs prices t old new offering dist base j c within =
     elim (offering.at c) [
       | inl left ↦
-          let same = same_way (label_at old c) (label_at new c) left.same in
+          let same = same_way (label_at old c) (label_at new c) left in
           (omega (arith, within.0, same.hops), omega (arith, within.1, same.dist))
       | inr fresh ↦ (omega (arith, fresh.hops), omega (arith, within.1, fresh.nearer within.0))
     ]
 
--- after the offer each consumer that entry i is allowed is within its reach
-within_offered : (p : Transport) (k : ℕ) (xs prices : List ℕ) (old new : List Label) (t i : ℕ)
-    → IsSearch p k xs prices old t i → t < consumers p → (label_at old t).closed ≡ true → IsLeast p prices i t
-    → IsOffering p prices t i old new
-    → (c : ℕ) → IsAllowed p i c → IsWithin p prices new (label_at old t).dist (priced p prices i t) i c
-within_offered p k xs prices old new t i search ltt closed least offering c allowed =
-    elim (offering.at c) [
-      | inr fresh ↦ (omega (arith, fresh.hops), omega (arith, fresh.dist))
+-- a consumer that was asked is within the reach of each entry at t that it is allowed
+within_asked : (p : Transport) (k : ℕ) (xs prices : List ℕ) (old new : List Label) (t b : ℕ)
+    → IsPlaced p k xs prices → IsSearch p k xs prices old t b → t < consumers p → (label_at old t).closed ≡ true
+    → IsAsked p k xs prices t b old new → IsOffering p k xs prices t old new
+    → (i : ℕ) → i < k → get_or xs i 0 ≡ t → IsAllowed p i b
+    → IsWithin p prices new (label_at old t).dist (priced p prices i t) i b
+within_asked p k xs prices old new t b placed search ltt closed asked offering i lti stands allowed =
+    elim asked.here [
+      | inr fresh ↦ (omega (arith, fresh.hops), omega (arith, fresh.dist, fresh.least i lti stands allowed))
       | inl left ↦
-          let near : IsWithin p prices old (label_at old t).dist (priced p prices i t) i c =
-          elim (left.no_nearer allowed) [
+          let least : IsLeast p prices i t = rw (← stands) (placed.least i lti) in
+          let near : IsWithin p prices old (label_at old t).dist (priced p prices i t) i b =
+          elim (left.no_nearer i lti stands allowed) [
             | inl was ↦ (
-              search.reached c allowed.0 was,
-              omega (arith, search.latest c allowed.0 was ltt, least c allowed),
+              search.reached b allowed.0 was,
+              omega (arith, search.latest b allowed.0 was ltt, least b allowed),
             )
             | inr within ↦ within
           ] in
-          within_kept p prices t i old new offering (label_at old t).dist (priced p prices i t) i c near
+          within_kept p k xs prices t old new offering (label_at old t).dist (priced p prices i t) i b near
     ]
 
--- one more entry is offered
-offer_search : (p : Transport) (k : ℕ) (xs prices : List ℕ) (old new : List Label) (t i : ℕ)
-    → IsWithinLimits p.rooms p.entries p.costs
-    → IsSearch p k xs prices old t i → t < consumers p → (label_at old t).closed ≡ true
-    → i < k → get_or xs i 0 ≡ t → IsLeast p prices i t
-    → IsOffering p prices t i old new → IsSearch p k xs prices new t (i + 1)
-offer_search p k xs prices old new t i limits search ltt closed lti stands least offering =
+-- one consumer more was asked
+ask_search : (p : Transport) (k : ℕ) (xs prices : List ℕ) (old new : List Label) (t b : ℕ)
+    → IsPlaced p k xs prices → IsSearch p k xs prices old t b → t < consumers p → (label_at old t).closed ≡ true
+    → IsAsked p k xs prices t b old new → IsOffering p k xs prices t old new → IsSearch p k xs prices new t (b + 1)
+ask_search p k xs prices old new t b placed search ltt closed asked offering =
     let same : (c : ℕ) → label_at new c ≡ label_at old c → IsSameWay (label_at old c) (label_at new c) =
     λ c e. same_way (label_at old c) (label_at new c) e in
     let kept_same : (c : ℕ) → (label_at old c).closed ≡ true → IsSameWay (label_at old c) (label_at new c) =
@@ -132,36 +186,38 @@ offer_search p k xs prices old new t i limits search ltt closed lti stands least
       one_each = offering.every ∙ search.one_each;
       way = λ c lt up. elim (offering.at c) [
         | inl left ↦
-            way_kept p k xs prices old new c (same c left.same)
+            way_kept p k xs prices old new c (same c left)
             (λ x was. (kept_same x was, ap (λ l. l.closed) (offering.kept x was) ∙ was))
-            (search.way c lt (omega (arith, up, (same c left.same).hops)))
-        | inr fresh ↦
-            let mover : (label_at new c).mover ≡ i = fresh.mover in
-            record {
-              allowed = rw mover fresh.allowed;
-              step = inr (
-                  rw mover (
-                  rw stands (
-                  record {
-                    earlier = rw mover lti;
-                    closed = ap (λ l. l.closed) (offering.kept t closed) ∙ closed;
-                    hops = omega (arith, fresh.hops, (kept_same t closed).hops);
-                    dist = rw mover (rw stands (omega (arith, fresh.dist, (kept_same t closed).dist)));
-                  }
-                  )
-                  )
-                  );
-            }
+            (search.way c lt (omega (arith, up, (same c left).hops)))
+        | inr fresh ↦ record {
+          allowed = fresh.allowed;
+          step = inr (
+              rw fresh.stands (
+              record {
+                earlier = fresh.earlier;
+                closed = ap (λ l. l.closed) (offering.kept t closed) ∙ closed;
+                hops = omega (arith, fresh.hops, (kept_same t closed).hops);
+                dist = rw fresh.stands (omega (arith, fresh.dist, (kept_same t closed).dist));
+              }
+              )
+              );
+        }
       ];
       long = λ c lt up. elim (offering.at c) [
         | inl left ↦
-            omega (arith, search.long c lt (omega (arith, up, (same c left.same).hops)), (same c left.same).hops, (same c left.same).dist)
+            omega (arith, search.long c lt (omega (arith, up, (same c left).hops)), (same c left).hops, (same c left).dist)
         | inr fresh ↦
-            omega (arith, search.long t ltt (search.reached t ltt closed), fresh.hops, fresh.dist, cost_small p limits i c)
+            omega (
+              arith,
+              search.long t ltt (search.reached t ltt closed),
+              fresh.hops,
+              fresh.dist,
+              cost_small p placed.limits (label_at new c).mover c,
+            )
       ];
       few = λ c lt up. elim (offering.at c) [
         | inl left ↦
-            omega (arith, search.few c lt (omega (arith, up, (same c left.same).hops)), (same c left.same).hops, offering.count)
+            omega (arith, search.few c lt (omega (arith, up, (same c left).hops)), (same c left).hops, offering.count)
         | inr fresh ↦ omega (arith, search.few_closed t ltt closed, fresh.hops, offering.count)
       ];
       few_closed = λ c lt now.
@@ -172,60 +228,55 @@ offer_search p k xs prices old new t i limits search ltt closed lti stands least
           let was = offering.back c now in
           elim (offering.at d) [
             | inl left ↦
-                let was_open : (label_at old d).closed ≡ false = sym (ap (λ l. l.closed) left.same) ∙ not_now in
+                let was_open : (label_at old d).closed ≡ false = sym (ap (λ l. l.closed) left) ∙ not_now in
                 omega (
                   arith,
-                  search.nearer c d lt ltd was was_open (omega (arith, up, (same d left.same).hops)),
+                  search.nearer c d lt ltd was was_open (omega (arith, up, (same d left).hops)),
                   (kept_same c was).dist,
-                  (same d left.same).dist,
+                  (same d left).dist,
                 )
             | inr fresh ↦
+                let least : IsLeast p prices (label_at new d).mover t =
+                rw (← fresh.stands) (placed.least (label_at new d).mover fresh.earlier) in
                 omega (arith, search.latest c lt was ltt, (kept_same c was).dist, fresh.dist, least d fresh.allowed)
           ];
       latest = λ c lt now ltt'.
           let was = offering.back c now in
           omega (arith, search.latest c lt was ltt, (kept_same c was).dist, (kept_same t closed).dist);
-      new_offered = λ c allowed. within_kept p prices t i old new offering 0 0 k c (search.new_offered c allowed);
+      new_offered = λ c allowed. within_kept p k xs prices t old new offering 0 0 k c (search.new_offered c allowed);
       offered = λ j c lt now upto allowed.
           let was = offering.back (get_or xs j 0) now in
           let from = kept_same (get_or xs j 0) was in
-          elim (cases_eq j i) [
-            | inl e ↦
-                let here : get_or xs j 0 ≡ t = ap (λ x. get_or xs x 0) e ∙ stands in
-                let far = within_offered p k xs prices old new t i search ltt closed least offering c (rw (← e) allowed) in
-                rw from.dist (rw here (rw e far))
-            | inr ne ↦
-                let before : get_or xs j 0 ≡ t → j < i = λ h. omega (arith, upto h, ne) in
-                let far = search.offered j c lt was before allowed in
-                rw from.dist (
-                within_kept p prices t i old new offering (label_at old (get_or xs j 0)).dist (priced p prices j (get_or xs j 0)) j c far
-                )
-          ];
+          let before : (get_or xs j 0 ≡ t → c < b)
+          → IsWithin p prices new (label_at old (get_or xs j 0)).dist (priced p prices j (get_or xs j 0)) j c =
+          λ early. within_kept p k xs prices t old new offering (label_at old (get_or xs j 0)).dist (priced p prices j (get_or xs j 0)) j c
+          (search.offered j c lt was early allowed) in
+          rw from.dist (
+          elim (cases_eq (get_or xs j 0) t) [
+            | inr ne ↦ before (λ h. absurd (ne h))
+            | inl stands ↦ elim (cases_eq c b) [
+              | inr ne ↦ before (λ h. omega (arith, upto h, ne))
+              | inl e ↦
+                  let far = within_asked p k xs prices old new t b placed search ltt closed asked offering j lt stands (rw (← e) allowed) in
+                  rw stands (rw e far)
+            ]
+          ]
+          );
     }
 
--- what the loop over the entries at t keeps: an entry there is offered
-pub closed_offer : (p : Transport) (k : ℕ) (xs prices : List ℕ) (old before after : List Label) (t i : ℕ)
-    → IsPlaced p k xs prices → t < consumers p → i < k → get_or xs i 0 ≡ t
-    → IsClosed p k xs prices old before t i
-    → AreOffered p prices (offer_of p prices before t i) before after
-    → IsClosed p k xs prices old after t (i + 1)
-closed_offer p k xs prices old before after t i placed ltt lti stands closed offered =
-    let done : IsOffering p prices t i before after = offering p prices t i before after closed.search.one_each offered in
-    let least : IsLeast p prices i t = rw (← stands) (placed.least i lti) in
+-- what the loop over the consumers keeps
+pub closed_ask : (p : Transport) (k : ℕ) (xs prices : List ℕ) (old before after : List Label) (t b : ℕ)
+    → IsPlaced p k xs prices → t < consumers p
+    → IsClosed p k xs prices old before t b
+    → IsAsked p k xs prices t b before after
+    → IsClosed p k xs prices old after t (b + 1)
+closed_ask p k xs prices old before after t b placed ltt closed asked =
+    let done : IsOffering p k xs prices t before after = offering p k xs prices t b before after asked in
     record {
-      search = offer_search p k xs prices before after t i placed.limits closed.search ltt closed.closed lti stands least done;
+      search = ask_search p k xs prices before after t b placed closed.search ltt closed.closed asked done;
       closed = ap (λ l. l.closed) (done.kept t closed.closed) ∙ closed.closed;
       fewer = omega (arith, closed.fewer, done.count);
     }
-
--- an entry that stands elsewhere is not
-pub closed_skip : (p : Transport) (k : ℕ) (xs prices : List ℕ) (old labels : List Label) (t i : ℕ)
-    → (get_or xs i 0 ≡ t → ⊥) → IsClosed p k xs prices old labels t i → IsClosed p k xs prices old labels t (i + 1)
-closed_skip p k xs prices old labels t i elsewhere closed = record {
-  search = search_skips p k xs prices labels t i closed.search elsewhere;
-  closed = closed.closed;
-  fewer = closed.fewer;
-}
 
 -- prices and ways stay small
 pub price_small : (p : Transport) (k : ℕ) (xs prices : List ℕ) → IsPlaced p k xs prices → k ≤ p.entries

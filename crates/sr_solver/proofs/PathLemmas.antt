@@ -1,5 +1,5 @@
 -- A move of the entries along a path.
-use Rattle.std.proofs.Common.{◌≡◌, ℕ, ◌+◌, ◌<◌, ◌==◌, ◌⊎◌, Bool, false, cond, List, length, get_or, refl, ap, ◌∙◌, inl, inr, arith}
+use Rattle.std.proofs.Common.{◌≡◌, ℕ, ◌+◌, ◌<◌, ◌==◌, ◌⊎◌, Bool, false, cond, List, length, get_or, refl, ap, ◌∙◌, inl, inr, arith, eq-eqb}
 use Rattle.std.proofs.Math.ListN.{set, length-set}
 use Rattle.std.proofs.lemmas.Bool.{cases_eq, ne_eqb}
 use Rattle.std.proofs.lemmas.List.{get_or-set_same, get_or-set_other}
@@ -8,6 +8,16 @@ use Rattle.sr_transport.specs.Assignment.{load}
 use Rattle.sr_solver.specs.declared.label.Label.{Label}
 use Rattle.sr_solver.specs.Labels.{label_at}
 use Rattle.sr_solver.specs.Path.{IsStep, ArePaths, IsMoved, IsShifting, AreShifted}
+
+-- one at consumer a, none elsewhere
+abbrev pub one_at : ℕ → ℕ → ℕ
+one_at a c = cond (a == c) 1 0
+
+pub one_at_same : (a c : ℕ) → a ≡ c → one_at a c ≡ 1
+one_at_same a c e = let one : Bool → ℕ = λ b. cond b 1 0 in ap one (eq-eqb a c e)
+
+pub one_at_other : (a c : ℕ) → (a ≡ c → ⊥) → one_at a c ≡ 0
+one_at_other a c ne = let one : Bool → ℕ = λ b. cond b 1 0 in ap one (ne_eqb a c ne)
 
 -- the loads after one entry moves
 pub load-set : (xs : List ℕ) (i y c : ℕ) → i < length xs

@@ -1,6 +1,6 @@
 -- One entry is placed: the prices rise, and the entries move along the path.
-use Rattle.std.proofs.Common.{◌≡◌, ℕ, ◌+◌, ◌^◌, ◌<◌, ◌≤◌, ◌==◌, ◌⊎◌, Bool, true, false, cond, List, length, get_or, refl, sym, ap, ◌∙◌, subst, inl, inr, arith, eq-eqb}
-use Rattle.std.proofs.lemmas.Bool.{cases_eq, cases_lt, false≢true, ne_eqb}
+use Rattle.std.proofs.Common.{◌≡◌, ℕ, ◌+◌, ◌^◌, ◌<◌, ◌≤◌, ◌⊎◌, Bool, true, false, List, length, get_or, refl, sym, ap, ◌∙◌, subst, inl, inr, arith}
+use Rattle.std.proofs.lemmas.Bool.{cases_eq, cases_lt, false≢true}
 use Rattle.std.proofs.Math.ListN.{set, length-set}
 use Rattle.std.proofs.lemmas.List.{get_or_past, get_or-set_same, get_or-set_other}
 use Rattle.sr_transport.specs.Problem.{Transport, consumers, room_of, IsAllowed}
@@ -11,21 +11,12 @@ use Rattle.sr_solver.specs.Labels.{no_label, label_at, open_count, priced}
 use Rattle.sr_solver.specs.Placed.{IsPlaced, AreLoads}
 use Rattle.sr_solver.specs.Search.{IsWay, IsWithin, IsRound, IsEnd}
 use Rattle.sr_solver.specs.Path.{IsRaised, AreRaised, IsStep, ArePaths, AreShifted}
+use Rattle.sr_solver.proofs.PathLemmas.{one_at, one_at_same, one_at_other}
 use Rattle.sr_solver.proofs.LabelLemmas.{open_count-above}
 
 cases_bool : (b : Bool) → (b ≡ true) ⊎ (b ≡ false)
 cases_bool true = inl refl
 cases_bool false = inr refl
-
--- one more at the end of the path, none elsewhere
-abbrev one_at : ℕ → ℕ → ℕ
-one_at a c = cond (a == c) 1 0
-
-one_at_same : (a c : ℕ) → a ≡ c → one_at a c ≡ 1
-one_at_same a c e = let one : Bool → ℕ = λ b. cond b 1 0 in ap one (eq-eqb a c e)
-
-one_at_other : (a c : ℕ) → (a ≡ c → ⊥) → one_at a c ≡ 0
-one_at_other a c ne = let one : Bool → ℕ = λ b. cond b 1 0 in ap one (ne_eqb a c ne)
 
 -- where the path ends the price is 0, so that the path is short
 pub end_near : (p : Transport) (k : ℕ) (xs prices : List ℕ) (labels : List Label) (end : ℕ)
@@ -160,7 +151,7 @@ least_moved p k xs prices labels end raised rising i x lt mover way passed =
           let tight : (label_at labels x).dist + priced p prices i (get_or xs i 0) ≡ (label_at labels (get_or xs i 0)).dist + priced p prices i x =
           rw (← mover) next.dist in
           least_raised p k xs prices labels end raised rising (label_at labels (get_or xs i 0)).dist (priced p prices i (get_or xs i 0)) i x lt
-          (λ c allowed. rising.found.search.offered i c earlier closed (λ e. earlier) allowed) tight passed
+          (λ c allowed. rising.found.search.offered i c earlier closed (λ e. allowed.0) allowed) tight passed
     ]
 
 -- an entry that stays
@@ -171,7 +162,7 @@ least_stays p k xs prices labels end raised rising i lti =
     elim (cases_bool (label_at labels (get_or xs i 0)).closed) [
       | inl closed ↦
           least_raised p k xs prices labels end raised rising (label_at labels (get_or xs i 0)).dist (priced p prices i (get_or xs i 0)) i
-          (get_or xs i 0) lt (λ c allowed. rising.found.search.offered i c lti closed (λ e. lti) allowed) refl (inl closed)
+          (get_or xs i 0) lt (λ c allowed. rising.found.search.offered i c lti closed (λ e. allowed.0) allowed) refl (inl closed)
       | inr is_open ↦
           λ c allowed.
           omega (

@@ -100,7 +100,7 @@ pub search_seen : (p : Transport) (k : ℕ) (xs prices : List ℕ) (labels : Lis
     → IsSearch p k xs prices labels t upto
     → ((c : ℕ) → c < consumers p → (label_at labels c).closed ≡ true → s < consumers p
     → (label_at labels c).dist ≤ (label_at labels s).dist)
-    → ((i : ℕ) → i < k → (get_or xs i 0 ≡ s → i < upto') → get_or xs i 0 ≡ t → i < upto)
+    → ((i c : ℕ) → i < k → c < consumers p → (get_or xs i 0 ≡ s → c < upto') → get_or xs i 0 ≡ t → c < upto)
     → IsSearch p k xs prices labels s upto'
 search_seen p k xs prices labels t upto s upto' search latest covers = record {
   one_each = search.one_each;
@@ -113,22 +113,12 @@ search_seen p k xs prices labels t upto s upto' search latest covers = record {
   nearer = search.nearer;
   latest = latest;
   new_offered = search.new_offered;
-  offered = λ i c lt is_closed within allowed. search.offered i c lt is_closed (covers i lt within) allowed;
+  offered = λ i c lt is_closed within allowed. search.offered i c lt is_closed (covers i c lt allowed.0 within) allowed;
 }
 
--- an entry that stands elsewhere needs no offer
-pub search_skips : (p : Transport) (k : ℕ) (xs prices : List ℕ) (labels : List Label) (t i : ℕ)
-    → IsSearch p k xs prices labels t i → (get_or xs i 0 ≡ t → ⊥) → IsSearch p k xs prices labels t (i + 1)
-search_skips p k xs prices labels t i search elsewhere =
-    search_seen p k xs prices labels t i t (i + 1) search search.latest
-    (λ j lt within here.
-    let below : j < i + 1 = within here in
-    let other : j ≡ i → ⊥ = λ e. elsewhere (rw (← e) here) in
-    omega (arith, below, other))
-
--- where all entries are offered, the round is over
+-- where the entries are offered to all consumers, the round is over
 pub search_round : (p : Transport) (k : ℕ) (xs prices : List ℕ) (labels : List Label) (t : ℕ)
-    → IsSearch p k xs prices labels t k → IsRound p k xs prices labels
+    → IsSearch p k xs prices labels t (consumers p) → IsRound p k xs prices labels
 search_round p k xs prices labels t search =
-    search_seen p k xs prices labels t k (consumers p) k search (λ c lt is_closed past. absurd (omega (arith, past)))
-    (λ j lt within here. lt)
+    search_seen p k xs prices labels t (consumers p) (consumers p) (consumers p) search (λ c lt is_closed past. absurd (omega (arith, past)))
+    (λ j c lt ltc within here. ltc)

@@ -2,6 +2,8 @@ pub mod Solved
 pub mod Labels
 pub mod Offers
 pub mod Placed
+pub mod Table
+pub mod Members
 pub mod Search
 pub mod Path
 pub mod Shortage

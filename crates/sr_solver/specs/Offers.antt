@@ -31,6 +31,12 @@ pub record AreOffered (p : Transport) (prices : List ℕ) (offer : Offer) (old n
   pub each : (c : ℕ) → c < consumers p
       → IsOffered (cost_at p offer.mover c) (slice_index prices c) offer (label_at old c) (label_at new c)
 
+-- the same at consumer c alone
+pub record IsOfferedAt (p : Transport) (prices : List ℕ) (offer : Offer) (c : ℕ) (old new : List Label) : Type 0 where
+  pub one_each : length new ≡ length old
+  pub here : IsOffered (cost_at p offer.mover c) (slice_index prices c) offer (label_at old c) (label_at new c)
+  pub others : (d : ℕ) → (d ≡ c → ⊥) → label_at new d ≡ label_at old d
+
 -- the offer of entry i, which stands at consumer t
 abbrev pub offer_of : Transport → List ℕ → List Label → ℕ → ℕ → Offer
 offer_of p prices labels t i = record {

@@ -2,7 +2,7 @@
 -- Source: the invariants of Dijkstra's search over reduced costs.
 
 use Rattle.std.specs.Prelude.{◌≡◌, ℕ, ◌+◌, ◌*◌, ◌^◌, ◌<◌, ◌≤◌, List, length, slice_index, ◌⊎◌, Bool, true, false, Option, Some, None}
-use Rattle.sr_transport.specs.Problem.{Transport, consumers, room_of, cost_at, IsAllowed}
+use Rattle.sr_transport.specs.Problem.{Transport, consumers, room_of, cost_at, cost_of, IsAllowed}
 use Rattle.sr_transport.specs.Assignment.{load}
 use Rattle.sr_solver.specs.declared.label.Label.{Label}
 use Rattle.sr_solver.specs.declared.label.Offer.{Offer}
@@ -33,7 +33,8 @@ abbrev pub IsWithin : Transport → List ℕ → List Label → ℕ → ℕ → 
 IsWithin p prices labels dist base i c =
     (0 < (label_at labels c).hops) × ((label_at labels c).dist + base ≤ dist + priced p prices i c)
 
--- the search, where the entries at consumer t are offered up to entry `upto`, and those at each other closed consumer all
+-- the search, where the entries at consumer t are offered to the consumers below `upto`, and those at each other closed
+-- consumer to all
 pub record IsSearch (p : Transport) (k : ℕ) (xs prices : List ℕ) (labels : List Label) (t upto : ℕ) : Type 0 where
   pub one_each : length labels ≡ consumers p
   pub way : (c : ℕ) → c < consumers p → 0 < (label_at labels c).hops → IsWay p k xs prices labels c
@@ -50,7 +51,7 @@ pub record IsSearch (p : Transport) (k : ℕ) (xs prices : List ℕ) (labels : L
   pub latest : (c : ℕ) → c < consumers p → (label_at labels c).closed ≡ true → t < consumers p
       → (label_at labels c).dist ≤ (label_at labels t).dist
   pub new_offered : (c : ℕ) → IsAllowed p k c → IsWithin p prices labels 0 0 k c
-  pub offered : (i c : ℕ) → i < k → (label_at labels (slice_index xs i)).closed ≡ true → (slice_index xs i ≡ t → i < upto)
+  pub offered : (i c : ℕ) → i < k → (label_at labels (slice_index xs i)).closed ≡ true → (slice_index xs i ≡ t → c < upto)
       → IsAllowed p i c
       → IsWithin p prices labels (label_at labels (slice_index xs i)).dist (priced p prices i (slice_index xs i)) i c
 
@@ -69,13 +70,39 @@ AreAllClosed p labels =
 
 -- the search between two rounds
 abbrev pub IsRound : Transport → ℕ → List ℕ → List ℕ → List Label → Type 0
-IsRound p k xs prices labels = IsSearch p k xs prices labels (consumers p) k
+IsRound p k xs prices labels = IsSearch p k xs prices labels (consumers p) (consumers p)
 
--- the search after consumer t is closed, and its entries below `upto` are offered
+-- the search after consumer t is closed, and its entries are offered to the consumers below `upto`
 pub record IsClosed (p : Transport) (k : ℕ) (xs prices : List ℕ) (old new : List Label) (t upto : ℕ) : Type 0 where
   pub search : IsSearch p k xs prices new t upto
   pub closed : (label_at new t).closed ≡ true
   pub fewer : open_count new < open_count old
+
+-- the label of consumer c stays where the entries at consumer t are offered: it is closed, or none of them comes nearer
+pub record IsLeftAt (p : Transport) (k : ℕ) (xs prices : List ℕ) (t : ℕ) (old new : List Label) (c : ℕ) : Type 0 where
+  pub same : label_at new c ≡ label_at old c
+  pub no_nearer : (i : ℕ) → i < k → slice_index xs i ≡ t → IsAllowed p i c
+      → ((label_at old c).closed ≡ true) ⊎ IsWithin p prices old (label_at old t).dist (priced p prices i t) i c
+
+-- or consumer c has a new label: its mover stands at t, and no entry there costs less more
+pub record IsNewAt (p : Transport) (k : ℕ) (xs prices : List ℕ) (t : ℕ) (old new : List Label) (c : ℕ) : Type 0 where
+  pub earlier : (label_at new c).mover < k
+  pub stands : slice_index xs (label_at new c).mover ≡ t
+  pub allowed : IsAllowed p (label_at new c).mover c
+  pub was_open : (label_at old c).closed ≡ false
+  pub still_open : (label_at new c).closed ≡ false
+  pub hops : (label_at new c).hops ≡ (label_at old t).hops + 1
+  pub dist : (label_at new c).dist + priced p prices (label_at new c).mover t
+      ≡ (label_at old t).dist + priced p prices (label_at new c).mover c
+  pub nearer : 0 < (label_at old c).hops → (label_at new c).dist ≤ (label_at old c).dist
+  pub least : (i : ℕ) → i < k → slice_index xs i ≡ t → IsAllowed p i c
+      → cost_of p (label_at new c).mover c + cost_of p i t ≤ cost_of p i c + cost_of p (label_at new c).mover t
+
+-- the entries at consumer t were offered to consumer c
+pub record IsAsked (p : Transport) (k : ℕ) (xs prices : List ℕ) (t c : ℕ) (old new : List Label) : Type 0 where
+  pub one_each : length new ≡ length old
+  pub here : IsLeftAt p k xs prices t old new c ⊎ IsNewAt p k xs prices t old new c
+  pub others : (d : ℕ) → (d ≡ c → ⊥) → label_at new d ≡ label_at old d
 
 -- the search found a path that ends at a consumer with room
 pub record IsEnd (p : Transport) (k : ℕ) (xs prices : List ℕ) (labels : List Label) (end : ℕ) : Type 0 where

@@ -69,7 +69,7 @@ pub fn offer_to_all(problem: &Problem, prices: &[u64], offer: Offer, labels: &mu
 }
 
 /// The label of a consumer after the offer of an entry that costs `cost` there.
-fn offered(cost: Option<u64>, price: u64, offer: Offer, label: Label) -> Label
+pub fn offered(cost: Option<u64>, price: u64, offer: Offer, label: Label) -> Label
     requires dist { offer.dist ≤ 2 ^ 60 }
     requires price { price ≤ 2 ^ 60 }
     requires cost { IfSome cost (λ c. c ≤ 2 ^ 40) }

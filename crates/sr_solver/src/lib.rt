@@ -4,11 +4,13 @@
 #![tactic(auto)]
 
 mod label;
+mod members;
 mod order;
 mod path;
 mod search;
 mod shortage;
 mod solution;
+mod table;
 #[cfg(test)]
 mod tests;
 

@@ -1,8 +1,13 @@
 ghost use Rattle.std.specs.Prelude.{◌≡◌, ℕ, ◌^◌, ◌<◌, ◌≤◌, length, slice_index, true};
 ghost use Rattle.sr_solver.specs.Labels.{label_at};
+ghost use Rattle.sr_transport.specs.Problem.{IsWithinLimits, consumers, IsAllowed};
+ghost use Rattle.sr_solver.specs.Table.{IsTable};
+ghost use Rattle.sr_solver.specs.Members.{AreMembers};
 ghost use Rattle.sr_solver.specs.Path.{AreRaised, ArePaths, AreShifted};
 
 use crate::label::Label;
+use crate::table::{Bound, put};
+use sr_transport::Problem;
 
 /// Raises the price of each closed consumer by as much as the path to it is shorter than `dist`.
 pub fn raise(prices: &mut [u64], labels: &[Label], dist: u64)
@@ -23,19 +28,34 @@ pub fn raise(prices: &mut [u64], labels: &[Label], dist: u64)
 
 /// Moves the entries of the path that ends at `end`, each to the next consumer, the last of them `entry`, which stood
 /// nowhere.
-pub fn shift(entry: usize, assign: &mut [usize], labels: &[Label], end: usize)
-    requires few { length labels.now ≤ 64 }
-    requires short { length assign.old ≤ 4096 }
+pub fn shift(
+    problem: &Problem,
+    entry: usize,
+    end: usize,
+    labels: &[Label],
+    assign: &mut [usize],
+    members: &mut [usize],
+    table: &mut [Option<Bound>],
+)
+    requires limits { IsWithinLimits problem.now.rooms problem.now.entries problem.now.costs }
+    requires one_each { length labels.now ≡ consumers problem.now }
+    requires every { length assign.old ≡ problem.now.entries }
     requires paths { ArePaths labels.now entry assign.old }
+    requires allowed { (c : ℕ) → c < length labels.now → 0 < (label_at labels.now c).hops
+        → IsAllowed problem.now (label_at labels.now c).mover c }
     requires end { end < length labels.now }
     requires reached { 0 < (label_at labels.now end).hops }
-    ensures { AreShifted labels.now entry end assign.old assign.new }
+    requires members { AreMembers problem.now assign.old members.old }
+    requires table { IsTable problem.now assign.old table.old }
+    ensures assign { AreShifted labels.now entry end assign.old assign.new }
+    ensures members { AreMembers problem.now assign.new members.new }
+    ensures table { IsTable problem.now assign.new table.new }
 {
     let mut place = end;
     'path: loop {
         let mover = labels[place].mover;
         let from = assign[mover];
-        assign[mover] = place;
+        put(problem, mover, place, assign, members, table);
         if mover == entry {
             return;
         }

@@ -1,13 +1,16 @@
-ghost use Rattle.std.specs.Prelude.{◌≡◌, ℕ, ◌^◌, ◌<◌, ◌≤◌, length, slice_index, IfSome, IfNone};
+ghost use Rattle.std.specs.Prelude.{◌≡◌, ℕ, ◌^◌, ◌<◌, ◌≤◌, length, slice_index, IfSome, IfNone, true};
 ghost use Rattle.sr_transport.specs.Problem.{IsWithinLimits, consumers, room_of, IsAllowed};
 ghost use Rattle.sr_transport.specs.Assignment.{load};
 ghost use Rattle.sr_transport.specs.Certificate.{IsLeast};
 ghost use Rattle.sr_solver.specs.Labels.{no_label, label_at, open_count};
 ghost use Rattle.sr_solver.specs.Placed.{IsPlaced, AreLoads};
-ghost use Rattle.sr_solver.specs.Offers.{AreOffered, offer_of};
-ghost use Rattle.sr_solver.specs.Search.{IsStarted, IsBetter, IsNearest, AreAllClosed, IsRound, IsEnd};
+ghost use Rattle.sr_solver.specs.Offers.{IsOfferedAt, offer_of};
+ghost use Rattle.sr_solver.specs.Table.{IsTable};
+ghost use Rattle.sr_solver.specs.Members.{AreMembers};
+ghost use Rattle.sr_solver.specs.Search.{IsStarted, IsBetter, IsNearest, AreAllClosed, IsSearch, IsRound, IsAsked, IsEnd};
 
-use crate::label::{Label, Offer, offer_to_all};
+use crate::label::{Label, Offer, offer_to_all, offered};
+use crate::table::{Bound, least_mover, may_be_nearer};
 use sr_transport::Problem;
 
 /// Looks for the shortest path that makes place for `entry`, and gives the consumer where it ends, which has room left.
@@ -19,12 +22,17 @@ pub fn search(
     assign: &[usize],
     prices: &[u64],
     loads: &[u64],
+    members: &[usize],
+    table: &mut [Option<Bound>],
     labels: &mut [Label],
 ) -> Option<usize>
     requires entry { entry < problem.now.entries }
     requires placed { IsPlaced problem.now entry assign.now prices.now }
     requires loads { AreLoads problem.now assign.now loads.now }
+    requires members { AreMembers problem.now assign.now members.now }
+    requires table { IsTable problem.now assign.now table.old }
     requires labels { length labels.old ≡ consumers problem.now }
+    ensures table { IsTable problem.now assign.now table.new }
     ensures end { IfSome result (IsEnd problem.now entry assign.now prices.now labels.new) }
     ensures round { IfNone result (IsRound problem.now entry assign.now prices.now labels.new) }
     ensures all_closed { IfNone result (AreAllClosed problem.now labels.new) }
@@ -34,7 +42,7 @@ pub fn search(
         if loads[near] < problem.room(near) {
             return Some(near);
         }
-        close(problem, entry, near, assign, prices, labels);
+        close(problem, entry, near, assign, prices, members, table, labels);
     }
     None
 }
@@ -105,20 +113,25 @@ fn is_better(
     dist < least
 }
 
-/// Closes a consumer: offers each entry that stands there to the others.
+/// Closes a consumer: offers the entries that stand there to the others.
 fn close(
     problem: &Problem,
     entry: usize,
     near: usize,
     assign: &[usize],
     prices: &[u64],
+    members: &[usize],
+    table: &mut [Option<Bound>],
     labels: &mut [Label],
 )
     requires entry { entry < problem.now.entries }
     requires placed { IsPlaced problem.now entry assign.now prices.now }
+    requires members { AreMembers problem.now assign.now members.now }
+    requires table { IsTable problem.now assign.now table.old }
     requires round { IsRound problem.now entry assign.now prices.now labels.old }
     requires nearest { IsNearest problem.now labels.old near }
     requires full { load assign.now near ≡ room_of problem.now near }
+    ensures table { IsTable problem.now assign.now table.new }
     ensures round { IsRound problem.now entry assign.now prices.now labels.new }
     ensures fewer { open_count labels.new < open_count labels.old }
 {
@@ -127,25 +140,66 @@ fn close(
         closed: true,
         ..label
     };
-    for other in 0..entry {
-        if assign[other] == near {
-            offer_from(problem, near, other, prices, labels);
-        }
+    for other in 0..problem.consumers() {
+        ask(
+            problem, entry, near, other, assign, prices, members, table, labels,
+        );
     }
 }
 
-/// Offers an entry that stands at the consumer `near` to each consumer.
-fn offer_from(problem: &Problem, near: usize, mover: usize, prices: &[u64], labels: &mut [Label])
+/// Offers to the consumer `other` the entry at `near` that costs least more there, where the table lets it come nearer.
+fn ask(
+    problem: &Problem,
+    entry: usize,
+    near: usize,
+    other: usize,
+    assign: &[usize],
+    prices: &[u64],
+    members: &[usize],
+    table: &mut [Option<Bound>],
+    labels: &mut [Label],
+)
+    requires entry { entry < problem.now.entries }
+    requires near { near < consumers problem.now }
+    requires other { other < consumers problem.now }
+    requires placed { IsPlaced problem.now entry assign.now prices.now }
+    requires members { AreMembers problem.now assign.now members.now }
+    requires table { IsTable problem.now assign.now table.old }
+    requires search { IsSearch problem.now entry assign.now prices.now labels.old near other }
+    requires closed { (label_at labels.old near).closed ≡ true }
+    ensures table { IsTable problem.now assign.now table.new }
+    ensures asked { IsAsked problem.now entry assign.now prices.now near other labels.old labels.new }
+{
+    let (from, label) = (labels[near], labels[other]);
+    let known = table[near * problem.consumers() + other];
+    if !may_be_nearer(known, from, prices[near], label, prices[other]) {
+        return;
+    }
+    if let Some(mover) = least_mover(problem, near, other, assign, members, table) {
+        offer(problem, near, mover, other, prices, labels);
+    }
+}
+
+/// Offers an entry that stands at the consumer `near` to the consumer `other`.
+fn offer(
+    problem: &Problem,
+    near: usize,
+    mover: usize,
+    other: usize,
+    prices: &[u64],
+    labels: &mut [Label],
+)
     requires limits { IsWithinLimits problem.now.rooms problem.now.entries problem.now.costs }
     requires entry { mover < problem.now.entries }
     requires allowed { IsAllowed problem.now mover near }
+    requires other { other < consumers problem.now }
     requires least { IsLeast problem.now prices.now mover near }
     requires prices_each { length prices.now ≡ consumers problem.now }
     requires labels_each { length labels.old ≡ consumers problem.now }
     requires low { (c : ℕ) → c < consumers problem.now → slice_index prices.now c ≤ 2 ^ 60 }
     requires dist { (label_at labels.old near).dist ≤ 2 ^ 60 }
     requires hops { (label_at labels.old near).hops ≤ 64 }
-    ensures { AreOffered problem.now prices.now (offer_of problem.now prices.now labels.old near mover) labels.old labels.new }
+    ensures { IsOfferedAt problem.now prices.now (offer_of problem.now prices.now labels.old near mover) other labels.old labels.new }
 {
     let label = labels[near];
     let offer = Offer {
@@ -154,5 +208,7 @@ fn offer_from(problem: &Problem, near: usize, mover: usize, prices: &[u64], labe
         base: problem.cost(mover, near).unwrap() + prices[near],
         hops: label.hops + 1,
     };
-    offer_to_all(problem, prices, offer, labels);
+    let cost = problem.cost(mover, other);
+    let nearest = offered(cost, prices[other], offer, labels[other]);
+    labels[other] = nearest;
 }

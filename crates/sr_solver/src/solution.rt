@@ -2,6 +2,8 @@ ghost use Rattle.std.specs.Prelude.{◌≡◌, ◌+◌, ◌<◌, length, IfOk, I
 ghost use Rattle.sr_transport.specs.Problem.{consumers, IsWithinLimits};
 ghost use Rattle.sr_transport.specs.Assignment.{IsAssignment, total_of};
 ghost use Rattle.sr_solver.specs.Placed.{IsPlaced, AreLoads};
+ghost use Rattle.sr_solver.specs.Table.{IsTable};
+ghost use Rattle.sr_solver.specs.Members.{AreMembers};
 ghost use Rattle.sr_solver.specs.Search.{IsStuck};
 ghost use Rattle.sr_solver.specs.Solved.{IsSolution, IsOptimal};
 
@@ -10,6 +12,7 @@ use crate::order::{by_range, rename, reordered};
 use crate::path::{raise, shift};
 use crate::search::search;
 use crate::shortage::stranded;
+use crate::table::Bound;
 use sr_transport::Problem;
 use std::alloc::{AllocError, Global};
 
@@ -68,8 +71,18 @@ fn solve_in_order(alloc: Global, problem: &Problem) -> Result<Solved, AllocError
     let mut assign = vec![in alloc; consumers; problem.entries()]?;
     let mut prices = vec![in alloc; 0u64; consumers]?;
     let mut loads = vec![in alloc; 0u64; consumers]?;
+    let mut members = vec![in alloc; 0usize; consumers * (problem.entries() + 1)]?;
+    let mut table = vec![in alloc; None; consumers * consumers]?;
     let mut labels = vec![in alloc; Label::none(); consumers]?;
-    match place_all(problem, &mut assign, &mut prices, &mut loads, &mut labels) {
+    match place_all(
+        problem,
+        &mut assign,
+        &mut prices,
+        &mut loads,
+        &mut members,
+        &mut table,
+        &mut labels,
+    ) {
         None => Ok(best(problem, assign, prices)),
         Some(entry) => {
             let set = stranded(alloc, &assign, &labels, entry)?;
@@ -98,16 +111,22 @@ fn place_all(
     assign: &mut [usize],
     prices: &mut [u64],
     loads: &mut [u64],
+    members: &mut [usize],
+    table: &mut [Option<Bound>],
     labels: &mut [Label],
 ) -> Option<usize>
     requires placed { IsPlaced problem.now 0 assign.old prices.old }
     requires loads { AreLoads problem.now assign.old loads.old }
+    requires members { AreMembers problem.now assign.old members.old }
+    requires table { IsTable problem.now assign.old table.old }
     requires labels { length labels.old ≡ consumers problem.now }
     ensures placed { IfNone result (IsPlaced problem.now problem.now.entries assign.new prices.new) }
     ensures stuck { IfSome result (λ entry. IsStuck problem.now entry assign.new prices.new labels.new) }
 {
     for entry in 0..problem.entries() {
-        if !place(problem, entry, assign, prices, loads, labels) {
+        if !place(
+            problem, entry, assign, prices, loads, members, table, labels,
+        ) {
             return Some(entry);
         }
     }
@@ -121,21 +140,29 @@ fn place(
     assign: &mut [usize],
     prices: &mut [u64],
     loads: &mut [u64],
+    members: &mut [usize],
+    table: &mut [Option<Bound>],
     labels: &mut [Label],
 ) -> bool
     requires entry { entry < problem.now.entries }
     requires placed { IsPlaced problem.now entry assign.old prices.old }
     requires loads { AreLoads problem.now assign.old loads.old }
+    requires members { AreMembers problem.now assign.old members.old }
+    requires table { IsTable problem.now assign.old table.old }
     requires labels { length labels.old ≡ consumers problem.now }
     ensures placed { result ≡ true → IsPlaced problem.now (entry + 1) assign.new prices.new }
     ensures loads { result ≡ true → AreLoads problem.now assign.new loads.new }
+    ensures members { result ≡ true → AreMembers problem.now assign.new members.new }
+    ensures table { result ≡ true → IsTable problem.now assign.new table.new }
     ensures stuck { result ≡ false → IsStuck problem.now entry assign.new prices.new labels.new }
 {
-    let Some(end) = search(problem, entry, assign, prices, loads, labels) else {
+    let Some(end) = search(
+        problem, entry, assign, prices, loads, members, table, labels,
+    ) else {
         return false;
     };
     raise(prices, labels, labels[end].dist);
-    shift(entry, assign, labels, end);
+    shift(problem, entry, end, labels, assign, members, table);
     loads[end] += 1;
     true
 }

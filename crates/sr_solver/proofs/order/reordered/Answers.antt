@@ -1,4 +1,3 @@
-use Rattle.std.proofs.Common.{arith}
 use Rattle.sr_solver.proofs.OrderLemmas.{order_length, order_below, reordered_limits}
 use Rattle.sr_solver.proofs.order.reordered.Goals as goal
 

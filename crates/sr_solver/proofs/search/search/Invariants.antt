@@ -1,9 +1,13 @@
 use Rattle.sr_solver.specs.Labels.{open_count}
+use Rattle.sr_solver.specs.Table.{IsTable}
 use Rattle.sr_solver.specs.Search.{IsRound}
 use Rattle.sr_solver.proofs.search.search.Given as goal
 
 abbrev pub invariant-loop-near : goal.invariant-loop-near
-invariant-loop-near l = IsRound l.problem l.entry l.assign l.prices l.labels
+invariant-loop-near l = record {
+  table : IsTable l.problem l.assign l.table;
+  round : IsRound l.problem l.entry l.assign l.prices l.labels;
+}
 
 abbrev pub decreases-loop-near : goal.decreases-loop-near
 decreases-loop-near l = open_count l.labels

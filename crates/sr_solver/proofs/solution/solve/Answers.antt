@@ -1,4 +1,4 @@
-use Rattle.std.proofs.Common.{◌∙◌, arith}
+use Rattle.std.proofs.Common.{arith}
 use Rattle.std.proofs.lemmas.List.{take_at}
 use Rattle.sr_transport.proofs.CallerLemmas.{prices_show_cheapest}
 use Rattle.sr_solver.proofs.OrderLemmas.{renamed_solution}

@@ -2,7 +2,7 @@ use Rattle.std.proofs.Common.{arith, ◌≡◌, ℕ, Option, sym, ap, ◌∙◌}
 use Rattle.std.specs.Prelude.{unwrap_or}
 use Rattle.sr_transport.specs.Problem.{cost_of}
 use Rattle.sr_solver.proofs.SearchLemmas.{cost_small}
-use Rattle.sr_solver.proofs.search.offer_from.Goals as goal
+use Rattle.sr_solver.proofs.search.offer.Goals as goal
 
 pub overflow_add-offer : goal.overflow_add-offer
 overflow_add-offer c =

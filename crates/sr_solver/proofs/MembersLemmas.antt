@@ -1,0 +1,352 @@
+-- The rows of members: an entry that is taken out, and one that is added.
+use Rattle.std.proofs.Common.{◌≡◌, ℕ, ◌+◌, ◌*◌, ◌^◌, ◌<◌, ◌≤◌, ◌==◌, ◌⊎◌, cond, List, length, get_or, Option, refl, sym, ap, ◌∙◌, inl, inr, arith}
+use Rattle.std.proofs.Math.ListN.{set, length-set}
+use Rattle.std.proofs.lemmas.Bool.{cases_eq, cases_lt}
+use Rattle.std.proofs.Math.Nat.{mul-le-mul_left}
+use Rattle.std.proofs.lemmas.Nat.{mul-add-lt}
+use Rattle.std.proofs.lemmas.List.{get_or-set_same, get_or-set_other}
+use Rattle.std.proofs.lemmas.List.Sums.{count_by-le-length}
+use Rattle.sr_transport.specs.Problem.{Transport, IsWithinLimits, consumers, cost_at, cost_of}
+use Rattle.sr_transport.specs.Assignment.{load}
+use Rattle.sr_solver.specs.declared.table.Bound.{Bound}
+use Rattle.sr_solver.specs.Table.{IsAt, IsApart, IsKnown, IsLowered}
+use Rattle.sr_solver.specs.Members.{IsListed, IsSeen, AreMembersOf, AreMembers, IsRemoved}
+use Rattle.sr_solver.proofs.PathLemmas.{one_at_same, one_at_other, load-set}
+use Rattle.sr_solver.proofs.TableLemmas.{rows_apart, HasCome, known_lowered, known_same}
+
+-- no more entries stand at a consumer than there are
+load_fits : (xs : List ℕ) (c : ℕ) → load xs c ≤ length xs
+load_fits xs c = count_by-le-length (λ x. x == c) xs
+
+-- the row of a list where the count alone fell
+record IsFallen (row : ℕ) (old mid : List ℕ) (last : ℕ) : Type 0 where
+  length : length mid ≡ length old
+  count : last + 1 ≡ get_or old row 0
+  here : get_or mid row 0 ≡ last
+  others : (q : ℕ) → (q ≡ row → ⊥) → get_or mid q 0 ≡ get_or old q 0
+
+fallen : (row : ℕ) (old : List ℕ) (last : ℕ) → row < length old → last + 1 ≡ get_or old row 0 → IsFallen row old (set old row last) last
+fallen row old last lt count = record {
+  length = length-set old row last;
+  count = count;
+  here = get_or-set_same old row last 0 lt;
+  others = λ q ne. get_or-set_other old row q last 0 ne;
+}
+
+-- the member to take out is the last one
+last_removed : (row entry : ℕ) (old mid : List ℕ) (last : ℕ) → IsFallen row old mid last
+    → IsListed old row (get_or old row 0) entry
+    → ((j : ℕ) → j < last → get_or mid (row + 1 + j) 0 ≡ entry → ⊥) → IsRemoved row entry old mid
+last_removed row entry old mid last fall listed passed =
+    let same : (j : ℕ) → get_or mid (row + 1 + j) 0 ≡ get_or old (row + 1 + j) 0 = λ j. fall.others (row + 1 + j) (λ e. omega arith) in
+    let at_last : get_or old (row + 1 + last) 0 ≡ entry =
+    elim (cases_lt listed.0 last) [
+      | inl early ↦ absurd (passed listed.0 early (same listed.0 ∙ listed.2))
+      | inr late ↦
+          let is_last : listed.0 ≡ last = omega (arith, listed.1, fall.count) in
+          ap (λ j. get_or old (row + 1 + j) 0) (sym is_last) ∙ listed.2
+    ] in
+    record {
+      one_each = fall.length;
+      count = omega (arith, fall.count, fall.here);
+      others = λ q out. fall.others q (λ e. elim out [ inl low ↦ omega arith | inr high ↦ omega arith ]);
+      from = λ j lt. (j, omega (arith, lt, fall.here, fall.count), sym (same j));
+      kept = λ j lt ne.
+          let early : j < get_or mid row 0 =
+          elim (cases_eq j last) [
+            | inl e ↦ absurd (ne (ap (λ k. get_or old (row + 1 + k) 0) e ∙ at_last))
+            | inr other ↦ omega (arith, lt, fall.count, fall.here)
+          ] in
+          (j, early, same j);
+    }
+
+-- it is found before
+place_removed : (row entry : ℕ) (old mid : List ℕ) (last place : ℕ) → IsFallen row old mid last
+    → row + get_or old row 0 < length old → place < last → get_or mid (row + 1 + place) 0 ≡ entry
+    → IsRemoved row entry old (set mid (row + 1 + place) (get_or mid (row + 1 + last) 0))
+place_removed row entry old mid last place fall room early found =
+    let x : ℕ = get_or mid (row + 1 + last) 0 in
+    let new : List ℕ = set mid (row + 1 + place) x in
+    let same : (j : ℕ) → get_or mid (row + 1 + j) 0 ≡ get_or old (row + 1 + j) 0 = λ j. fall.others (row + 1 + j) (λ e. omega arith) in
+    let in_list : row + 1 + place < length mid = omega (arith, fall.length, fall.count, room, early) in
+    let here : get_or new (row + 1 + place) 0 ≡ x = get_or-set_same mid (row + 1 + place) x 0 in_list in
+    let other : (q : ℕ) → (q ≡ row + 1 + place → ⊥) → get_or new q 0 ≡ get_or mid q 0 =
+    λ q ne. get_or-set_other mid (row + 1 + place) q x 0 ne in
+    let head : get_or new row 0 ≡ last = other row (λ e. omega arith) ∙ fall.here in
+    record {
+      one_each = length-set mid (row + 1 + place) x ∙ fall.length;
+      count = omega (arith, fall.count, head);
+      others = λ q out.
+          other q (λ e. elim out [ inl low ↦ omega arith | inr high ↦ omega (arith, fall.count) ])
+          ∙ fall.others q (λ e. elim out [ inl low ↦ omega arith | inr high ↦ omega arith ]);
+      from = λ j lt. elim (cases_eq j place) [
+        | inl e ↦ (last, omega (arith, fall.count), sym (ap (λ k. get_or new (row + 1 + k) 0) e ∙ here ∙ same last))
+        | inr ne ↦ (j, omega (arith, lt, head, fall.count), sym (other (row + 1 + j) (λ e. ne (omega arith)) ∙ same j))
+      ];
+      kept = λ j lt ne. elim (cases_eq j last) [
+        | inl e ↦ (place, omega (arith, head), here ∙ same last ∙ ap (λ k. get_or old (row + 1 + k) 0) (sym e))
+        | inr before ↦
+            let apart : j ≡ place → ⊥ = λ e. ne (sym (same j) ∙ ap (λ k. get_or mid (row + 1 + k) 0) e ∙ found) in
+            (j, omega (arith, lt, fall.count, head, before), other (row + 1 + j) (λ e. apart (omega arith)) ∙ same j)
+      ];
+    }
+
+pub removed_last : (row entry : ℕ) (old mid : List ℕ) (last : ℕ) → mid ≡ set old row last → row < length old
+    → last + 1 ≡ get_or old row 0 → IsListed old row (get_or old row 0) entry
+    → ((j : ℕ) → j < last → get_or mid (row + 1 + j) 0 ≡ entry → ⊥) → IsRemoved row entry old mid
+removed_last row entry old mid last is lt count listed passed =
+    last_removed row entry old mid last (rw is (fallen row old last lt count)) listed passed
+
+pub removed_at : (row entry : ℕ) (old mid : List ℕ) (last place : ℕ) → mid ≡ set old row last → row + get_or old row 0 < length old
+    → last + 1 ≡ get_or old row 0 → place < last → get_or mid (row + 1 + place) 0 ≡ entry
+    → IsRemoved row entry old (set mid (row + 1 + place) (get_or mid (row + 1 + last) 0))
+removed_at row entry old mid last place is room count early found =
+    place_removed row entry old mid last place (rw is (fallen row old last (omega arith) count)) room early found
+
+-- what the row of a consumer with n entries is
+pub record IsRow (p : Transport) (members : List ℕ) (row n : ℕ) : Type 0 where
+  pub short : length members ≤ 2 ^ 32
+  pub count : get_or members row 0 ≡ n
+  pub fits : n ≤ p.entries
+  pub room : row + p.entries < length members
+
+pub row_of : (p : Transport) (count : ℕ → ℕ) (at : ℕ → ℕ → Type 0) (members : List ℕ) (c row : ℕ)
+    → IsWithinLimits p.rooms p.entries p.costs → AreMembersOf p count at members → c < consumers p → row ≡ c * (p.entries + 1)
+    → IsRow p members row (count c)
+row_of p count at members c row limits are lt is = record {
+  short = omega (arith, are.one_each, mul-le-mul_left (p.entries + 1) limits.consumers, limits.few_entries);
+  count = rw is (are.counted c lt);
+  fits = are.fits c lt;
+  room = omega (arith, is, are.one_each, mul-add-lt c (p.entries + 1) p.entries (consumers p) lt (omega arith));
+}
+
+-- the members while entry i stands nowhere, where it stood at a consumer
+pub members_left : (p : Transport) (xs : List ℕ) (i : ℕ) (old new : List ℕ)
+    → length xs ≡ p.entries → i < p.entries → get_or xs i 0 < consumers p
+    → AreMembers p xs old → IsRemoved (get_or xs i 0 * (p.entries + 1)) i old new
+    → AreMembersOf p (load (set xs i (consumers p))) (IsApart (IsAt xs p.entries) i) new
+members_left p xs i old new every lti within members removed =
+    let w : ℕ = p.entries + 1 in
+    let from : ℕ = get_or xs i 0 in
+    let nowhere : List ℕ = set xs i (consumers p) in
+    let loads : (c : ℕ) → c < consumers p → load nowhere c + cond (from == c) 1 0 ≡ load xs c =
+    λ c lt. omega (arith, load-set xs i (consumers p) c (omega (arith, every)), one_at_other (consumers p) c (λ e. omega (arith, e, lt))) in
+    let before : get_or old (from * w) 0 ≡ load xs from = members.counted from within in
+    let after : load nowhere from + 1 ≡ load xs from = omega (arith, loads from within, one_at_same from from refl) in
+    let now : get_or new (from * w) 0 ≡ load nowhere from = omega (arith, removed.count, before, after) in
+    let elsewhere : (c b : ℕ) → b < w → (c ≡ from → ⊥) → get_or new (c * w + b) 0 ≡ get_or old (c * w + b) 0 =
+    λ c b ltb ne. removed.others (c * w + b) (elim (rows_apart w c from b ltb ne) [
+      | inl low ↦ inl low
+      | inr high ↦ inr (omega (arith, before, members.fits from within))
+    ]) in
+    let other : (c : ℕ) → c < consumers p → (c ≡ from → ⊥) → load nowhere c ≡ load xs c =
+    λ c lt ne. omega (arith, loads c lt, one_at_other from c (λ e. ne (sym e))) in
+    record {
+      one_each = removed.one_each ∙ members.one_each;
+      counted = λ c lt. elim (cases_eq c from) [
+        | inl e ↦ rw e now
+        | inr ne ↦
+            let zero_more : get_or new (c * w + 0) 0 ≡ get_or old (c * w + 0) 0 = elsewhere c 0 (omega arith) ne in
+            let plain : c * w + 0 ≡ c * w = omega arith in
+            (rw plain at zero_more) ∙ members.counted c lt ∙ sym (other c lt ne)
+      ];
+      fits = λ c lt. omega (arith, loads c lt, members.fits c lt);
+      within = λ c j lt ltj. elim (cases_eq c from) [
+        | inl e ↦
+            let was = removed.from j (let below : j < load nowhere from = rw (← e) ltj in omega (arith, now, below)) in
+            rw e (rw (← was.2) (members.within from was.0 within (omega (arith, was.1, before))))
+        | inr ne ↦
+            let same : get_or new (c * w + (1 + j)) 0 ≡ get_or old (c * w + (1 + j)) 0 =
+            elsewhere c (1 + j) (omega (arith, ltj, other c lt ne, members.fits c lt)) ne in
+            let plain : c * w + (1 + j) ≡ c * w + 1 + j = omega arith in
+            omega (arith, rw plain at same, members.within c j lt (omega (arith, ltj, other c lt ne)))
+      ];
+      each = λ c k lt at.
+          let was = members.each c k lt at.0 in
+          elim (cases_eq c from) [
+            | inl e ↦
+                let listed : IsListed old (from * w) (load xs from) k = rw (← e) was in
+                let kept = removed.kept listed.0 (omega (arith, listed.1, before)) (λ same. at.1 (sym listed.2 ∙ same)) in
+                rw e (kept.0, omega (arith, kept.1, now), kept.2 ∙ listed.2)
+            | inr ne ↦
+                let same : get_or new (c * w + (1 + was.0)) 0 ≡ get_or old (c * w + (1 + was.0)) 0 =
+                elsewhere c (1 + was.0) (omega (arith, was.1, members.fits c lt)) ne in
+                let plain : c * w + (1 + was.0) ≡ c * w + 1 + was.0 = omega arith in
+                (was.0, omega (arith, was.1, other c lt ne), (rw plain at same) ∙ was.2)
+          ];
+    }
+
+-- the same, where it stood nowhere
+pub members_waiting : (p : Transport) (xs : List ℕ) (i : ℕ) (old : List ℕ)
+    → length xs ≡ p.entries → i < p.entries → consumers p ≤ get_or xs i 0 → AreMembers p xs old
+    → AreMembersOf p (load (set xs i (consumers p))) (IsApart (IsAt xs p.entries) i) old
+members_waiting p xs i old every lti nowhere members =
+    let loads : (c : ℕ) → c < consumers p → load (set xs i (consumers p)) c ≡ load xs c =
+    λ c lt. omega (
+      arith,
+      load-set xs i (consumers p) c (omega (arith, every)),
+      one_at_other (consumers p) c (λ e. omega (arith, e, lt)),
+      one_at_other (get_or xs i 0) c (λ e. omega (arith, e, lt)),
+    ) in
+    record {
+      one_each = members.one_each;
+      counted = λ c lt. members.counted c lt ∙ sym (loads c lt);
+      fits = λ c lt. omega (arith, loads c lt, members.fits c lt);
+      within = λ c j lt ltj. members.within c j lt (omega (arith, loads c lt, ltj));
+      each = λ c k lt at.
+          let was = members.each c k lt at.0 in
+          (was.0, omega (arith, was.1, loads c lt), was.2);
+    }
+
+-- a row has room for one more
+pub room_for_one : (p : Transport) (xs : List ℕ) (i c : ℕ) (members : List ℕ)
+    → length xs ≡ p.entries → i < p.entries → c < consumers p
+    → AreMembersOf p (load (set xs i (consumers p))) (IsApart (IsAt xs p.entries) i) members
+    → (load (set xs i (consumers p)) c + 1 ≡ load (set xs i c) c) × (load (set xs i (consumers p)) c < p.entries)
+room_for_one p xs i c members every lti lt are =
+    let more : load (set xs i (consumers p)) c + 1 ≡ load (set xs i c) c =
+    omega (
+      arith,
+      load-set xs i (consumers p) c (omega (arith, every)),
+      load-set xs i c c (omega (arith, every)),
+      one_at_other (consumers p) c (λ e. omega (arith, e, lt)),
+      one_at_same c c refl,
+    ) in
+    (more, omega (arith, more, load_fits (set xs i c) c, length-set xs i c, every))
+
+-- the members once entry i has come to consumer c
+pub members_come : (p : Transport) (xs : List ℕ) (i c row count : ℕ) (old : List ℕ)
+    → length xs ≡ p.entries → i < p.entries → c < consumers p
+    → AreMembersOf p (load (set xs i (consumers p))) (IsApart (IsAt xs p.entries) i) old
+    → row ≡ c * (p.entries + 1) → count ≡ get_or old row 0
+    → AreMembers p (set xs i c) (set (set old (row + 1 + count) i) row (count + 1))
+members_come p xs i c row count old every lti ltc members is_row is_count =
+    let w : ℕ = p.entries + 1 in
+    let nowhere : List ℕ = set xs i (consumers p) in
+    let one = room_for_one p xs i c old every lti ltc members in
+    let is_load : count ≡ load nowhere c = is_count ∙ ap (λ q. get_or old q 0) is_row ∙ members.counted c ltc in
+    let row_fits : row + w ≤ length old =
+    omega (arith, mul-add-lt c (p.entries + 1) p.entries (consumers p) ltc (omega arith), members.one_each, is_row) in
+    let mid : List ℕ = set old (row + 1 + count) i in
+    let new : List ℕ = set mid row (count + 1) in
+    let length_mid : length mid ≡ length old = length-set old (row + 1 + count) i in
+    let head : get_or new row 0 ≡ count + 1 = get_or-set_same mid row (count + 1) 0 (omega (arith, length_mid, row_fits)) in
+    let at_end : get_or new (row + 1 + count) 0 ≡ i =
+    get_or-set_other mid row (row + 1 + count) (count + 1) 0 (λ e. omega arith)
+    ∙ get_or-set_same old (row + 1 + count) i 0 (omega (arith, row_fits, is_load, one.1)) in
+    let same : (q : ℕ) → (q ≡ row → ⊥) → (q ≡ row + 1 + count → ⊥) → get_or new q 0 ≡ get_or old q 0 =
+    λ q ne far. get_or-set_other mid row q (count + 1) 0 ne ∙ get_or-set_other old (row + 1 + count) q i 0 far in
+    let elsewhere : (d b : ℕ) → b < w → (d ≡ c → ⊥) → get_or new (d * w + b) 0 ≡ get_or old (d * w + b) 0 =
+    λ d b ltb ne.
+    let apart : (d * w + b < row) ⊎ (row + w ≤ d * w + b) = rw is_row (rows_apart w d c b ltb ne) in
+    same (d * w + b) (λ e. elim apart [ inl low ↦ omega arith | inr high ↦ omega arith ])
+    (λ e. elim apart [ inl low ↦ omega arith | inr high ↦ omega (arith, is_load, one.1) ]) in
+    let other : (d : ℕ) → d < consumers p → (d ≡ c → ⊥) → load (set xs i c) d ≡ load nowhere d =
+    λ d lt ne. omega (
+      arith,
+      load-set xs i (consumers p) d (omega (arith, every)),
+      load-set xs i c d (omega (arith, every)),
+      one_at_other (consumers p) d (λ e. omega (arith, e, lt)),
+      one_at_other c d (λ e. ne (sym e)),
+    ) in
+    let loads : load (set xs i c) c ≡ count + 1 = omega (arith, one.0, is_load) in
+    record {
+      one_each = length-set mid row (count + 1) ∙ length_mid ∙ members.one_each;
+      counted = λ d lt. elim (cases_eq d c) [
+        | inl e ↦ rw e (rw (← is_row) (head ∙ sym loads))
+        | inr ne ↦
+            let zero_more : get_or new (d * w + 0) 0 ≡ get_or old (d * w + 0) 0 = elsewhere d 0 (omega arith) ne in
+            let plain : d * w + 0 ≡ d * w = omega arith in
+            (rw plain at zero_more) ∙ members.counted d lt ∙ sym (other d lt ne)
+      ];
+      fits = λ d lt. omega (arith, load_fits (set xs i c) d, length-set xs i c, every);
+      within = λ d j lt ltj. elim (cases_eq d c) [
+        | inl e ↦
+            let below : j < count + 1 = omega (arith, ltj, ap (λ x. load (set xs i c) x) e, loads) in
+            rw e (
+            rw (← is_row) (
+            elim (cases_eq j count) [
+              | inl last ↦ omega (arith, ap (λ k. get_or new (row + 1 + k) 0) last, at_end)
+              | inr before ↦
+                  let kept : get_or new (row + 1 + j) 0 ≡ get_or old (row + 1 + j) 0 =
+                  same (row + 1 + j) (λ e. omega arith) (λ e. before (omega arith)) in
+                  let was : get_or old (row + 1 + j) 0 < p.entries = rw is_row (members.within c j ltc (omega (arith, below, before, is_load))) in
+                  omega (arith, kept, was)
+            ]
+            )
+            )
+        | inr ne ↦
+            let kept : get_or new (d * w + (1 + j)) 0 ≡ get_or old (d * w + (1 + j)) 0 =
+            elsewhere d (1 + j) (omega (arith, ltj, other d lt ne, members.fits d lt)) ne in
+            let plain : d * w + (1 + j) ≡ d * w + 1 + j = omega arith in
+            omega (arith, rw plain at kept, members.within d j lt (omega (arith, ltj, other d lt ne)))
+      ];
+      each = λ d k lt at. elim (cases_eq d c) [
+        | inl e ↦
+            rw e (
+            rw (← is_row) (
+            elim (cases_eq k i) [
+              | inl new_one ↦ (count, omega (arith, loads), at_end ∙ sym new_one)
+              | inr ne ↦
+                  let stood : get_or xs k 0 ≡ c = sym (get_or-set_other xs i k c 0 ne) ∙ at.1 ∙ e in
+                  let was : IsListed old row (load nowhere c) k = rw is_row (members.each c k ltc ((at.0, stood), ne)) in
+                  let kept : get_or new (row + 1 + was.0) 0 ≡ get_or old (row + 1 + was.0) 0 =
+                  same (row + 1 + was.0) (λ e. omega arith) (λ e. omega (arith, was.1, is_load)) in
+                  (was.0, omega (arith, was.1, is_load, loads), kept ∙ was.2)
+            ]
+            )
+            )
+        | inr ne ↦
+            let moved : k ≡ i → ⊥ =
+            λ e. ne (sym at.1 ∙ ap (λ j. get_or (set xs i c) j 0) e ∙ get_or-set_same xs i c 0 (omega (arith, every))) in
+            let stood : get_or xs k 0 ≡ d = sym (get_or-set_other xs i k c 0 moved) ∙ at.1 in
+            let was = members.each d k lt ((at.0, stood), moved) in
+            let kept : get_or new (d * w + (1 + was.0)) 0 ≡ get_or old (d * w + (1 + was.0)) 0 =
+            elsewhere d (1 + was.0) (omega (arith, was.1, members.fits d lt)) ne in
+            let plain : d * w + (1 + was.0) ≡ d * w + 1 + was.0 = omega arith in
+            (was.0, omega (arith, was.1, other d lt ne), (rw plain at kept) ∙ was.2)
+      ];
+    }
+
+-- one member more is looked at: it stands at a
+pub seen_more : (p : Transport) (xs members : List ℕ) (row n i a b : ℕ) (old new : Option Bound)
+    → IsWithinLimits p.rooms p.entries p.costs → b < consumers p → i < p.entries → get_or xs i 0 ≡ a
+    → i ≡ get_or members (row + 1 + n) 0
+    → IsKnown p (IsSeen p xs members row n a) a b old → IsLowered i (cost_of p i a) (cost_at p i b) old new
+    → IsKnown p (IsSeen p xs members row (n + 1) a) a b new
+seen_more p xs members row n i a b old new limits ltb lti stands is known lowered =
+    let come : HasCome (IsSeen p xs members row n a) (IsSeen p xs members row (n + 1) a) i =
+    record {
+      stay = λ j seen. (seen.0, (seen.1.0, omega (arith, seen.1.1), seen.1.2));
+      here = ((lti, stands), (n, omega arith, sym is));
+      back = λ j seen. elim (cases_eq seen.1.0 n) [
+        | inl e ↦ inl (sym seen.1.2 ∙ ap (λ k. get_or members (row + 1 + k) 0) e ∙ sym is)
+        | inr ne ↦ inr (seen.0, (seen.1.0, omega (arith, seen.1.1, ne), seen.1.2))
+      ];
+    } in
+    known_lowered p (IsSeen p xs members row n a) (IsSeen p xs members row (n + 1) a) a b i old new limits come ltb known lowered
+
+-- or elsewhere
+pub seen_skip : (p : Transport) (xs members : List ℕ) (row n i a b : ℕ) (known : Option Bound) → (get_or xs i 0 ≡ a → ⊥)
+    → i ≡ get_or members (row + 1 + n) 0
+    → IsKnown p (IsSeen p xs members row n a) a b known → IsKnown p (IsSeen p xs members row (n + 1) a) a b known
+seen_skip p xs members row n i a b known elsewhere is =
+    known_same p (IsSeen p xs members row n a) (IsSeen p xs members row (n + 1) a) a b known
+    (λ j seen. (seen.0, (seen.1.0, omega (arith, seen.1.1), seen.1.2)))
+    (λ j seen. elim (cases_eq seen.1.0 n) [
+      | inl e ↦
+          let same : j ≡ i = sym seen.1.2 ∙ ap (λ k. get_or members (row + 1 + k) 0) e ∙ sym is in
+          absurd (elsewhere (sym (ap (λ k. get_or xs k 0) same) ∙ seen.0.1))
+      | inr ne ↦ (seen.0, (seen.1.0, omega (arith, seen.1.1, ne), seen.1.2))
+    ])
+
+-- all members were looked at
+pub seen_all : (p : Transport) (xs members : List ℕ) (row n a b : ℕ) (known : Option Bound) → a < consumers p
+    → AreMembers p xs members → row ≡ a * (p.entries + 1) → n ≡ get_or members row 0
+    → IsKnown p (IsSeen p xs members row n a) a b known → IsKnown p (IsAt xs p.entries a) a b known
+seen_all p xs members row n a b known lta are is_row is_count =
+    let all : n ≡ load xs a = is_count ∙ ap (λ q. get_or members q 0) is_row ∙ are.counted a lta in
+    known_same p (IsSeen p xs members row n a) (IsAt xs p.entries a) a b known (λ j seen. seen.0)
+    (λ j at.
+    let listed = are.each a j lta at in
+    (at, (listed.0, omega (arith, listed.1, all), rw is_row listed.2)))

@@ -1,0 +1,251 @@
+ghost use Rattle.std.specs.Prelude.{◌≡◌, ℕ, ◌+◌, ◌*◌, ◌^◌, ◌<◌, ◌≤◌, length, slice_index, slice_set, IfSome, IsSome, false};
+ghost use Rattle.sr_transport.specs.Problem.{IsWithinLimits, consumers, cost_at, cost_of, IsAllowed};
+ghost use Rattle.sr_transport.specs.Assignment.{load};
+ghost use Rattle.sr_solver.specs.Members.{AreMembersOf, AreMembers};
+ghost use Rattle.sr_solver.specs.Table.{IsAt, IsApart, IsKnown, IsTableOf, IsTable, IsWithout, IsLowered, IsRowChanged, IsMover, IsNoNearer};
+
+use crate::label::Label;
+use crate::members::{add, remove};
+use sr_transport::Problem;
+
+/// What is added to a difference of two costs, so that it is not below 0: the greatest cost.
+const ABOVE: u64 = 1 << 40;
+
+/// What is known of the entries that stand at one consumer and may go to another.
+#[derive(Clone, Copy)]
+pub struct Bound {
+    /// None of them costs less than this more at the other consumer, where `ABOVE` is added.
+    pub low: u64,
+    /// An entry that costs exactly this more, where one is known.
+    pub best: Option<usize>,
+}
+
+/// Whether an entry of which this is known may come nearer to a consumer with the label `label`, from one with the label
+/// `from`; `here` and `there` are the prices of the two.
+pub fn may_be_nearer(known: Option<Bound>, from: Label, here: u64, label: Label, there: u64) -> bool
+    requires dist { from.dist ≤ 2 ^ 60 }
+    requires here { here ≤ 2 ^ 60 }
+    requires there { there ≤ 2 ^ 60 }
+    requires label { 0 < label.hops → label.dist ≤ 2 ^ 60 }
+    requires low { IfSome known (λ bound. bound.low ≤ 2 ^ 41) }
+    ensures { result ≡ false → IsNoNearer known from here label there }
+{
+    let Some(bound) = known else {
+        return false;
+    };
+    if label.closed {
+        return false;
+    }
+    label.hops == 0 || from.dist + (bound.low + there) < label.dist + (ABOVE + here)
+}
+
+/// The entry at `from` that costs least more at `to`, or `None` where none may go there. Where the table doesn't know it, it
+/// is looked for, and noted.
+pub fn least_mover(
+    problem: &Problem,
+    from: usize,
+    to: usize,
+    assign: &[usize],
+    members: &[usize],
+    table: &mut [Option<Bound>],
+) -> Option<usize>
+    requires limits { IsWithinLimits problem.now.rooms problem.now.entries problem.now.costs }
+    requires every { length assign.now ≡ problem.now.entries }
+    requires from { from < consumers problem.now }
+    requires to { to < consumers problem.now }
+    requires placed { (i : ℕ) → IsAt assign.now problem.now.entries from i → IsAllowed problem.now i from }
+    requires members { AreMembers problem.now assign.now members.now }
+    requires table { IsTable problem.now assign.now table.old }
+    ensures mover { IsMover problem.now (IsAt assign.now problem.now.entries from) from to result }
+    ensures table { IsTable problem.now assign.now table.new }
+{
+    let pair = from * problem.consumers() + to;
+    if let Some(bound) = table[pair]
+        && let Some(mover) = bound.best
+    {
+        return Some(mover);
+    }
+    let found = find(problem, from, to, assign, members);
+    table[pair] = found;
+    let Some(bound) = found else {
+        return None;
+    };
+    bound.best
+}
+
+/// Looks through the entries at `from` for the one that costs least more at `to`.
+fn find(
+    problem: &Problem,
+    from: usize,
+    to: usize,
+    assign: &[usize],
+    members: &[usize],
+) -> Option<Bound>
+    requires limits { IsWithinLimits problem.now.rooms problem.now.entries problem.now.costs }
+    requires every { length assign.now ≡ problem.now.entries }
+    requires from { from < consumers problem.now }
+    requires to { to < consumers problem.now }
+    requires placed { (i : ℕ) → IsAt assign.now problem.now.entries from i → IsAllowed problem.now i from }
+    requires members { AreMembers problem.now assign.now members.now }
+    ensures known { IsKnown problem.now (IsAt assign.now problem.now.entries from) from to result }
+    ensures best { IfSome result (λ bound. IsSome bound.best) }
+{
+    let row = from * (problem.entries() + 1);
+    let mut found = None;
+    for place in 0..members[row] {
+        let other = members[row + 1 + place];
+        if assign[other] == from {
+            let here = problem.cost(other, from).unwrap();
+            let there = problem.cost(other, to);
+            found = lowered(found, other, here, there);
+        }
+    }
+    found
+}
+
+/// What is known once an entry has come that costs `here` where it stands, and `there` at the other consumer.
+fn lowered(known: Option<Bound>, entry: usize, here: u64, there: Option<u64>) -> Option<Bound>
+    requires here { here ≤ 2 ^ 40 }
+    requires there { IfSome there (λ c. c ≤ 2 ^ 40) }
+    ensures lowered { IsLowered entry here there known result }
+    ensures best { IfSome known (λ bound. IsSome bound.best) → IfSome result (λ bound. IsSome bound.best) }
+{
+    let Some(there) = there else {
+        return known;
+    };
+    let low = there + ABOVE - here;
+    if let Some(bound) = known
+        && bound.low <= low
+    {
+        return known;
+    }
+    Some(Bound {
+        low,
+        best: Some(entry),
+    })
+}
+
+/// Moves an entry to a consumer, from the one where it stands, if it stands anywhere.
+pub fn put(
+    problem: &Problem,
+    entry: usize,
+    to: usize,
+    assign: &mut [usize],
+    members: &mut [usize],
+    table: &mut [Option<Bound>],
+)
+    requires limits { IsWithinLimits problem.now.rooms problem.now.entries problem.now.costs }
+    requires entry { entry < problem.now.entries }
+    requires every { length assign.old ≡ problem.now.entries }
+    requires allowed { IsAllowed problem.now entry to }
+    requires members { AreMembers problem.now assign.old members.old }
+    requires table { IsTable problem.now assign.old table.old }
+    ensures assign { assign.new ≡ slice_set assign.old entry to }
+    ensures members { AreMembers problem.now assign.new members.new }
+    ensures table { IsTable problem.now assign.new table.new }
+{
+    take_out(problem, entry, assign, members, table);
+    bring_in(problem, entry, to, assign, members, table);
+    assign[entry] = to;
+}
+
+/// Takes an entry out of the members and the table, where it stands anywhere.
+fn take_out(
+    problem: &Problem,
+    entry: usize,
+    assign: &[usize],
+    members: &mut [usize],
+    table: &mut [Option<Bound>],
+)
+    requires limits { IsWithinLimits problem.now.rooms problem.now.entries problem.now.costs }
+    requires entry { entry < problem.now.entries }
+    requires every { length assign.now ≡ problem.now.entries }
+    requires members { AreMembers problem.now assign.now members.old }
+    requires table { IsTable problem.now assign.now table.old }
+    ensures members { AreMembersOf problem.now (load (slice_set assign.now entry (consumers problem.now)))
+        (IsApart (IsAt assign.now problem.now.entries) entry) members.new }
+    ensures table { IsTableOf problem.now (IsApart (IsAt assign.now problem.now.entries) entry) table.new }
+{
+    let from = assign[entry];
+    if problem.consumers() <= from {
+        return;
+    }
+    remove(members, from * (problem.entries() + 1), entry);
+    leave(problem, entry, from, table);
+}
+
+/// Brings an entry that stands nowhere into the members and the table, at a consumer.
+fn bring_in(
+    problem: &Problem,
+    entry: usize,
+    to: usize,
+    assign: &[usize],
+    members: &mut [usize],
+    table: &mut [Option<Bound>],
+)
+    requires limits { IsWithinLimits problem.now.rooms problem.now.entries problem.now.costs }
+    requires entry { entry < problem.now.entries }
+    requires every { length assign.now ≡ problem.now.entries }
+    requires allowed { IsAllowed problem.now entry to }
+    requires members { AreMembersOf problem.now (load (slice_set assign.now entry (consumers problem.now)))
+        (IsApart (IsAt assign.now problem.now.entries) entry) members.old }
+    requires table { IsTableOf problem.now (IsApart (IsAt assign.now problem.now.entries) entry) table.old }
+    ensures members { AreMembers problem.now (slice_set assign.now entry to) members.new }
+    ensures table { IsTable problem.now (slice_set assign.now entry to) table.new }
+{
+    add(members, to * (problem.entries() + 1), entry);
+    arrive(problem, entry, to, table);
+}
+
+/// Notes that an entry has left a consumer: it is no longer the best of those that may go elsewhere.
+fn leave(problem: &Problem, entry: usize, from: usize, table: &mut [Option<Bound>])
+    requires from { from < consumers problem.now }
+    requires each_pair { length table.old ≡ consumers problem.now * consumers problem.now }
+    ensures { IsRowChanged (consumers problem.now) from (consumers problem.now) (λ to old new. IsWithout entry old new) table.old table.new }
+{
+    for to in 0..problem.consumers() {
+        let pair = from * problem.consumers() + to;
+        let known = without(table[pair], entry);
+        table[pair] = known;
+    }
+}
+
+/// What is known once an entry has left.
+fn without(known: Option<Bound>, entry: usize) -> Option<Bound>
+    ensures { IsWithout entry known result }
+{
+    let Some(bound) = known else {
+        return None;
+    };
+    Some(Bound {
+        best: other_than(bound.best, entry),
+        ..bound
+    })
+}
+
+/// The best entry, unless it is this one.
+fn other_than(best: Option<usize>, entry: usize) -> Option<usize>
+    ensures { (k : ℕ) → result ≡ Some k → (best ≡ Some k) × (k ≡ entry → ⊥) }
+{
+    let Some(best) = best else {
+        return None;
+    };
+    if best == entry { None } else { Some(best) }
+}
+
+/// Notes that an entry has come to a consumer.
+fn arrive(problem: &Problem, entry: usize, to: usize, table: &mut [Option<Bound>])
+    requires limits { IsWithinLimits problem.now.rooms problem.now.entries problem.now.costs }
+    requires entry { entry < problem.now.entries }
+    requires allowed { IsAllowed problem.now entry to }
+    requires each_pair { length table.old ≡ consumers problem.now * consumers problem.now }
+    ensures { IsRowChanged (consumers problem.now) to (consumers problem.now)
+        (λ next. IsLowered entry (cost_of problem.now entry to) (cost_at problem.now entry next)) table.old table.new }
+{
+    let here = problem.cost(entry, to).unwrap();
+    for next in 0..problem.consumers() {
+        let pair = to * problem.consumers() + next;
+        let known = lowered(table[pair], entry, here, problem.cost(entry, next));
+        table[pair] = known;
+    }
+}
