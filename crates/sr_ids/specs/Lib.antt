@@ -1,3 +1,4 @@
 pub mod Id
 pub mod Next
 pub mod Spelling
+pub mod Spec

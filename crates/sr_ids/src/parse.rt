@@ -1,9 +1,11 @@
 ghost use Rattle.std.specs.Prelude.{◌≡◌, ℕ, List, IfSome, IfNone};
 ghost use Rattle.sr_ids.specs.declared.id.Id as ids;
+ghost use Rattle.sr_ids.specs.declared.spec.Spec as specs;
+ghost use Rattle.sr_ids.specs.Spec.{IsSpec};
 ghost use Rattle.sr_ids.specs.Spelling.{SpellsId, IsStart, IsEnd};
 
-use crate::Id;
 use crate::next::{id_before, succ};
+use crate::{Id, Spec};
 use sr_bytes::read_decimal;
 
 const LEAST: Id = Id { ms: 0, seq: 0 };
@@ -23,6 +25,22 @@ pub fn parse_strict(text: &[u8]) -> Option<Id>
     ensures none { IfNone result ((id : ids.Id) → SpellsId 0 text.now id → ⊥) }
 {
     parse_written(text, 0)
+}
+
+/// The id that a word of XADD asks for: `*`, `ms-*`, or an id as `parse_strict` takes it.
+///
+/// Source: Redis documentation, command XADD, "Specifying a Stream ID as an argument".
+pub fn parse_spec(text: &[u8]) -> Option<Spec>
+    ensures found { IfSome result (IsSpec text.now) }
+    ensures none { IfNone result ((spec : specs.Spec) → IsSpec text.now spec → ⊥) }
+{
+    if text == b"*".as_slice() {
+        return Some(Spec::Auto);
+    }
+    match text.strip_suffix(b"-*") {
+        Some(digits) => Some(Spec::Ms(read_decimal(digits, 20)?)),
+        None => Some(Spec::Written(parse_strict(text)?)),
+    }
 }
 
 /// The first id of the range that starts here: `-`, `+`, an id, or `(` before an id, which it leaves out.
@@ -78,10 +96,11 @@ fn parse_written(text: &[u8], missing: u64) -> Option<Id>
     }
 }
 
-/// No text is read to two ids: neither as a word, nor as the start of a range or its end.
+/// No text is read to two ids: neither as a word, nor as the start of a range or its end. Nor does it ask for two.
 pub fn one_reading()
     ensures written { (missing : ℕ) (text : List ℕ) (a b : ids.Id) →
         SpellsId missing text a → SpellsId missing text b → a ≡ b }
     ensures start { (text : List ℕ) (a b : ids.Id) → IsStart text a → IsStart text b → a ≡ b }
     ensures end { (text : List ℕ) (a b : ids.Id) → IsEnd text a → IsEnd text b → a ≡ b }
+    ensures spec { (text : List ℕ) (a b : specs.Spec) → IsSpec text a → IsSpec text b → a ≡ b }
 {}

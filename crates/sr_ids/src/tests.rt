@@ -1,12 +1,17 @@
 //! Spellings beside the ids that they are read as, ids beside their spellings, and ids beside the next ones.
 use crate::{
-    Id, IdFault, next_auto, next_in, parse_end, parse_start, parse_strict, succ, write_id,
+    Id, IdFault, Spec, next_auto, next_in, parse_end, parse_spec, parse_start, parse_strict, succ,
+    write_id,
 };
 
 const LAST: u64 = 18446744073709551615;
 
 fn id(ms: u64, seq: u64) -> Option<Id> {
     Some(Id { ms, seq })
+}
+
+fn written(ms: u64, seq: u64) -> Option<Spec> {
+    Some(Spec::Written(Id { ms, seq }))
 }
 
 #[test]
@@ -49,6 +54,32 @@ fn other_words_are_no_strict_ids(rt: HostRuntime) {
     ];
     for text in rows {
         assert_eq!(rt; parse_strict(text.as_bytes()), None, "at {text}");
+    }
+}
+
+#[test]
+fn ids_asked_for_are_read(rt: HostRuntime) {
+    let rows = [
+        ("*", Some(Spec::Auto)),
+        ("5-*", Some(Spec::Ms(5))),
+        ("18446744073709551615-*", Some(Spec::Ms(LAST))),
+        ("5", written(5, 0)),
+        ("5-1", written(5, 1)),
+        ("0-0", written(0, 0)),
+        ("00-00", written(0, 0)),
+        ("18446744073709551616-*", None),
+        ("000000000000000000005-*", None),
+        ("-*", None),
+        ("**", None),
+        ("5-**", None),
+        ("(5", None),
+        ("-", None),
+        ("+", None),
+        ("$", None),
+        ("", None),
+    ];
+    for (text, want) in rows {
+        assert_eq!(rt; parse_spec(text.as_bytes()), want, "at {text}");
     }
 }
 
