@@ -1,18 +1,22 @@
 -- Words have one right answer: each fault is of words that come less far on their way to a call.
-use Rattle.std.proofs.Common.{◌≡◌, ◌≢◌, ℕ, ◌<◌, List, ◌∷◌, length, Result, Ok, Err, inl, inr, ◌⊎◌, refl, ap, arith}
+use Rattle.std.proofs.Common.{◌≡◌, ◌≢◌, ℕ, ◌<◌, List, ◌∷◌, length, Option, Some, None, IfSome, Result, Ok, Err, inl, inr, ◌⊎◌, refl, ap, arith}
 use Rattle.sr_args.specs.declared.name.CommandName.{CommandName}
+use Rattle.sr_args.specs.declared.name.Measure.{Measure}
+use Rattle.sr_args.specs.declared.name.Measure.TheVariants as measures
+use Rattle.sr_args.specs.declared.call.TrimBy.{TrimBy}
+use Rattle.sr_args.specs.declared.call.TrimBy.TheVariants as bounds
+use Rattle.sr_args.specs.declared.call.Trim.{Trim}
 use Rattle.sr_args.specs.declared.call.Call.{Call}
+use Rattle.sr_args.specs.declared.call.Call.TheVariants as calls
 use Rattle.sr_args.specs.declared.call.Command.{Command}
 use Rattle.sr_args.specs.declared.call.Command.TheVariants as command
 use Rattle.sr_args.specs.declared.fault.CallFault.{CallFault}
 use Rattle.sr_args.specs.declared.fault.CallFault.TheVariants.{Unknown, Arity, Syntax, Number, BadId, Memory}
 use Rattle.sr_args.specs.Name.{IsSameName, IsCounted, command_text}
-use Rattle.sr_args.specs.Form.{Word, Reading, IsNamed, IsInstance, command_of}
-use Rattle.sr_args.specs.Command.{HasNumbers, HasIds, Means, IsWellCounted, IsCall, Refuses, Answers}
+use Rattle.sr_args.specs.Form.{Word, TrimReading, Reading, ping, xadd, xtrim, xdel, xlen, xrange, xrevrange, IsNamed, IsInstance, command_of}
+use Rattle.sr_args.specs.Command.{IsBound, IsTrim, IsOptionalTrim, HasBoundNumber, HasBoundId, HasTrimNumbers, HasTrimIds, trim_of, HasNumbers, HasIds, Means, IsWellCounted, IsCall, Refuses, Answers}
 use Rattle.sr_args.specs.Reader.{Reads, ReadsCall, Gives}
 use Rattle.sr_args.proofs.ReadingLemmas.{IsNamed-one, IsInstance-one, Means-one}
-use Rattle.sr_args.specs.Form.{ping, xadd, xlen, xrange}
-use Rattle.sr_args.specs.declared.call.Call.TheVariants as calls
 
 -- which fault comes before which, and all before a command
 rank : Result Command CallFault → ℕ
@@ -25,18 +29,51 @@ rank (Err Memory) = 5
 rank (Ok c) = 6
 
 -- a reading that means a call has its numbers and ids
+bound_number-from_is : (by : Measure) (word : Word) (read : TrimBy) → IsBound by word read → HasBoundNumber by word
+bound_number-from_is measures.MaxLen word (bounds.MaxLen n) p = (n, p)
+bound_number-from_is measures.MaxLen word (bounds.MinId id) p = absurd p
+bound_number-from_is measures.MinId word read p = tt
+
+bound_id-from_is : (by : Measure) (word : Word) (read : TrimBy) → IsBound by word read → HasBoundId by word
+bound_id-from_is measures.MaxLen word read p = tt
+bound_id-from_is measures.MinId word (bounds.MinId id) p = (id, p)
+bound_id-from_is measures.MinId word (bounds.MaxLen n) p = absurd p
+
+pub HasTrimNumbers-from_is : (reading : TrimReading) (trim : Trim) → IsTrim reading trim → HasTrimNumbers reading
+HasTrimNumbers-from_is reading trim p =
+    record { bound = bound_number-from_is reading.by reading.bound trim.by p.by; limit = (trim.limit, p.limit) }
+
+pub HasTrimIds-from_is : (reading : TrimReading) (trim : Trim) → IsTrim reading trim → HasTrimIds reading
+HasTrimIds-from_is reading trim p = bound_id-from_is reading.by reading.bound trim.by p.by
+
+pub trim_numbers-from_is : (reading : Option TrimReading) (trim : Option Trim) → IsOptionalTrim reading trim → IfSome reading HasTrimNumbers
+trim_numbers-from_is None trim p = tt
+trim_numbers-from_is (Some reading) (Some trim) p = HasTrimNumbers-from_is reading trim p
+trim_numbers-from_is (Some reading) None p = absurd p
+
+pub trim_ids-from_is : (reading : Option TrimReading) (trim : Option Trim) → IsOptionalTrim reading trim → IfSome reading HasTrimIds
+trim_ids-from_is None trim p = tt
+trim_ids-from_is (Some reading) (Some trim) p = HasTrimIds-from_is reading trim p
+trim_ids-from_is (Some reading) None p = absurd p
+
 HasNumbers-from_means : (reading : Reading) (call : Call) → Means reading call → HasNumbers reading
 HasNumbers-from_means (ping m) call p = tt
-HasNumbers-from_means (xadd k i fs) call p = tt
+HasNumbers-from_means (xadd k os i fs) (calls.Xadd l make trim a gs) p = trim_numbers-from_is (trim_of os) trim p.2
+HasNumbers-from_means (xtrim k t) (calls.Xtrim l trim) p = HasTrimNumbers-from_is t trim p.1
+HasNumbers-from_means (xdel k is) call p = tt
 HasNumbers-from_means (xlen k) call p = tt
 HasNumbers-from_means (xrange k s t n) (calls.Xrange a u v x) p = (x, p.3)
-HasNumbers-from_means (xrange k s t n) call p = absurd p
+HasNumbers-from_means (xrevrange k t s n) (calls.Xrevrange a v u x) p = (x, p.3)
+HasNumbers-from_means reading call p = absurd p
 
 HasIds-from_means : (reading : Reading) (call : Call) → Means reading call → HasIds reading
 HasIds-from_means (ping m) call p = tt
 HasIds-from_means (xlen k) call p = tt
-HasIds-from_means (xadd k i fs) (calls.Xadd a j gs) p = (j, p.1)
+HasIds-from_means (xadd k os i fs) (calls.Xadd l make trim a gs) p = (trim_ids-from_is (trim_of os) trim p.2, (a, p.3))
+HasIds-from_means (xtrim k t) (calls.Xtrim l trim) p = HasTrimIds-from_is t trim p.1
+HasIds-from_means (xdel k is) (calls.Xdel l ids) p = (ids, p.1)
 HasIds-from_means (xrange k s t n) (calls.Xrange a u v x) p = ((u, p.1), (v, p.2))
+HasIds-from_means (xrevrange k t s n) (calls.Xrevrange a v u x) p = ((v, p.1), (u, p.2))
 HasIds-from_means reading call p = absurd p
 
 -- where the answer is no fault up to a test's, the words pass the test

@@ -6,9 +6,9 @@ use Rattle.std.proofs.lemmas.Int.{ints}
 use Rattle.std.specs.Str.Parse.{AllDigits}
 use Rattle.sr_bytes.specs.Decimal.{IsDecimal}
 use Rattle.sr_bytes.proofs.DecimalLemmas.{IsDecimal-one}
-use Rattle.sr_args.specs.Number.{IsInt}
+use Rattle.sr_args.specs.Number.{IsInt, IsNat}
 use Rattle.sr_args.specs.Number.IsInt.{positive, negative}
-use Rattle.sr_args.specs.Command.{IsOptionalInt}
+use Rattle.sr_args.specs.Command.{IsOptionalInt, IsLimit}
 
 pub IsInt-from_negative : (word digits : List ℕ) (n : ℕ) (read : Option ℤ) → word ≡ 45 ∷ digits → IsDecimal 19 digits n → SomeIff read (FitsSigned w64 (pos 0 -ℤ pos n)) (pos 0 -ℤ pos n) → IfSome read (IsInt word)
 IsInt-from_negative word digits n None e d h = tt
@@ -43,3 +43,10 @@ IsOptionalInt-one None (Some x) y p q = absurd p
 IsOptionalInt-one None None (Some y) p q = absurd q
 IsOptionalInt-one (Some word) None y p q = absurd p
 IsOptionalInt-one (Some word) (Some x) None p q = absurd q
+
+pub IsNat-one : (word : List ℕ) (m n : ℕ) → IsNat word m → IsNat word n → m ≡ n
+IsNat-one word m n p q = let same = IsInt-one word (pos m) (pos n) p q in omega (arith, ints)
+
+pub IsLimit-one : (word : Option (List ℕ)) (m n : ℕ) → IsLimit word m → IsLimit word n → m ≡ n
+IsLimit-one None m n p q = p ∙ sym q
+IsLimit-one (Some word) m n p q = IsNat-one word m n p q

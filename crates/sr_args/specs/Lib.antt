@@ -3,3 +3,4 @@ pub mod Number
 pub mod Form
 pub mod Command
 pub mod Reader
+pub mod Options

@@ -8,3 +8,7 @@ use Rattle.sr_bytes.specs.Decimal.{IsDecimal}
 pub data IsInt (word : List ℕ) (z : ℤ) : Type 0 where
   positive : (n : ℕ) → IsDecimal 19 word n → n < 2 ^ 63 → z ≡ pos n → IsInt word z
   negative : (digits : List ℕ) (n : ℕ) → word ≡ codes "-" ++ digits → IsDecimal 19 digits n → n ≤ 2 ^ 63 → z ≡ neg_ℤ (pos n) → IsInt word z
+
+-- the word writes a number that is not below 0
+abbrev pub IsNat : List ℕ → ℕ → Type 0
+IsNat word n = IsInt word (pos n)

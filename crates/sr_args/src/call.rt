@@ -1,5 +1,27 @@
 use sr_bytes::{Fields, Name};
-use sr_ids::Id;
+use sr_ids::{Id, Ids, Spec};
+
+/// What a trim leaves in a stream.
+///
+/// Source: Redis documentation, command XTRIM.
+#[derive(Clone, Copy, Debug, PartialEq, Eq)]
+pub enum TrimBy {
+    /// MAXLEN: so many of the newest entries.
+    MaxLen(u64),
+    /// MINID: the entries that are not below this id.
+    MinId(Id),
+}
+
+/// A trim of a stream from its oldest entry on.
+///
+/// Source: Redis documentation, command XTRIM.
+#[derive(Clone, Copy, Debug, PartialEq, Eq)]
+pub struct Trim {
+    /// What it leaves.
+    pub by: TrimBy,
+    /// LIMIT: how many entries it removes at most, where it is above 0.
+    pub limit: u64,
+}
 
 /// A command that acts on the keys of one server.
 ///
@@ -13,8 +35,22 @@ pub enum Call {
     /// XADD: an entry for the stream at a key.
     Xadd {
         key: Name,
-        id: Id,
+        /// Whether a missing key is made: not with NOMKSTREAM.
+        make: bool,
+        /// How the stream is trimmed behind it.
+        trim: Option<Trim>,
+        id: Spec,
         fields: Fields,
+    },
+    /// XTRIM: the oldest entries go.
+    Xtrim {
+        key: Name,
+        trim: Trim,
+    },
+    /// XDEL: the entries with these ids go.
+    Xdel {
+        key: Name,
+        ids: Ids,
     },
     /// XLEN: how many entries the stream at a key has.
     Xlen {
@@ -25,6 +61,13 @@ pub enum Call {
         key: Name,
         start: Id,
         end: Id,
+        count: Option<i64>,
+    },
+    /// XREVRANGE: the same entries, the last of them first.
+    Xrevrange {
+        key: Name,
+        end: Id,
+        start: Id,
         count: Option<i64>,
     },
 }

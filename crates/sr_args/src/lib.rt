@@ -11,7 +11,7 @@ mod tests;
 mod value;
 mod words;
 
-pub use call::{Call, Command};
+pub use call::{Call, Command, Trim, TrimBy};
 pub use fault::CallFault;
-pub use name::{CommandName, OptionName};
+pub use name::{CommandName, Measure, OptionName, Sign};
 pub use read::{one_answer, read_call};

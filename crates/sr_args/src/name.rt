@@ -1,7 +1,8 @@
-ghost use Rattle.std.specs.Prelude.{◌≡◌, ◌↔◌, IsTrue, IfSome, IfNone};
+ghost use Rattle.std.specs.Prelude.{◌≡◌, ◌≢◌, ◌↔◌, IsTrue, IfSome, IfNone};
 ghost use Rattle.sr_args.specs.declared.name.CommandName as commands;
 ghost use Rattle.sr_args.specs.declared.name.OptionName as options;
-ghost use Rattle.sr_args.specs.Name.{IsSameName, IsCounted, command_text, option_text, fewest_words, most_words};
+ghost use Rattle.sr_args.specs.declared.name.Sign as signs;
+ghost use Rattle.sr_args.specs.Name.{IsSameName, IsCounted, command_text, option_text, sign_text, fewest_words, most_words};
 
 use sr_bytes::Name;
 
@@ -12,8 +13,11 @@ use sr_bytes::Name;
 pub enum CommandName {
     Ping,
     Xadd,
+    Xtrim,
+    Xdel,
     Xlen,
     Xrange,
+    Xrevrange,
 }
 
 /// The options of commands, by name. Names ignore ASCII case.
@@ -21,6 +25,32 @@ pub enum CommandName {
 pub enum OptionName {
     /// How many entries are wanted at most.
     Count,
+    /// A missing key is not made.
+    NoMkStream,
+    /// How many entries a trim leaves.
+    MaxLen,
+    /// Below which id entries go.
+    MinId,
+    /// How many entries a trim removes at most.
+    Limit,
+}
+
+/// By what a trim measures.
+#[derive(Clone, Copy, Debug, PartialEq, Eq)]
+pub enum Measure {
+    /// By the number of entries.
+    MaxLen,
+    /// By their ids.
+    MinId,
+}
+
+/// The sign before the bound of a trim.
+#[derive(Clone, Copy, Debug, PartialEq, Eq)]
+pub enum Sign {
+    /// `=`
+    Exact,
+    /// `~`
+    Nearly,
 }
 
 /// The command that a word names.
@@ -35,11 +65,20 @@ pub(crate) fn command_named(word: &Name) -> Option<CommandName>
     if word.eq_ignore_ascii_case(b"XADD") {
         return Some(CommandName::Xadd);
     }
+    if word.eq_ignore_ascii_case(b"XTRIM") {
+        return Some(CommandName::Xtrim);
+    }
+    if word.eq_ignore_ascii_case(b"XDEL") {
+        return Some(CommandName::Xdel);
+    }
     if word.eq_ignore_ascii_case(b"XLEN") {
         return Some(CommandName::Xlen);
     }
     if word.eq_ignore_ascii_case(b"XRANGE") {
         return Some(CommandName::Xrange);
+    }
+    if word.eq_ignore_ascii_case(b"XREVRANGE") {
+        return Some(CommandName::Xrevrange);
     }
     None
 }
@@ -53,7 +92,31 @@ pub(crate) fn option_named(word: &Name) -> Option<OptionName>
     if word.eq_ignore_ascii_case(b"COUNT") {
         return Some(OptionName::Count);
     }
+    if word.eq_ignore_ascii_case(b"NOMKSTREAM") {
+        return Some(OptionName::NoMkStream);
+    }
+    if word.eq_ignore_ascii_case(b"MAXLEN") {
+        return Some(OptionName::MaxLen);
+    }
+    if word.eq_ignore_ascii_case(b"MINID") {
+        return Some(OptionName::MinId);
+    }
+    if word.eq_ignore_ascii_case(b"LIMIT") {
+        return Some(OptionName::Limit);
+    }
     None
+}
+
+/// The sign that a word is.
+pub(crate) fn sign_named(word: &Name) -> Option<Sign>
+    ensures found { IfSome result (λ sign. word.now ≡ sign_text sign) }
+    ensures none { IfNone result ((sign : signs.Sign) → word.now ≢ sign_text sign) }
+{
+    match word.as_slice() {
+        b"=" => Some(Sign::Exact),
+        b"~" => Some(Sign::Nearly),
+        _ => None,
+    }
 }
 
 /// Whether a command takes so many words, its name counted.
@@ -72,7 +135,9 @@ fn limits(command: CommandName) -> (usize, Option<usize>)
     match command {
         CommandName::Ping => (1, Some(2)),
         CommandName::Xadd => (5, None),
+        CommandName::Xtrim => (4, Some(7)),
+        CommandName::Xdel => (3, None),
         CommandName::Xlen => (2, Some(2)),
-        CommandName::Xrange => (4, Some(6)),
+        CommandName::Xrange | CommandName::Xrevrange => (4, Some(6)),
     }
 }

@@ -1,5 +1,5 @@
-ghost use Rattle.std.specs.Prelude.{ℤ, IfSome, IfNone};
-ghost use Rattle.sr_args.specs.Number.{IsInt};
+ghost use Rattle.std.specs.Prelude.{ℕ, ℤ, IfSome, IfNone};
+ghost use Rattle.sr_args.specs.Number.{IsInt, IsNat};
 
 use sr_bytes::read_decimal;
 
@@ -14,4 +14,12 @@ pub(crate) fn read_int(word: &[u8]) -> Option<i64>
         [b'-', digits @ ..] => 0i64.checked_sub_unsigned(read_decimal(digits, 19)?),
         _ => i64::try_from(read_decimal(word, 19)?).ok(),
     }
+}
+
+/// The number that a word writes, where it is not below 0.
+pub(crate) fn read_nat(word: &[u8]) -> Option<u64>
+    ensures found { IfSome result (IsNat word.now) }
+    ensures none { IfNone result ((n : ℕ) → IsNat word.now n → ⊥) }
+{
+    u64::try_from(read_int(word)?).ok()
 }

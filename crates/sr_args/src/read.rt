@@ -6,11 +6,15 @@ ghost use Rattle.sr_args.specs.Command.{IsCommand, Refuses, Answers};
 ghost use Rattle.sr_args.specs.Reader.{Gives};
 
 use crate::name::{command_named, is_counted};
-use crate::value::{copy_fields, copy_optional, optional_int};
-use crate::words::{ping_words, xadd_words, xlen_words, xrange_words};
+use crate::value::{
+    copy_fields, copy_optional, optional_int, read_ids, read_optional_trim, read_trim,
+};
+use crate::words::{
+    ping_words, xadd_words, xdel_words, xlen_words, xrange_words, xrevrange_words, xtrim_words,
+};
 use crate::{Call, CallFault, Command, CommandName};
 use sr_bytes::Name;
-use sr_ids::{parse_end, parse_start, parse_strict};
+use sr_ids::{parse_end, parse_spec, parse_start};
 use std::alloc::Global;
 
 /// The command that the words of a request write.
@@ -41,8 +45,11 @@ fn read_operands(alloc: Global, command: CommandName, operands: &[Name]) -> Resu
     match command {
         CommandName::Ping => read_ping(alloc, operands),
         CommandName::Xadd => read_xadd(alloc, operands),
+        CommandName::Xtrim => read_xtrim(alloc, operands),
+        CommandName::Xdel => read_xdel(alloc, operands),
         CommandName::Xlen => read_xlen(alloc, operands),
         CommandName::Xrange => read_xrange(alloc, operands),
+        CommandName::Xrevrange => read_xrevrange(alloc, operands),
     }
 }
 
@@ -58,10 +65,35 @@ fn read_xadd(alloc: Global, operands: &[Name]) -> Result<Call, CallFault>
     ensures { Gives commands.Xadd operands.now result }
 {
     let words = xadd_words(operands).ok_or(CallFault::Syntax)?;
-    let id = parse_strict(words.id.as_slice()).ok_or(CallFault::BadId)?;
+    let trim = read_optional_trim(words.options.trim)?;
+    let id = parse_spec(words.id.as_slice()).ok_or(CallFault::BadId)?;
     let key = words.key.copy(alloc)?;
     let fields = copy_fields(alloc, words.fields)?;
-    Ok(Call::Xadd { key, id, fields })
+    Ok(Call::Xadd {
+        key,
+        make: !words.options.no_make,
+        trim,
+        id,
+        fields,
+    })
+}
+
+fn read_xtrim(alloc: Global, operands: &[Name]) -> Result<Call, CallFault>
+    ensures { Gives commands.Xtrim operands.now result }
+{
+    let words = xtrim_words(operands).ok_or(CallFault::Syntax)?;
+    let trim = read_trim(words.trim)?;
+    let key = words.key.copy(alloc)?;
+    Ok(Call::Xtrim { key, trim })
+}
+
+fn read_xdel(alloc: Global, operands: &[Name]) -> Result<Call, CallFault>
+    ensures { Gives commands.Xdel operands.now result }
+{
+    let words = xdel_words(operands).ok_or(CallFault::Syntax)?;
+    let ids = read_ids(alloc, words.ids)?;
+    let key = words.key.copy(alloc)?;
+    Ok(Call::Xdel { key, ids })
 }
 
 fn read_xlen(alloc: Global, operands: &[Name]) -> Result<Call, CallFault>
@@ -84,6 +116,22 @@ fn read_xrange(alloc: Global, operands: &[Name]) -> Result<Call, CallFault>
         key,
         start,
         end,
+        count,
+    })
+}
+
+fn read_xrevrange(alloc: Global, operands: &[Name]) -> Result<Call, CallFault>
+    ensures { Gives commands.Xrevrange operands.now result }
+{
+    let words = xrevrange_words(operands).ok_or(CallFault::Syntax)?;
+    let count = optional_int(words.count).ok_or(CallFault::Number)?;
+    let end = parse_end(words.end.as_slice()).ok_or(CallFault::BadId)?;
+    let start = parse_start(words.start.as_slice()).ok_or(CallFault::BadId)?;
+    let key = words.key.copy(alloc)?;
+    Ok(Call::Xrevrange {
+        key,
+        end,
+        start,
         count,
     })
 }

@@ -1,7 +1,7 @@
 use crate::number::read_int;
-use crate::{Call, CallFault, Command, read_call};
+use crate::{Call, CallFault, Command, Trim, TrimBy, read_call};
 use sr_bytes::{Fields, Name};
-use sr_ids::Id;
+use sr_ids::{Id, Spec};
 use std::alloc::{AllocError, Global};
 use std::process::Abort;
 
@@ -39,19 +39,54 @@ fn first_fault_is_answered(rt: HostRuntime) {
         ("PING a b", CallFault::Arity),
         ("XADD s x a", CallFault::Arity),
         ("XLEN", CallFault::Arity),
+        ("XTRIM s MAXLEN", CallFault::Arity),
+        ("XTRIM s MAXLEN ~ 1 LIMIT 2 3", CallFault::Arity),
+        ("XDEL s", CallFault::Arity),
         ("XRANGE s ! + COUNT 5 x", CallFault::Arity),
+        ("XREVRANGE s +", CallFault::Arity),
         ("XADD s 1-1 a b c", CallFault::Syntax),
         ("XADD s x a b c", CallFault::Syntax),
+        ("XADD s NOMKSTREAM a b", CallFault::Syntax),
+        ("XADD s NOMKSTREAM NOMKSTREAM 1-1 a b", CallFault::Syntax),
+        ("XADD s MAXLEN 1 MINID 1 1-1 a b", CallFault::Syntax),
+        ("XADD s MAXLEN 5 LIMIT 3 x", CallFault::Syntax),
+        ("XADD s MAXLEN = 5 LIMIT 3 1-1 a b", CallFault::Syntax),
+        (
+            "XADD s MAXLEN ~ 5 NOMKSTREAM LIMIT 1 1-1 a b",
+            CallFault::Syntax,
+        ),
+        ("XADD s LIMIT 3 1-1 a b", CallFault::Syntax),
+        ("XADD s limit a b", CallFault::Syntax),
+        ("XTRIM s FOO 1", CallFault::Syntax),
+        ("XTRIM s MAXLEN 1 x", CallFault::Syntax),
+        ("XTRIM s MAXLEN = = 5", CallFault::Syntax),
+        ("XTRIM s MAXLEN 1 LIMIT 2", CallFault::Syntax),
+        ("XTRIM s MAXLEN ~ 1 NOMKSTREAM", CallFault::Syntax),
+        ("XTRIM s MINID x LIMIT", CallFault::Syntax),
         ("XRANGE s - + COUNT", CallFault::Syntax),
         ("XRANGE s - + LIMIT 5", CallFault::Syntax),
         ("XRANGE s ! + COUNT x", CallFault::Number),
         ("XRANGE s - + COUNT 9223372036854775808", CallFault::Number),
         ("XRANGE s - + COUNT +1", CallFault::Number),
         ("XRANGE s - + COUNT ", CallFault::Number),
+        ("XTRIM s MAXLEN x", CallFault::Number),
+        ("XTRIM s MAXLEN -1", CallFault::Number),
+        ("XTRIM s MINID ~ x LIMIT y", CallFault::Number),
+        ("XADD s MAXLEN = = 1-1 a b", CallFault::Number),
+        ("XADD s MAXLEN NOMKSTREAM 1-1 a b", CallFault::Number),
+        ("XADD s MAXLEN x y a b", CallFault::Number),
         ("XADD s x a b", CallFault::BadId),
-        ("XADD s 5-* a b", CallFault::BadId),
+        ("XADD s + a b", CallFault::BadId),
+        ("XADD s $ a b", CallFault::BadId),
+        ("XADD s COUNT a b", CallFault::BadId),
+        ("XTRIM s MINID x", CallFault::BadId),
+        ("XTRIM s MINID -", CallFault::BadId),
+        ("XTRIM s MINID (5", CallFault::BadId),
+        ("XDEL s 1-1 x", CallFault::BadId),
+        ("XDEL s -", CallFault::BadId),
         ("XRANGE s (- +", CallFault::BadId),
         ("XRANGE s - !", CallFault::BadId),
+        ("XREVRANGE s (- +", CallFault::BadId),
     ] {
         // A refusal takes no memory, so it stays the same where memory runs out.
         let Ok(words) = words_of(rt.alloc(), line) else {
@@ -88,9 +123,18 @@ fn calls_are_read(rt: HostRuntime) {
         Err(fault) => assert_eq!(rt; *fault, CallFault::Memory),
     }
     match &read(&rt, "XADD s 5 a 1 b 2") {
-        Ok(Command::Call(Call::Xadd { key, id, fields })) => {
+        Ok(
+            Command::Call(
+                Call::Xadd {
+                    key,
+                    id,
+                    fields,
+                    ..
+                },
+            ),
+        ) => {
             assert!(rt; is_text(key, b"s"));
-            assert_eq!(rt; *id, Id { ms: 5, seq: 0 });
+            assert_eq!(rt; *id, Spec::Written(Id { ms: 5, seq: 0 }));
             assert!(rt; are_texts(fields, &[(b"a", b"1"), (b"b", b"2")]));
         }
         Ok(_) => assert!(rt; false),
@@ -135,6 +179,109 @@ fn range_is_read(rt: HostRuntime) {
             Ok(_) => assert!(rt; false, "{line}"),
             Err(fault) => assert_eq!(rt; *fault, CallFault::Memory, "{line}"),
         }
+    }
+}
+
+#[test]
+fn reverse_range_names_its_end_first(rt: HostRuntime) {
+    match &read(&rt, "XREVRANGE s + - COUNT 1") {
+        Ok(
+            Command::Call(
+                Call::Xrevrange {
+                    key,
+                    end,
+                    start,
+                    count,
+                },
+            ),
+        ) => {
+            assert!(rt; is_text(key, b"s"));
+            assert_eq!(rt; (end.ms, end.seq), (u64::MAX, u64::MAX));
+            assert_eq!(rt; (start.ms, start.seq), (0, 0));
+            assert_eq!(rt; *count, Some(1));
+        }
+        Ok(_) => assert!(rt; false),
+        Err(fault) => assert_eq!(rt; *fault, CallFault::Memory),
+    }
+}
+
+#[test]
+fn options_of_xadd_are_read(rt: HostRuntime) {
+    let first = Spec::Written(Id { ms: 1, seq: 1 });
+    for (line, want_make, want_trim, want_id) in [
+        ("XADD s * a b", true, None, Spec::Auto),
+        ("XADD s 5-* a b", true, None, Spec::Ms(5)),
+        (
+            "xadd s nomkstream maxlen ~ 10 limit 3 1-1 a b",
+            false,
+            Some(Trim {
+                by: TrimBy::MaxLen(10),
+                limit: 3,
+            }),
+            first,
+        ),
+        (
+            "XADD s MINID = 5 NOMKSTREAM * a b",
+            false,
+            Some(Trim {
+                by: TrimBy::MinId(Id { ms: 5, seq: 0 }),
+                limit: 0,
+            }),
+            Spec::Auto,
+        ),
+        (
+            "XADD s MAXLEN ~ 0 LIMIT 0 1-1 a b",
+            true,
+            Some(Trim {
+                by: TrimBy::MaxLen(0),
+                limit: 0,
+            }),
+            first,
+        ),
+    ] {
+        match &read(&rt, line) {
+            Ok(
+                Command::Call(
+                    Call::Xadd {
+                        key,
+                        make,
+                        trim,
+                        id,
+                        fields,
+                    },
+                ),
+            ) => {
+                assert!(rt; is_text(key, b"s"), "{line}");
+                assert_eq!(rt; *make, want_make, "{line}");
+                assert_eq!(rt; *trim, want_trim, "{line}");
+                assert_eq!(rt; *id, want_id, "{line}");
+                assert!(rt; are_texts(fields, &[(b"a", b"b")]), "{line}");
+            }
+            Ok(_) => assert!(rt; false, "{line}"),
+            Err(fault) => assert_eq!(rt; *fault, CallFault::Memory, "{line}"),
+        }
+    }
+}
+
+#[test]
+fn removals_are_read(rt: HostRuntime) {
+    match &read(&rt, "XTRIM s MAXLEN 007") {
+        Ok(Command::Call(Call::Xtrim { key, trim })) => {
+            assert!(rt; is_text(key, b"s"));
+            assert_eq!(rt; trim.by, TrimBy::MaxLen(7));
+            assert_eq!(rt; trim.limit, 0);
+        }
+        Ok(_) => assert!(rt; false),
+        Err(fault) => assert_eq!(rt; *fault, CallFault::Memory),
+    }
+    match &read(&rt, "XDEL s 1-1 5 1-1") {
+        Ok(Command::Call(Call::Xdel { key, ids })) => {
+            let first = Id { ms: 1, seq: 1 };
+            assert!(rt; is_text(key, b"s"));
+            assert!(rt; ids.as_slice() == [first, Id { ms: 5, seq: 0 }, first].as_slice());
+        }
+        Ok(_) => assert!(rt; false),
+        Err(fault) => assert_eq!(rt; *fault, CallFault::Memory),
     }
 }
 

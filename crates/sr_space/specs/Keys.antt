@@ -1,22 +1,27 @@
--- The keys of a server, in the order in which they were made, each with the entries of its stream.
+-- The keys of a server, in the order in which they were made, each with its stream.
 -- Source: Redis documentation, "Streams", and the pages of XADD and XLEN.
 
-use Rattle.std.specs.Prelude.{ℕ, List, [], ◌∷◌, ◌++◌, nat_eq, if◌then◌else◌}
+use Rattle.std.specs.Prelude.{ℕ, List, Option, Some, None, nat_eq}
 use Rattle.std.specs.Cmp.Lexicographic.{pointwise}
-use Rattle.sr_entries.specs.declared.entry.Entry.{Entry}
+use Rattle.std.specs.Map.{lookup}
+use Rattle.indexmap.specs.IndexMap.{insert_entry}
+use Rattle.sr_stream.specs.Stream.{StreamState, empty_stream}
 
 abbrev pub Key : Type 0
 Key = List ℕ
 
 abbrev pub Keys : Type 0
-Keys = List (Key × List Entry)
+Keys = List (Key × StreamState)
 
--- the entries at a key: none where the key is missing
-abbrev pub entries_at : Keys → Key → List Entry
-entries_at [] key = []
-entries_at (k ∷ keys) key = if pointwise nat_eq key k.0 then k.1 else entries_at keys key
+-- the stream at a key, where the key is there
+abbrev pub stream_at : Keys → Key → Option StreamState
+stream_at keys key = lookup (pointwise nat_eq key) keys
 
--- the entry at the end of the stream at a key, which is made where it is missing
-abbrev pub with_entry : Keys → Key → Entry → Keys
-with_entry [] key entry = (key, entry ∷ []) ∷ []
-with_entry (k ∷ keys) key entry = if pointwise nat_eq key k.0 then (k.0, k.1 ++ entry ∷ []) ∷ keys else k ∷ with_entry keys key entry
+-- the stream, or one to which nothing was added
+abbrev pub or_empty : Option StreamState → StreamState
+or_empty None = empty_stream
+or_empty (Some stream) = stream
+
+-- the keys with this stream at a key: in the place of the one that it had, or behind the others where the key is new
+abbrev pub with_stream : Keys → Key → StreamState → Keys
+with_stream keys key stream = insert_entry (pointwise nat_eq) keys key stream

@@ -1,3 +1,3 @@
 pub mod Keys
 pub mod Effect
-pub mod Layout
+pub mod Change

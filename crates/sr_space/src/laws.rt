@@ -1,17 +1,16 @@
-ghost use Rattle.std.specs.Prelude.{◌≡◌, ◌≢◌, ℕ, [], ◌∷◌, ◌++◌};
+ghost use Rattle.std.specs.Prelude.{◌≡◌, ◌≢◌, ℕ, Some};
 ghost use Rattle.sr_args.specs.declared.call.Call as calls;
-ghost use Rattle.sr_entries.specs.declared.entry.Entry as entries;
+ghost use Rattle.sr_stream.specs.Stream.{StreamState, IsStream};
 ghost use Rattle.sr_space.specs.Effect.{executed};
-ghost use Rattle.sr_entries.specs.Entries.{AreRising};
-ghost use Rattle.sr_space.specs.Keys.{Key, Keys, entries_at, with_entry};
+ghost use Rattle.sr_space.specs.Keys.{Key, Keys, stream_at, with_stream};
 
-/// An entry goes to the end of the stream at its key, and the other streams stay. Where the entries of each stream
-/// rise, as they do where there are no keys, they do so after each command.
-pub fn one_stream_grows()
-    ensures at_key { (keys : Keys) (key : Key) (entry : entries.Entry) →
-        entries_at (with_entry keys key entry) key ≡ entries_at keys key ++ entry ∷ [] }
-    ensures others { (keys : Keys) (key other : Key) (entry : entries.Entry) → other ≢ key →
-        entries_at (with_entry keys key entry) other ≡ entries_at keys other }
-    ensures rising { (keys : Keys) (moment : ℕ) (call : calls.Call) → ((key : Key) → AreRising (entries_at keys key)) →
-        (key : Key) → AreRising (entries_at (executed keys moment call).keys key) }
+/// A changed stream stands at its key, and the others stay. Where each stream is one whose entries rise up to its last
+/// id, as where there are no keys, it is so after each command. It does nothing.
+pub fn one_stream_changes()
+    ensures at_key { (keys : Keys) (key : Key) (stream : StreamState) → stream_at (with_stream keys key stream) key ≡ Some stream }
+    ensures others { (keys : Keys) (key other : Key) (stream : StreamState) → other ≢ key →
+        stream_at (with_stream keys key stream) other ≡ stream_at keys other }
+    ensures sound { (keys : Keys) (moment : ℕ) (call : calls.Call) →
+        ((key : Key) (stream : StreamState) → stream_at keys key ≡ Some stream → IsStream stream) →
+        (key : Key) (stream : StreamState) → stream_at (executed keys moment call).keys key ≡ Some stream → IsStream stream }
 {}

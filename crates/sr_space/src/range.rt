@@ -1,5 +1,7 @@
-ghost use Rattle.std.specs.Prelude.{◌≡◌, map, IfOk};
+ghost use Rattle.std.specs.Prelude.{◌≡◌, ℤ, List, Option, map, IfOk};
 ghost use Rattle.sr_ids.specs.Spelling.{spelling};
+ghost use Rattle.sr_entries.specs.declared.entry.Entry as entries;
+ghost use Rattle.sr_entries.specs.Entries.{first_of};
 ghost use Rattle.sr_resp.specs.Reply.{array_of, bulk_string};
 ghost use Rattle.sr_space.specs.Effect.{entry_answer, counted};
 
@@ -34,19 +36,8 @@ fn entry_reply(alloc: Global, entry: &Entry) -> Result<Reply, AllocError>
     Ok(reply)
 }
 
-/// Entries as an array of them, at most `count`.
-pub(crate) fn range_reply(
-    alloc: Global,
-    entries: &[Entry],
-    count: Option<i64>,
-) -> Result<Reply, AllocError>
-    ensures { IfOk result (λ reply. reply ≡ array_of (map entry_answer (counted count entries.now))) }
-{
-    entries_reply(alloc, at_most(entries, count))
-}
-
 /// Entries as an array of them.
-fn entries_reply(alloc: Global, entries: &[Entry]) -> Result<Reply, AllocError>
+pub(crate) fn entries_reply(alloc: Global, entries: &[Entry]) -> Result<Reply, AllocError>
     ensures { IfOk result (λ reply. reply ≡ array_of (map entry_answer entries.now)) }
 {
     let mut reply = Reply::empty_array(alloc);
@@ -56,15 +47,12 @@ fn entries_reply(alloc: Global, entries: &[Entry]) -> Result<Reply, AllocError>
     Ok(reply)
 }
 
-/// As many entries from the front as COUNT says.
-fn at_most(entries: &[Entry], count: Option<i64>) -> &[Entry]
-    ensures { result.now ≡ counted count entries.now }
+/// How many entries COUNT asks for at most: none where it is 0 or below.
+pub(crate) fn wanted(count: Option<i64>) -> Option<u64>
+    ensures { (list : List entries.Entry) → first_of result list ≡ counted count list }
 {
     match count {
-        None => entries,
-        Some(n) => {
-            let most = usize::try_from(n).unwrap_or(0);
-            &entries[..most.min(entries.len())]
-        }
+        None => None,
+        Some(n) => Some(u64::try_from(n).unwrap_or(0)),
     }
 }

@@ -1,9 +1,9 @@
 // What no clause says: that commands succeed while there is memory. What they reply to requests that were worked by hand is
 // tested from bytes to bytes, in sr_session.
 use crate::{Outcome, Space};
-use sr_args::Call;
+use sr_args::{Call, Trim, TrimBy};
 use sr_bytes::{Fields, Name};
-use sr_ids::Id;
+use sr_ids::{Id, Ids, Spec};
 use sr_resp::Reply;
 use std::alloc::{AllocError, Global};
 use std::hash::RandomState;
@@ -11,6 +11,9 @@ use std::process::Abort;
 use std::test::Fail;
 
 const LAST: u64 = 18446744073709551615;
+
+/// When each command is carried out.
+const MOMENT: u64 = 7;
 
 fn name(alloc: Global, text: &str) -> Result<Name, AllocError> {
     Ok(Name::new(Vec::from_slice(alloc, text.as_bytes())?))
@@ -21,13 +24,51 @@ fn bulk(alloc: Global, text: &str) -> Result<Reply, AllocError> {
 }
 
 /// XADD of the field `f` with this value.
-fn xadd(alloc: Global, key: &str, ms: u64, seq: u64, value: &str) -> Result<Call, AllocError> {
+fn xadd(
+    alloc: Global,
+    key: &str,
+    make: bool,
+    trim: Option<Trim>,
+    id: Spec,
+    value: &str,
+) -> Result<Call, AllocError> {
     let mut pairs = Vec::new(alloc);
     pairs.push((name(alloc, "f")?, name(alloc, value)?))?;
     Ok(Call::Xadd {
         key: name(alloc, key)?,
-        id: Id { ms, seq },
+        make,
+        trim,
+        id,
         fields: Fields::new(pairs),
+    })
+}
+
+/// MAXLEN without a LIMIT.
+fn max_len(keep: u64) -> Trim {
+    Trim {
+        by: TrimBy::MaxLen(keep),
+        limit: 0,
+    }
+}
+
+/// The id with this millisecond and the sequence number 0.
+fn at(ms: u64) -> Id {
+    Id { ms, seq: 0 }
+}
+
+fn xtrim(alloc: Global, key: &str, keep: u64) -> Result<Call, AllocError> {
+    Ok(Call::Xtrim {
+        key: name(alloc, key)?,
+        trim: max_len(keep),
+    })
+}
+
+fn xdel(alloc: Global, key: &str, id: Id) -> Result<Call, AllocError> {
+    let mut ids = Vec::new(alloc);
+    ids.push(id)?;
+    Ok(Call::Xdel {
+        key: name(alloc, key)?,
+        ids: Ids::new(ids),
     })
 }
 
@@ -37,25 +78,35 @@ fn xlen(alloc: Global, key: &str) -> Result<Call, AllocError> {
     })
 }
 
-/// XRANGE from one millisecond to another.
-fn xrange(
-    alloc: Global,
-    key: &str,
-    from: u64,
-    to: u64,
-    count: Option<i64>,
-) -> Result<Call, AllocError> {
+/// XRANGE of the whole stream.
+fn xrange(alloc: Global, key: &str) -> Result<Call, AllocError> {
     Ok(Call::Xrange {
         key: name(alloc, key)?,
-        start: Id { ms: from, seq: 0 },
-        end: Id { ms: to, seq: LAST },
-        count,
+        start: at(0),
+        end: Id {
+            ms: LAST,
+            seq: LAST,
+        },
+        count: None,
+    })
+}
+
+/// XREVRANGE of the whole stream.
+fn xrevrange(alloc: Global, key: &str) -> Result<Call, AllocError> {
+    Ok(Call::Xrevrange {
+        key: name(alloc, key)?,
+        end: Id {
+            ms: LAST,
+            seq: LAST,
+        },
+        start: at(0),
+        count: None,
     })
 }
 
 /// What is sent in reply to a command.
 fn sent(space: &mut Space, alloc: Global, call: &Call) -> Result<Reply, AllocError> {
-    let Outcome::Reply { send, .. } = space.exec(alloc, 0, call)?;
+    let Outcome::Reply { send, .. } = space.exec(alloc, MOMENT, call)?;
     Ok(send)
 }
 
@@ -79,36 +130,50 @@ fn listed(alloc: Global, entries: &[(&str, &str)]) -> Result<Reply, AllocError> 
     array(alloc, list)
 }
 
-/// What XLEN and XRANGE reply at the keys `s` and `t`.
+/// What XLEN and XRANGE reply at the keys `s`, `t` and `u`.
 fn seen(space: &mut Space, alloc: Global) -> Result<Reply, AllocError> {
     let mut replies = Vec::new(alloc);
-    for key in ["s", "t"] {
+    for key in ["s", "t", "u"] {
         replies.push(sent(space, alloc, &xlen(alloc, key)?)?)?;
-        replies.push(sent(space, alloc, &xrange(alloc, key, 0, LAST, None)?)?)?;
+        replies.push(sent(space, alloc, &xrange(alloc, key)?)?)?;
     }
     array(alloc, replies)
 }
 
+/// Commands of each kind that acts on keys.
+fn commands(alloc: Global) -> Result<Vec<Call>, AllocError> {
+    let newest = Some(max_len(1));
+    Ok(vec![in alloc;
+        xadd(alloc, "s", true, None, Spec::Written(at(1)), "a")?,
+        xadd(alloc, "s", true, None, Spec::Written(at(2)), "b")?,
+        xadd(alloc, "t", true, None, Spec::Written(at(1)), "c")?,
+        xadd(alloc, "t", true, newest, Spec::Auto, "d")?,
+        xadd(alloc, "s", true, None, Spec::Ms(5), "e")?,
+        xadd(alloc, "u", false, None, Spec::Auto, "nowhere")?,
+        xadd(alloc, "s", true, newest, Spec::Written(at(1)), "refused")?,
+        xtrim(alloc, "s", 2)?,
+        xdel(alloc, "s", at(2))?,
+        xrange(alloc, "s")?,
+        xrevrange(alloc, "s")?,
+        xlen(alloc, "t")?,
+    ]?)
+}
+
 /// Carries out commands, each of which is tried again where memory is refused to it.
 fn carry_out(rt: &impl Abort, space: &mut Space, alloc: Global) -> Result<(), AllocError> {
-    let calls = [
-        xadd(alloc, "s", 1, 0, "a")?,
-        xadd(alloc, "s", 2, 0, "b")?,
-        xadd(alloc, "t", 1, 0, "c")?,
-        xrange(alloc, "s", 0, LAST, None)?,
-        xlen(alloc, "t")?,
-        xadd(alloc, "s", 1, 0, "refused")?,
-    ];
-    for call in calls.iter() {
+    for call in commands(alloc)?.iter() {
         let before = seen(space, alloc)?;
         if sent(space, alloc, call).is_err() {
             assert!(rt; seen(space, alloc)? == before);
             let _again = sent(space, alloc, call)?;
         }
     }
-    let want = [("1-0", "a"), ("2-0", "b")];
-    let range = sent(space, alloc, &xrange(alloc, "s", 0, LAST, None)?)?;
-    assert!(rt; range == listed(alloc, &want)?);
+    let first = sent(space, alloc, &xrange(alloc, "s")?)?;
+    assert!(rt; first == listed(alloc, &[("5-0", "e")])?);
+    let second = sent(space, alloc, &xrange(alloc, "t")?)?;
+    assert!(rt; second == listed(alloc, &[("7-0", "d")])?);
+    let third = sent(space, alloc, &xrange(alloc, "u")?)?;
+    assert!(rt; third == Reply::empty_array(alloc));
     Ok(())
 }
 

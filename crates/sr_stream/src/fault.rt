@@ -1,0 +1,25 @@
+ghost use Rattle.std.specs.Prelude.{◌≡◌};
+ghost use Rattle.sr_stream.specs.declared.fault.AddFault.TheVariants.{Memory};
+
+use std::alloc::AllocError;
+
+/// Why an entry is not added. Of several reasons the first in this order is answered.
+///
+/// Source: Redis documentation, command XADD.
+#[derive(Clone, Copy, Debug, PartialEq, Eq)]
+pub enum AddFault {
+    /// The last id of the stream is the greatest of all.
+    Exhausted,
+    /// The id asked for is not above the last one of the stream.
+    Small,
+    /// Memory ran out. The entry has an id.
+    Memory,
+}
+
+impl From<AllocError> for AddFault {
+    ghost from_gives = { λ _ fault. fault ≡ Memory };
+
+    fn from(_error: AllocError) -> AddFault {
+        AddFault::Memory
+    }
+}

@@ -1,0 +1,12 @@
+//! One stream: entries added with ids that rise, listed, deleted and trimmed.
+#![tactic(auto)]
+
+mod fault;
+mod laws;
+mod stream;
+#[cfg(test)]
+mod tests;
+
+pub use fault::AddFault;
+pub use laws::given_ids_are_next;
+pub use stream::Stream;
