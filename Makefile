@@ -19,6 +19,11 @@ bench:
 	@cd crates/sr_server && rt run -- --stdio < /dev/null
 	@python3 bench/streams.py crates/sr_server/out/sr_server
 
-# Times the solver on the families of problems of docs/BENCH.md.
+# Times the solver on the families of problems of docs/BENCH.md, and, where its headers are installed, LEMON's network simplex
+# on the same problems.
 bench-solver:
 	@cd crates/bench_solver && rt run -- run
+	@if echo "#include <lemon/network_simplex.h>" | $(CXX) -E -x c++ - > /dev/null 2>&1; then \
+	    $(CXX) -O3 -o crates/bench_solver/out/lemon bench/lemon.cpp && echo 'LEMON:' \
+	        && crates/bench_solver/out/bench_solver print | crates/bench_solver/out/lemon; \
+	else echo 'LEMON is not installed (Debian: liblemon-dev)'; fi

@@ -56,6 +56,18 @@ pub(crate) fn falling(alloc: Global) -> Result<Costs, AllocError> {
     Ok(costs)
 }
 
+/// A consumer's rate times an entry's weight, the weights rising, but that the last consumer costs each entry the most that a
+/// pair may: so the costs of each entry differ by nearly as much.
+pub(crate) fn masked(alloc: Global) -> Result<Costs, AllocError> {
+    let mut costs = Vec::new(alloc);
+    for entry in 0..ENTRIES {
+        push_weighted(&mut costs, SHARED, entry as u64 * 128)?;
+        costs.pop();
+        costs.push(Some(MAX_COST))?;
+    }
+    Ok(costs)
+}
+
 /// Entries of some classes: a class gives the rates of its entries, and each entry has a random weight.
 pub(crate) fn classes(alloc: Global, count: u64) -> Result<Costs, AllocError> {
     let mut rng = Pcg32::new(SEED, SHARED);
@@ -162,13 +174,13 @@ pub(crate) fn window(alloc: Global) -> Result<Costs, AllocError> {
     Ok(costs)
 }
 
-/// Any cost for any pair, but that the last entry is allowed the first consumer alone.
+/// Any cost for any pair, but that each 64th entry, the last one too, is allowed the first consumer alone.
 pub(crate) fn last_is_short(alloc: Global) -> Result<Costs, AllocError> {
     let mut rng = Pcg32::new(SEED, SHARED);
     let mut costs = Vec::new(alloc);
     for entry in 0..ENTRIES {
         for consumer in 0..CONSUMERS {
-            let is_allowed = entry != ENTRIES - 1 || consumer == 0;
+            let is_allowed = entry % 64 != 63 || consumer == 0;
             push_random(&mut costs, &mut rng, is_allowed)?;
         }
     }

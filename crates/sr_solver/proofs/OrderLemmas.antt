@@ -1,5 +1,5 @@
 -- An answer of a problem whose entries stand in another order is one of the problem.
-use Rattle.std.proofs.Common.{◌≡◌, ℕ, zero, suc, ◌+◌, ◌*◌, ◌^◌, ◌<◌, ◌≤◌, ◌==◌, ◌≢◌, cond, List, [], ◌∷◌, length, length-append, get_or, Bool, refl, sym, ap, ◌∙◌, inl, inr, arith, eq-eqb, Option, None}
+use Rattle.std.proofs.Common.{◌≡◌, ℕ, zero, suc, ◌+◌, ◌*◌, ◌^◌, ◌<◌, ◌≤◌, ◌==◌, ◌≢◌, cond, List, [], ◌∷◌, ◌++◌, length, length-append, get_or, Bool, refl, sym, ap, ◌∙◌, inl, inr, arith, eq-eqb, Option, None}
 use Rattle.std.specs.Prelude.{unwrap_or, IfSome}
 use Rattle.std.specs.List.{All, sum_by}
 use Rattle.std.proofs.lemmas.List.{get_or_append_left, get_or_at, get_or-append-add, get_or-set_same, get_or-set_other}
@@ -92,6 +92,28 @@ row_at p i (suc n) c lt =
           let same : c ≡ n = omega arith in
           rw same (get_or_at (row_below p i n) (cost_at p i n) [] None n (length-row_below p i n))
     ]
+
+-- two lists of one length with the same at each place
+list_same : {X : Type 0} (xs ys : List X) (d : X) → length xs ≡ length ys
+    → ((i : ℕ) → i < length xs → get_or xs i d ≡ get_or ys i d) → xs ≡ ys
+list_same [] [] d e same = refl
+list_same [] (y ∷ ys) d e same = absurd (omega arith)
+list_same (x ∷ xs) [] d e same = absurd (omega arith)
+list_same (x ∷ xs) (y ∷ ys) d e same =
+    let first : x ≡ y = same 0 (omega arith) in
+    let rest : xs ≡ ys = list_same xs ys d (omega arith) (λ i lt. same (suc i) (omega arith)) in
+    rw first (rw rest refl)
+
+-- a list with the costs of entry i is its row
+pub row_is : (p : Transport) (i : ℕ) (row : List (Option ℕ)) → length row ≡ consumers p
+    → ((c : ℕ) → c < consumers p → get_or row c None ≡ cost_at p i c) → row ≡ row_below p i (consumers p)
+row_is p i row every each =
+    list_same row (row_below p i (consumers p)) None (every ∙ sym (length-row_below p i (consumers p)))
+    (λ c lt. let below : c < consumers p = omega (arith, lt, every) in each c below ∙ sym (row_at p i (consumers p) c below))
+
+pub rows_more : (p : Transport) (order : List ℕ) (k : ℕ)
+    → rows_below p order (k + 1) ≡ rows_below p order k ++ row_below p (get_or order k 0) (consumers p)
+rows_more p order k = let next : k + 1 ≡ suc k = omega arith in rw next refl
 
 pub length-rows_below : (p : Transport) (order : List ℕ) (k : ℕ) → length (rows_below p order k) ≡ k * consumers p
 length-rows_below p order zero = omega arith
@@ -228,6 +250,12 @@ rows_small p limits order is (suc n) le =
     (rows_small p limits order is n (omega arith))
     (row_small p limits (get_or order n 0) (consumers p)
     (All-get_or (λ i. i < p.entries) order n 0 (omega (arith, order_length p.entries order is)) (order_below p.entries order is)) (omega arith))
+
+pub is_reordered : (p q : Transport) (order rooms : List ℕ) (costs : List (Option ℕ)) → IsOrder p.entries order
+    → q ≡ record { rooms = rooms; entries = p.entries; costs = costs } → rooms ≡ p.rooms → costs ≡ rows_below p order (length order)
+    → IsReordered p q order
+is_reordered p q order rooms costs is same same_rooms same_costs =
+    rw same (record { rooms = same_rooms; entries = refl; costs = rw (order_length p.entries order is) at same_costs })
 
 pub reordered_limits : (p : Transport) (order rooms : List ℕ) (costs : List (Option ℕ)) → IsWithinLimits p.rooms p.entries p.costs
     → IsOrder p.entries order → rooms ≡ p.rooms → costs ≡ rows_below p order p.entries → IsWithinLimits rooms p.entries costs

@@ -1,18 +1,78 @@
--- One entry is placed: the prices rise, and the entries move along the path.
-use Rattle.std.proofs.Common.{◌≡◌, ℕ, ◌+◌, ◌^◌, ◌<◌, ◌≤◌, ◌⊎◌, Bool, true, false, List, length, get_or, refl, sym, ap, ◌∙◌, subst, inl, inr, arith}
+-- At the start no entry stands anywhere. Then one more is placed: the prices rise, and the entries move along the path.
+use Rattle.std.proofs.Common.{◌≡◌, ℕ, ◌+◌, ◌*◌, ◌^◌, ◌<◌, ◌≤◌, ◌⊎◌, Bool, true, false, List, length, get_or, refl, sym, ap, ◌∙◌, subst, inl, inr, arith}
 use Rattle.std.proofs.lemmas.Bool.{cases_eq, cases_lt, false≢true}
-use Rattle.std.proofs.Math.ListN.{set, length-set}
-use Rattle.std.proofs.lemmas.List.{get_or_past, get_or-set_same, get_or-set_other}
-use Rattle.sr_transport.specs.Problem.{Transport, consumers, room_of, IsAllowed}
+use Rattle.std.proofs.Math.ListN.{set, length-set, replicate}
+use Rattle.std.proofs.lemmas.List.{get_or_past, get_or-set_same, get_or-set_other, get_or-replicate, length-replicate}
+use Rattle.std.proofs.lemmas.List.Folds.{sum_by-replicate}
+use Rattle.std.proofs.lemmas.Nat.{mul-add-lt}
+use Rattle.sr_transport.specs.Problem.{Transport, IsWithinLimits, consumers, room_of, IsAllowed}
 use Rattle.sr_transport.specs.Assignment.{load}
 use Rattle.sr_transport.specs.Certificate.{IsLeast}
 use Rattle.sr_solver.specs.declared.label.Label.{Label}
 use Rattle.sr_solver.specs.Labels.{no_label, label_at, open_count, priced}
-use Rattle.sr_solver.specs.Placed.{IsPlaced, AreLoads}
+use Rattle.sr_solver.specs.declared.placement.Placement.{Placement}
+use Rattle.sr_solver.specs.Placed.{IsPlaced, AreLoads, IsStanding}
+use Rattle.sr_solver.specs.Members.{AreMembers}
 use Rattle.sr_solver.specs.Search.{IsWay, IsWithin, IsRound, IsEnd}
 use Rattle.sr_solver.specs.Path.{IsRaised, AreRaised, IsStep, ArePaths, AreShifted}
 use Rattle.sr_solver.proofs.PathLemmas.{one_at, one_at_same, one_at_other}
 use Rattle.sr_solver.proofs.LabelLemmas.{open_count-above}
+
+-- where each entry stands past the last consumer, no consumer has a load
+load_nowhere : (n top c : ℕ) → c < top → load (replicate n top) c ≡ 0
+load_nowhere n top c lt =
+    sum_by-replicate (λ x. one_at x c) n top ∙ ap (λ k. n * k) (one_at_other top c (λ e. omega (arith, e, lt))) ∙ omega arith
+
+-- and no entry stands at any
+none_at : (p : Transport) (i c : ℕ) → i < p.entries → c < consumers p → get_or (replicate p.entries (consumers p)) i 0 ≡ c → ⊥
+none_at p i c lt ltc at = omega (arith, ltc, at, get_or-replicate p.entries i (consumers p) 0 lt)
+
+none_placed : (p : Transport) → IsWithinLimits p.rooms p.entries p.costs
+    → IsPlaced p 0 (replicate p.entries (consumers p)) (replicate (consumers p) 0)
+none_placed p limits = record {
+  limits = limits;
+  every = length-replicate p.entries (consumers p);
+  one_each = length-replicate {A = ℕ} (consumers p) 0;
+  placed = λ i lt. absurd (omega (arith, lt));
+  waiting = λ i le lt. get_or-replicate p.entries i (consumers p) 0 lt;
+  in_room = λ c lt. omega (arith, load_nowhere p.entries (consumers p) c lt);
+  least = λ i lt. absurd (omega (arith, lt));
+  filled = λ c lt above. absurd (omega (arith, above, get_or-replicate {A = ℕ} (consumers p) c 0 0 lt));
+  low = λ c lt. omega (arith, get_or-replicate {A = ℕ} (consumers p) c 0 0 lt);
+}
+
+none_loads : (p : Transport) → AreLoads p (replicate p.entries (consumers p)) (replicate (consumers p) 0)
+none_loads p = record {
+  one_each = length-replicate {A = ℕ} (consumers p) 0;
+  each = λ c lt. get_or-replicate {A = ℕ} (consumers p) c 0 0 lt ∙ sym (load_nowhere p.entries (consumers p) c lt);
+}
+
+none_members : (p : Transport) → AreMembers p (replicate p.entries (consumers p)) (replicate (consumers p * (p.entries + 1)) 0)
+none_members p =
+    let none : (c : ℕ) → c < consumers p → load (replicate p.entries (consumers p)) c ≡ 0 =
+    λ c lt. load_nowhere p.entries (consumers p) c lt in
+    record {
+      one_each = length-replicate {A = ℕ} (consumers p * (p.entries + 1)) 0;
+      counted = λ c lt.
+          get_or-replicate {A = ℕ} (consumers p * (p.entries + 1)) (c * (p.entries + 1)) 0 0
+          (omega (arith, mul-add-lt c (p.entries + 1) 0 (consumers p) lt (omega arith)))
+          ∙ sym (none c lt);
+      fits = λ c lt. omega (arith, none c lt);
+      within = λ c j lt ltj. absurd (omega (arith, ltj, none c lt));
+      each = λ c i lt at. absurd (none_at p i c at.0 lt at.1);
+    }
+
+-- at the start no entry is placed, every load is 0, and no row has a member
+pub none_stands : (p : Transport) (placement : Placement) → IsWithinLimits p.rooms p.entries p.costs
+    → placement.assign.items ≡ replicate p.entries (consumers p) → placement.prices.items ≡ replicate (consumers p) 0
+    → placement.loads.items ≡ replicate (consumers p) 0
+    → placement.members.items ≡ replicate (consumers p * (p.entries + 1)) 0
+    → IsStanding p 0 placement
+none_stands p placement limits assign prices loads members = record {
+  placed = rw assign (rw prices (none_placed p limits));
+  loads = rw assign (rw loads (none_loads p));
+  members = rw assign (rw members (none_members p));
+}
 
 cases_bool : (b : Bool) → (b ≡ true) ⊎ (b ≡ false)
 cases_bool true = inl refl

@@ -16,12 +16,15 @@ some_small : (cost : Option ℕ) → IfSome cost (λ c. c ≤ 2 ^ 40) → unwrap
 some_small None small = omega arith
 some_small (Some c) small = small
 
-pub cost_small : (p : Transport) → IsWithinLimits p.rooms p.entries p.costs → (i c : ℕ) → cost_of p i c ≤ 2 ^ 40
-cost_small p limits i c =
+pub cost_at_small : (p : Transport) → IsWithinLimits p.rooms p.entries p.costs → (i c : ℕ) → IfSome (cost_at p i c) (λ n. n ≤ 2 ^ 40)
+cost_at_small p limits i c =
     elim (cases_lt (i * length p.rooms + c) (length p.costs)) [
-      | inl lt ↦ some_small (cost_at p i c) (All-get_or (λ cost. IfSome cost (λ n. n ≤ 2 ^ 40)) p.costs (i * length p.rooms + c) None lt limits.small_costs)
-      | inr past ↦ let none : cost_at p i c ≡ None = get_or_past p.costs (i * length p.rooms + c) None past in rw none (omega arith)
+      | inl lt ↦ All-get_or (λ cost. IfSome cost (λ n. n ≤ 2 ^ 40)) p.costs (i * length p.rooms + c) None lt limits.small_costs
+      | inr past ↦ let none : cost_at p i c ≡ None = get_or_past p.costs (i * length p.rooms + c) None past in rw none tt
     ]
+
+pub cost_small : (p : Transport) → IsWithinLimits p.rooms p.entries p.costs → (i c : ℕ) → cost_of p i c ≤ 2 ^ 40
+cost_small p limits i c = some_small (cost_at p i c) (cost_at_small p limits i c)
 
 -- a consumer past the last has no label
 past_label : (labels : List Label) (c : ℕ) → length labels ≤ c → label_at labels c ≡ no_label

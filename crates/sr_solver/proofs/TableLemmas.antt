@@ -1,6 +1,7 @@
 -- The table of bounds: what an entry that leaves or comes makes of it, and what a bound tells.
-use Rattle.std.proofs.Common.{◌≡◌, ℕ, ◌+◌, ◌*◌, ◌^◌, ◌<◌, ◌≤◌, ◌⊎◌, List, length, get_or, Option, Some, None, refl, sym, ap, ◌∙◌, inl, inr, arith}
+use Rattle.std.proofs.Common.{◌≡◌, ℕ, ◌+◌, ◌*◌, ◌^◌, ◌<◌, ◌≤◌, ◌⊎◌, List, length, get_or, Option, Some, None, refl, sym, ap, ◌∙◌, inl, inr, arith, false}
 use Rattle.std.specs.Prelude.{IsSome, IsSomeAnd, IfSome, unwrap_or}
+use Rattle.std.specs.Option.{is_some}
 use Rattle.std.proofs.Math.ListN.{set, length-set}
 use Rattle.std.proofs.Math.Nat.{mul-le-mul_left}
 use Rattle.std.proofs.lemmas.Nat.{mul-add-lt}
@@ -48,10 +49,29 @@ row_more n a i q to old new x changed lta lti every is step =
     let lt : a * n + i < length new = omega (arith, mul-add-lt a n i n lta lti, every, changed.one_each) in
     rw is (row_step n a i to old new x changed lt (rw (← is) step))
 
+-- the same, where nothing changes there
+pub row_stays : (n a i q : ℕ) (to : ℕ → Option Bound → Option Bound → Type 0) (old new : List (Option Bound))
+    → IsRowChanged n a i to old new → q ≡ a * n + i → to i (get_or new q None) (get_or new q None) → IsRowChanged n a (i + 1) to old new
+row_stays n a i q to old new changed is step =
+    let same : get_or new (a * n + i) None ≡ get_or old (a * n + i) None = changed.others (a * n + i) (inr (omega arith)) in
+    record {
+      one_each = changed.one_each;
+      row = λ b ltb. elim (cases_eq b i) [
+        | inl e ↦ rw e (let here : to i (get_or new (a * n + i) None) (get_or new (a * n + i) None) = rw is at step in rw (← same) here)
+        | inr ne ↦ changed.row b (omega arith)
+      ];
+      others = λ x out. changed.others x (elim out [ inl low ↦ inl low | inr high ↦ inr (omega arith) ]);
+    }
+
 -- the same costs
 pub lowered_is : (i here here' : ℕ) (there there' : Option ℕ) (old new : Option Bound) → here' ≡ here → there' ≡ there
     → IsLowered i here there old new → IsLowered i here' there' old new
 lowered_is i here here' there there' old new is_here is_there lowered = rw is_here (rw is_there lowered)
+
+-- an entry that may not go there changes nothing
+pub lowered_not : (i here : ℕ) (there : Option ℕ) (known : Option Bound) → is_some there ≡ false → IsLowered i here there known known
+lowered_not i here None known not_allowed = refl
+lowered_not i here (Some cost) known not_allowed = absurd (false≢true (sym not_allowed))
 
 -- the same entries
 pub known_same : (p : Transport) (at at' : ℕ → Type 0) (a b : ℕ) (known : Option Bound)

@@ -1,7 +1,7 @@
 -- What an offer of an entry does to the labels.
 
 use Rattle.std.specs.Prelude.{◌≡◌, ℕ, ◌+◌, ◌<◌, ◌≤◌, List, length, slice_index, ◌⊎◌, Option, Some, None, true, false}
-use Rattle.sr_transport.specs.Problem.{Transport, consumers, cost_at}
+use Rattle.sr_transport.specs.Problem.{Transport, cost_at}
 use Rattle.sr_solver.specs.declared.label.Label.{Label}
 use Rattle.sr_solver.specs.declared.label.Offer.{Offer}
 use Rattle.sr_solver.specs.Labels.{label_at, priced}
@@ -24,12 +24,6 @@ pub record IsTaken (offer : Offer) (sum : ℕ) (old new : Label) : Type 0 where
 abbrev pub IsOffered : Option ℕ → ℕ → Offer → Label → Label → Type 0
 IsOffered None price offer old new = new ≡ old
 IsOffered (Some cost) price offer old new = IsKept offer (cost + price) old new ⊎ IsTaken offer (cost + price) old new
-
--- the same at each consumer
-pub record AreOffered (p : Transport) (prices : List ℕ) (offer : Offer) (old new : List Label) : Type 0 where
-  pub one_each : length new ≡ length old
-  pub each : (c : ℕ) → c < consumers p
-      → IsOffered (cost_at p offer.mover c) (slice_index prices c) offer (label_at old c) (label_at new c)
 
 -- the same at consumer c alone
 pub record IsOfferedAt (p : Transport) (prices : List ℕ) (offer : Offer) (c : ℕ) (old new : List Label) : Type 0 where

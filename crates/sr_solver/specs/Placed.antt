@@ -4,6 +4,8 @@ use Rattle.std.specs.Prelude.{◌≡◌, ℕ, ◌*◌, ◌^◌, ◌<◌, ◌≤�
 use Rattle.sr_transport.specs.Problem.{Transport, IsWithinLimits, consumers, room_of, IsAllowed}
 use Rattle.sr_transport.specs.Assignment.{load}
 use Rattle.sr_transport.specs.Certificate.{IsLeast}
+use Rattle.sr_solver.specs.declared.placement.Placement.{Placement}
+use Rattle.sr_solver.specs.Members.{AreMembers}
 
 -- the first k entries are placed, and the prices show that none can be placed for less; the others stand past the last
 -- consumer
@@ -22,3 +24,9 @@ pub record IsPlaced (p : Transport) (k : ℕ) (xs prices : List ℕ) : Type 0 wh
 pub record AreLoads (p : Transport) (xs loads : List ℕ) : Type 0 where
   pub one_each : length loads ≡ consumers p
   pub each : (c : ℕ) → c < consumers p → slice_index loads c ≡ load xs c
+
+-- the first k entries stand where the placement says, and its loads and members are theirs
+pub record IsStanding (p : Transport) (k : ℕ) (placement : Placement) : Type 0 where
+  pub placed : IsPlaced p k placement.assign.items placement.prices.items
+  pub loads : AreLoads p placement.assign.items placement.loads.items
+  pub members : AreMembers p placement.assign.items placement.members.items

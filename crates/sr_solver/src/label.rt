@@ -1,9 +1,6 @@
-ghost use Rattle.std.specs.Prelude.{◌≡◌, ℕ, ◌+◌, ◌^◌, ◌<◌, ◌≤◌, ◌&&◌, not, nat_lt, length, slice_index, IfSome};
-ghost use Rattle.sr_transport.specs.Problem.{consumers, IsAllowed};
-ghost use Rattle.sr_solver.specs.Labels.{no_label, priced};
-ghost use Rattle.sr_solver.specs.Offers.{IsOffered, AreOffered};
-
-use sr_transport::Problem;
+ghost use Rattle.std.specs.Prelude.{◌≡◌, ◌+◌, ◌^◌, ◌≤◌, ◌&&◌, not, nat_lt, IfSome};
+ghost use Rattle.sr_solver.specs.Labels.{no_label};
+ghost use Rattle.sr_solver.specs.Offers.{IsOffered};
 
 /// What a search knows of a consumer.
 #[derive(Clone, Copy)]
@@ -49,23 +46,6 @@ pub struct Offer {
     pub base: u64,
     /// How many entries move along a path that ends with this one.
     pub hops: usize,
-}
-
-/// Offers an entry to each consumer.
-pub fn offer_to_all(problem: &Problem, prices: &[u64], offer: Offer, labels: &mut [Label])
-    requires entry { offer.mover < problem.now.entries }
-    requires prices_each { length prices.now ≡ consumers problem.now }
-    requires labels_each { length labels.old ≡ consumers problem.now }
-    requires dist { offer.dist ≤ 2 ^ 60 }
-    requires low { (c : ℕ) → c < consumers problem.now → slice_index prices.now c ≤ 2 ^ 60 }
-    requires above { (c : ℕ) → IsAllowed problem.now offer.mover c → offer.base ≤ offer.dist + priced problem.now prices.now offer.mover c }
-    ensures { AreOffered problem.now prices.now offer labels.old labels.new }
-{
-    for consumer in 0..problem.consumers() {
-        let cost = problem.cost(offer.mover, consumer);
-        let label = offered(cost, prices[consumer], offer, labels[consumer]);
-        labels[consumer] = label;
-    }
 }
 
 /// The label of a consumer after the offer of an entry that costs `cost` there.

@@ -7,6 +7,8 @@ mod label;
 mod members;
 mod order;
 mod path;
+mod placement;
+mod sample;
 mod search;
 mod shortage;
 mod solution;

@@ -41,8 +41,8 @@ fn narrowness(problem: &Problem, entry: usize) -> u64
 {
     let mut least = u64::MAX;
     let mut greatest = 0;
-    for consumer in 0..problem.consumers() {
-        if let Some(cost) = problem.cost(entry, consumer) {
+    for cost in problem.costs(entry) {
+        if let Some(cost) = *cost {
             least = least.min(cost);
             greatest = greatest.max(cost);
         }
@@ -73,28 +73,20 @@ fn rooms(alloc: Global, problem: &Problem) -> Result<Vec<u64>, AllocError>
     Ok(rooms)
 }
 
-/// The rows of costs in this order.
-fn rows(alloc: Global, problem: &Problem, order: &[usize]) -> Result<Vec<Option<u64>>, AllocError>
-    requires every { length order.now ≡ problem.now.entries }
-    requires below { All (λ entry. entry < problem.now.entries) order.now }
-    ensures { IfOk result (λ costs. costs.items ≡ rows_below problem.now order.now problem.now.entries) }
+/// The rows of costs of these entries.
+pub fn rows(
+    alloc: Global,
+    problem: &Problem,
+    order: &[usize],
+) -> Result<Vec<Option<u64>>, AllocError>
+    requires { All (λ entry. entry < problem.now.entries) order.now }
+    ensures { IfOk result (λ costs. costs.items ≡ rows_below problem.now order.now (length order.now)) }
 {
-    let mut costs = Vec::new(alloc);
-    for place in 0..problem.entries() {
-        push_row(&mut costs, problem, order[place])?;
+    let mut costs = Vec::with_capacity(alloc, order.len().saturating_mul(problem.consumers()))?;
+    for place in 0..order.len() {
+        costs.extend_from_slice(problem.costs(order[place]))?;
     }
     Ok(costs)
-}
-
-/// Adds the costs of an entry.
-fn push_row(costs: &mut Vec<Option<u64>>, problem: &Problem, entry: usize) -> Result<(), AllocError>
-    requires { entry < problem.now.entries }
-    ensures { IfOk result (λ done. costs.new.items ≡ costs.old.items ++ row_below problem.now entry (consumers problem.now)) }
-{
-    for consumer in 0..problem.consumers() {
-        costs.push(problem.cost(entry, consumer))?;
-    }
-    Ok(())
 }
 
 /// Gives to each entry what stands at its place in the order.

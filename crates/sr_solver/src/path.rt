@@ -6,6 +6,7 @@ ghost use Rattle.sr_solver.specs.Members.{AreMembers};
 ghost use Rattle.sr_solver.specs.Path.{AreRaised, ArePaths, AreShifted};
 
 use crate::label::Label;
+use crate::placement::Placement;
 use crate::table::{Bound, put};
 use sr_transport::Problem;
 
@@ -33,29 +34,30 @@ pub fn shift(
     entry: usize,
     end: usize,
     labels: &[Label],
-    assign: &mut [usize],
-    members: &mut [usize],
+    placement: &mut Placement,
     table: &mut [Option<Bound>],
 )
     requires limits { IsWithinLimits problem.now.rooms problem.now.entries problem.now.costs }
     requires one_each { length labels.now ≡ consumers problem.now }
-    requires every { length assign.old ≡ problem.now.entries }
-    requires paths { ArePaths labels.now entry assign.old }
+    requires every { length placement.old.assign.items ≡ problem.now.entries }
+    requires paths { ArePaths labels.now entry placement.old.assign.items }
     requires allowed { (c : ℕ) → c < length labels.now → 0 < (label_at labels.now c).hops
         → IsAllowed problem.now (label_at labels.now c).mover c }
     requires end { end < length labels.now }
     requires reached { 0 < (label_at labels.now end).hops }
-    requires members { AreMembers problem.now assign.old members.old }
-    requires table { IsTable problem.now assign.old table.old }
-    ensures assign { AreShifted labels.now entry end assign.old assign.new }
-    ensures members { AreMembers problem.now assign.new members.new }
-    ensures table { IsTable problem.now assign.new table.new }
+    requires members { AreMembers problem.now placement.old.assign.items placement.old.members.items }
+    requires table { IsTable problem.now placement.old.assign.items table.old }
+    ensures assign { AreShifted labels.now entry end placement.old.assign.items placement.new.assign.items }
+    ensures prices { placement.new.prices ≡ placement.old.prices }
+    ensures loads { placement.new.loads ≡ placement.old.loads }
+    ensures members { AreMembers problem.now placement.new.assign.items placement.new.members.items }
+    ensures table { IsTable problem.now placement.new.assign.items table.new }
 {
     let mut place = end;
     'path: loop {
         let mover = labels[place].mover;
-        let from = assign[mover];
-        put(problem, mover, place, assign, members, table);
+        let from = placement.assign[mover];
+        put(problem, mover, place, placement, table);
         if mover == entry {
             return;
         }

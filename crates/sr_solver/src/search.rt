@@ -2,14 +2,15 @@ ghost use Rattle.std.specs.Prelude.{◌≡◌, ℕ, ◌^◌, ◌<◌, ◌≤◌,
 ghost use Rattle.sr_transport.specs.Problem.{IsWithinLimits, consumers, room_of, IsAllowed};
 ghost use Rattle.sr_transport.specs.Assignment.{load};
 ghost use Rattle.sr_transport.specs.Certificate.{IsLeast};
-ghost use Rattle.sr_solver.specs.Labels.{no_label, label_at, open_count};
-ghost use Rattle.sr_solver.specs.Placed.{IsPlaced, AreLoads};
+ghost use Rattle.sr_solver.specs.Labels.{label_at, open_count};
+ghost use Rattle.sr_solver.specs.Placed.{IsPlaced, IsStanding};
 ghost use Rattle.sr_solver.specs.Offers.{IsOfferedAt, offer_of};
 ghost use Rattle.sr_solver.specs.Table.{IsTable};
 ghost use Rattle.sr_solver.specs.Members.{AreMembers};
 ghost use Rattle.sr_solver.specs.Search.{IsStarted, IsBetter, IsNearest, AreAllClosed, IsSearch, IsRound, IsAsked, IsEnd};
 
-use crate::label::{Label, Offer, offer_to_all, offered};
+use crate::label::{Label, Offer, offered};
+use crate::placement::Placement;
 use crate::table::{Bound, least_mover, may_be_nearer};
 use sr_transport::Problem;
 
@@ -19,30 +20,26 @@ use sr_transport::Problem;
 pub fn search(
     problem: &Problem,
     entry: usize,
-    assign: &[usize],
-    prices: &[u64],
-    loads: &[u64],
-    members: &[usize],
+    placement: &Placement,
     table: &mut [Option<Bound>],
     labels: &mut [Label],
 ) -> Option<usize>
     requires entry { entry < problem.now.entries }
-    requires placed { IsPlaced problem.now entry assign.now prices.now }
-    requires loads { AreLoads problem.now assign.now loads.now }
-    requires members { AreMembers problem.now assign.now members.now }
-    requires table { IsTable problem.now assign.now table.old }
+    requires standing { IsStanding problem.now entry placement.now }
+    requires table { IsTable problem.now placement.now.assign.items table.old }
     requires labels { length labels.old ≡ consumers problem.now }
-    ensures table { IsTable problem.now assign.now table.new }
-    ensures end { IfSome result (IsEnd problem.now entry assign.now prices.now labels.new) }
-    ensures round { IfNone result (IsRound problem.now entry assign.now prices.now labels.new) }
+    ensures table { IsTable problem.now placement.now.assign.items table.new }
+    ensures end { IfSome result (IsEnd problem.now entry placement.now.assign.items placement.now.prices.items labels.new) }
+    ensures round { IfNone result (IsRound problem.now entry placement.now.assign.items placement.now.prices.items labels.new) }
     ensures all_closed { IfNone result (AreAllClosed problem.now labels.new) }
 {
-    start(problem, entry, prices, labels);
+    let loads = placement.loads.as_slice();
+    start(problem, entry, &placement.prices, labels);
     while let Some(near) = nearest(problem, loads, labels) {
         if loads[near] < problem.room(near) {
             return Some(near);
         }
-        close(problem, entry, near, assign, prices, members, table, labels);
+        close(problem, entry, near, placement, table, labels);
     }
     None
 }
@@ -55,21 +52,14 @@ fn start(problem: &Problem, entry: usize, prices: &[u64], labels: &mut [Label])
     requires low { (c : ℕ) → c < consumers problem.now → slice_index prices.now c ≤ 2 ^ 60 }
     ensures { IsStarted problem.now entry prices.now labels.new }
 {
-    clear(labels);
     let offer = Offer {
         mover: entry,
         dist: 0,
         base: 0,
         hops: 1,
     };
-    offer_to_all(problem, prices, offer, labels);
-}
-
-fn clear(labels: &mut [Label])
-    ensures { (c : ℕ) → c < length labels.old → label_at labels.new c ≡ no_label }
-{
-    for label in labels.iter_mut() {
-        *label = Label::none();
+    for (consumer, cost) in problem.costs(entry).iter().enumerate() {
+        labels[consumer] = offered(*cost, prices[consumer], offer, Label::none());
     }
 }
 
@@ -118,21 +108,19 @@ fn close(
     problem: &Problem,
     entry: usize,
     near: usize,
-    assign: &[usize],
-    prices: &[u64],
-    members: &[usize],
+    placement: &Placement,
     table: &mut [Option<Bound>],
     labels: &mut [Label],
 )
     requires entry { entry < problem.now.entries }
-    requires placed { IsPlaced problem.now entry assign.now prices.now }
-    requires members { AreMembers problem.now assign.now members.now }
-    requires table { IsTable problem.now assign.now table.old }
-    requires round { IsRound problem.now entry assign.now prices.now labels.old }
+    requires placed { IsPlaced problem.now entry placement.now.assign.items placement.now.prices.items }
+    requires members { AreMembers problem.now placement.now.assign.items placement.now.members.items }
+    requires table { IsTable problem.now placement.now.assign.items table.old }
+    requires round { IsRound problem.now entry placement.now.assign.items placement.now.prices.items labels.old }
     requires nearest { IsNearest problem.now labels.old near }
-    requires full { load assign.now near ≡ room_of problem.now near }
-    ensures table { IsTable problem.now assign.now table.new }
-    ensures round { IsRound problem.now entry assign.now prices.now labels.new }
+    requires full { load placement.now.assign.items near ≡ room_of problem.now near }
+    ensures table { IsTable problem.now placement.now.assign.items table.new }
+    ensures round { IsRound problem.now entry placement.now.assign.items placement.now.prices.items labels.new }
     ensures fewer { open_count labels.new < open_count labels.old }
 {
     let label = labels[near];
@@ -141,9 +129,7 @@ fn close(
         ..label
     };
     for other in 0..problem.consumers() {
-        ask(
-            problem, entry, near, other, assign, prices, members, table, labels,
-        );
+        ask(problem, entry, near, other, placement, table, labels);
     }
 }
 
@@ -153,29 +139,28 @@ fn ask(
     entry: usize,
     near: usize,
     other: usize,
-    assign: &[usize],
-    prices: &[u64],
-    members: &[usize],
+    placement: &Placement,
     table: &mut [Option<Bound>],
     labels: &mut [Label],
 )
     requires entry { entry < problem.now.entries }
     requires near { near < consumers problem.now }
     requires other { other < consumers problem.now }
-    requires placed { IsPlaced problem.now entry assign.now prices.now }
-    requires members { AreMembers problem.now assign.now members.now }
-    requires table { IsTable problem.now assign.now table.old }
-    requires search { IsSearch problem.now entry assign.now prices.now labels.old near other }
+    requires placed { IsPlaced problem.now entry placement.now.assign.items placement.now.prices.items }
+    requires members { AreMembers problem.now placement.now.assign.items placement.now.members.items }
+    requires table { IsTable problem.now placement.now.assign.items table.old }
+    requires search { IsSearch problem.now entry placement.now.assign.items placement.now.prices.items labels.old near other }
     requires closed { (label_at labels.old near).closed ≡ true }
-    ensures table { IsTable problem.now assign.now table.new }
-    ensures asked { IsAsked problem.now entry assign.now prices.now near other labels.old labels.new }
+    ensures table { IsTable problem.now placement.now.assign.items table.new }
+    ensures asked { IsAsked problem.now entry placement.now.assign.items placement.now.prices.items near other labels.old labels.new }
 {
+    let prices = placement.prices.as_slice();
     let (from, label) = (labels[near], labels[other]);
     let known = table[near * problem.consumers() + other];
     if !may_be_nearer(known, from, prices[near], label, prices[other]) {
         return;
     }
-    if let Some(mover) = least_mover(problem, near, other, assign, members, table) {
+    if let Some(mover) = least_mover(problem, near, other, placement, table) {
         offer(problem, near, mover, other, prices, labels);
     }
 }

@@ -1,15 +1,16 @@
 ghost use Rattle.std.specs.Prelude.{◌≡◌, ◌+◌, ◌<◌, length, IfOk, IfSome, IfNone, true, false};
 ghost use Rattle.sr_transport.specs.Problem.{consumers, IsWithinLimits};
 ghost use Rattle.sr_transport.specs.Assignment.{IsAssignment, total_of};
-ghost use Rattle.sr_solver.specs.Placed.{IsPlaced, AreLoads};
+ghost use Rattle.sr_solver.specs.Placed.{IsPlaced, IsStanding};
 ghost use Rattle.sr_solver.specs.Table.{IsTable};
-ghost use Rattle.sr_solver.specs.Members.{AreMembers};
 ghost use Rattle.sr_solver.specs.Search.{IsStuck};
 ghost use Rattle.sr_solver.specs.Solved.{IsSolution, IsOptimal};
 
 use crate::label::Label;
-use crate::order::{by_range, rename, reordered};
+use crate::order::{rename, reordered};
 use crate::path::{raise, shift};
+use crate::placement::Placement;
+use crate::sample::placing_order;
 use crate::search::search;
 use crate::shortage::stranded;
 use crate::table::Bound;
@@ -34,15 +35,15 @@ pub enum Solved {
 /// Solves a transportation problem: gives a cheapest assignment with prices that show it, or entries for which there
 /// are too few places.
 ///
-/// The entries are placed one after another, each along a shortest path that makes place for it. Those whose costs differ
-/// most are placed first.
+/// The entries are placed one after another, each along a shortest path that makes place for it. They come in an order of their
+/// own, on which the time depends, and not the worth of the answer.
 ///
 /// Source: the method of successive shortest paths (J. Edmonds, R. M. Karp, 1972).
 pub fn solve(alloc: Global, problem: &Problem) -> Result<Solved, AllocError>
     ensures solution { IfOk result (IsSolution problem.now) }
     ensures optimal { IfOk result (IsOptimal problem.now) }
 {
-    let order = by_range(alloc, problem)?;
+    let order = placing_order(alloc, problem)?;
     let other = reordered(alloc, problem, &order)?;
     let mut renamed = vec![in alloc; 0usize; problem.entries()]?;
     match solve_in_order(alloc, &other)? {
@@ -63,29 +64,27 @@ pub fn solve(alloc: Global, problem: &Problem) -> Result<Solved, AllocError>
 }
 
 /// Solves a problem, placing its entries in the order they have.
-fn solve_in_order(alloc: Global, problem: &Problem) -> Result<Solved, AllocError>
+pub(crate) fn solve_in_order(alloc: Global, problem: &Problem) -> Result<Solved, AllocError>
     ensures solution { IfOk result (IsSolution problem.now) }
     ensures optimal { IfOk result (IsOptimal problem.now) }
 {
     let consumers = problem.consumers();
-    let mut assign = vec![in alloc; consumers; problem.entries()]?;
-    let mut prices = vec![in alloc; 0u64; consumers]?;
-    let mut loads = vec![in alloc; 0u64; consumers]?;
-    let mut members = vec![in alloc; 0usize; consumers * (problem.entries() + 1)]?;
+    let assign = vec![in alloc; consumers; problem.entries()]?;
+    let prices = vec![in alloc; 0u64; consumers]?;
+    let loads = vec![in alloc; 0u64; consumers]?;
+    let members = vec![in alloc; 0usize; consumers * (problem.entries() + 1)]?;
+    let mut placement = Placement {
+        assign,
+        prices,
+        loads,
+        members,
+    };
     let mut table = vec![in alloc; None; consumers * consumers]?;
     let mut labels = vec![in alloc; Label::none(); consumers]?;
-    match place_all(
-        problem,
-        &mut assign,
-        &mut prices,
-        &mut loads,
-        &mut members,
-        &mut table,
-        &mut labels,
-    ) {
-        None => Ok(best(problem, assign, prices)),
+    match place_all(problem, &mut placement, &mut table, &mut labels) {
+        None => Ok(best(problem, placement.assign, placement.prices)),
         Some(entry) => {
-            let set = stranded(alloc, &assign, &labels, entry)?;
+            let set = stranded(alloc, &placement.assign, &labels, entry)?;
             Ok(Solved::Short { set })
         }
     }
@@ -108,25 +107,18 @@ fn best(problem: &Problem, assign: Vec<usize>, prices: Vec<u64>) -> Solved
 /// Places entry after entry, and gives the first for which there is no place.
 fn place_all(
     problem: &Problem,
-    assign: &mut [usize],
-    prices: &mut [u64],
-    loads: &mut [u64],
-    members: &mut [usize],
+    placement: &mut Placement,
     table: &mut [Option<Bound>],
     labels: &mut [Label],
 ) -> Option<usize>
-    requires placed { IsPlaced problem.now 0 assign.old prices.old }
-    requires loads { AreLoads problem.now assign.old loads.old }
-    requires members { AreMembers problem.now assign.old members.old }
-    requires table { IsTable problem.now assign.old table.old }
+    requires standing { IsStanding problem.now 0 placement.old }
+    requires table { IsTable problem.now placement.old.assign.items table.old }
     requires labels { length labels.old ≡ consumers problem.now }
-    ensures placed { IfNone result (IsPlaced problem.now problem.now.entries assign.new prices.new) }
-    ensures stuck { IfSome result (λ entry. IsStuck problem.now entry assign.new prices.new labels.new) }
+    ensures standing { IfNone result (IsStanding problem.now problem.now.entries placement.new) }
+    ensures stuck { IfSome result (λ entry. IsStuck problem.now entry placement.new.assign.items placement.new.prices.items labels.new) }
 {
     for entry in 0..problem.entries() {
-        if !place(
-            problem, entry, assign, prices, loads, members, table, labels,
-        ) {
+        if !place(problem, entry, placement, table, labels) {
             return Some(entry);
         }
     }
@@ -137,33 +129,24 @@ fn place_all(
 fn place(
     problem: &Problem,
     entry: usize,
-    assign: &mut [usize],
-    prices: &mut [u64],
-    loads: &mut [u64],
-    members: &mut [usize],
+    placement: &mut Placement,
     table: &mut [Option<Bound>],
     labels: &mut [Label],
 ) -> bool
     requires entry { entry < problem.now.entries }
-    requires placed { IsPlaced problem.now entry assign.old prices.old }
-    requires loads { AreLoads problem.now assign.old loads.old }
-    requires members { AreMembers problem.now assign.old members.old }
-    requires table { IsTable problem.now assign.old table.old }
+    requires standing { IsStanding problem.now entry placement.old }
+    requires table { IsTable problem.now placement.old.assign.items table.old }
     requires labels { length labels.old ≡ consumers problem.now }
-    ensures placed { result ≡ true → IsPlaced problem.now (entry + 1) assign.new prices.new }
-    ensures loads { result ≡ true → AreLoads problem.now assign.new loads.new }
-    ensures members { result ≡ true → AreMembers problem.now assign.new members.new }
-    ensures table { result ≡ true → IsTable problem.now assign.new table.new }
-    ensures stuck { result ≡ false → IsStuck problem.now entry assign.new prices.new labels.new }
+    ensures standing { result ≡ true → IsStanding problem.now (entry + 1) placement.new }
+    ensures table { result ≡ true → IsTable problem.now placement.new.assign.items table.new }
+    ensures stuck { result ≡ false → IsStuck problem.now entry placement.new.assign.items placement.new.prices.items labels.new }
 {
-    let Some(end) = search(
-        problem, entry, assign, prices, loads, members, table, labels,
-    ) else {
+    let Some(end) = search(problem, entry, placement, table, labels) else {
         return false;
     };
-    raise(prices, labels, labels[end].dist);
-    shift(problem, entry, end, labels, assign, members, table);
-    loads[end] += 1;
+    raise(&mut placement.prices, labels, labels[end].dist);
+    shift(problem, entry, end, labels, placement, table);
+    placement.loads[end] += 1;
     true
 }
 

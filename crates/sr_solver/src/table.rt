@@ -6,6 +6,7 @@ ghost use Rattle.sr_solver.specs.Table.{IsAt, IsApart, IsKnown, IsTableOf, IsTab
 
 use crate::label::Label;
 use crate::members::{add, remove};
+use crate::placement::Placement;
 use sr_transport::Problem;
 
 /// What is added to a difference of two costs, so that it is not below 0: the greatest cost.
@@ -45,19 +46,18 @@ pub fn least_mover(
     problem: &Problem,
     from: usize,
     to: usize,
-    assign: &[usize],
-    members: &[usize],
+    placement: &Placement,
     table: &mut [Option<Bound>],
 ) -> Option<usize>
     requires limits { IsWithinLimits problem.now.rooms problem.now.entries problem.now.costs }
-    requires every { length assign.now ≡ problem.now.entries }
+    requires every { length placement.now.assign.items ≡ problem.now.entries }
     requires from { from < consumers problem.now }
     requires to { to < consumers problem.now }
-    requires placed { (i : ℕ) → IsAt assign.now problem.now.entries from i → IsAllowed problem.now i from }
-    requires members { AreMembers problem.now assign.now members.now }
-    requires table { IsTable problem.now assign.now table.old }
-    ensures mover { IsMover problem.now (IsAt assign.now problem.now.entries from) from to result }
-    ensures table { IsTable problem.now assign.now table.new }
+    requires placed { (i : ℕ) → IsAt placement.now.assign.items problem.now.entries from i → IsAllowed problem.now i from }
+    requires members { AreMembers problem.now placement.now.assign.items placement.now.members.items }
+    requires table { IsTable problem.now placement.now.assign.items table.old }
+    ensures mover { IsMover problem.now (IsAt placement.now.assign.items problem.now.entries from) from to result }
+    ensures table { IsTable problem.now placement.now.assign.items table.new }
 {
     let pair = from * problem.consumers() + to;
     if let Some(bound) = table[pair]
@@ -65,7 +65,7 @@ pub fn least_mover(
     {
         return Some(mover);
     }
-    let found = find(problem, from, to, assign, members);
+    let found = find(problem, from, to, placement);
     table[pair] = found;
     let Some(bound) = found else {
         return None;
@@ -74,22 +74,18 @@ pub fn least_mover(
 }
 
 /// Looks through the entries at `from` for the one that costs least more at `to`.
-fn find(
-    problem: &Problem,
-    from: usize,
-    to: usize,
-    assign: &[usize],
-    members: &[usize],
-) -> Option<Bound>
+fn find(problem: &Problem, from: usize, to: usize, placement: &Placement) -> Option<Bound>
     requires limits { IsWithinLimits problem.now.rooms problem.now.entries problem.now.costs }
-    requires every { length assign.now ≡ problem.now.entries }
+    requires every { length placement.now.assign.items ≡ problem.now.entries }
     requires from { from < consumers problem.now }
     requires to { to < consumers problem.now }
-    requires placed { (i : ℕ) → IsAt assign.now problem.now.entries from i → IsAllowed problem.now i from }
-    requires members { AreMembers problem.now assign.now members.now }
-    ensures known { IsKnown problem.now (IsAt assign.now problem.now.entries from) from to result }
+    requires placed { (i : ℕ) → IsAt placement.now.assign.items problem.now.entries from i → IsAllowed problem.now i from }
+    requires members { AreMembers problem.now placement.now.assign.items placement.now.members.items }
+    ensures known { IsKnown problem.now (IsAt placement.now.assign.items problem.now.entries from) from to result }
     ensures best { IfSome result (λ bound. IsSome bound.best) }
 {
+    let assign = placement.assign.as_slice();
+    let members = placement.members.as_slice();
     let row = from * (problem.entries() + 1);
     let mut found = None;
     for place in 0..members[row] {
@@ -130,23 +126,37 @@ pub fn put(
     problem: &Problem,
     entry: usize,
     to: usize,
-    assign: &mut [usize],
-    members: &mut [usize],
+    placement: &mut Placement,
     table: &mut [Option<Bound>],
 )
     requires limits { IsWithinLimits problem.now.rooms problem.now.entries problem.now.costs }
     requires entry { entry < problem.now.entries }
-    requires every { length assign.old ≡ problem.now.entries }
+    requires every { length placement.old.assign.items ≡ problem.now.entries }
     requires allowed { IsAllowed problem.now entry to }
-    requires members { AreMembers problem.now assign.old members.old }
-    requires table { IsTable problem.now assign.old table.old }
-    ensures assign { assign.new ≡ slice_set assign.old entry to }
-    ensures members { AreMembers problem.now assign.new members.new }
-    ensures table { IsTable problem.now assign.new table.new }
+    requires members { AreMembers problem.now placement.old.assign.items placement.old.members.items }
+    requires table { IsTable problem.now placement.old.assign.items table.old }
+    ensures assign { placement.new.assign.items ≡ slice_set placement.old.assign.items entry to }
+    ensures prices { placement.new.prices ≡ placement.old.prices }
+    ensures loads { placement.new.loads ≡ placement.old.loads }
+    ensures members { AreMembers problem.now placement.new.assign.items placement.new.members.items }
+    ensures table { IsTable problem.now placement.new.assign.items table.new }
 {
-    take_out(problem, entry, assign, members, table);
-    bring_in(problem, entry, to, assign, members, table);
-    assign[entry] = to;
+    take_out(
+        problem,
+        entry,
+        &placement.assign,
+        &mut placement.members,
+        table,
+    );
+    bring_in(
+        problem,
+        entry,
+        to,
+        &placement.assign,
+        &mut placement.members,
+        table,
+    );
+    placement.assign[entry] = to;
 }
 
 /// Takes an entry out of the members and the table, where it stands anywhere.
@@ -243,9 +253,11 @@ fn arrive(problem: &Problem, entry: usize, to: usize, table: &mut [Option<Bound>
         (λ next. IsLowered entry (cost_of problem.now entry to) (cost_at problem.now entry next)) table.old table.new }
 {
     let here = problem.cost(entry, to).unwrap();
-    for next in 0..problem.consumers() {
-        let pair = to * problem.consumers() + next;
-        let known = lowered(table[pair], entry, here, problem.cost(entry, next));
-        table[pair] = known;
+    for (next, there) in problem.costs(entry).iter().enumerate() {
+        if there.is_some() {
+            let pair = to * problem.consumers() + next;
+            let known = lowered(table[pair], entry, here, *there);
+            table[pair] = known;
+        }
     }
 }

@@ -37,7 +37,7 @@ impl Model for Problem {
 }
 
 impl Problem {
-    ghost use Rattle.std.specs.Prelude.{◌≡◌, ◌<◌, ◌↔◌, length, IsSome, IfSome, slice_index};
+    ghost use Rattle.std.specs.Prelude.{◌≡◌, ℕ, ◌<◌, ◌↔◌, length, None, IsSome, IfSome, slice_index, slice_index_or};
     ghost use Rattle.sr_transport.specs.Problem.{IsWithinLimits, consumers, cost_at};
 
     /// The problem of these rooms, of `entries` entries, and of these costs: a row for each entry, with a place for each
@@ -88,6 +88,17 @@ impl Problem {
         ensures { result ≡ cost_at self.now entry consumer }
     {
         self.costs[entry * self.rooms.len() + consumer]
+    }
+
+    /// What an entry costs at each consumer, or `None` where the pair is not allowed.
+    pub fn costs(&self, entry: usize) -> &[Option<u64>]
+        requires { entry < self.now.entries }
+        ensures each_consumer { length result.now ≡ consumers self.now }
+        ensures costs { (c : ℕ) → c < consumers self.now → slice_index_or result.now c None ≡ cost_at self.now entry c }
+        ensures limits { IsWithinLimits self.now.rooms self.now.entries self.now.costs }
+    {
+        let first = entry * self.rooms.len();
+        &self.costs[first..first + self.rooms.len()]
     }
 }
 

@@ -1,3 +1,4 @@
+use Rattle.std.proofs.Common.{◌≡◌}
 use Rattle.sr_solver.specs.Labels.{label_at}
 use Rattle.sr_solver.specs.Path.{IsShifting}
 use Rattle.sr_solver.specs.Table.{IsTable}
@@ -6,9 +7,11 @@ use Rattle.sr_solver.proofs.path.shift.Given as goal
 
 abbrev pub invariant-path : goal.invariant-path
 invariant-path l = record {
-  shifting : IsShifting l.labels l.entry l.end l.fn.assign l.assign l.place;
-  members : AreMembers l.problem l.assign l.members;
-  table : IsTable l.problem l.assign l.table;
+  shifting : IsShifting l.labels l.entry l.end l.fn.placement.assign.items l.placement.assign.items l.place;
+  prices : l.placement.prices ≡ l.fn.placement.prices;
+  loads : l.placement.loads ≡ l.fn.placement.loads;
+  members : AreMembers l.problem l.placement.assign.items l.placement.members.items;
+  table : IsTable l.problem l.placement.assign.items l.table;
 }
 
 abbrev pub decreases-path : goal.decreases-path

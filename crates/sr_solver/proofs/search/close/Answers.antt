@@ -6,14 +6,15 @@ use Rattle.sr_solver.proofs.search.close.Goals as goal
 pub loop-other-init : goal.loop-other-init
 loop-other-init c = record {
   table = c.requires.table;
-  closed = closed_start c.args.problem.now c.args.entry c.args.assign.now c.args.prices.now c.args.labels.now c.args.near _ c.requires.round
-      c.requires.nearest c.requires.full (record { hops = refl; dist = refl; mover = refl }) refl;
+  closed = closed_start c.args.problem.now c.args.entry c.args.placement.now.assign.items c.args.placement.now.prices.items
+      c.args.labels.now c.args.near _ c.requires.round c.requires.nearest c.requires.full
+      (record { hops = refl; dist = refl; mover = refl }) refl;
 }
 
 pub loop-other-preserved : goal.loop-other-preserved
 loop-other-preserved c = record {
   table = c.ask.ensures.table;
-  closed = closed_ask c.args.problem.now c.args.entry c.args.assign.now c.args.prices.now c.args.labels.now c.loop-other.labels
-      c.ask.new.labels c.args.near c.loop-other.other c.requires.placed c.requires.nearest.consumer c.loop-other.invariant.closed
-      c.ask.ensures.asked;
+  closed = closed_ask c.args.problem.now c.args.entry c.args.placement.now.assign.items c.args.placement.now.prices.items
+      c.args.labels.now c.loop-other.labels c.ask.new.labels c.args.near c.loop-other.other c.requires.placed
+      c.requires.nearest.consumer c.loop-other.invariant.closed c.ask.ensures.asked;
 }

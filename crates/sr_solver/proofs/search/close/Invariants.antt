@@ -4,6 +4,6 @@ use Rattle.sr_solver.proofs.search.close.Given as goal
 
 abbrev pub invariant-loop-other : goal.invariant-loop-other
 invariant-loop-other l = record {
-  table : IsTable l.problem l.assign l.table;
-  closed : IsClosed l.problem l.entry l.assign l.prices l.fn.labels l.labels l.near l.other;
+  table : IsTable l.problem l.placement.assign.items l.table;
+  closed : IsClosed l.problem l.entry l.placement.assign.items l.placement.prices.items l.fn.labels l.labels l.near l.other;
 }

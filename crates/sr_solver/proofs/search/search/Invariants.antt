@@ -5,8 +5,8 @@ use Rattle.sr_solver.proofs.search.search.Given as goal
 
 abbrev pub invariant-loop-near : goal.invariant-loop-near
 invariant-loop-near l = record {
-  table : IsTable l.problem l.assign l.table;
-  round : IsRound l.problem l.entry l.assign l.prices l.labels;
+  table : IsTable l.problem l.placement.assign.items l.table;
+  round : IsRound l.problem l.entry l.placement.assign.items l.placement.prices.items l.labels;
 }
 
 abbrev pub decreases-loop-near : goal.decreases-loop-near

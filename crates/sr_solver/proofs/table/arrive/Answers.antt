@@ -1,15 +1,30 @@
-use Rattle.std.proofs.Common.{◌≡◌, ℕ, ◌+◌, ◌*◌, Option, sym, ap, ◌∙◌, arith}
+use Rattle.std.proofs.Common.{◌≡◌, ℕ, ◌+◌, ◌*◌, ◌<◌, Option, refl, sym, ap, ◌∙◌}
 use Rattle.std.specs.Prelude.{unwrap_or}
-use Rattle.sr_transport.specs.Problem.{consumers, cost_of}
-use Rattle.sr_solver.proofs.TableLemmas.{row_more, lowered_is}
+use Rattle.sr_transport.specs.Problem.{consumers, cost_at, cost_of}
+use Rattle.sr_solver.proofs.TableLemmas.{row_more, row_stays, lowered_is, lowered_not}
 use Rattle.sr_solver.proofs.table.arrive.Goals as goal
+use Rattle.sr_solver.proofs.table.arrive.Goals.{then-is_some, else-is_some}
 
 pub loop-next-preserved : goal.loop-next-preserved
 loop-next-preserved c =
     let cost : Option ℕ → ℕ = λ o. unwrap_or o 0 in
     let same : cost_of c.args.problem.now c.args.entry c.args.to ≡ c.unwrap-here.result = ap cost (sym c.cost.ensures ∙ c.unwrap-here.ensures) in
-    let pair : c.args.to * c.consumers.result + c.loop-next.next ≡ c.args.to * consumers c.args.problem.now + c.loop-next.next =
-    ap (λ n. c.args.to * n + c.loop-next.next) c.consumers.ensures.count in
-    row_more (consumers c.args.problem.now) c.args.to c.loop-next.next _ _ c.args.table.now c.loop-next.table c.lowered-known.result
-    c.loop-next.invariant c.requires.allowed.0 (omega arith) c.requires.each_pair pair
-    (lowered_is c.args.entry _ _ _ _ _ _ same (sym c.cost-in-loop-next.ensures) c.lowered-known.ensures.lowered)
+    let below : c.loop-next.next < consumers c.args.problem.now =
+    rw c.costs-there-items.ensures.each_consumer at c.loop-next-test.true in
+    let there = c.costs-there-items.ensures.costs c.loop-next.next below in
+    elim c.if-is_some.branch [
+      | then-is_some w ↦
+          let pair : c.args.to * w.consumers.result + c.loop-next.next ≡ c.args.to * consumers c.args.problem.now + c.loop-next.next =
+          ap (λ n. c.args.to * n + c.loop-next.next) w.consumers.ensures.count in
+          rw w.table-is (
+          row_more (consumers c.args.problem.now) c.args.to c.loop-next.next _ _ c.args.table.now c.loop-next.table w.lowered-known.result
+          c.loop-next.invariant c.requires.allowed.0 below c.requires.each_pair pair
+          (lowered_is c.args.entry _ _ _ _ _ _ same (sym there) w.lowered-known.ensures.lowered)
+          )
+      | else-is_some w ↦
+          rw w.table-is (
+          row_stays (consumers c.args.problem.now) c.args.to c.loop-next.next _ _ c.args.table.now c.loop-next.table c.loop-next.invariant refl
+          (lowered_not c.args.entry (cost_of c.args.problem.now c.args.entry c.args.to) (cost_at c.args.problem.now c.args.entry c.loop-next.next) _
+          (rw there at (sym c.is_some.ensures ∙ w.if-is_some.false)))
+          )
+    ]

@@ -1,0 +1,106 @@
+// Times LEMON's network simplex on problems that `bench_solver print` prints, which this reads from its standard input, and
+// prints a line for each as `bench_solver run` does. It needs the library's headers alone (Debian: liblemon-dev).
+//
+// Two times are printed, each the least of some runs: from the allowed pairs with their costs to the answer, which makes the
+// graph that LEMON works on; and of that the run of its simplex alone.
+
+#include <lemon/network_simplex.h>
+#include <lemon/smart_graph.h>
+
+#include <algorithm>
+#include <chrono>
+#include <cstdint>
+#include <cstdio>
+#include <iostream>
+#include <sstream>
+#include <string>
+#include <vector>
+
+namespace {
+
+using Graph = lemon::SmartDigraph;
+using Simplex = lemon::NetworkSimplex<Graph, std::int64_t, std::int64_t>;
+
+constexpr int entries = 4096;
+constexpr int runs = 5;
+
+struct Pair {
+  int entry;
+  int consumer;
+  std::int64_t cost;
+};
+
+struct Problem {
+  std::vector<std::int64_t> rooms;
+  std::vector<Pair> pairs;
+};
+
+// The numbers of the next line, -1 for a `-`.
+std::vector<std::int64_t> read_numbers() {
+  std::string line;
+  std::getline(std::cin, line);
+  std::istringstream words(line);
+  std::vector<std::int64_t> numbers;
+  for (std::string word; words >> word;) numbers.push_back(word == "-" ? -1 : std::stoll(word));
+  return numbers;
+}
+
+Problem read_problem() {
+  Problem problem;
+  problem.rooms = read_numbers();
+  for (int entry = 0; entry < entries; ++entry) {
+    const std::vector<std::int64_t> costs = read_numbers();
+    for (std::size_t consumer = 0; consumer < costs.size(); ++consumer) {
+      if (costs[consumer] >= 0) problem.pairs.push_back({entry, static_cast<int>(consumer), costs[consumer]});
+    }
+  }
+  return problem;
+}
+
+struct Answer {
+  double whole;
+  double run;
+  std::string text;
+};
+
+double since(std::chrono::steady_clock::time_point start) {
+  return std::chrono::duration<double, std::milli>(std::chrono::steady_clock::now() - start).count();
+}
+
+Answer solve(const Problem& problem) {
+  const auto start = std::chrono::steady_clock::now();
+  const int consumers = static_cast<int>(problem.rooms.size());
+  Graph graph;
+  graph.reserveNode(entries + consumers);
+  graph.reserveArc(static_cast<int>(problem.pairs.size()));
+  for (int node = 0; node < entries + consumers; ++node) graph.addNode();
+  for (const Pair& pair : problem.pairs) graph.addArc(graph.nodeFromId(pair.entry), graph.nodeFromId(entries + pair.consumer));
+  Graph::ArcMap<std::int64_t> costs(graph);
+  for (std::size_t arc = 0; arc < problem.pairs.size(); ++arc) costs[graph.arcFromId(static_cast<int>(arc))] = problem.pairs[arc].cost;
+  Graph::NodeMap<std::int64_t> supplies(graph, 1);
+  for (int consumer = 0; consumer < consumers; ++consumer) {
+    supplies[graph.nodeFromId(entries + consumer)] = -problem.rooms[consumer];
+  }
+  Simplex simplex(graph);
+  simplex.costMap(costs).supplyMap(supplies).supplyType(Simplex::GEQ);
+  const auto ready = std::chrono::steady_clock::now();
+  const bool is_best = simplex.run() == Simplex::OPTIMAL;
+  const double run = since(ready);
+  return {since(start), run, is_best ? "best, total " + std::to_string(simplex.totalCost<std::int64_t>()) : "none"};
+}
+
+void measure(const std::string& family, const Problem& problem) {
+  Answer least = solve(problem);
+  for (int again = 1; again < runs; ++again) {
+    const Answer answer = solve(problem);
+    least.whole = std::min(least.whole, answer.whole);
+    least.run = std::min(least.run, answer.run);
+  }
+  std::printf("%s: %.1f ms, %.1f of them the simplex alone, %s\n", family.c_str(), least.whole, least.run, least.text.c_str());
+}
+
+}  // namespace
+
+int main() {
+  for (std::string family; std::getline(std::cin, family);) measure(family, read_problem());
+}
