@@ -10,13 +10,21 @@ use Rattle.sr_transport.specs.Problem.{Transport, IsWithinLimits, consumers, cos
 use Rattle.sr_transport.specs.Assignment.{load}
 use Rattle.sr_solver.specs.declared.table.Bound.{Bound}
 use Rattle.sr_solver.specs.Table.{IsAt, IsApart, IsKnown, IsLowered}
-use Rattle.sr_solver.specs.Members.{IsListed, IsSeen, AreMembersOf, AreMembers, IsRemoved}
+use Rattle.sr_solver.specs.Members.{IsListed, AreApart, IsSeen, AreMembersOf, AreMembers, IsRemoved}
 use Rattle.sr_solver.proofs.PathLemmas.{one_at_same, one_at_other, load-set}
 use Rattle.sr_solver.proofs.TableLemmas.{rows_apart, HasCome, known_lowered, known_same}
 
 -- no more entries stand at a consumer than there are
 load_fits : (xs : List ℕ) (c : ℕ) → load xs c ≤ length xs
 load_fits xs c = count_by-le-length (λ x. x == c) xs
+
+-- two places of a row hold two entries
+apart_at : (members : List ℕ) (row n j k : ℕ) → AreApart members row n → j < n → k < n → (j ≡ k → ⊥)
+    → get_or members (row + 1 + j) 0 ≡ get_or members (row + 1 + k) 0 → ⊥
+apart_at members row n j k apart ltj ltk ne same = elim (cases_lt j k) [
+  | inl below ↦ apart j k below ltk same
+  | inr above ↦ apart k j (omega (arith, above, ne)) ltj (sym same)
+]
 
 -- the row of a list where the count alone fell
 record IsFallen (row : ℕ) (old mid : List ℕ) (last : ℕ) : Type 0 where
@@ -35,9 +43,9 @@ fallen row old last lt count = record {
 
 -- the member to take out is the last one
 last_removed : (row entry : ℕ) (old mid : List ℕ) (last : ℕ) → IsFallen row old mid last
-    → IsListed old row (get_or old row 0) entry
+    → IsListed old row (get_or old row 0) entry → AreApart old row (get_or old row 0)
     → ((j : ℕ) → j < last → get_or mid (row + 1 + j) 0 ≡ entry → ⊥) → IsRemoved row entry old mid
-last_removed row entry old mid last fall listed passed =
+last_removed row entry old mid last fall listed apart passed =
     let same : (j : ℕ) → get_or mid (row + 1 + j) 0 ≡ get_or old (row + 1 + j) 0 = λ j. fall.others (row + 1 + j) (λ e. omega arith) in
     let at_last : get_or old (row + 1 + last) 0 ≡ entry =
     elim (cases_lt listed.0 last) [
@@ -58,13 +66,16 @@ last_removed row entry old mid last fall listed passed =
             | inr other ↦ omega (arith, lt, fall.count, fall.here)
           ] in
           (j, early, same j);
+      gone = λ j lt. passed j (omega (arith, lt, fall.here));
+      apart = λ j k lt below e.
+          apart j k lt (omega (arith, below, fall.here, fall.count)) (sym (same j) ∙ e ∙ same k);
     }
 
 -- it is found before
 place_removed : (row entry : ℕ) (old mid : List ℕ) (last place : ℕ) → IsFallen row old mid last
-    → row + get_or old row 0 < length old → place < last → get_or mid (row + 1 + place) 0 ≡ entry
+    → row + get_or old row 0 < length old → AreApart old row (get_or old row 0) → place < last → get_or mid (row + 1 + place) 0 ≡ entry
     → IsRemoved row entry old (set mid (row + 1 + place) (get_or mid (row + 1 + last) 0))
-place_removed row entry old mid last place fall room early found =
+place_removed row entry old mid last place fall room apart early found =
     let x : ℕ = get_or mid (row + 1 + last) 0 in
     let new : List ℕ = set mid (row + 1 + place) x in
     let same : (j : ℕ) → get_or mid (row + 1 + j) 0 ≡ get_or old (row + 1 + j) 0 = λ j. fall.others (row + 1 + j) (λ e. omega arith) in
@@ -73,6 +84,11 @@ place_removed row entry old mid last place fall room early found =
     let other : (q : ℕ) → (q ≡ row + 1 + place → ⊥) → get_or new q 0 ≡ get_or mid q 0 =
     λ q ne. get_or-set_other mid (row + 1 + place) q x 0 ne in
     let head : get_or new row 0 ≡ last = other row (λ e. omega arith) ∙ fall.here in
+    let moved : (j : ℕ) → j ≡ place → get_or new (row + 1 + j) 0 ≡ get_or old (row + 1 + last) 0 =
+    λ j e. ap (λ k. get_or new (row + 1 + k) 0) e ∙ here ∙ same last in
+    let kept_at : (j : ℕ) → (j ≡ place → ⊥) → get_or new (row + 1 + j) 0 ≡ get_or old (row + 1 + j) 0 =
+    λ j ne. other (row + 1 + j) (λ e. ne (omega arith)) ∙ same j in
+    let was : get_or old (row + 1 + place) 0 ≡ entry = sym (same place) ∙ found in
     record {
       one_each = length-set mid (row + 1 + place) x ∙ fall.length;
       count = omega (arith, fall.count, head);
@@ -86,22 +102,42 @@ place_removed row entry old mid last place fall room early found =
       kept = λ j lt ne. elim (cases_eq j last) [
         | inl e ↦ (place, omega (arith, head), here ∙ same last ∙ ap (λ k. get_or old (row + 1 + k) 0) (sym e))
         | inr before ↦
-            let apart : j ≡ place → ⊥ = λ e. ne (sym (same j) ∙ ap (λ k. get_or mid (row + 1 + k) 0) e ∙ found) in
-            (j, omega (arith, lt, fall.count, head, before), other (row + 1 + j) (λ e. apart (omega arith)) ∙ same j)
+            let not_there : j ≡ place → ⊥ = λ e. ne (sym (same j) ∙ ap (λ k. get_or mid (row + 1 + k) 0) e ∙ found) in
+            (j, omega (arith, lt, fall.count, head, before), other (row + 1 + j) (λ e. not_there (omega arith)) ∙ same j)
       ];
+      gone = λ j lt is. elim (cases_eq j place) [
+        | inl e ↦ apart place last early (omega (arith, fall.count)) (was ∙ sym is ∙ moved j e)
+        | inr ne ↦
+            apart_at old row (get_or old row 0) j place apart (omega (arith, lt, head, fall.count)) (omega (arith, early, fall.count)) ne
+            (sym (kept_at j ne) ∙ is ∙ sym was)
+      ];
+      apart = λ j k lt below is.
+          let last_in : last < get_or old row 0 = omega (arith, fall.count) in
+          let ltk : k < last = omega (arith, below, head) in
+          elim (cases_eq j place) [
+            | inl e ↦
+                apart_at old row (get_or old row 0) last k apart last_in (omega (arith, ltk, last_in)) (λ x. omega (arith, x, ltk))
+                (sym (moved j e) ∙ is ∙ kept_at k (λ x. omega (arith, x, e, lt)))
+            | inr ne ↦ elim (cases_eq k place) [
+              | inl e ↦
+                  apart_at old row (get_or old row 0) j last apart (omega (arith, lt, ltk, last_in)) last_in (λ x. omega (arith, x, lt, ltk))
+                  (sym (kept_at j ne) ∙ is ∙ moved k e)
+              | inr far ↦ apart j k lt (omega (arith, ltk, last_in)) (sym (kept_at j ne) ∙ is ∙ kept_at k far)
+            ]
+          ];
     }
 
 pub removed_last : (row entry : ℕ) (old mid : List ℕ) (last : ℕ) → mid ≡ set old row last → row < length old
-    → last + 1 ≡ get_or old row 0 → IsListed old row (get_or old row 0) entry
+    → last + 1 ≡ get_or old row 0 → IsListed old row (get_or old row 0) entry → AreApart old row (get_or old row 0)
     → ((j : ℕ) → j < last → get_or mid (row + 1 + j) 0 ≡ entry → ⊥) → IsRemoved row entry old mid
-removed_last row entry old mid last is lt count listed passed =
-    last_removed row entry old mid last (rw is (fallen row old last lt count)) listed passed
+removed_last row entry old mid last is lt count listed apart passed =
+    last_removed row entry old mid last (rw is (fallen row old last lt count)) listed apart passed
 
 pub removed_at : (row entry : ℕ) (old mid : List ℕ) (last place : ℕ) → mid ≡ set old row last → row + get_or old row 0 < length old
-    → last + 1 ≡ get_or old row 0 → place < last → get_or mid (row + 1 + place) 0 ≡ entry
+    → last + 1 ≡ get_or old row 0 → AreApart old row (get_or old row 0) → place < last → get_or mid (row + 1 + place) 0 ≡ entry
     → IsRemoved row entry old (set mid (row + 1 + place) (get_or mid (row + 1 + last) 0))
-removed_at row entry old mid last place is room count early found =
-    place_removed row entry old mid last place (rw is (fallen row old last (omega arith) count)) room early found
+removed_at row entry old mid last place is room count apart early found =
+    place_removed row entry old mid last place (rw is (fallen row old last (omega arith) count)) room apart early found
 
 -- what the row of a consumer with n entries is
 pub record IsRow (p : Transport) (members : List ℕ) (row n : ℕ) : Type 0 where
@@ -151,15 +187,28 @@ members_left p xs i old new every lti within members removed =
             (rw plain at zero_more) ∙ members.counted c lt ∙ sym (other c lt ne)
       ];
       fits = λ c lt. omega (arith, loads c lt, members.fits c lt);
-      within = λ c j lt ltj. elim (cases_eq c from) [
+      stands = λ c j lt ltj. elim (cases_eq c from) [
         | inl e ↦
-            let was = removed.from j (let below : j < load nowhere from = rw (← e) ltj in omega (arith, now, below)) in
-            rw e (rw (← was.2) (members.within from was.0 within (omega (arith, was.1, before))))
+            let below : j < get_or new (from * w) 0 = (let l : j < load nowhere from = rw (← e) ltj in omega (arith, now, l)) in
+            let was = removed.from j below in
+            let stood : IsAt xs p.entries from (get_or old (from * w + 1 + was.0) 0) =
+            members.stands from was.0 within (omega (arith, was.1, before)) in
+            rw e ((rw was.2 at stood), removed.gone j below)
         | inr ne ↦
             let same : get_or new (c * w + (1 + j)) 0 ≡ get_or old (c * w + (1 + j)) 0 =
             elsewhere c (1 + j) (omega (arith, ltj, other c lt ne, members.fits c lt)) ne in
             let plain : c * w + (1 + j) ≡ c * w + 1 + j = omega arith in
-            omega (arith, rw plain at same, members.within c j lt (omega (arith, ltj, other c lt ne)))
+            let stood : IsAt xs p.entries c (get_or old (c * w + 1 + j) 0) = members.stands c j lt (omega (arith, ltj, other c lt ne)) in
+            rw (rw plain at same) (stood, λ is. ne (sym stood.1 ∙ ap (λ k. get_or xs k 0) is))
+      ];
+      apart = λ c lt. elim (cases_eq c from) [
+        | inl e ↦ rw e (rw (← now) removed.apart)
+        | inr ne ↦ λ j k ltk below is.
+            let same : (x : ℕ) → x < load nowhere c → get_or new (c * w + 1 + x) 0 ≡ get_or old (c * w + 1 + x) 0 =
+            λ x ltx.
+            let plain : c * w + (1 + x) ≡ c * w + 1 + x = omega arith in
+            rw plain at (elsewhere c (1 + x) (omega (arith, ltx, other c lt ne, members.fits c lt)) ne) in
+            members.apart c lt j k ltk (omega (arith, below, other c lt ne)) (sym (same j (omega (arith, ltk, below))) ∙ is ∙ same k below)
       ];
       each = λ c k lt at.
           let was = members.each c k lt at.0 in
@@ -192,7 +241,10 @@ members_waiting p xs i old every lti nowhere members =
       one_each = members.one_each;
       counted = λ c lt. members.counted c lt ∙ sym (loads c lt);
       fits = λ c lt. omega (arith, loads c lt, members.fits c lt);
-      within = λ c j lt ltj. members.within c j lt (omega (arith, loads c lt, ltj));
+      stands = λ c j lt ltj.
+          let stood : IsAt xs p.entries c (get_or old (c * (p.entries + 1) + 1 + j) 0) = members.stands c j lt (omega (arith, loads c lt, ltj)) in
+          (stood, λ is. omega (arith, stood.1, ap (λ k. get_or xs k 0) is, lt, nowhere));
+      apart = λ c lt j k ltk below. members.apart c lt j k ltk (omega (arith, loads c lt, below));
       each = λ c k lt at.
           let was = members.each c k lt at.0 in
           (was.0, omega (arith, was.1, loads c lt), was.2);
@@ -250,6 +302,13 @@ members_come p xs i c row count old every lti ltc members is_row is_count =
       one_at_other c d (λ e. ne (sym e)),
     ) in
     let loads : load (set xs i c) c ≡ count + 1 = omega (arith, one.0, is_load) in
+    let kept_here : (j : ℕ) → j < count → get_or new (row + 1 + j) 0 ≡ get_or old (row + 1 + j) 0 =
+    λ j lt. same (row + 1 + j) (λ e. omega arith) (λ e. omega (arith, lt, e)) in
+    let stood_here : (j : ℕ) → j < count → IsApart (IsAt xs p.entries) i c (get_or old (row + 1 + j) 0) =
+    λ j lt. rw is_row (members.stands c j ltc (omega (arith, lt, is_load))) in
+    let apart_here : AreApart old row count = rw is_row (rw is_load (members.apart c ltc)) in
+    let still : (d k : ℕ) → IsApart (IsAt xs p.entries) i d k → IsAt (set xs i c) p.entries d k =
+    λ d k at. (at.0.0, get_or-set_other xs i k c 0 at.1 ∙ at.0.1) in
     record {
       one_each = length-set mid row (count + 1) ∙ length_mid ∙ members.one_each;
       counted = λ d lt. elim (cases_eq d c) [
@@ -260,18 +319,16 @@ members_come p xs i c row count old every lti ltc members is_row is_count =
             (rw plain at zero_more) ∙ members.counted d lt ∙ sym (other d lt ne)
       ];
       fits = λ d lt. omega (arith, load_fits (set xs i c) d, length-set xs i c, every);
-      within = λ d j lt ltj. elim (cases_eq d c) [
+      stands = λ d j lt ltj. elim (cases_eq d c) [
         | inl e ↦
             let below : j < count + 1 = omega (arith, ltj, ap (λ x. load (set xs i c) x) e, loads) in
             rw e (
             rw (← is_row) (
             elim (cases_eq j count) [
-              | inl last ↦ omega (arith, ap (λ k. get_or new (row + 1 + k) 0) last, at_end)
-              | inr before ↦
-                  let kept : get_or new (row + 1 + j) 0 ≡ get_or old (row + 1 + j) 0 =
-                  same (row + 1 + j) (λ e. omega arith) (λ e. before (omega arith)) in
-                  let was : get_or old (row + 1 + j) 0 < p.entries = rw is_row (members.within c j ltc (omega (arith, below, before, is_load))) in
-                  omega (arith, kept, was)
+              | inl last ↦
+                  let is : get_or new (row + 1 + j) 0 ≡ i = ap (λ k. get_or new (row + 1 + k) 0) last ∙ at_end in
+                  rw is (lti, get_or-set_same xs i c 0 (omega (arith, every)))
+              | inr before ↦ rw (kept_here j (omega (arith, below, before))) (still c (get_or old (row + 1 + j) 0) (stood_here j (omega (arith, below, before))))
             ]
             )
             )
@@ -279,7 +336,24 @@ members_come p xs i c row count old every lti ltc members is_row is_count =
             let kept : get_or new (d * w + (1 + j)) 0 ≡ get_or old (d * w + (1 + j)) 0 =
             elsewhere d (1 + j) (omega (arith, ltj, other d lt ne, members.fits d lt)) ne in
             let plain : d * w + (1 + j) ≡ d * w + 1 + j = omega arith in
-            omega (arith, rw plain at kept, members.within d j lt (omega (arith, ltj, other d lt ne)))
+            rw (rw plain at kept) (still d (get_or old (d * w + 1 + j) 0) (members.stands d j lt (omega (arith, ltj, other d lt ne))))
+      ];
+      apart = λ d lt. elim (cases_eq d c) [
+        | inl e ↦ rw e (rw (← is_row) (rw loads (λ j k ltk below is.
+            let ltj : j < count = omega (arith, ltk, below) in
+            elim (cases_eq k count) [
+              | inl last ↦
+                  (stood_here j ltj).1 (sym (kept_here j ltj) ∙ is ∙ ap (λ x. get_or new (row + 1 + x) 0) last ∙ at_end)
+              | inr before ↦
+                  let lt_count : k < count = omega (arith, below, before) in
+                  apart_here j k ltk lt_count (sym (kept_here j ltj) ∙ is ∙ kept_here k lt_count)
+            ])))
+        | inr ne ↦ λ j k ltk below is.
+            let same_there : (x : ℕ) → x < load (set xs i c) d → get_or new (d * w + 1 + x) 0 ≡ get_or old (d * w + 1 + x) 0 =
+            λ x ltx.
+            let plain : d * w + (1 + x) ≡ d * w + 1 + x = omega arith in
+            rw plain at (elsewhere d (1 + x) (omega (arith, ltx, other d lt ne, members.fits d lt)) ne) in
+            members.apart d lt j k ltk (omega (arith, below, other d lt ne)) (sym (same_there j (omega (arith, ltk, below))) ∙ is ∙ same_there k below)
       ];
       each = λ d k lt at. elim (cases_eq d c) [
         | inl e ↦
@@ -308,7 +382,7 @@ members_come p xs i c row count old every lti ltc members is_row is_count =
       ];
     }
 
--- one member more is looked at: it stands at a
+-- one member more is looked at
 pub seen_more : (p : Transport) (xs members : List ℕ) (row n i a b : ℕ) (old new : Option Bound)
     → IsWithinLimits p.rooms p.entries p.costs → b < consumers p → i < p.entries → get_or xs i 0 ≡ a
     → i ≡ get_or members (row + 1 + n) 0
@@ -325,20 +399,6 @@ seen_more p xs members row n i a b old new limits ltb lti stands is known lowere
       ];
     } in
     known_lowered p (IsSeen p xs members row n a) (IsSeen p xs members row (n + 1) a) a b i old new limits come ltb known lowered
-
--- or elsewhere
-pub seen_skip : (p : Transport) (xs members : List ℕ) (row n i a b : ℕ) (known : Option Bound) → (get_or xs i 0 ≡ a → ⊥)
-    → i ≡ get_or members (row + 1 + n) 0
-    → IsKnown p (IsSeen p xs members row n a) a b known → IsKnown p (IsSeen p xs members row (n + 1) a) a b known
-seen_skip p xs members row n i a b known elsewhere is =
-    known_same p (IsSeen p xs members row n a) (IsSeen p xs members row (n + 1) a) a b known
-    (λ j seen. (seen.0, (seen.1.0, omega (arith, seen.1.1), seen.1.2)))
-    (λ j seen. elim (cases_eq seen.1.0 n) [
-      | inl e ↦
-          let same : j ≡ i = sym seen.1.2 ∙ ap (λ k. get_or members (row + 1 + k) 0) e ∙ sym is in
-          absurd (elsewhere (sym (ap (λ k. get_or xs k 0) same) ∙ seen.0.1))
-      | inr ne ↦ (seen.0, (seen.1.0, omega (arith, seen.1.1, ne), seen.1.2))
-    ])
 
 -- all members were looked at
 pub seen_all : (p : Transport) (xs members : List ℕ) (row n a b : ℕ) (known : Option Bound) → a < consumers p

@@ -58,7 +58,8 @@ none_members p =
           (omega (arith, mul-add-lt c (p.entries + 1) 0 (consumers p) lt (omega arith)))
           ∙ sym (none c lt);
       fits = λ c lt. omega (arith, none c lt);
-      within = λ c j lt ltj. absurd (omega (arith, ltj, none c lt));
+      stands = λ c j lt ltj. absurd (omega (arith, ltj, none c lt));
+      apart = λ c lt j k ltk below. absurd (omega (arith, below, none c lt));
       each = λ c i lt at. absurd (none_at p i c at.0 lt at.1);
     }
 

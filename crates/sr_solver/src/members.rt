@@ -1,11 +1,12 @@
 ghost use Rattle.std.specs.Prelude.{◌≡◌, ℕ, ◌+◌, ◌<◌, ◌≤◌, ◌^◌, length, slice_index, slice_set};
-ghost use Rattle.sr_solver.specs.Members.{IsListed, IsRemoved};
+ghost use Rattle.sr_solver.specs.Members.{IsListed, AreApart, IsRemoved};
 
 /// Takes an entry out of the row of members that begins at `row`; the last member takes its place.
 pub fn remove(members: &mut [usize], row: usize, entry: usize)
     requires short { length members.old ≤ 2 ^ 32 }
     requires room { row + slice_index members.old row < length members.old }
     requires member { IsListed members.old row (slice_index members.old row) entry }
+    requires apart { AreApart members.old row (slice_index members.old row) }
     ensures { IsRemoved row entry members.old members.new }
 {
     let last = members[row] - 1;

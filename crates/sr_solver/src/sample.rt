@@ -9,7 +9,7 @@ use sr_transport::Problem;
 use std::alloc::{AllocError, Global};
 
 /// One entry of so many is in the sample.
-const STEP: usize = 16;
+const STEP: usize = 8;
 
 /// A sample of fewer entries is not worth its time.
 const FEW: usize = 64;

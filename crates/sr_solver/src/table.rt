@@ -1,4 +1,4 @@
-ghost use Rattle.std.specs.Prelude.{◌≡◌, ℕ, ◌+◌, ◌*◌, ◌^◌, ◌<◌, ◌≤◌, length, slice_index, slice_set, IfSome, IsSome, false};
+ghost use Rattle.std.specs.Prelude.{◌≡◌, ℕ, ◌+◌, ◌*◌, ◌^◌, ◌<◌, ◌≤◌, length, slice_index, slice_set, IfSome, IsSome, true, false};
 ghost use Rattle.sr_transport.specs.Problem.{IsWithinLimits, consumers, cost_at, cost_of, IsAllowed};
 ghost use Rattle.sr_transport.specs.Assignment.{load};
 ghost use Rattle.sr_solver.specs.Members.{AreMembersOf, AreMembers};
@@ -29,7 +29,8 @@ pub fn may_be_nearer(known: Option<Bound>, from: Label, here: u64, label: Label,
     requires there { there ≤ 2 ^ 60 }
     requires label { 0 < label.hops → label.dist ≤ 2 ^ 60 }
     requires low { IfSome known (λ bound. bound.low ≤ 2 ^ 41) }
-    ensures { result ≡ false → IsNoNearer known from here label there }
+    ensures no { result ≡ false → IsNoNearer known from here label there }
+    ensures yes { result ≡ true → IsNoNearer known from here label there → ⊥ }
 {
     let Some(bound) = known else {
         return false;
@@ -84,17 +85,14 @@ fn find(problem: &Problem, from: usize, to: usize, placement: &Placement) -> Opt
     ensures known { IsKnown problem.now (IsAt placement.now.assign.items problem.now.entries from) from to result }
     ensures best { IfSome result (λ bound. IsSome bound.best) }
 {
-    let assign = placement.assign.as_slice();
     let members = placement.members.as_slice();
     let row = from * (problem.entries() + 1);
     let mut found = None;
     for place in 0..members[row] {
         let other = members[row + 1 + place];
-        if assign[other] == from {
-            let here = problem.cost(other, from).unwrap();
-            let there = problem.cost(other, to);
-            found = lowered(found, other, here, there);
-        }
+        let here = problem.cost(other, from).unwrap();
+        let there = problem.cost(other, to);
+        found = lowered(found, other, here, there);
     }
     found
 }

@@ -18,4 +18,4 @@ returns-then-not-may_be_nearer-clause-asked c =
     asked_far c.args.problem.now c.args.entry c.args.placement.now.assign.items c.args.placement.now.prices.items c.args.near c.args.other
     (c.args.near * c.consumers.result + c.args.other) c.args.labels.now c.args.table.now (omega arith) c.requires.near c.requires.other
     (ap (λ n. c.args.near * n + c.args.other) c.consumers.ensures.count) c.requires.table
-    (rw c.as_slice-prices.ensures.value at c.if-not-may_be_nearer.ensures refl)
+    (rw c.as_slice-prices.ensures.value at c.if-not-may_be_nearer.ensures.no refl)

@@ -21,6 +21,12 @@ remove-requires-clause-member c =
     let listed = c.requires.members.each from c.args.entry within (c.requires.entry, refl) in
     rw c.entries.ensures (listed.0, omega (arith, listed.1, c.requires.members.counted from within), listed.2)
 
+pub remove-requires-clause-apart : goal.remove-requires-clause-apart
+remove-requires-clause-apart c =
+    let from : ℕ = get_or c.args.assign.now c.args.entry 0 in
+    let within : from < consumers c.args.problem.now = omega (arith, c.if-consumers-from.false, c.consumers.ensures.count) in
+    rw c.entries.ensures (rw (c.requires.members.counted from within) (c.requires.members.apart from within))
+
 pub returns-clause-members : goal.returns-clause-members
 returns-clause-members c =
     members_left c.args.problem.now c.args.assign.now c.args.entry c.args.members.now c.remove.new.members c.requires.every c.requires.entry
