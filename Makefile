@@ -1,6 +1,6 @@
 # The set-up is the Rattle toolchain, whose command is `rt`, and nothing else.
 
-.PHONY: run test check bench bench-solver
+.PHONY: run test check memory compare bench bench-solver
 
 # Builds the server and answers the requests of the first example.
 run:
@@ -13,6 +13,23 @@ test:
 # One crate while it is written: make check C=sr_ids
 check:
 	cd crates/$(C) && rt check
+
+# Runs the tests of a crate N times, with its first allocation refused, its second and so on, and prints what then fails by
+# anything else than that refusal: make memory C=sr_solver N=60
+memory:
+	@cd crates/$(C) && for n in $$(seq $(N)); do \
+	    rt try --test --fail-alloc $$n 2>&1 | awk -v n=$$n ' \
+	        test && !/error: (AllocError|AllocFailed|Memory)/ { print "allocation " n ": " test ": " $$0; bad = 1 } \
+	        { test = "" } \
+	        /^test .* FAILED$$/ { test = $$2 } \
+	        /^test result: / { ended = 1 } \
+	        END { exit bad || !ended }' || exit 1; \
+	done
+
+# Builds the server, sends it and a Redis server (Debian: redis-server) the same random commands, and prints the replies that differ.
+compare:
+	@cd crates/sr_server && rt run -- --stdio < /dev/null
+	@python3 bench/compare.py crates/sr_server/out/sr_server
 
 # Builds the server and times it on streams of requests over a pipe, as docs/BENCH.md tells. It needs python3, as rt does.
 bench:

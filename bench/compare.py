@@ -1,0 +1,159 @@
+"""Sends the same random commands to sr_server and to a Redis server, and prints the replies that differ.
+
+usage: compare.py SR_SERVER [ROUNDS [SEED]]
+
+It starts `redis-server` (Debian: redis-server) on a socket of its own. Each round has 40 commands on two keys, of which the first
+is there from the start. Where both servers answer an error, or an empty list of either kind, or an id of the clock, the replies
+count as the same: texts of errors and moments are each server's own. Commands are left out whose replies differ by decision
+(docs/DECISIONS.md): `~`, an option given twice, numbers with a leading zero or of `-0`, ids that begin with a sign or a
+space, and XDEL of a bad id where the key may be missing. The status is 1 where anything differs.
+"""
+
+import os
+import random
+import socket
+import subprocess
+import sys
+import tempfile
+import time
+
+LAST = 2**64 - 1
+BAD_IDS = ["", "-", "+", "x", "1-", "-1", "1-1-1", f"{LAST + 1}", f"1-{LAST + 1}", "(", "(1", "((1-1", "*", "1-*", "*-1", "$", ">",
+           "1 ", "0-0", "0", "(-", "(+", "(0-0", f"({LAST}-{LAST}"]
+NUMBERS = ["0", "1", "2", "3", "5", "100", "-1", "x", "", "1.5", f"{2**63 - 1}", f"{2**63}", f"-{2**63}", "1 "]
+COMMANDS_A_ROUND = 40
+
+
+def spelled(words):
+    """A request in RESP2."""
+    parts = [f"*{len(words)}\r\n"] + [f"${len(word)}\r\n{word}\r\n" for word in words]
+    return "".join(parts).encode()
+
+
+def replies(text):
+    """The replies that a text of RESP2 spells."""
+    lines = iter(text.split(b"\r\n"))
+
+    def reply():
+        line = next(lines).decode()
+        kind, rest = line[0], line[1:]
+        if kind == "*":
+            return [reply() for _ in range(max(int(rest), 0))]
+        if kind == "$":
+            return None if rest == "-1" else comparable(next(lines).decode())
+        return "error" if kind == "-" else line
+
+    return [reply() for _ in range(COMMANDS_A_ROUND)]
+
+
+def comparable(text):
+    """A text, or `now` for an id of the clock."""
+    milliseconds = text.partition("-")[0]
+    return "now" if milliseconds.isdigit() and 10**12 < int(milliseconds) < 10**15 else text
+
+
+def replies_of_ours(program, commands):
+    run = subprocess.run([program, "--stdio"], input=b"".join(map(spelled, commands)), capture_output=True, check=False)
+    return replies(run.stdout)
+
+
+def replies_of_redis(path, commands):
+    with socket.socket(socket.AF_UNIX) as connection:
+        connection.connect(path)
+        connection.sendall(b"".join(map(spelled, [["FLUSHALL"], *commands, ["QUIT"]])))
+        text = b"".join(iter(lambda: connection.recv(1 << 16), b""))
+    return replies(text.removeprefix(b"+OK\r\n"))
+
+
+class Commands:
+    """Random commands: right ones, wrong ones, and such as stand at the limits."""
+
+    def __init__(self, seed):
+        self.random = random.Random(seed)
+
+    def likely(self, chance):
+        return self.random.random() < chance
+
+    def in_some_case(self, word):
+        return word if self.likely(0.8) else "".join(self.random.choice([c, c.lower()]) for c in word)
+
+    def id(self, bad=0.1):
+        if self.likely(bad):
+            return self.random.choice(BAD_IDS)
+        milliseconds = self.random.choice([0, LAST - 1, LAST]) if self.likely(0.05) else self.random.randrange(12)
+        sequence = self.random.choice([0, LAST - 1, LAST]) if self.likely(0.15) else self.random.randrange(4)
+        return f"{milliseconds}" if self.likely(0.25) else f"{milliseconds}-{sequence}"
+
+    def number(self):
+        return self.random.choice(NUMBERS) if self.likely(0.25) else f"{self.random.randrange(6)}"
+
+    def trim(self):
+        kind = self.random.choice(["MAXLEN", "MINID"])
+        sign = ["="] if self.likely(0.3) else []
+        limit = ["LIMIT", self.number()] if self.likely(0.1) else []
+        return [self.in_some_case(kind), *sign, self.number() if kind == "MAXLEN" else self.id(), *limit]
+
+    def add(self, key):
+        option = [self.in_some_case("NOMKSTREAM")] if self.likely(0.15) else []
+        trim = self.trim() if self.likely(0.25) else []
+        entry_id = f"{self.random.randrange(14)}-*" if self.likely(0.2) else self.id(0.08)
+        fields = ["f", "v"] * self.random.choice([1, 1, 1, 2])
+        return [self.in_some_case("XADD"), key, *option, *trim, entry_id, *(fields[1:] if self.likely(0.05) else fields)]
+
+    def range(self, key):
+        count = [self.in_some_case("COUNT"), self.number()] if self.likely(0.35) else []
+        return [self.in_some_case(self.random.choice(["XRANGE", "XREVRANGE"])), key, self.end(), self.end(), *count]
+
+    def end(self):
+        if self.likely(0.25):
+            return self.random.choice("-+")
+        return "(" + self.id() if self.likely(0.25) else self.id()
+
+    def one(self):
+        key = self.random.choice(["s", "s", "s", "t"])
+        others = [["PING"], ["PING", "a"], ["PING", "a", "b"], ["FOO"], ["XLEN", key, "x"]]
+        makers = [
+            (40, lambda: self.add(key)),
+            (10, lambda: [self.in_some_case("XTRIM"), key, *self.trim()]),
+            (10, lambda: ["XDEL", key, *(self.id(0.1 if key == "s" else 0) for _ in range(self.random.randrange(4)))]),
+            (6, lambda: ["XLEN", key]),
+            (31, lambda: self.range(key)),
+            (3, lambda: self.random.choice(others)),
+        ]
+        weights, choices = zip(*makers)
+        return self.random.choices(choices, weights)[0]()
+
+
+def compare(program, path, seed):
+    """How many replies of a round were the same, and how many of these were errors; prints the first that differs."""
+    commands = Commands(seed)
+    sent = [["XADD", "s", "0-1", "f", "v"]] + [commands.one() for _ in range(COMMANDS_A_ROUND - 1)]
+    same, errors = 0, 0
+    for words, ours, theirs in zip(sent, replies_of_ours(program, sent), replies_of_redis(path, sent)):
+        if ours != theirs:
+            print(f"round {seed}: {' '.join(words)}\n    sr_server {ours}\n    Redis     {theirs}")
+            break
+        same, errors = same + 1, errors + (ours == "error")
+    return same, errors
+
+
+def main():
+    program = sys.argv[1]
+    rounds, first = (int(word) for word in (sys.argv[2:] + ["1000", "0"][len(sys.argv) - 2:])[:2])
+    with tempfile.TemporaryDirectory() as folder:
+        path = os.path.join(folder, "redis")
+        options = ["--port", "0", "--unixsocket", path, "--save", "", "--appendonly", "no", "--dir", folder]
+        with subprocess.Popen(["redis-server", *options], stdout=subprocess.DEVNULL) as redis:
+            try:
+                while not os.path.exists(path):
+                    time.sleep(0.05)
+                counts = [compare(program, path, seed) for seed in range(first, first + rounds)]
+            finally:
+                redis.terminate()
+    same, errors = (sum(column) for column in zip(*counts))
+    print(f"{same:,} replies of {rounds * COMMANDS_A_ROUND:,} compared are the same, {errors:,} of them errors")
+    return same < rounds * COMMANDS_A_ROUND
+
+
+if __name__ == "__main__":
+    sys.exit(main())
