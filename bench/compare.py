@@ -146,6 +146,8 @@ def main():
         with subprocess.Popen(["redis-server", *options], stdout=subprocess.DEVNULL) as redis:
             try:
                 while not os.path.exists(path):
+                    if redis.poll() is not None:
+                        sys.exit("redis-server ended before it listened")
                     time.sleep(0.05)
                 counts = [compare(program, path, seed) for seed in range(first, first + rounds)]
             finally:
