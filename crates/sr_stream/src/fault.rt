@@ -3,6 +3,17 @@ ghost use Rattle.sr_stream.specs.declared.fault.AddFault.TheVariants.{Memory};
 
 use std::alloc::AllocError;
 
+/// Why a stream gives no id.
+///
+/// Source: Redis documentation, command XADD.
+#[derive(Clone, Copy, Debug, PartialEq, Eq)]
+pub enum GivenFault {
+    /// The last id of the stream is the greatest of all.
+    Exhausted,
+    /// The id asked for is not above the last one of the stream.
+    Small,
+}
+
 /// Why an entry is not added. Of several reasons the first in this order is answered.
 ///
 /// Source: Redis documentation, command XADD.
@@ -12,7 +23,7 @@ pub enum AddFault {
     Exhausted,
     /// The id asked for is not above the last one of the stream.
     Small,
-    /// Memory ran out. The entry has an id.
+    /// Memory was refused.
     Memory,
 }
 

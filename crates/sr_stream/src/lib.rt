@@ -7,6 +7,6 @@ mod stream;
 #[cfg(test)]
 mod tests;
 
-pub use fault::AddFault;
-pub use laws::given_ids_are_next;
+pub use fault::{AddFault, GivenFault};
+pub use laws::given_ids;
 pub use stream::Stream;
