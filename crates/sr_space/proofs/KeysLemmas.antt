@@ -1,77 +1,77 @@
--- What a write to a stream through its look-up, and an insertion, leave of the keys: what each command says.
-use Rattle.std.proofs.Common.{◌≡◌, ℕ, Bool, true, false, List, [], ◌∷◌, Some, None, Result, Ok, Err, nat_eq, refl, ap, sym, ◌∙◌, arith}
-use Rattle.std.proofs.lemmas.Bool.Decides.{nat_tests}
+-- What a write through a look-up and an insertion leave of the keys as they are shown: what `at_key` says, for any command.
+use Rattle.std.proofs.Common.{◌≡◌, ℕ, Bool, true, false, cond, List, [], ◌∷◌, Option, Some, None, nat_eq, refl, ap, sym, ◌∙◌, arith}
+use Rattle.std.specs.Option.{option_map}
 use Rattle.std.specs.Cmp.Lexicographic.{pointwise}
-use Rattle.std.specs.Map.{set_value}
-use Rattle.std.proofs.lemmas.Map.Steps.{set_value_same}
-use Rattle.sr_ids.specs.declared.id.Id.{Id}
-use Rattle.sr_ids.specs.declared.spec.Spec.{Spec}
-use Rattle.sr_ids.specs.declared.spec.Spec.TheVariants.{Auto, Ms, Written}
-use Rattle.sr_ids.specs.Id.{least_id}
-use Rattle.sr_args.specs.declared.call.Trim.{Trim}
-use Rattle.sr_stream.specs.declared.fault.AddFault.{AddFault}
-use Rattle.sr_stream.specs.Stream.{StreamState, empty_stream, without_ids}
-use Rattle.sr_stream.specs.Given.{given_id}
-use Rattle.sr_space.specs.declared.change.Addition.{Addition}
-use Rattle.sr_space.specs.Effect.{is_zero, added, trimmed, trimmed_at, deleted_at}
-use Rattle.sr_space.specs.Change.{added_by, added_to, asked_at}
-use Rattle.sr_space.specs.Keys.{Key, Keys, stream_at, with_stream}
+use Rattle.std.specs.Map.{lookup, set_value}
+use Rattle.indexmap.specs.IndexMap.{insert_entry}
+use Rattle.sr_stream.specs.Stream.{StreamState, KeptStream}
+use Rattle.sr_space.specs.Keys.{Key, Keys, stream_at, with_stream, shown_keys}
+use Rattle.sr_space.specs.Touched.{Touched, left_of, left_at, placed, at_key}
+
+abbrev pub Stored : Type 0
+Stored = List (Key × KeptStream)
+
+abbrev pub shown_of : Option KeptStream → Option StreamState
+shown_of kept = option_map (λ (k : KeptStream). k.shown) kept
+
+-- a look-up in what is shown
+pub stream_at-shown : (stored : Stored) (key : Key) → stream_at (shown_keys stored) key ≡ shown_of (lookup (pointwise nat_eq key) stored)
+stream_at-shown [] key = refl
+stream_at-shown (k ∷ stored) key = by (stream_at-shown stored key) (pointwise nat_eq key k.0)
+  where
+    by : stream_at (shown_keys stored) key ≡ shown_of (lookup (pointwise nat_eq key) stored) → (test : Bool) → cond test (Some k.1.shown) (stream_at (shown_keys stored) key) ≡ shown_of (cond test (Some k.1) (lookup (pointwise nat_eq key) stored))
+    by rest true = refl
+    by rest false = rest
 
 -- a write in place is the change of the stream at the key
-pub set_value-found : (keys : Keys) (key : Key) (stream written : StreamState) → stream_at keys key ≡ Some stream → set_value (pointwise nat_eq key) keys written ≡ with_stream keys key written
-set_value-found [] key stream written found = cc
-set_value-found (k ∷ keys) key stream written found =
-    let rest = set_value-found keys key stream written in
-    grind (arith, rest)
-
--- a stream that has no entries, and never had one, refuses no id but 0-0
-pub given_id-least : (moment : ℕ) (spec : Spec) (fault : AddFault) → is_zero spec ≡ false → given_id least_id moment spec ≡ Err fault → ⊥
-given_id-least moment Auto fault not_zero refused = grind (arith, nat_tests)
-given_id-least moment (Ms ms) fault not_zero refused = grind (arith, nat_tests)
-given_id-least moment (Written id) fault not_zero refused = grind (arith, nat_tests)
-
-module _ (keys after : Keys) (key : Key) where
-  module _ (stream written : StreamState) (found : stream_at keys key ≡ Some stream) (put : after ≡ set_value (pointwise nat_eq key) keys written) where
-    put-changed : (changed : StreamState) → written ≡ changed → after ≡ with_stream keys key changed
-    put-changed changed is = put ∙ set_value-found keys key stream written found ∙ ap (λ (s : StreamState). with_stream keys key s) is
-
-    -- a write of what was found changes nothing
-    pub put-same : written ≡ stream → after ≡ keys
-    put-same is = put ∙ set_value_same (pointwise nat_eq key) keys written (found ∙ ap (λ (s : StreamState). Some s) (sym is))
-
-    pub trimmed_at-found : (trim : Trim) → written ≡ trimmed trim stream → after ≡ (trimmed_at keys key trim (stream_at keys key)).keys
-    trimmed_at-found trim is = rw found (put-changed (trimmed trim stream) is)
-
-    pub deleted_at-found : (ids : List Id) → written ≡ without_ids ids stream → after ≡ (deleted_at keys key ids (stream_at keys key)).keys
-    deleted_at-found ids is = rw found (put-changed (without_ids ids stream) is)
-
-    added-found : (addition : Addition) (given : Result Id AddFault) → written ≡ (added_by stream addition given).stream → after ≡ (added keys key stream addition.trim addition.fields.now given).keys
-    added-found addition (Err fault) is = put-same is
-    added-found addition (Ok id) is = put-changed _ is
-
-    pub asked_at-found : (moment : ℕ) (make : Bool) (addition : Addition) → is_zero addition.spec ≡ false → written ≡ (added_to stream moment addition).stream → after ≡ (asked_at keys moment key make addition).keys
-    asked_at-found moment make addition not_zero is =
-        rw (not_zero, found) (added-found addition (given_id stream.last moment addition.spec) is)
-
-  pub trimmed_at-missing : (trim : Trim) → stream_at keys key ≡ None → after ≡ keys → after ≡ (trimmed_at keys key trim (stream_at keys key)).keys
-  trimmed_at-missing trim missing same = rw missing same
-
-  pub deleted_at-missing : (ids : List Id) → stream_at keys key ≡ None → after ≡ keys → after ≡ (deleted_at keys key ids (stream_at keys key)).keys
-  deleted_at-missing ids missing same = rw missing same
-
-  added-missing : (addition : Addition) (made : StreamState) (given : Result Id AddFault) → ((fault : AddFault) → given ≡ Err fault → ⊥) → after ≡ with_stream keys key made → made ≡ (added_by empty_stream addition given).stream → after ≡ (added keys key empty_stream addition.trim addition.fields.now given).keys
-  added-missing addition made (Err fault) never put is = absurd (never fault refl)
-  added-missing addition made (Ok id) never put is = put ∙ ap (λ (s : StreamState). with_stream keys key s) is
-
-  pub asked_at-missing : (moment : ℕ) (make : Bool) (addition : Addition) (made : StreamState) → stream_at keys key ≡ None → make ≡ true → is_zero addition.spec ≡ false → after ≡ with_stream keys key made → made ≡ (added_to empty_stream moment addition).stream → after ≡ (asked_at keys moment key make addition).keys
-  asked_at-missing moment make addition made missing makes not_zero put is =
-      let given = given_id least_id moment addition.spec in
-      rw (not_zero, missing, makes) (added-missing addition made given (λ fault refused. given_id-least moment addition.spec fault not_zero refused) put is)
-
--- the reply where the key is there
-pub answered-found : (keys : Keys) (key : Key) (stream : StreamState) (moment : ℕ) (make : Bool) (addition : Addition) → is_zero addition.spec ≡ false → stream_at keys key ≡ Some stream → (added_to stream moment addition).answer ≡ (asked_at keys moment key make addition).answer
-answered-found keys key stream moment make addition not_zero found = rw (not_zero, found) (by (given_id stream.last moment addition.spec))
+pub shown-set_value : (stored : Stored) (key : Key) (kept written : KeptStream) → lookup (pointwise nat_eq key) stored ≡ Some kept → shown_keys (set_value (pointwise nat_eq key) stored written) ≡ with_stream (shown_keys stored) key written.shown
+shown-set_value [] key kept written found = absurd (cc)
+shown-set_value (k ∷ stored) key kept written found = by (shown-set_value stored key kept written) (pointwise nat_eq key k.0) found
   where
-    by : (given : Result Id AddFault) → (added_by stream addition given).answer ≡ (added keys key stream addition.trim addition.fields.now given).answer
-    by (Err fault) = refl
-    by (Ok id) = refl
+    by : (lookup (pointwise nat_eq key) stored ≡ Some kept → shown_keys (set_value (pointwise nat_eq key) stored written) ≡ with_stream (shown_keys stored) key written.shown) → (test : Bool) → cond test (Some k.1) (lookup (pointwise nat_eq key) stored) ≡ Some kept → shown_keys (cond test ((k.0, written) ∷ stored) (k ∷ set_value (pointwise nat_eq key) stored written)) ≡ cond test ((k.0, written.shown) ∷ shown_keys stored) ((k.0, k.1.shown) ∷ with_stream (shown_keys stored) key written.shown)
+    by rest true found = refl
+    by rest false found = ap (λ (l : Keys). (k.0, k.1.shown) ∷ l) (rest found)
+
+-- a write of what was shown changes nothing that is shown
+pub shown-set_value_same : (stored : Stored) (key : Key) (kept written : KeptStream) → lookup (pointwise nat_eq key) stored ≡ Some kept → written.shown ≡ kept.shown → shown_keys (set_value (pointwise nat_eq key) stored written) ≡ shown_keys stored
+shown-set_value_same [] key kept written found same = refl
+shown-set_value_same (k ∷ stored) key kept written found same = by (shown-set_value_same stored key kept written) (pointwise nat_eq key k.0) found
+  where
+    by : (lookup (pointwise nat_eq key) stored ≡ Some kept → written.shown ≡ kept.shown → shown_keys (set_value (pointwise nat_eq key) stored written) ≡ shown_keys stored) → (test : Bool) → cond test (Some k.1) (lookup (pointwise nat_eq key) stored) ≡ Some kept → shown_keys (cond test ((k.0, written) ∷ stored) (k ∷ set_value (pointwise nat_eq key) stored written)) ≡ (k.0, k.1.shown) ∷ shown_keys stored
+    by rest true found =
+        let here : k.1 ≡ kept = cc in
+        ap (λ (s : StreamState). (k.0, s) ∷ shown_keys stored) (same ∙ ap (λ (x : KeptStream). x.shown) (sym here))
+    by rest false found = ap (λ (l : Keys). (k.0, k.1.shown) ∷ l) (rest found same)
+
+-- an insertion
+pub shown-insert_entry : (stored : Stored) (key : Key) (kept : KeptStream) → shown_keys (insert_entry (pointwise nat_eq) stored key kept) ≡ with_stream (shown_keys stored) key kept.shown
+shown-insert_entry [] key kept = refl
+shown-insert_entry (k ∷ stored) key kept = by (shown-insert_entry stored key kept) (pointwise nat_eq key k.0)
+  where
+    by : shown_keys (insert_entry (pointwise nat_eq) stored key kept) ≡ with_stream (shown_keys stored) key kept.shown → (test : Bool) → shown_keys (cond test ((k.0, kept) ∷ stored) (k ∷ insert_entry (pointwise nat_eq) stored key kept)) ≡ cond test ((k.0, kept.shown) ∷ shown_keys stored) ((k.0, k.1.shown) ∷ with_stream (shown_keys stored) key kept.shown)
+    by rest true = refl
+    by rest false = ap (λ (l : Keys). (k.0, k.1.shown) ∷ l) rest
+
+module _ (stored : Stored) (key : Key) (f : Option StreamState → Touched) where
+  -- the key is there: its stream is written, or left
+  pub at_key-found : (kept written : KeptStream) → lookup (pointwise nat_eq key) stored ≡ Some kept → written.shown ≡ left_of kept.shown (f (Some kept.shown)).written → shown_keys (set_value (pointwise nat_eq key) stored written) ≡ (at_key (shown_keys stored) key f).keys
+  at_key-found kept written found is =
+      let here : stream_at (shown_keys stored) key ≡ Some kept.shown = stream_at-shown stored key ∙ ap shown_of found in
+      rw here (by (f (Some kept.shown)).written is)
+    where
+      by : (leaves : Option StreamState) → written.shown ≡ left_of kept.shown leaves → shown_keys (set_value (pointwise nat_eq key) stored written) ≡ left_at (shown_keys stored) key leaves
+      by None is = shown-set_value_same stored key kept written found is
+      by (Some stream) is = shown-set_value stored key kept written found ∙ ap (λ (s : StreamState). with_stream (shown_keys stored) key s) is
+
+  pub at_key-found_outcome : (kept : KeptStream) → lookup (pointwise nat_eq key) stored ≡ Some kept → (f (Some kept.shown)).outcome ≡ (at_key (shown_keys stored) key f).outcome
+  at_key-found_outcome kept found =
+      let here : stream_at (shown_keys stored) key ≡ Some kept.shown = stream_at-shown stored key ∙ ap shown_of found in
+      rw here refl
+
+module _ (keys : Keys) (key : Key) (f : Option StreamState → Touched) (missing : stream_at keys key ≡ None) where
+  -- the key is missing: it is made, or not
+  pub at_key-missing : None ≡ (f None).written → keys ≡ (at_key keys key f).keys
+  at_key-missing none = rw missing (ap (left_at keys key) none)
+
+  pub at_key-made : (stream : StreamState) → Some stream ≡ (f None).written → with_stream keys key stream ≡ (at_key keys key f).keys
+  at_key-made stream made = rw missing (ap (left_at keys key) made)

@@ -1,23 +1,15 @@
--- One stream changed: what each key has then, and that each stream is one whose entries rise up to its last id, as before.
-use Rattle.std.proofs.Common.{◌≡◌, ◌≢◌, ℕ, Bool, true, false, cond, List, [], ◌∷◌, not, Option, Some, None, Result, Ok, Err, nat_eq, refl, ap, sym, ◌∙◌, true≢false, arith}
+-- One stream changed: what each key has then; and what every command leaves.
+use Rattle.std.proofs.Common.{◌≡◌, ◌≢◌, ℕ, Bool, true, false, cond, List, [], ◌∷◌, Option, Some, None, nat_eq, refl, ap, sym, ◌∙◌, true≢false}
+use Rattle.std.specs.Prelude.{IfSome, IsSome}
 use Rattle.std.specs.Cmp.Lexicographic.{pointwise, bytes_decides}
-use Rattle.sr_ids.specs.declared.id.Id.{Id}
-use Rattle.sr_ids.specs.declared.spec.Spec.{Spec}
-use Rattle.sr_ids.specs.Id.{IsBelow, least_id}
+use Rattle.sr_resp.specs.declared.code.ErrCode.{ErrCode}
 use Rattle.sr_resp.specs.Reply.{error_reply}
-use Rattle.sr_resp.specs.declared.code.ErrCode.TheVariants.{IdZero}
-use Rattle.sr_args.specs.declared.call.Trim.{Trim}
 use Rattle.sr_args.specs.declared.call.Call.{Call}
-use Rattle.sr_args.specs.declared.call.Call.TheVariants.{Ping, Xadd, Xtrim, Xdel, Xlen, Xrange, Xrevrange}
-use Rattle.sr_entries.specs.declared.entry.Entry.{Entry}
-use Rattle.sr_entries.proofs.EntriesLemmas.{AreRising-filter}
-use Rattle.sr_stream.specs.declared.fault.AddFault.{AddFault}
-use Rattle.sr_stream.specs.Stream.{StreamState, IsStream, empty_stream, with_entry, without_ids, is_among}
-use Rattle.sr_stream.specs.Given.{given_id}
-use Rattle.sr_stream.proofs.GivenLemmas.{given_id-above}
-use Rattle.sr_stream.proofs.StreamLemmas.{AreUpTo-filter, IsStream-drop, IsStream-with_entry}
-use Rattle.sr_space.specs.Effect.{Executed, replies, is_zero, trim_count, trimmed, trimmed_if_asked, added, added_at, trimmed_at, deleted_at, executed}
-use Rattle.sr_space.specs.Keys.{Key, Keys, stream_at, with_stream}
+use Rattle.sr_stream.specs.Stream.{StreamState, IsStream}
+use Rattle.sr_space.specs.Keys.{Key, Keys, stream_at, with_stream, AreStreams}
+use Rattle.sr_space.specs.Touched.{Touched, Executed, reply_of, left_at, at_key}
+use Rattle.sr_space.specs.Effect.{executed}
+use Rattle.sr_space.proofs.CommandLaws.{IsLawful, IsApplied, executed-applied}
 
 other_key : (a b : Key) → a ≢ b → pointwise nat_eq a b ≡ false
 other_key a b apart = by (pointwise nat_eq a b) refl
@@ -26,7 +18,7 @@ other_key a b apart = by (pointwise nat_eq a b) refl
     by true e = absurd (apart ((bytes_decides a b).0 e))
     by false e = refl
 
--- the changed stream stands at its key
+-- the changed stream is at its key
 pub stream_at-with_stream : (keys : Keys) (key : Key) (stream : StreamState) → stream_at (with_stream keys key stream) key ≡ Some stream
 stream_at-with_stream [] key stream = rw ((bytes_decides key key).1 refl)
 stream_at-with_stream (k ∷ keys) key stream = by (stream_at-with_stream keys key stream) (pointwise nat_eq key k.0) refl
@@ -47,27 +39,9 @@ stream_at-with_stream_other (k ∷ keys) key other stream apart = by (stream_at-
         simp (e, not_here)
     by rest false e = simp e (ap (cond (pointwise nat_eq other k.0) (Some k.1)) rest)
 
-IsStream-empty : IsStream empty_stream
-IsStream-empty = record { rising = tt; up_to = tt; few = omega arith }
-
-IsStream-without_ids : (ids : List Id) (stream : StreamState) → IsStream stream → IsStream (without_ids ids stream)
-IsStream-without_ids ids stream is =
-    let stays : Entry → Bool = λ entry. not (is_among ids entry.id) in
-    record {
-      rising = AreRising-filter stays stream.entries is.rising;
-      up_to = AreUpTo-filter stream.last stays stream.entries is.up_to;
-      few = is.few;
-    }
-
-IsStream-trimmed_if_asked : (trim : Option Trim) (stream : StreamState) → IsStream stream → IsStream (trimmed_if_asked trim stream)
-IsStream-trimmed_if_asked None stream is = is
-IsStream-trimmed_if_asked (Some trim) stream is = IsStream-drop (trim_count trim stream) stream _ is refl
-
-abbrev AreAllStreams : Keys → Type 0
-AreAllStreams keys = (key : Key) (stream : StreamState) → stream_at keys key ≡ Some stream → IsStream stream
-
-AreAllStreams-with_stream : (keys : Keys) (key : Key) (changed : StreamState) → AreAllStreams keys → IsStream changed → AreAllStreams (with_stream keys key changed)
-AreAllStreams-with_stream keys key changed all is other stream here = by (pointwise nat_eq other key) refl
+-- all streams are sound if the changed one is
+AreStreams-with_stream : (keys : Keys) (key : Key) (changed : StreamState) → AreStreams keys → IsStream changed → AreStreams (with_stream keys key changed)
+AreStreams-with_stream keys key changed all is other stream here = by (pointwise nat_eq other key) refl
   where
     by : (test : Bool) → pointwise nat_eq other key ≡ test → IsStream stream
     by true e =
@@ -79,41 +53,46 @@ AreAllStreams-with_stream keys key changed all is other stream here = by (pointw
         let apart : other ≢ key = λ same. true≢false (sym ((bytes_decides other key).1 same) ∙ e) in
         all other stream (sym (stream_at-with_stream_other keys key other changed apart) ∙ here)
 
-AreAllStreams-added : (keys : Keys) (key : Key) (stream : StreamState) (trim : Option Trim) (fields : List (List ℕ × List ℕ)) (given : Result Id AddFault) → AreAllStreams keys → IsStream stream → ((id : Id) → given ≡ Ok id → IsBelow stream.last id) → AreAllStreams (added keys key stream trim fields given).keys
-AreAllStreams-added keys key stream trim fields (Err fault) all is above = all
-AreAllStreams-added keys key stream trim fields (Ok id) all is above =
-    let entry : Entry = record { id = id; fields = fields } in
-    let more : IsStream (with_entry entry stream) = IsStream-with_entry entry stream _ _ is (above id refl) refl refl in
-    AreAllStreams-with_stream keys key _ all (IsStream-trimmed_if_asked trim (with_entry entry stream) more)
+AreStreams-left_at : (keys : Keys) (key : Key) (written : Option StreamState) → AreStreams keys → IfSome written IsStream → AreStreams (left_at keys key written)
+AreStreams-left_at keys key None all is = all
+AreStreams-left_at keys key (Some changed) all is = AreStreams-with_stream keys key changed all is
 
-AreAllStreams-added_at : (keys : Keys) (moment : ℕ) (key : Key) (make : Bool) (trim : Option Trim) (spec : Spec) (fields : List (List ℕ × List ℕ)) (found : Option StreamState) → stream_at keys key ≡ found → AreAllStreams keys → AreAllStreams (added_at keys moment key make trim spec fields found).keys
-AreAllStreams-added_at keys moment key make trim spec fields (Some stream) at all =
-    AreAllStreams-added keys key stream trim fields (given_id stream.last moment spec) all (all key stream at) (given_id-above stream.last moment spec)
-AreAllStreams-added_at keys moment key false trim spec fields None at all = all
-AreAllStreams-added_at keys moment key true trim spec fields None at all =
-    AreAllStreams-added keys key empty_stream trim fields (given_id least_id moment spec) all IsStream-empty (given_id-above least_id moment spec)
+found-sound : (keys : Keys) (key : Key) (found : Option StreamState) → AreStreams keys → stream_at keys key ≡ found → IfSome found IsStream
+found-sound keys key None all at = tt
+found-sound keys key (Some stream) all at = all key stream at
 
-AreAllStreams-trimmed_at : (keys : Keys) (key : Key) (trim : Trim) (found : Option StreamState) → stream_at keys key ≡ found → AreAllStreams keys → AreAllStreams (trimmed_at keys key trim found).keys
-AreAllStreams-trimmed_at keys key trim None at all = all
-AreAllStreams-trimmed_at keys key trim (Some stream) at all =
-    AreAllStreams-with_stream keys key (trimmed trim stream) all (IsStream-drop (trim_count trim stream) stream _ (all key stream at) refl)
+-- a key that is there is there after a change
+IsSome-with_stream : (keys : Keys) (key other : Key) (changed : StreamState) → IsSome (stream_at keys other) → IsSome (stream_at (with_stream keys key changed) other)
+IsSome-with_stream keys key other changed there = by (pointwise nat_eq other key) refl
+  where
+    by : (test : Bool) → pointwise nat_eq other key ≡ test → IsSome (stream_at (with_stream keys key changed) other)
+    by true e =
+        let key_is : other ≡ key = (bytes_decides other key).0 e in
+        rw (key_is, stream_at-with_stream keys key changed) refl
+    by false e =
+        let apart : other ≢ key = λ same. true≢false (sym ((bytes_decides other key).1 same) ∙ e) in
+        rw (stream_at-with_stream_other keys key other changed apart) there
 
-AreAllStreams-deleted_at : (keys : Keys) (key : Key) (ids : List Id) (found : Option StreamState) → stream_at keys key ≡ found → AreAllStreams keys → AreAllStreams (deleted_at keys key ids found).keys
-AreAllStreams-deleted_at keys key ids None at all = all
-AreAllStreams-deleted_at keys key ids (Some stream) at all =
-    AreAllStreams-with_stream keys key (without_ids ids stream) all (IsStream-without_ids ids stream (all key stream at))
+IsSome-left_at : (keys : Keys) (key other : Key) (written : Option StreamState) → IsSome (stream_at keys other) → IsSome (stream_at (left_at keys key written) other)
+IsSome-left_at keys key other None there = there
+IsSome-left_at keys key other (Some changed) there = IsSome-with_stream keys key other changed there
 
-AreAllStreams-unless : (zero : Bool) (keys : Keys) (otherwise : Executed) → AreAllStreams keys → AreAllStreams otherwise.keys → AreAllStreams (cond zero (replies keys (error_reply IdZero)) otherwise).keys
-AreAllStreams-unless true keys otherwise all changed = all
-AreAllStreams-unless false keys otherwise all changed = changed
+-- and so for every command
+pub AreStreams-executed : (keys : Keys) (moment : ℕ) (call : Call) → AreStreams keys → AreStreams (executed keys moment call).keys
+AreStreams-executed keys moment call all =
+    let applied = executed-applied keys moment call in
+    let found = stream_at keys applied.key in
+    rw applied.is (AreStreams-left_at keys applied.key (applied.f found).written all (applied.lawful.sound found (found-sound keys applied.key found all refl)))
 
-pub AreAllStreams-executed : (keys : Keys) (moment : ℕ) (call : Call) → AreAllStreams keys → AreAllStreams (executed keys moment call).keys
-AreAllStreams-executed keys moment (Ping None) all = all
-AreAllStreams-executed keys moment (Ping (Some message)) all = all
-AreAllStreams-executed keys moment (Xadd key make trim spec fields) all =
-    AreAllStreams-unless (is_zero spec) keys (added_at keys moment key make trim spec fields (stream_at keys key)) all (AreAllStreams-added_at keys moment key make trim spec fields (stream_at keys key) refl all)
-AreAllStreams-executed keys moment (Xtrim key trim) all = AreAllStreams-trimmed_at keys key trim (stream_at keys key) refl all
-AreAllStreams-executed keys moment (Xdel key ids) all = AreAllStreams-deleted_at keys key ids (stream_at keys key) refl all
-AreAllStreams-executed keys moment (Xlen key) all = all
-AreAllStreams-executed keys moment (Xrange key start end count) all = all
-AreAllStreams-executed keys moment (Xrevrange key end start count) all = all
+pub executed-error : (keys : Keys) (moment : ℕ) (call : Call) (code : ErrCode) → (executed keys moment call).outcome ≡ reply_of (error_reply code) → (executed keys moment call).keys ≡ keys
+executed-error keys moment call code e =
+    let applied = executed-applied keys moment call in
+    let found = stream_at keys applied.key in
+    let error : (applied.f found).outcome ≡ reply_of (error_reply code) = sym (ap (λ (x : Executed). x.outcome) applied.is) ∙ e in
+    ap (λ (x : Executed). x.keys) applied.is ∙ ap (left_at keys applied.key) (applied.lawful.errors found code error)
+
+pub IsSome-executed : (keys : Keys) (moment : ℕ) (call : Call) (key : Key) → IsSome (stream_at keys key) → IsSome (stream_at (executed keys moment call).keys key)
+IsSome-executed keys moment call key there =
+    let applied = executed-applied keys moment call in
+    let found = stream_at keys applied.key in
+    rw applied.is (IsSome-left_at keys applied.key key (applied.f found).written there)

@@ -1,3 +1,4 @@
 pub mod KeysLemmas
+pub mod CommandLaws
 pub mod LawLemmas
-pub mod RangeLemmas
+pub mod ReplyLemmas

@@ -1,3 +1,5 @@
 pub mod Keys
+pub mod Touched
+pub mod EntryReply
+pub mod commands
 pub mod Effect
-pub mod Change

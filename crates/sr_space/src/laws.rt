@@ -1,16 +1,34 @@
-ghost use Rattle.std.specs.Prelude.{◌≡◌, ◌≢◌, ℕ, Some};
+ghost use Rattle.std.specs.Prelude.{◌≡◌, ◌≢◌, ℕ, Some, IsSome};
 ghost use Rattle.sr_args.specs.declared.call.Call as calls;
+ghost use Rattle.sr_resp.specs.declared.code.ErrCode as codes;
+ghost use Rattle.sr_resp.specs.Reply.{error_reply};
 ghost use Rattle.sr_stream.specs.Stream.{StreamState, IsStream};
+ghost use Rattle.sr_space.specs.Touched.{reply_of};
 ghost use Rattle.sr_space.specs.Effect.{executed};
-ghost use Rattle.sr_space.specs.Keys.{Key, Keys, stream_at, with_stream};
+ghost use Rattle.sr_space.specs.Keys.{Key, Keys, stream_at, with_stream, AreStreams};
 
-/// A changed stream stands at its key, and the others stay. Where each stream is one whose entries rise up to its last
-/// id, as where there are no keys, it is so after each command. It does nothing.
+/// Law: a changed stream is at its key, and the streams at other keys stay. Calling this has no effect.
 pub fn one_stream_changes()
-    ensures at_key { (keys : Keys) (key : Key) (stream : StreamState) → stream_at (with_stream keys key stream) key ≡ Some stream }
+    ensures at_key { (keys : Keys) (key : Key) (stream : StreamState) →
+        stream_at (with_stream keys key stream) key ≡ Some stream }
     ensures others { (keys : Keys) (key other : Key) (stream : StreamState) → other ≢ key →
         stream_at (with_stream keys key stream) other ≡ stream_at keys other }
-    ensures sound { (keys : Keys) (moment : ℕ) (call : calls.Call) →
-        ((key : Key) (stream : StreamState) → stream_at keys key ≡ Some stream → IsStream stream) →
-        (key : Key) (stream : StreamState) → stream_at (executed keys moment call).keys key ≡ Some stream → IsStream stream }
+{}
+
+/// Law: if the entries of each stream rise up to its last id, they do so after each command. Calling this has no effect.
+pub fn streams_stay_sound()
+    ensures { (keys : Keys) (moment : ℕ) (call : calls.Call) →
+        AreStreams keys → AreStreams (executed keys moment call).keys }
+{}
+
+/// Law: an error reply changes no key. Calling this has no effect.
+pub fn errors_change_nothing()
+    ensures { (keys : Keys) (moment : ℕ) (call : calls.Call) (code : codes.ErrCode) →
+        (executed keys moment call).outcome ≡ reply_of (error_reply code) → (executed keys moment call).keys ≡ keys }
+{}
+
+/// Law: no command takes a key away. Calling this has no effect.
+pub fn keys_stay()
+    ensures { (keys : Keys) (moment : ℕ) (call : calls.Call) (key : Key) →
+        IsSome (stream_at keys key) → IsSome (stream_at (executed keys moment call).keys key) }
 {}

@@ -1,19 +1,20 @@
 ghost use Rattle.std.specs.Prelude.{◌≡◌, ◌^◌, ◌<◌, pos, IfOk};
-ghost use Rattle.sr_resp.specs.Reply.{integer};
+ghost use Rattle.sr_resp.specs.Reply.{integer, error_reply};
+ghost use Rattle.sr_space.specs.Touched.{reply_of};
 
-use sr_resp::Reply;
+use sr_resp::{ErrCode, Reply};
 use std::alloc::{AllocError, Global};
 
 /// What a command leads to.
 #[derive(Drop)]
 pub enum Outcome {
-    /// A reply, twice: one to send, and an equal one to keep.
+    /// A reply, made twice before the effect: one to send, and an equal one for the record of the command.
     Reply { send: Reply, keep: Reply },
 }
 
-/// The reply twice: one to send, and an equal one to keep.
+/// A reply, twice.
 pub(crate) fn replied(alloc: Global, reply: Reply) -> Result<Outcome, AllocError>
-    ensures { IfOk result (λ outcome. outcome ≡ Outcome.Reply reply reply) }
+    ensures { IfOk result (λ outcome. outcome ≡ reply_of reply) }
 {
     let keep = reply.copy(alloc)?;
     Ok(Outcome::Reply { send: reply, keep })
@@ -22,10 +23,20 @@ pub(crate) fn replied(alloc: Global, reply: Reply) -> Result<Outcome, AllocError
 /// A number as the reply, twice. It takes no memory.
 pub(crate) fn numbered(alloc: Global, n: u64) -> Outcome
     requires { n < 2 ^ 63 }
-    ensures { let answer = integer (pos n) in result ≡ Outcome.Reply answer answer }
+    ensures { result ≡ reply_of (integer (pos n)) }
 {
     Outcome::Reply {
         send: Reply::int(alloc, n as i64),
         keep: Reply::int(alloc, n as i64),
+    }
+}
+
+/// An error as the reply, twice. It takes no memory.
+pub(crate) fn refused(alloc: Global, code: ErrCode) -> Outcome
+    ensures { result ≡ reply_of (error_reply code) }
+{
+    Outcome::Reply {
+        send: Reply::error(alloc, code),
+        keep: Reply::error(alloc, code),
     }
 }

@@ -159,7 +159,7 @@ fn commands(alloc: Global) -> Result<Vec<Call>, AllocError> {
     ]?)
 }
 
-/// Carries out commands, each of which is tried again where memory is refused to it.
+/// Carries out commands, and tries each again if memory is refused.
 fn carry_out(rt: &impl Abort, space: &mut Space, alloc: Global) -> Result<(), AllocError> {
     for call in commands(alloc)?.iter() {
         let before = seen(space, alloc)?;
@@ -177,11 +177,11 @@ fn carry_out(rt: &impl Abort, space: &mut Space, alloc: Global) -> Result<(), Al
     Ok(())
 }
 
-/// It shows the most where each of its allocations fails in turn.
+/// It shows the most if each of its allocations fails in turn.
 #[test]
 fn refused_memory_leaves_the_keys(rt: HostRuntime) -> Result<(), Fail> {
     let mut space = Space::new(rt.alloc(), RandomState::new(&rt)?);
-    // It ends early where a refusal came between the commands.
+    // It ends early if a refusal comes between the commands.
     let _ended = carry_out(&rt, &mut space, rt.alloc());
     Ok(())
 }

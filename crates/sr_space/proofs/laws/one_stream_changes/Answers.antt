@@ -1,9 +1,5 @@
-use Rattle.sr_space.proofs.LawLemmas.{stream_at-with_stream, stream_at-with_stream_other, AreAllStreams-executed}
+use Rattle.sr_space.proofs.LawLemmas.{stream_at-with_stream, stream_at-with_stream_other}
 use Rattle.sr_space.proofs.laws.one_stream_changes.Goals as goal
 
 pub returns : goal.returns
-returns c = record {
-  at_key = stream_at-with_stream;
-  others = stream_at-with_stream_other;
-  sound = AreAllStreams-executed;
-}
+returns c = record { at_key = stream_at-with_stream; others = stream_at-with_stream_other }

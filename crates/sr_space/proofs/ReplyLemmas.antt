@@ -4,7 +4,7 @@ use Rattle.std.specs.List.{flat_map}
 use Rattle.sr_ids.specs.Spelling.{spelling}
 use Rattle.sr_resp.specs.Reply.{Answer, array_of, bulk_string}
 use Rattle.sr_entries.specs.declared.entry.Entry.{Entry}
-use Rattle.sr_space.specs.Effect.{entry_answer}
+use Rattle.sr_space.specs.EntryReply.{entry_answer}
 
 -- the replies for a field and its value
 abbrev pub pair_answers : List ℕ × List ℕ → List Answer

@@ -1,9 +1,7 @@
-ghost use Rattle.std.specs.Prelude.{◌≡◌, ℤ, List, Option, map, IfOk};
+ghost use Rattle.std.specs.Prelude.{◌≡◌, map, IfOk};
 ghost use Rattle.sr_ids.specs.Spelling.{spelling};
-ghost use Rattle.sr_entries.specs.declared.entry.Entry as entries;
-ghost use Rattle.sr_entries.specs.Entries.{first_of};
 ghost use Rattle.sr_resp.specs.Reply.{array_of, bulk_string};
-ghost use Rattle.sr_space.specs.Effect.{entry_answer, counted};
+ghost use Rattle.sr_space.specs.EntryReply.{entry_answer};
 
 use sr_bytes::Name;
 use sr_entries::Entry;
@@ -45,14 +43,4 @@ pub(crate) fn entries_reply(alloc: Global, entries: &[Entry]) -> Result<Reply, A
         reply.push(entry_reply(alloc, entry)?)?;
     }
     Ok(reply)
-}
-
-/// How many entries COUNT asks for at most: none where it is 0 or below.
-pub(crate) fn wanted(count: Option<i64>) -> Option<u64>
-    ensures { (list : List entries.Entry) → first_of result list ≡ counted count list }
-{
-    match count {
-        None => None,
-        Some(n) => Some(u64::try_from(n).unwrap_or(0)),
-    }
 }

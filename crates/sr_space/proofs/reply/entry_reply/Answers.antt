@@ -2,8 +2,8 @@ use Rattle.std.proofs.Common.{◌≡◌, [], ◌∷◌, take, arith}
 use Rattle.std.proofs.lemmas.List.{take_all}
 use Rattle.std.specs.List.{flat_map}
 use Rattle.sr_resp.specs.Reply.{array_of}
-use Rattle.sr_space.proofs.RangeLemmas.{pair_answers, entry_answer-parts}
-use Rattle.sr_space.proofs.range.entry_reply.Goals as goal
+use Rattle.sr_space.proofs.ReplyLemmas.{pair_answers, entry_answer-parts}
+use Rattle.sr_space.proofs.reply.entry_reply.Goals as goal
 
 pub push-requires-3 : goal.push-requires-3
 push-requires-3 c = record { array = (c.in_ok-id_reply.field-0 ∷ [], c.in_ok-push-3.ensures.ok [] c.empty_array-reply.ensures) }

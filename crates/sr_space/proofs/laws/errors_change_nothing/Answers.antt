@@ -1,0 +1,5 @@
+use Rattle.sr_space.proofs.LawLemmas.{executed-error}
+use Rattle.sr_space.proofs.laws.errors_change_nothing.Goals as goal
+
+pub returns : goal.returns
+returns c = executed-error

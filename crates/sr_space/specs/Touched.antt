@@ -1,0 +1,52 @@
+-- What a command leads to, and how a command on one stream is carried out at its key.
+
+use Rattle.std.specs.Prelude.{Option, Some, None}
+use Rattle.sr_resp.specs.Reply.{Answer, error_reply}
+use Rattle.sr_resp.specs.declared.code.ErrCode.{ErrCode}
+use Rattle.sr_stream.specs.Stream.{StreamState}
+use Rattle.sr_space.specs.declared.outcome.Outcome.{Outcome}
+use Rattle.sr_space.specs.declared.outcome.Outcome.TheVariants.{Reply}
+use Rattle.sr_space.specs.Keys.{Key, Keys, stream_at, with_stream}
+
+-- the keys that a command leaves, and what it leads to
+pub record Executed : Type 0 where
+  pub keys : Keys
+  pub outcome : Outcome
+
+-- what a command on one stream writes at its key, if anything, and what it leads to
+pub record Touched : Type 0 where
+  pub written : Option StreamState
+  pub outcome : Outcome
+
+-- a reply: one to send, and an equal one to keep
+abbrev pub reply_of : Answer → Outcome
+reply_of answer = Reply answer answer
+
+-- nothing is written, and this is replied
+abbrev pub replies : Answer → Touched
+replies answer = record { written = None; outcome = reply_of answer }
+
+-- nothing is written, and an error is replied
+abbrev pub refuses : ErrCode → Touched
+refuses code = replies (error_reply code)
+
+-- the stream is written, and this is replied
+abbrev pub writes : StreamState → Answer → Touched
+writes stream answer = record { written = Some stream; outcome = reply_of answer }
+
+-- a stream after such a command
+abbrev pub left_of : StreamState → Option StreamState → StreamState
+left_of stream None = stream
+left_of stream (Some written) = written
+
+-- the keys after such a command at this key
+abbrev pub left_at : Keys → Key → Option StreamState → Keys
+left_at keys key None = keys
+left_at keys key (Some written) = with_stream keys key written
+
+abbrev pub placed : Keys → Key → Touched → Executed
+placed keys key touched = record { keys = left_at keys key touched.written; outcome = touched.outcome }
+
+-- a command on one stream, carried out on the stream at a key, if the key is there
+abbrev pub at_key : Keys → Key → (Option StreamState → Touched) → Executed
+at_key keys key f = placed keys key (f (stream_at keys key))

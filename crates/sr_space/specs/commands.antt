@@ -1,0 +1,6 @@
+pub mod Ping
+pub mod Xadd
+pub mod Xtrim
+pub mod Xdel
+pub mod Xlen
+pub mod Xrange
