@@ -1,7 +1,7 @@
 -- What a command leads to, and how a command on one stream is carried out at its key.
 
-use Rattle.std.specs.Prelude.{Option, Some, None}
-use Rattle.sr_resp.specs.Reply.{Answer, error_reply}
+use Rattle.std.specs.Prelude.{ℕ, Option, Some, None, pos}
+use Rattle.sr_resp.specs.Reply.{Answer, error_reply, integer}
 use Rattle.sr_resp.specs.declared.code.ErrCode.{ErrCode}
 use Rattle.sr_stream.specs.Stream.{StreamState}
 use Rattle.sr_space.specs.declared.outcome.Outcome.{Outcome}
@@ -33,6 +33,11 @@ refuses code = replies (error_reply code)
 -- the stream is written, and this is replied
 abbrev pub writes : StreamState → Answer → Touched
 writes stream answer = record { written = Some stream; outcome = reply_of answer }
+
+-- the stream is changed, and a count of it replied: 0 if the key is missing
+abbrev pub counts : (StreamState → StreamState) → (StreamState → ℕ) → Option StreamState → Touched
+counts change count None = replies (integer (pos 0))
+counts change count (Some stream) = writes (change stream) (integer (pos (count stream)))
 
 -- a stream after such a command
 abbrev pub left_of : StreamState → Option StreamState → StreamState
