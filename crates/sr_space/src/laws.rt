@@ -3,9 +3,8 @@ ghost use Rattle.sr_args.specs.declared.call.Call as calls;
 ghost use Rattle.sr_resp.specs.declared.code.ErrCode as codes;
 ghost use Rattle.sr_resp.specs.Reply.{error_reply};
 ghost use Rattle.sr_stream.specs.Stream.{StreamState, IsStream};
-ghost use Rattle.sr_space.specs.Touched.{reply_of};
-ghost use Rattle.sr_space.specs.Effect.{executed};
-ghost use Rattle.sr_space.specs.Keys.{Key, Keys, stream_at, with_stream, AreStreams};
+ghost use Rattle.sr_space.specs.{executed, reply_of, stream_at, with_stream};
+ghost use Rattle.sr_space.specs.Keys.{Key, Keys, AreStreams};
 
 /// Law: a changed stream is at its key, and the streams at other keys stay. Calling this has no effect.
 pub fn one_stream_changes()
