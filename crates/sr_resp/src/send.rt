@@ -15,8 +15,10 @@ pub trait Sink {
     /// Whether a write failed.
     ghost failed: { Self → Bool };
 
-    /// Writes some of the bytes, at least one where there are any, and answers how many.
+    /// Writes some of the bytes, at least one if there are any, and answers how many. After a failed write there is no
+    /// other.
     fn write(&mut self, bytes: &[u8]) -> Result<usize, WriteFailed>
+        requires { failed self.old ≡ false }
         ensures bound { IfOk result (λ count. count ≤ length bytes.now) }
         ensures some { IfOk result (λ count. 0 < length bytes.now → 0 < count) }
         ensures bytes { WriteAppends (contents self.old) (contents self.new) result bytes.now }
@@ -68,8 +70,9 @@ pub struct SendFault {
     pub sent: usize,
 }
 
-/// Writes all of the bytes.
+/// Writes all of the bytes, to a sink that has not failed. Once a write fails, it writes no more.
 pub fn send_all<W: Sink>(sink: &mut W, bytes: &[u8]) -> Result<(), SendFault>
+    requires { W.failed sink.old ≡ false }
     ensures ok { OnOk result (Appends (W.contents sink.old) (W.contents sink.new) bytes.now) }
     ensures err { IfErr result (λ fault. (fault.sent < length bytes.now)
         × Appends (W.contents sink.old) (W.contents sink.new) (take fault.sent bytes.now)) }

@@ -1,7 +1,8 @@
--- What the program makes of the end of its session: a line of text, or none, and a status.
+-- What the program makes of the end of its session: a line of text, if anything went wrong, and a status.
 
-use Rattle.std.specs.Prelude.{◌≡◌, ℕ, Bool, List, [], Result, Ok, Err}
-use Rattle.sr_space.specs.Keys.{Keys}
+use Rattle.std.specs.Prelude.{◌≡◌, ℕ, Bool, List, [], ◌⊎◌, Option, Some, Result, Ok, Err, true}
+use Rattle.sr_session.specs.Answered.{Answers}
+use Rattle.sr_session.specs.Desk.{Served, shown}
 use Rattle.sr_session.specs.Session.{EndsAs}
 use Rattle.sr_session.specs.declared.run.End.{End}
 use Rattle.sr_session.specs.declared.run.End.TheVariants as ends
@@ -17,14 +18,27 @@ outcome_of (ends.SendFault sent) = Err faults.Write
 outcome_of ends.Turns = Err faults.Turns
 outcome_of ends.Memory = Err faults.SessionMemory
 
--- the status of the program: 0 where nothing went wrong, and else 1
+-- the status of the program: 0 if nothing went wrong, and otherwise 1
 abbrev pub status_of : Result (Unit {0}) Fault → ℕ
 status_of (Ok done) = 0
 status_of (Err fault) = 1
 
--- from no keys on, the bytes written are what a session writes for the bytes taken, and its end has this outcome
+-- a server without keys, before its first call
+abbrev pub without_keys : Option Served
+without_keys = Some (shown 0 [])
+
+-- the bytes written are what a session that starts without keys writes for the bytes taken, and its end has this outcome
 pub record Serves (may_tell : ℕ → Bool) (taken written : List ℕ) (outcome : Result (Unit {0}) Fault) : Type 0 where
   pub end : End
-  pub keys : Keys
-  pub session : EndsAs may_tell [] taken written keys end
+  pub now : Option Served
+  pub session : EndsAs (Answers may_tell) without_keys taken written now end
   pub told : outcome ≡ outcome_of end
+
+-- the program serves a session with this outcome; or it does not come to one, and takes and writes nothing
+pub data Runs (may_tell : ℕ → Bool) (taken written : List ℕ) (outcome : Result (Unit {0}) Fault) : Type 0 where
+  serves : Serves may_tell taken written outcome → Runs may_tell taken written outcome
+  starts_not : taken ≡ [] → written ≡ [] → (outcome ≡ Err faults.StartMemory) ⊎ (outcome ≡ Err faults.NoRandomSource) → Runs may_tell taken written outcome
+
+-- the system's clock may tell any moment
+abbrev pub any_moment : ℕ → Bool
+any_moment told = true

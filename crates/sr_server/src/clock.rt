@@ -1,9 +1,9 @@
-ghost use Rattle.std.specs.Prelude.{true};
+ghost use Rattle.sr_server.specs.Fault.{any_moment};
 
 use sr_session::Clock;
 use std::rt;
 
-/// The system's clock. It tells 0 where it cannot be read.
+/// The system's clock. It tells 0 if it cannot be read.
 #[derive(Drop)]
 pub(crate) struct SystemClock<'a, R> {
     rt: &'a R,
@@ -16,7 +16,7 @@ impl<'a, R> SystemClock<'a, R> {
 }
 
 impl<'a, R: rt::Clock> Clock for SystemClock<'a, R> {
-    ghost may_tell = { λ _ _. true };
+    ghost may_tell = { λ _. any_moment };
 
     fn now(&self) -> u64 {
         match self.rt.since_1970() {

@@ -3,7 +3,8 @@ use crate::clock::SystemClock;
 use crate::fault::outcome;
 use crate::report::report;
 use crate::start::start;
-use sr_session::End;
+use sr_resp::WriteTo;
+use sr_session::{End, ReadFrom};
 use std::alloc::Global;
 use std::io::{self, Error, ErrorKind, Read, Write};
 use std::random::RandomSource;
@@ -78,6 +79,19 @@ impl Ended {
     }
 }
 
+/// Starts the program as `main` does.
+fn start_over<R, I, O, E>(rt: &R, words: &[&str], reader: I, writer: O, err: &mut E) -> u8
+where
+    R: AllocGlobal + Clock + RandomSource,
+    I: Read + Drop,
+    O: Write + Drop,
+    E: Write,
+{
+    let mut reader = ReadFrom::new(reader);
+    let mut writer = WriteTo::new(writer);
+    start(rt, words, &mut reader, &mut writer, err)
+}
+
 /// Runs the program with these words, over this input.
 fn run<R, I>(rt: &R, words: &[&str], reader: I) -> Ended
 where
@@ -86,7 +100,7 @@ where
 {
     let mut out = Vec::new(rt.alloc());
     let mut err = Vec::new(rt.alloc());
-    let status = start(rt, words, reader, &mut out, &mut err);
+    let status = start_over(rt, words, reader, &mut out, &mut err);
     Ended { status, out, err }
 }
 
@@ -153,14 +167,14 @@ fn inputs_end_the_program(rt: HostRuntime) {
 fn failing_reader_ends_the_program(rt: HostRuntime) {
     let at_once = run(&rt, STDIO.as_slice(), Broken);
     assert!(rt; at_once.is(1, "", "session: read fault\n"));
-    let behind_a_request = run(&rt, STDIO.as_slice(), XLEN.as_bytes().chain(Broken));
-    assert!(rt; behind_a_request.is(1, ":0\r\n", "session: read fault\n"));
+    let after_a_request = run(&rt, STDIO.as_slice(), XLEN.as_bytes().chain(Broken));
+    assert!(rt; after_a_request.is(1, ":0\r\n", "session: read fault\n"));
 }
 
 #[test]
 fn failing_writer_ends_the_program(rt: HostRuntime) {
     let mut err = Vec::new(rt.alloc());
-    let status = start(&rt, STDIO.as_slice(), XLEN.as_bytes(), Broken, &mut err);
+    let status = start_over(&rt, STDIO.as_slice(), XLEN.as_bytes(), Broken, &mut err);
     assert_eq!(rt; status, 1);
     assert_eq!(rt; err.as_slice(), "session: write fault\n".as_bytes());
 }
@@ -169,7 +183,7 @@ fn failing_writer_ends_the_program(rt: HostRuntime) {
 fn full_writer_ends_the_program(rt: HostRuntime) {
     let mut room = [0; 3];
     let mut err = Vec::new(rt.alloc());
-    let status = start(
+    let status = start_over(
         &rt,
         STDIO.as_slice(),
         XLEN.as_bytes(),
@@ -185,7 +199,7 @@ fn full_writer_ends_the_program(rt: HostRuntime) {
 fn failing_standard_error_keeps_the_status(rt: HostRuntime) {
     let mut out = Vec::new(rt.alloc());
     assert_eq!(rt;
-        start(
+        start_over(
             &rt,
             STDIO.as_slice(),
             "$1\r\n".as_bytes(),
@@ -195,7 +209,7 @@ fn failing_standard_error_keeps_the_status(rt: HostRuntime) {
         1
     );
     assert_eq!(rt;
-        start(&rt, &STDIO[..1], PING.as_bytes(), &mut out, &mut Broken),
+        start_over(&rt, &STDIO[..1], PING.as_bytes(), &mut out, &mut Broken),
         2
     );
 }

@@ -1,3 +1,4 @@
 pub mod AnsweredLemmas
+pub mod GatheredLemmas
 pub mod RunLemmas
-pub mod SessionLemmas
+pub mod UnderwayLemmas

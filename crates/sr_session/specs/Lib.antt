@@ -1,3 +1,5 @@
+pub mod Desk
 pub mod Answered
 pub mod Session
 pub mod Source
+pub mod steps

@@ -1,18 +1,20 @@
-ghost use Rattle.std.specs.Prelude.{◌≡◌, ℕ, ◌<◌, ◌++◌, List, length, OnOk, OnErr, IfOk};
+ghost use Rattle.std.specs.Prelude.{◌≡◌, ℕ, ◌<◌, Ok, List, length, false, OnOk, IfErr, true, Bool, IsTrue};
+ghost use Rattle.std.specs.Io.KnownBytes.{Appends};
 ghost use Rattle.sr_resp.specs.Request.{Words};
-ghost use Rattle.sr_resp.specs.Reply.{Answer, error_reply, reply_text};
+ghost use Rattle.sr_resp.specs.Reply.{reply_text};
 ghost use Rattle.sr_args.specs.Command.{IsCall};
-ghost use Rattle.sr_session.specs.Answered.{Served, Answers, IsMoment, code_of};
+ghost use Rattle.sr_session.specs.Answered.{Answers, code_of};
+ghost use Rattle.sr_session.specs.steps.Gathered.{Moves, BreaksOff, Gathers, Stops, IsNoted};
 
-use crate::Clock;
-use sr_args::{Call, CallFault, read_call};
+use crate::replies::Replies;
+use crate::{Clock, Desk, DeskFault, End};
+use sr_args::{Call, CallFault, Command, read_call};
 use sr_bytes::Name;
-use sr_resp::{ErrCode, Reply, append_reply};
-use sr_space::{Outcome, Space};
-use std::alloc::{AllocError, Global};
+use sr_resp::{ErrCode, Reply, Sink};
+use std::alloc::Global;
 
-/// The error that tells why words are no command.
-pub(crate) fn code_of_fault(fault: CallFault) -> ErrCode
+/// The error that says why words are not a command.
+fn code_of_fault(fault: CallFault) -> ErrCode
     ensures { result ≡ code_of fault }
 {
     match fault {
@@ -25,93 +27,99 @@ pub(crate) fn code_of_fault(fault: CallFault) -> ErrCode
     }
 }
 
-/// The moment of the next command: what the clock tells, but not before the last one.
-fn next_moment<C: Clock>(clock: &C, last: u64) -> u64
-    ensures { IsMoment (C.may_tell clock.now) last result }
+/// The reply to a call: the desk's, at the moment that the clock tells.
+fn answer<D: Desk, C: Clock>(alloc: Global, desk: &mut D, clock: &C, call: &Call) -> Reply
+    ensures answers { (words : Words) → IsCall words call.now
+        → Answers (C.may_tell clock.now) (D.shows desk.old) words (reply_text result) (D.shows desk.new) }
+    ensures same { D.borrows desk.new ≡ D.borrows desk.old }
 {
-    last.max(clock.now().min(i64::MAX as u64))
-}
-
-/// The reply that is sent.
-fn sent_reply(outcome: Outcome) -> Reply
-    ensures { (answer : Answer) → outcome ≡ Outcome.Reply answer answer → result ≡ answer }
-{
-    match outcome {
-        Outcome::Reply { send, keep: _ } => send,
+    match desk.step(alloc, clock.now(), call) {
+        Ok(reply) => reply,
+        Err(DeskFault::Memory) => Reply::error(alloc, ErrCode::Memory),
     }
 }
 
-/// The reply to a call, and the moment of the last command after it. Want of memory changes nothing.
-fn reply_to_call<C: Clock>(
+/// Answers one request: its reply is gathered. Replies that were gathered before a call that may wait are sent first.
+pub(crate) fn answer_request<W: Sink, D: Desk, C: Clock>(
     alloc: Global,
-    space: &mut Space,
+    writer: &mut W,
+    desk: &mut D,
     clock: &C,
-    last: u64,
-    call: &Call,
-) -> (Reply, u64)
-    ensures { (words : Words) → IsCall words call.now → Answers (C.may_tell clock.now)
-        (record { moment = last; keys = space.old }) words
-        (reply_text result.0) (record { moment = result.1; keys = space.new }) }
-{
-    let moment = next_moment(clock, last);
-    match space.exec(alloc, moment, call) {
-        Ok(outcome) => (sent_reply(outcome), moment),
-        Err(_) => (Reply::error(alloc, ErrCode::Memory), last),
-    }
-}
-
-/// The reply to one request, and the moment of the last command after it. A refusal changes nothing.
-fn reply_to<C: Clock>(
-    alloc: Global,
-    space: &mut Space,
-    clock: &C,
-    last: u64,
     words: &[Name],
-) -> (Reply, u64)
-    requires { 0 < length words.now }
-    ensures { Answers (C.may_tell clock.now) (record { moment = last; keys = space.old }) words.now
-        (reply_text result.0) (record { moment = result.1; keys = space.new }) }
+    replies: &mut Replies,
+) -> Result<(), End>
+    requires words { 0 < length words.now }
+    requires sound { W.failed writer.old ≡ false }
+    ensures ok { OnOk result ((gets : List ℕ) × Appends (W.contents writer.old) (W.contents writer.new) gets
+        × Gathers (Answers (C.may_tell clock.now)) replies.old.gathered.items replies.old.sent (D.shows desk.old) words.now
+        gets replies.new.gathered.items replies.new.sent (D.shows desk.new)) }
+    ensures err { IfErr result (λ end. (gets : List ℕ) × Appends (W.contents writer.old) (W.contents writer.new) gets
+        × Stops (Answers (C.may_tell clock.now)) replies.old.gathered.items replies.old.sent (D.shows desk.old) words.now
+        gets end (D.shows desk.new)) }
+    ensures noted { IsNoted result (W.failed writer.old) (W.failed writer.new) }
+    ensures same { D.borrows desk.new ≡ D.borrows desk.old }
 {
     match read_call(alloc, words) {
-        Ok(command) => reply_to_call(alloc, space, clock, last, command.as_call()),
-        Err(fault) => (Reply::error(alloc, code_of_fault(fault)), last),
+        Ok(command) => answer_call(alloc, writer, desk, clock, &call_of(command), replies),
+        Err(fault) => {
+            replies.gather_error(alloc, code_of_fault(fault))?;
+            Ok(())
+        }
     }
 }
 
-/// Answers one request: its reply is appended to `out`. Answers the moment of the last command after it.
-///
-/// An `Err` leaves `out` as it was; the command was carried out all the same.
-pub(crate) fn answer_request<C: Clock>(
-    alloc: Global,
-    space: &mut Space,
-    clock: &C,
-    last: u64,
-    words: &[Name],
-    out: &mut Vec<u8>,
-) -> Result<u64, AllocError>
-    requires { 0 < length words.now }
-    ensures ok { IfOk result (λ moment. (text : List ℕ) × (out.new.items ≡ out.old.items ++ text)
-        × Answers (C.may_tell clock.now) (record { moment = last; keys = space.old }) words.now text
-        (record { moment = moment; keys = space.new })) }
-    ensures err { OnErr result (out.new.items ≡ out.old.items) }
-    ensures unsent { OnErr result ((text : List ℕ) × (moment : ℕ)
-        × Answers (C.may_tell clock.now) (record { moment = last; keys = space.old }) words.now text
-        (record { moment = moment; keys = space.new })) }
+/// The call that a command is.
+fn call_of(command: Command) -> Call
+    ensures { command ≡ Command.Call result }
 {
-    let (reply, moment) = reply_to(alloc, space, clock, last, words);
-    append_reply(out, &reply)?;
-    Ok(moment)
+    match command {
+        Command::Call(call) => call,
+    }
 }
 
-/// Appends an error to `out`. An `Err` leaves `out` as it was.
-pub(crate) fn append_error(
+/// Answers one call in the same way.
+fn answer_call<W: Sink, D: Desk, C: Clock>(
     alloc: Global,
-    out: &mut Vec<u8>,
-    code: ErrCode,
-) -> Result<(), AllocError>
-    ensures ok { OnOk result (out.new.items ≡ out.old.items ++ reply_text (error_reply code)) }
-    ensures err { OnErr result (out.new.items ≡ out.old.items) }
+    writer: &mut W,
+    desk: &mut D,
+    clock: &C,
+    call: &Call,
+    replies: &mut Replies,
+) -> Result<(), End>
+    requires { W.failed writer.old ≡ false }
+    ensures ok { OnOk result ((gets : List ℕ) × Appends (W.contents writer.old) (W.contents writer.new) gets
+        × ((words : Words) → IsCall words call.now → Gathers (Answers (C.may_tell clock.now))
+        replies.old.gathered.items replies.old.sent (D.shows desk.old) words
+        gets replies.new.gathered.items replies.new.sent (D.shows desk.new))) }
+    ensures err { IfErr result (λ end. (gets : List ℕ) × Appends (W.contents writer.old) (W.contents writer.new) gets
+        × ((words : Words) → IsCall words call.now → Stops (Answers (C.may_tell clock.now))
+        replies.old.gathered.items replies.old.sent (D.shows desk.old) words gets end (D.shows desk.new))) }
+    ensures noted { IsNoted result (W.failed writer.old) (W.failed writer.new) }
+    ensures same { D.borrows desk.new ≡ D.borrows desk.old }
 {
-    let reply = Reply::error(alloc, code);
-    append_reply(out, &reply)
+    send_before(writer, desk, call, replies)?;
+    let reply = answer(alloc, desk, clock, call);
+    replies.gather(&reply)?;
+    Ok(())
+}
+
+/// Sends what is gathered, if the call may wait.
+fn send_before<W: Sink, D: Desk>(
+    writer: &mut W,
+    desk: &D,
+    call: &Call,
+    replies: &mut Replies,
+) -> Result<(), End>
+    requires { W.failed writer.old ≡ false }
+    ensures ok { OnOk result ((gets : List ℕ) × Appends (W.contents writer.old) (W.contents writer.new) gets
+        × Moves replies.old.gathered.items replies.old.sent gets replies.new.gathered.items replies.new.sent) }
+    ensures err { IfErr result (λ end. (gets : List ℕ) × Appends (W.contents writer.old) (W.contents writer.new) gets
+        × BreaksOff replies.old.gathered.items replies.old.sent gets end) }
+    ensures noted { IsNoted result (W.failed writer.old) (W.failed writer.new) }
+{
+    if desk.may_wait(call) {
+        replies.send(writer)
+    } else {
+        Ok(())
+    }
 }

@@ -3,13 +3,14 @@
 
 mod answer;
 mod clock;
+mod desk;
+mod replies;
 mod run;
-mod session;
 mod source;
 #[cfg(test)]
 mod tests;
 
 pub use clock::Clock;
+pub use desk::{Desk, DeskFault, PlainDesk};
 pub use run::{End, run_session};
-pub use session::{Session, SessionFault};
 pub use source::{ReadFailed, ReadFrom, Source};

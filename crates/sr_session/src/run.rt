@@ -1,13 +1,19 @@
-ghost use Rattle.std.specs.Prelude.{◌≡◌, ◌≢◌, ◌+◌, ◌<◌, ◌≤◌, ℕ, List, true, length, min, take, IfOk, IfErr, OnOk, OnErr};
+ghost use Rattle.std.specs.Prelude.{◌≡◌, ◌≢◌, ◌+◌, ◌≤◌, ℕ, List, [], ◌++◌, Option, true, false, IfOk, IfErr, OnOk, OnErr};
 ghost use Rattle.std.specs.Io.KnownBytes.{Appends, Consumes};
+ghost use Rattle.sr_resp.specs.Stream.{Advances};
+ghost use Rattle.sr_session.specs.Answered.{Answers};
+ghost use Rattle.sr_session.specs.Desk.{Served};
 ghost use Rattle.sr_session.specs.Session.{EndsAs};
 ghost use Rattle.sr_session.specs.Source.{CountsReads};
+ghost use Rattle.sr_session.specs.steps.Gathered.{IsNoted};
+ghost use Rattle.sr_session.specs.steps.Underway.{IsAnswering, GoesOn, IsPieceEnd};
+ghost use Rattle.sr_session.specs.declared.run.End.TheVariants.{Memory};
 
-use crate::session::{Session, SessionFault};
-use crate::{Clock, ReadFailed, Source};
-use sr_resp::{Sink, send_all};
-use sr_space::Space;
-use std::alloc::Global;
+use crate::answer::answer_request;
+use crate::replies::Replies;
+use crate::{Clock, Desk, ReadFailed, Source};
+use sr_resp::{ErrCode, ReadFault, Reader, Sink};
+use std::alloc::{AllocError, Global};
 
 /// How many bytes are read at a time.
 const PIECE: usize = 4096;
@@ -17,88 +23,165 @@ const PIECE: usize = 4096;
 pub enum End {
     /// The reader came to its end.
     Closed,
-    /// What was read is no request.
+    /// The bytes that were read are not requests.
     Protocol,
     /// The reader failed.
     ReadFault,
-    /// The writer failed, behind this many bytes of the whole session; a number beyond `usize` is its greatest.
+    /// The writer failed after this many bytes of the whole session; a number beyond `usize` is its greatest.
     SendFault { sent: usize },
-    /// So many reads were made as were allowed.
+    /// The session made all the reads that it was allowed.
     Turns,
-    /// Memory ran out.
+    /// A failed allocation.
     Memory,
+}
+
+impl From<AllocError> for End {
+    ghost from_gives = { λ _ end. end ≡ Memory };
+
+    fn from(_: AllocError) -> End {
+        End::Memory
+    }
 }
 
 /// Serves one connection: reads requests, and writes the reply to each, in order.
 ///
 /// It reads at most 4,096 bytes at a time, at most `turns` times, and writes the replies to the requests of one read
-/// together.
+/// together, except that those before a call that may wait go out before it.
 ///
 /// Source: RESP2 protocol specification, "Sending commands to a Redis server" and "Multiple commands and pipelining".
-pub fn run_session<R: Source, W: Sink, C: Clock>(
+pub fn run_session<R: Source, W: Sink, D: Desk, C: Clock>(
     alloc: Global,
     reader: &mut R,
     writer: &mut W,
-    space: &mut Space,
+    desk: &mut D,
     clock: &C,
     turns: u64,
 ) -> End
+    requires unread { (R.ended reader.old ≡ false) × (R.failed reader.old ≡ false) }
+    requires unwritten { W.failed writer.old ≡ false }
+
     // what was taken from the reader, and written to the writer
     ensures session { (taken written : List ℕ)
         × Consumes (R.remaining reader.old) (R.remaining reader.new) taken
         × Appends (W.contents writer.old) (W.contents writer.new) written
-        × EndsAs (C.may_tell clock.now) space.old taken written space.new result }
+        × EndsAs (Answers (C.may_tell clock.now)) (D.shows desk.old) taken written (D.shows desk.new) result }
     ensures reads { (reads : ℕ) × (reads ≤ turns) × CountsReads (R.reads reader.old) (R.reads reader.new) reads
         × (result ≡ End.Turns → reads ≡ turns) }
+    ensures same { D.borrows desk.new ≡ D.borrows desk.old }
 
-    // each end has its cause
+    // Each end has its cause, and no cause is passed over. The two together pin the loop: a session that stops early, or
+    // goes on after a fault, breaks one of them, whatever it wrote.
     ensures closed { result ≡ End.Closed → R.ended reader.new ≡ true }
     ensures read_fault { result ≡ End.ReadFault → R.failed reader.new ≡ true }
     ensures send_fault { (sent : ℕ) → result ≡ End.SendFault sent → W.failed writer.new ≡ true }
-
-    // and no cause is passed over
     ensures heeds_end { result ≢ End.Closed → R.ended reader.new ≡ R.ended reader.old }
     ensures heeds_read_fault { result ≢ End.ReadFault → R.failed reader.new ≡ R.failed reader.old }
     ensures heeds_send_fault { ((sent : ℕ) → result ≢ End.SendFault sent) → W.failed writer.new ≡ W.failed writer.old }
 {
-    let mut session = Session::new(alloc);
+    let mut requests = Reader::new(alloc);
+    let mut replies = Replies::new(alloc);
     let mut buffer = [0; PIECE];
-    let mut out = Vec::new(alloc);
-    let mut sent = 0;
     for _turn in 0..turns {
         let count = match reader.read(&mut buffer) {
             Ok(0) => return End::Closed,
             Ok(count) => count,
             Err(ReadFailed) => return End::ReadFault,
         };
-        out.clear();
-        match session.take(alloc, space, clock, &buffer[..count], &mut out) {
-            Ok(()) => match send(writer, out.as_slice(), sent) {
-                Ok(total) => sent = total,
-                Err(sent) => return End::SendFault { sent },
-            },
-            Err(SessionFault::Protocol) => match send(writer, out.as_slice(), sent) {
-                Ok(_) => return End::Protocol,
-                Err(sent) => return End::SendFault { sent },
-            },
-            Err(SessionFault::Memory) => return End::Memory,
+        let piece = &buffer[..count];
+        match take_piece(
+            alloc,
+            &mut requests,
+            writer,
+            desk,
+            clock,
+            piece,
+            &mut replies,
+        ) {
+            Ok(()) => {}
+            Err(end) => return end,
         }
     }
     End::Turns
 }
 
-/// Sends the bytes behind so many others, and answers how many bytes were sent in all, also where the writer fails;
-/// a number beyond `usize` is its greatest.
-fn send<W: Sink>(writer: &mut W, bytes: &[u8], before: usize) -> Result<usize, usize>
-    ensures ok { IfOk result (λ total. (total ≡ min (before + length bytes.now) usize.MAX)
-        × Appends (W.contents writer.old) (W.contents writer.new) bytes.now) }
-    ensures err { IfErr result (λ total. (more : ℕ) × (more < length bytes.now) × (total ≡ min (before + more) usize.MAX)
-        × Appends (W.contents writer.old) (W.contents writer.new) (take more bytes.now)) }
-    ensures sound { OnOk result (W.failed writer.new ≡ W.failed writer.old) }
-    ensures failed { OnErr result (W.failed writer.new ≡ true) }
+/// Takes the next piece of the bytes, answers each request that is whole now, and sends the replies.
+fn take_piece<W: Sink, D: Desk, C: Clock>(
+    alloc: Global,
+    requests: &mut Reader,
+    writer: &mut W,
+    desk: &mut D,
+    clock: &C,
+    piece: &[u8],
+    replies: &mut Replies,
+) -> Result<(), End>
+    requires sound { W.failed writer.old ≡ false }
+    requires none_gathered { replies.old.gathered.items ≡ [] }
+    ensures gathered { OnOk result (replies.new.gathered.items ≡ []) }
+    ensures ok { OnOk result ((gets : List ℕ) × Appends (W.contents writer.old) (W.contents writer.new) gets
+        × ((found : Option Served) (taken written : List ℕ)
+        → GoesOn (Answers (C.may_tell clock.now)) found taken written replies.old.sent requests.old (D.shows desk.old)
+        → GoesOn (Answers (C.may_tell clock.now)) found (taken ++ piece.now) (written ++ gets) replies.new.sent
+        requests.new (D.shows desk.new))) }
+    ensures err { IfErr result (λ end. (gets : List ℕ) × Appends (W.contents writer.old) (W.contents writer.new) gets
+        × ((found : Option Served) (taken written : List ℕ)
+        → GoesOn (Answers (C.may_tell clock.now)) found taken written replies.old.sent requests.old (D.shows desk.old)
+        → EndsAs (Answers (C.may_tell clock.now)) found (taken ++ piece.now) (written ++ gets) (D.shows desk.new) end)) }
+    ensures end { IfErr result IsPieceEnd }
+    ensures noted { IsNoted result (W.failed writer.old) (W.failed writer.new) }
+    ensures same { D.borrows desk.new ≡ D.borrows desk.old }
 {
-    match send_all(writer, bytes) {
-        Ok(()) => Ok(before.saturating_add(bytes.len())),
-        Err(fault) => Err(before.saturating_add(fault.sent)),
+    let broken = feed(alloc, requests, piece)?;
+    answer_waiting(alloc, requests, writer, desk, clock, replies)?;
+    if broken {
+        replies.gather_error(alloc, ErrCode::Protocol)?;
+        replies.send(writer)?;
+        return Err(End::Protocol);
+    }
+    replies.send(writer)
+}
+
+/// Answers the requests that wait. Their replies are gathered; some may have been sent.
+fn answer_waiting<W: Sink, D: Desk, C: Clock>(
+    alloc: Global,
+    requests: &mut Reader,
+    writer: &mut W,
+    desk: &mut D,
+    clock: &C,
+    replies: &mut Replies,
+) -> Result<(), End>
+    requires { W.failed writer.old ≡ false }
+    ensures ok { OnOk result ((gets : List ℕ) × Appends (W.contents writer.old) (W.contents writer.new) gets
+        × ((found : Option Served) (taken written : List ℕ)
+        → IsAnswering (Answers (C.may_tell clock.now)) found taken written replies.old.gathered.items replies.old.sent
+        requests.old (D.shows desk.old)
+        → IsAnswering (Answers (C.may_tell clock.now)) found taken (written ++ gets) replies.new.gathered.items
+        replies.new.sent requests.new (D.shows desk.new))) }
+    ensures none_wait { OnOk result (requests.new.waiting ≡ []) }
+    ensures failed { requests.new.failed ≡ requests.old.failed }
+    ensures err { IfErr result (λ end. (gets : List ℕ) × Appends (W.contents writer.old) (W.contents writer.new) gets
+        × ((found : Option Served) (taken written : List ℕ)
+        → IsAnswering (Answers (C.may_tell clock.now)) found taken written replies.old.gathered.items replies.old.sent
+        requests.old (D.shows desk.old)
+        → EndsAs (Answers (C.may_tell clock.now)) found taken (written ++ gets) (D.shows desk.new) end)) }
+    ensures end { IfErr result IsPieceEnd }
+    ensures noted { IsNoted result (W.failed writer.old) (W.failed writer.new) }
+    ensures same { D.borrows desk.new ≡ D.borrows desk.old }
+{
+    while let Some(words) = requests.next_request() {
+        answer_request(alloc, writer, desk, clock, words.as_slice(), replies)?;
+    }
+    Ok(())
+}
+
+/// Takes the next piece, and tells whether the stream went wrong.
+fn feed(alloc: Global, requests: &mut Reader, piece: &[u8]) -> Result<bool, AllocError>
+    ensures ok { IfOk result (λ broken. broken ≡ requests.new.failed) }
+    ensures advances { OnOk result (Advances requests.old requests.new piece.now) }
+    ensures err { OnErr result (requests.new ≡ requests.old) }
+{
+    match requests.feed(alloc, piece) {
+        Ok(()) => Ok(false),
+        Err(ReadFault::Protocol) => Ok(true),
+        Err(ReadFault::Memory) => Err(AllocError),
     }
 }

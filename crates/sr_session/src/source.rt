@@ -10,7 +10,7 @@ pub struct ReadFailed;
 
 /// Where a session's bytes come from.
 pub trait Source {
-    /// The bytes that it will give from here on, where they are known.
+    /// The bytes that it will give from here on, if they are known.
     ghost remaining: { Self → Option (List ℕ) };
 
     /// Whether it came to its end.
@@ -19,12 +19,15 @@ pub trait Source {
     /// Whether a read failed.
     ghost failed: { Self → Bool };
 
-    /// How many reads there were, where that is known.
+    /// How many reads there were, if that is known.
     ghost reads: { Self → Option ℕ };
 
-    /// Reads some bytes to the front of `buffer`, and answers how many. It is 0 at the end of the source alone,
-    /// or where the buffer has no room.
+    /// Reads some bytes to the front of `buffer`, and answers how many. It is 0 only at the end of the source, or if
+    /// the buffer has no room. After the end, or a failed read, there is no other.
     fn read(&mut self, buffer: &mut [u8]) -> Result<usize, ReadFailed>
+        requires open { ended self.old ≡ false }
+        requires sound { failed self.old ≡ false }
+        requires piece { length buffer.old ≤ 4096 }
         ensures bound { IfOk result (λ count. count ≤ length buffer.new) }
         ensures bytes { ReadConsumes (remaining self.old) (remaining self.new) result buffer.new }
         ensures end { IfOk result (λ count. count ≡ 0 → 0 < length buffer.new → ended self.new ≡ true) }

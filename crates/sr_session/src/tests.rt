@@ -1,11 +1,13 @@
-// What no clause says: that a session succeeds while there is memory, what it writes for bytes worked by hand, and that a
-// refusal of memory changes no answer.
+// What no clause says: that a session succeeds while there is memory, what it writes for bytes worked by hand, when it
+// writes, how often it asks the clock, and that a failed allocation changes no answer.
 ghost use Rattle.std.specs.Prelude.{◌≤◌, None, true};
 
-use crate::{Clock, End, ReadFailed, ReadFrom, Source, run_session};
-use sr_resp::{Sink, WriteFailed, WriteTo};
+use crate::{Clock, Desk, DeskFault, End, PlainDesk, ReadFailed, ReadFrom, Source, run_session};
+use sr_args::Call;
+use sr_resp::{Reply, Sink, WriteFailed, WriteTo};
 use sr_space::Space;
 use std::alloc::{AllocError, Global};
+use std::cell::Cell;
 use std::hash::RandomState;
 use std::io;
 use std::io::{Error, ErrorKind, Read};
@@ -24,7 +26,7 @@ const RUN: &[u8; 116] =
 const REPLIES: &[u8; 55] =
     b"+PONG\r\n$3\r\n1-1\r\n:1\r\n*1\r\n*2\r\n$3\r\n1-1\r\n*2\r\n$1\r\na\r\n$1\r\nb\r\n";
 
-/// The reply where memory runs out.
+/// The reply if memory runs out.
 const REFUSED: &[u8] = b"-OOM out of memory\r\n";
 
 /// It is 5 milliseconds past 1970.
@@ -38,7 +40,7 @@ impl Clock for Stopped {
     }
 }
 
-/// Gives so many bytes at the first read, and so many at each later one. Behind its bytes it ends or fails.
+/// Gives `first` bytes at the first read, and `later` bytes at each later one. After its bytes it ends or fails.
 #[derive(Drop)]
 struct Pieces<'a> {
     bytes: &'a [u8],
@@ -88,12 +90,22 @@ impl Source for Pieces<'_> {
     }
 }
 
-/// Keeps what it gets: so many bytes, behind which it fails.
+/// Keeps what it gets. It fails once, after `room` bytes, and would keep what is written after that too.
 #[derive(Drop)]
 struct Kept {
     bytes: Vec<u8>,
     room: usize,
     failed: bool,
+}
+
+impl Kept {
+    fn with_room(alloc: Global, room: usize) -> Result<Kept, Fail> {
+        Ok(Kept {
+            bytes: Vec::with_capacity(alloc, 512)?,
+            room,
+            failed: false,
+        })
+    }
 }
 
 impl Sink for Kept {
@@ -105,6 +117,7 @@ impl Sink for Kept {
         let count = self.room.min(bytes.len());
         if count == 0 || self.bytes.extend_from_slice(&bytes[..count]).is_err() {
             self.failed = true;
+            self.room = usize::MAX;
             return Err(WriteFailed);
         }
         self.room -= count;
@@ -121,12 +134,9 @@ fn talk(
 ) -> Result<(End, Vec<u8>), Fail> {
     let alloc = rt.alloc();
     let mut space = Space::new(alloc, RandomState::new(rt)?);
-    let mut writer = Kept {
-        bytes: Vec::with_capacity(alloc, 512)?,
-        room,
-        failed: false,
-    };
-    let end = run_session(alloc, &mut reader, &mut writer, &mut space, &Stopped, turns);
+    let mut desk = PlainDesk::new(&mut space);
+    let mut writer = Kept::with_room(alloc, room)?;
+    let end = run_session(alloc, &mut reader, &mut writer, &mut desk, &Stopped, turns);
     Ok((end, writer.bytes))
 }
 
@@ -192,7 +202,7 @@ fn a_part_of_a_request_is_not_answered(rt: HostRuntime) -> Result<(), Fail> {
         broken.fails = true;
         assert!(rt;
             gives(&rt, broken, End::ReadFault, text)?,
-            "a fault behind {taken} bytes"
+            "a fault after {taken} bytes"
         );
     }
     for taken in 0..XLEN.len() {
@@ -414,6 +424,7 @@ impl Read for Interrupted<'_> {
 fn an_interrupted_read_is_tried_again(rt: HostRuntime) -> Result<(), Fail> {
     for (fails, end) in [(false, End::Closed), (true, End::ReadFault)] {
         let mut space = Space::new(rt.alloc(), RandomState::new(&rt)?);
+        let mut desk = PlainDesk::new(&mut space);
         let mut written = Vec::new(rt.alloc());
         let mut reader = ReadFrom::new(Interrupted {
             bytes: RUN,
@@ -421,21 +432,14 @@ fn an_interrupted_read_is_tried_again(rt: HostRuntime) -> Result<(), Fail> {
             fails,
         });
         let mut writer = WriteTo::new(&mut written);
-        let ended = run_session(
-            rt.alloc(),
-            &mut reader,
-            &mut writer,
-            &mut space,
-            &Stopped,
-            9,
-        );
+        let ended = run_session(rt.alloc(), &mut reader, &mut writer, &mut desk, &Stopped, 9);
         assert_eq!(rt; ended, end);
         assert!(rt; written.as_slice() == REPLIES.as_slice());
     }
     Ok(())
 }
 
-/// Whether the replies were written, each of which is one of two. They may break off where memory ran out.
+/// Whether the replies were written, each of which is one of two. They may break off if memory ran out.
 fn are_replies(written: &[u8], replies: [(&[u8], &[u8]); 4], end: End) -> bool {
     let mut rest = written;
     for (reply, other) in replies {
@@ -450,7 +454,7 @@ fn are_replies(written: &[u8], replies: [(&[u8], &[u8]); 4], end: End) -> bool {
     rest.is_empty()
 }
 
-/// It shows the most where each of its allocations fails in turn.
+/// It shows the most when each of its allocations fails in turn.
 #[test]
 fn refused_memory_changes_no_answer(rt: HostRuntime) -> Result<(), Fail> {
     let (end, written) = talk(&rt, Pieces::new(RUN, 20, 20), 256, 256)?;
@@ -470,5 +474,118 @@ fn refused_memory_changes_no_answer(rt: HostRuntime) -> Result<(), Fail> {
     assert!(rt; end == End::Closed || end == End::Memory);
     let written = written.as_slice();
     assert!(rt; are_replies(written, added, end) || are_replies(written, refused, end));
+    Ok(())
+}
+
+/// Counts how often it is asked for the time.
+#[derive(Drop)]
+struct Counting<'a> {
+    asked: &'a Cell<u64>,
+}
+
+impl Clock for Counting<'_> {
+    ghost may_tell = { λ _ _. true };
+
+    fn now(&self) -> u64 {
+        self.asked.set(self.asked.get().saturating_add(1));
+        5
+    }
+}
+
+/// The clock is asked once for each call, and not for a request that is refused.
+#[test]
+fn a_call_asks_the_clock_once(rt: HostRuntime) -> Result<(), Fail> {
+    for (lines, calls) in [
+        ("PING", 1),
+        ("PING\nXADD s * a b\nXLEN s\nXRANGE s - +", 4),
+        ("FOO\nPING a b\nXADD s x a b", 0),
+        ("XADD s 0-0 a b\nFOO\nXADD s 1-1 a b\nXADD s 1-1 a b", 3),
+    ] {
+        let bytes = spelled(rt.alloc(), lines)?;
+        let asked = Cell::new(0);
+        let mut space = Space::new(rt.alloc(), RandomState::new(&rt)?);
+        let mut desk = PlainDesk::new(&mut space);
+        let mut writer = Kept::with_room(rt.alloc(), 512)?;
+        let end = run_session(
+            rt.alloc(),
+            &mut Pieces::new(bytes.as_slice(), 4096, 4096),
+            &mut writer,
+            &mut desk,
+            &Counting { asked: &asked },
+            9,
+        );
+        assert_eq!(rt; end, End::Closed, "{lines}");
+        assert_eq!(rt; asked.get(), calls, "{lines}");
+    }
+    Ok(())
+}
+
+/// Keeps what it gets, and tells others how much.
+#[derive(Drop)]
+struct Told<'a> {
+    bytes: Vec<u8>,
+    count: &'a Cell<usize>,
+}
+
+impl Sink for Told<'_> {
+    ghost contents = { λ _. None };
+
+    ghost failed = { λ _. false };
+
+    fn write(&mut self, bytes: &[u8]) -> Result<usize, WriteFailed> {
+        if self.bytes.extend_from_slice(bytes).is_err() {
+            return Ok(bytes.len());
+        }
+        self.count.set(self.bytes.len());
+        Ok(bytes.len())
+    }
+}
+
+/// Answers each call by the number of bytes that were written before it. XLEN may wait here.
+#[derive(Drop)]
+struct Noting<'a> {
+    count: &'a Cell<usize>,
+}
+
+impl Desk for Noting<'_> {
+    ghost shows = { λ _. None };
+
+    ghost borrows = { λ _. 0 };
+
+    fn may_wait(&self, call: &Call) -> bool {
+        matches!(call, Call::Xlen { .. })
+    }
+
+    fn step(&mut self, alloc: Global, _: u64, _: &Call) -> Result<Reply, DeskFault> {
+        let count = i64::try_from(self.count.get()).unwrap_or(i64::MAX);
+        Ok(Reply::int(alloc, count))
+    }
+}
+
+/// Replies that are gathered go out before a call that may wait, and otherwise after the whole piece.
+#[test]
+fn gathered_replies_are_sent_before_a_call_that_may_wait(rt: HostRuntime) -> Result<(), Fail> {
+    for (lines, replies) in [
+        ("PING\nPING\nPING", ":0\r\n:0\r\n:0\r\n"),
+        ("PING\nPING\nXLEN s\nPING", ":0\r\n:0\r\n:8\r\n:8\r\n"),
+        ("XLEN s\nXLEN s\nPING\nXLEN s", ":0\r\n:4\r\n:4\r\n:12\r\n"),
+    ] {
+        let bytes = spelled(rt.alloc(), lines)?;
+        let count = Cell::new(0);
+        let mut writer = Told {
+            bytes: Vec::new(rt.alloc()),
+            count: &count,
+        };
+        let end = run_session(
+            rt.alloc(),
+            &mut Pieces::new(bytes.as_slice(), 4096, 4096),
+            &mut writer,
+            &mut Noting { count: &count },
+            &Stopped,
+            9,
+        );
+        assert_eq!(rt; end, End::Closed, "{lines}");
+        assert!(rt; writer.bytes.as_slice() == replies.as_bytes(), "{lines}");
+    }
     Ok(())
 }

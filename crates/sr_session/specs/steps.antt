@@ -1,0 +1,3 @@
+-- What only private clauses cite: a session between two of its steps.
+pub mod Gathered
+pub mod Underway
