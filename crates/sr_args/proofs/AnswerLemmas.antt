@@ -1,22 +1,18 @@
 -- Words have one right answer: each fault is of words that come less far on their way to a call.
-use Rattle.std.proofs.Common.{◌≡◌, ◌≢◌, ℕ, ◌<◌, List, ◌∷◌, length, Option, Some, None, IfSome, Result, Ok, Err, inl, inr, ◌⊎◌, refl, ap, arith}
-use Rattle.sr_args.specs.declared.name.CommandName.{CommandName}
-use Rattle.sr_args.specs.declared.name.Measure.{Measure}
-use Rattle.sr_args.specs.declared.name.Measure.TheVariants as measures
-use Rattle.sr_args.specs.declared.call.TrimBy.{TrimBy}
-use Rattle.sr_args.specs.declared.call.TrimBy.TheVariants as bounds
-use Rattle.sr_args.specs.declared.call.Trim.{Trim}
+use Rattle.std.proofs.Common.{◌≡◌, ◌≢◌, ℕ, ◌<◌, List, ◌∷◌, length, Result, Ok, Err, inl, inr, ◌⊎◌, refl, sym, ap, subst, arith}
+use Rattle.sr_args.specs.declared.table.CommandName.{CommandName}
 use Rattle.sr_args.specs.declared.call.Call.{Call}
-use Rattle.sr_args.specs.declared.call.Call.TheVariants as calls
 use Rattle.sr_args.specs.declared.call.Command.{Command}
 use Rattle.sr_args.specs.declared.call.Command.TheVariants as command
 use Rattle.sr_args.specs.declared.fault.CallFault.{CallFault}
 use Rattle.sr_args.specs.declared.fault.CallFault.TheVariants.{Unknown, Arity, Syntax, Number, BadId, Memory}
-use Rattle.sr_args.specs.Name.{IsSameName, IsCounted, command_text}
-use Rattle.sr_args.specs.Form.{Word, TrimReading, Reading, ping, xadd, xtrim, xdel, xlen, xrange, xrevrange, IsNamed, IsInstance, command_of}
-use Rattle.sr_args.specs.Command.{IsBound, IsTrim, IsOptionalTrim, HasBoundNumber, HasBoundId, HasTrimNumbers, HasTrimIds, trim_of, HasNumbers, HasIds, Means, IsWellCounted, IsCall, Refuses, Answers}
-use Rattle.sr_args.specs.Reader.{Reads, ReadsCall, Gives}
-use Rattle.sr_args.proofs.ReadingLemmas.{IsNamed-one, IsInstance-one, Means-one}
+use Rattle.sr_args.specs.Place.{Word, HasNumbers, HasIds}
+use Rattle.sr_args.specs.Table.{IsNamed, IsHalfNamed, IsCounted}
+use Rattle.sr_args.specs.Form.{Form, Reading, Values, places, Reads, Means}
+use Rattle.sr_args.specs.Command.{form_of, call_of, IsWellCounted, IsRead, places_of, IsCall, IsCommandNamed, IsCommandCounted, IsMiscounted, Refuses, Answers}
+use Rattle.sr_args.specs.steps.Gives.{GivesCall, Gives}
+use Rattle.sr_args.proofs.FormLemmas.{Reads-one, Means-one, HasNumbers-from_means, HasIds-from_means}
+use Rattle.sr_args.proofs.NameLemmas.{IsNamed-one, operands-one, IsCut-unnamed}
 
 -- which fault comes before which, and all before a command
 rank : Result Command CallFault → ℕ
@@ -28,134 +24,124 @@ rank (Err BadId) = 4
 rank (Err Memory) = 5
 rank (Ok c) = 6
 
--- a reading that means a call has its numbers and ids
-bound_number-from_is : (by : Measure) (word : Word) (read : TrimBy) → IsBound by word read → HasBoundNumber by word
-bound_number-from_is measures.MaxLen word (bounds.MaxLen n) p = (n, p)
-bound_number-from_is measures.MaxLen word (bounds.MinId id) p = absurd p
-bound_number-from_is measures.MinId word read p = tt
+-- what holds of one reading of a command holds of every other
+carried_at : (P : (c : CommandName) → Reading (form_of c) → Type 0) (operands : List Word) (a b : CommandName) → a ≡ b → (r : Reading (form_of a)) (s : Reading (form_of b)) → Reads (form_of a) operands r → Reads (form_of b) operands s → P a r → P b s
+carried_at P operands a b e r s p q x =
+    subst (λ (c : CommandName). (t : Reading (form_of c)) → Reads (form_of c) operands t → P c t) e (λ t u. subst (λ (v : Reading (form_of a)). P a v) (Reads-one (form_of a) operands r t p u) x) s q
 
-bound_id-from_is : (by : Measure) (word : Word) (read : TrimBy) → IsBound by word read → HasBoundId by word
-bound_id-from_is measures.MaxLen word read p = tt
-bound_id-from_is measures.MinId word (bounds.MinId id) p = (id, p)
-bound_id-from_is measures.MinId word (bounds.MaxLen n) p = absurd p
+same_name : (words : List Word) (r s : IsRead words) → r.name ≡ s.name
+same_name words r s = IsNamed-one words r.name s.name r.operands s.operands r.counted.named s.counted.named
 
-pub HasTrimNumbers-from_is : (reading : TrimReading) (trim : Trim) → IsTrim reading trim → HasTrimNumbers reading
-HasTrimNumbers-from_is reading trim p =
-    record { bound = bound_number-from_is reading.by reading.bound trim.by p.by; limit = (trim.limit, p.limit) }
+same_read : (P : (c : CommandName) → Reading (form_of c) → Type 0) (words : List Word) (r s : IsRead words) → P r.name r.reading → P s.name s.reading
+same_read P words r s x =
+    let name = same_name words r s in
+    let operands : r.operands ≡ s.operands = operands-one words r.name s.name r.operands s.operands name r.counted.named s.counted.named in
+    let reads = subst (λ (ws : List Word). Reads (form_of r.name) ws r.reading) operands r.reads in
+    carried_at P s.operands r.name s.name name r.reading s.reading reads s.reads x
 
-pub HasTrimIds-from_is : (reading : TrimReading) (trim : Trim) → IsTrim reading trim → HasTrimIds reading
-HasTrimIds-from_is reading trim p = bound_id-from_is reading.by reading.bound trim.by p.by
+-- a call's numbers and ids
+call_numbers : (words : List Word) (call : Call) (c : IsCall words call) → HasNumbers (places_of words c.read)
+call_numbers words call c = HasNumbers-from_means (form_of c.read.name) c.read.reading c.values c.means
 
-pub trim_numbers-from_is : (reading : Option TrimReading) (trim : Option Trim) → IsOptionalTrim reading trim → IfSome reading HasTrimNumbers
-trim_numbers-from_is None trim p = tt
-trim_numbers-from_is (Some reading) (Some trim) p = HasTrimNumbers-from_is reading trim p
-trim_numbers-from_is (Some reading) None p = absurd p
+call_ids : (words : List Word) (call : Call) (c : IsCall words call) → HasIds (places_of words c.read)
+call_ids words call c = HasIds-from_means (form_of c.read.name) c.read.reading c.values c.means
 
-pub trim_ids-from_is : (reading : Option TrimReading) (trim : Option Trim) → IsOptionalTrim reading trim → IfSome reading HasTrimIds
-trim_ids-from_is None trim p = tt
-trim_ids-from_is (Some reading) (Some trim) p = HasTrimIds-from_is reading trim p
-trim_ids-from_is (Some reading) None p = absurd p
+counted_of : (words : List Word) → IsRead words → IsCommandCounted words
+counted_of words read = record { name = read.name; operands = read.operands; counted = read.counted }
 
-HasNumbers-from_means : (reading : Reading) (call : Call) → Means reading call → HasNumbers reading
-HasNumbers-from_means (ping m) call p = tt
-HasNumbers-from_means (xadd k os i fs) (calls.Xadd l make trim a gs) p = trim_numbers-from_is (trim_of os) trim p.2
-HasNumbers-from_means (xtrim k t) (calls.Xtrim l trim) p = HasTrimNumbers-from_is t trim p.1
-HasNumbers-from_means (xdel k is) call p = tt
-HasNumbers-from_means (xlen k) call p = tt
-HasNumbers-from_means (xrange k s t n) (calls.Xrange a u v x) p = (x, p.3)
-HasNumbers-from_means (xrevrange k t s n) (calls.Xrevrange a v u x) p = (x, p.3)
-HasNumbers-from_means reading call p = absurd p
+named_of : (words : List Word) → IsCommandCounted words → IsCommandNamed words
+named_of words c = record { name = c.name; operands = c.operands; named = c.counted.named }
 
-HasIds-from_means : (reading : Reading) (call : Call) → Means reading call → HasIds reading
-HasIds-from_means (ping m) call p = tt
-HasIds-from_means (xlen k) call p = tt
-HasIds-from_means (xadd k os i fs) (calls.Xadd l make trim a gs) p = (trim_ids-from_is (trim_of os) trim p.2, (a, p.3))
-HasIds-from_means (xtrim k t) (calls.Xtrim l trim) p = HasTrimIds-from_is t trim p.1
-HasIds-from_means (xdel k is) (calls.Xdel l ids) p = (ids, p.1)
-HasIds-from_means (xrange k s t n) (calls.Xrange a u v x) p = ((u, p.1), (v, p.2))
-HasIds-from_means (xrevrange k t s n) (calls.Xrevrange a v u x) p = ((v, p.1), (u, p.2))
-HasIds-from_means reading call p = absurd p
-
--- where the answer is no fault up to a test's, the words pass the test
-pass_name : (words : List Word) (b : Result Command CallFault) → 0 < rank b → Answers words b → (c : CommandName) × IsNamed words c
-unfolding rank
-pass_name words (Err Unknown) lt x = absurd (omega arith)
-pass_name words (Err Arity) lt x = (x.0, x.1)
-pass_name words (Err Syntax) lt x = (x.0, x.1.named)
-pass_name words (Err Number) lt x = (x.0, x.1.named)
-pass_name words (Err BadId) lt x = (x.0, x.1.named)
-pass_name words (Err Memory) lt x = (x.1.name, x.1.counted.named)
-pass_name words (Ok (command.Call call)) lt x = (x.name, x.counted.named)
-
-pass_count : (words : List Word) (b : Result Command CallFault) → 1 < rank b → Answers words b → (c : CommandName) × IsWellCounted words c
+-- if the answer is no fault up to a test's, the words pass the test
+pass_count : (words : List Word) (b : Result Command CallFault) → 1 < rank b → Answers words b → IsCommandCounted words
 unfolding rank
 pass_count words (Err Unknown) lt x = absurd (omega arith)
 pass_count words (Err Arity) lt x = absurd (omega arith)
-pass_count words (Err Syntax) lt x = (x.0, x.1)
-pass_count words (Err Number) lt x = (x.0, x.1)
-pass_count words (Err BadId) lt x = (x.0, x.1)
-pass_count words (Err Memory) lt x = (x.1.name, x.1.counted)
-pass_count words (Ok (command.Call call)) lt x = (x.name, x.counted)
+pass_count words (Err Syntax) lt x = x.0
+pass_count words (Err Number) lt x = counted_of words x.0
+pass_count words (Err BadId) lt x = counted_of words x.0
+pass_count words (Err Memory) lt x = counted_of words x.1.read
+pass_count words (Ok (command.Call call)) lt x = counted_of words x.read
 
-pass_form : (words : List Word) (b : Result Command CallFault) → 2 < rank b → Answers words b → (r : Reading) × IsInstance words r
+pass_name : (words : List Word) (b : Result Command CallFault) → 0 < rank b → Answers words b → IsCommandNamed words ⊎ IsHalfNamed words
+unfolding rank
+pass_name words (Err Unknown) lt x = absurd (omega arith)
+pass_name words (Err Arity) lt (inl x) = inl record { name = x.name; operands = x.operands; named = x.named }
+pass_name words (Err Arity) lt (inr x) = inr x
+pass_name words (Err Syntax) lt x = inl (named_of words x.0)
+pass_name words (Err Number) lt x = inl (named_of words (counted_of words x.0))
+pass_name words (Err BadId) lt x = inl (named_of words (counted_of words x.0))
+pass_name words (Err Memory) lt x = inl (named_of words (counted_of words x.1.read))
+pass_name words (Ok (command.Call call)) lt x = inl (named_of words (counted_of words x.read))
+
+pass_form : (words : List Word) (b : Result Command CallFault) → 2 < rank b → Answers words b → IsRead words
 unfolding rank
 pass_form words (Err Unknown) lt x = absurd (omega arith)
 pass_form words (Err Arity) lt x = absurd (omega arith)
 pass_form words (Err Syntax) lt x = absurd (omega arith)
-pass_form words (Err Number) lt x = (x.2, x.3)
-pass_form words (Err BadId) lt x = (x.2, x.3)
-pass_form words (Err Memory) lt x = (x.1.reading, x.1.instance)
-pass_form words (Ok (command.Call call)) lt x = (x.reading, x.instance)
+pass_form words (Err Number) lt x = x.0
+pass_form words (Err BadId) lt x = x.0
+pass_form words (Err Memory) lt x = x.1.read
+pass_form words (Ok (command.Call call)) lt x = x.read
 
-pass_numbers : (words : List Word) (b : Result Command CallFault) → 3 < rank b → Answers words b → (r : Reading) × IsInstance words r × HasNumbers r
+pass_numbers : (words : List Word) (b : Result Command CallFault) → 3 < rank b → Answers words b → (read : IsRead words) × HasNumbers (places_of words read)
 unfolding rank
 pass_numbers words (Err Unknown) lt x = absurd (omega arith)
 pass_numbers words (Err Arity) lt x = absurd (omega arith)
 pass_numbers words (Err Syntax) lt x = absurd (omega arith)
 pass_numbers words (Err Number) lt x = absurd (omega arith)
-pass_numbers words (Err BadId) lt x = (x.2, x.3, x.4)
-pass_numbers words (Err Memory) lt x = (x.1.reading, x.1.instance, HasNumbers-from_means x.1.reading x.0 x.1.means)
-pass_numbers words (Ok (command.Call call)) lt x = (x.reading, x.instance, HasNumbers-from_means x.reading call x.means)
+pass_numbers words (Err BadId) lt x = (x.0, x.1)
+pass_numbers words (Err Memory) lt x = (x.1.read, call_numbers words x.0 x.1)
+pass_numbers words (Ok (command.Call call)) lt x = (x.read, call_numbers words call x)
 
-pass_ids : (words : List Word) (b : Result Command CallFault) → 4 < rank b → Answers words b → (r : Reading) × IsInstance words r × HasIds r
+pass_ids : (words : List Word) (b : Result Command CallFault) → 4 < rank b → Answers words b → (read : IsRead words) × HasIds (places_of words read)
 unfolding rank
 pass_ids words (Err Unknown) lt x = absurd (omega arith)
 pass_ids words (Err Arity) lt x = absurd (omega arith)
 pass_ids words (Err Syntax) lt x = absurd (omega arith)
 pass_ids words (Err Number) lt x = absurd (omega arith)
 pass_ids words (Err BadId) lt x = absurd (omega arith)
-pass_ids words (Err Memory) lt x = (x.1.reading, x.1.instance, HasIds-from_means x.1.reading x.0 x.1.means)
-pass_ids words (Ok (command.Call call)) lt x = (x.reading, x.instance, HasIds-from_means x.reading call x.means)
+pass_ids words (Err Memory) lt x = (x.1.read, call_ids words x.0 x.1)
+pass_ids words (Ok (command.Call call)) lt x = (x.read, call_ids words call x)
 
--- words that a fault refuses have no answer behind it
+-- words that a fault refuses have no answer after it
+refuse_named : (words : List Word) → Refuses words Unknown → IsCommandNamed words ⊎ IsHalfNamed words → ⊥
+refuse_named words x (inl named) = x.0 named
+refuse_named words x (inr half) = x.1 half
+
 refuse_name : (words : List Word) (b : Result Command CallFault) → 0 < rank b → Refuses words Unknown → Answers words b → ⊥
-refuse_name words b lt x y = let p = pass_name words b lt y in x p.0 p.1
+refuse_name words b lt x y = refuse_named words x (pass_name words b lt y)
+
+refuse_counted : (words : List Word) → Refuses words Arity → IsCommandCounted words → ⊥
+refuse_counted words (inl x) y =
+    let same : y.name ≡ x.name = IsNamed-one words y.name x.name y.operands x.operands y.counted.named x.named in
+    x.uncounted (rw same at y.counted.counted)
+refuse_counted words (inr x) y = IsCut-unnamed words x.0 y.name y.operands x.1 y.counted.named
 
 refuse_count : (words : List Word) (b : Result Command CallFault) → 1 < rank b → Refuses words Arity → Answers words b → ⊥
-refuse_count words b lt x y =
-    let p = pass_count words b lt y in
-    let same : p.0 ≡ x.0 = IsNamed-one words p.0 x.0 p.1.named x.1 in
-    x.2 (rw same at p.1.counted)
+refuse_count words b lt x y = refuse_counted words x (pass_count words b lt y)
 
 refuse_form : (words : List Word) (b : Result Command CallFault) → 2 < rank b → Refuses words Syntax → Answers words b → ⊥
-refuse_form words b lt x y = let p = pass_form words b lt y in x.2 p.0 p.1
+refuse_form words b lt x y = x.1 (pass_form words b lt y)
 
 refuse_numbers : (words : List Word) (b : Result Command CallFault) → 3 < rank b → Refuses words Number → Answers words b → ⊥
 refuse_numbers words b lt x y =
     let p = pass_numbers words b lt y in
-    let same : p.0 ≡ x.2 = IsInstance-one words p.0 x.2 p.1 x.3 in
-    x.4 (rw same at p.2)
+    x.1 (same_read (λ c r. HasNumbers (places (form_of c) r)) words p.0 x.0 p.1)
 
 refuse_ids : (words : List Word) (b : Result Command CallFault) → 4 < rank b → Refuses words BadId → Answers words b → ⊥
 refuse_ids words b lt x y =
     let p = pass_ids words b lt y in
-    let same : p.0 ≡ x.2 = IsInstance-one words p.0 x.2 p.1 x.3 in
-    x.5 (rw same at p.2)
+    x.2 (same_read (λ c r. HasIds (places (form_of c) r)) words p.0 x.0 p.1)
 
-pub IsCall-one : (words : List Word) (a b : Call) → IsCall words a → IsCall words b → a ≡ b
+IsCall-one : (words : List Word) (a b : Call) → IsCall words a → IsCall words b → a ≡ b
 IsCall-one words a b x y =
-    let same : x.reading ≡ y.reading = IsInstance-one words x.reading y.reading x.instance y.instance in
-    Means-one y.reading a b (rw same at x.means) y.means
+    let at_x = λ (w : Values (form_of x.read.name)) (m : Means (form_of x.read.name) x.read.reading w).
+    ap (call_of x.read.name) (Means-one (form_of x.read.name) x.read.reading x.values w x.means m) in
+    let at_y = same_read (λ c r. (w : Values (form_of c)) → Means (form_of c) r w → call_of x.read.name x.values ≡ call_of c w) words x.read y.read at_x y.values y.means in
+    let left = x.is in
+    let right = y.is in
+    cc
 
 pub Answers-one : (words : List Word) (a b : Result Command CallFault) → a ≢ Err Memory → b ≢ Err Memory → Answers words a → Answers words b → a ≡ b
 unfolding rank
@@ -189,39 +175,31 @@ Answers-only words (Err BadId) answer x n y = inl (Answers-one words (Err BadId)
 Answers-only words (Ok c) answer x n y = inl (Answers-one words (Ok c) answer (λ e. cc) n x y)
 
 -- what the reader of a command answers is right, once the words are named and counted
-IsInstance-from_reads : (name : Word) (operands : List Word) (command : CommandName) (reading : Reading) → IsSameName name (command_text command) → Reads command operands reading → IsInstance (name ∷ operands) reading
-IsInstance-from_reads name operands command reading same r =
-    record { named = rw r.command_is same; fits = r.fits; fit = r.fit }
-
-Reads-from_instance : (name : Word) (operands : List Word) (command : CommandName) (reading : Reading) → IsSameName name (command_text command) → IsInstance (name ∷ operands) reading → Reads command operands reading
-Reads-from_instance name operands command reading same i =
-    record { command_is = IsNamed-one (name ∷ operands) (command_of reading) command i.named same; fits = i.fits; fit = i.fit }
-
-IsCall-from_reads_at : (name : Word) (operands : List Word) (command : CommandName) (call : Call) → IsSameName name (command_text command) → IsCounted command (length (name ∷ operands)) → ReadsCall command operands call → IsCall (name ∷ operands) call
-IsCall-from_reads_at name operands command call same counted g = record {
-  name = command;
-  counted = record { named = same; counted = counted };
-  reading = g.0;
-  instance = IsInstance-from_reads name operands command g.0 same g.1;
-  means = g.2;
+pub IsCall-from_gives : (words operands : List Word) (command : CommandName) (call : Call) → IsWellCounted words command operands → GivesCall (form_of command) (call_of command) operands call → IsCall words call
+IsCall-from_gives words operands command call counted g = record {
+  read = record { name = command; operands = operands; counted = counted; reading = g.reading; reads = g.reads };
+  values = g.values;
+  means = g.means;
+  is = g.is;
 }
 
-pub IsCall-from_reads : (words : List Word) (name : Word) (operands : List Word) (command : CommandName) (call : Call) → words ≡ name ∷ operands → IsSameName name (command_text command) → IsCounted command (length words) → ReadsCall command operands call → IsCall words call
-IsCall-from_reads words name operands command call e same counted g =
-    rw e (IsCall-from_reads_at name operands command call same (rw e at counted) g)
+read_at : (words operands : List Word) (command : CommandName) → IsWellCounted words command operands → (read : IsRead words) → (operands ≡ read.operands) × (command ≡ read.name)
+read_at words operands command counted read =
+    let name = IsNamed-one words command read.name operands read.operands counted.named read.counted.named in
+    (operands-one words command read.name operands read.operands name counted.named read.counted.named, name)
 
-Refuses-from_gives_at : (name : Word) (operands : List Word) (command : CommandName) (fault : CallFault) → IsSameName name (command_text command) → IsCounted command (length (name ∷ operands)) → Gives command operands (Err fault) → Refuses (name ∷ operands) fault
-Refuses-from_gives_at name operands command Unknown same counted g = absurd g
-Refuses-from_gives_at name operands command Arity same counted g = absurd g
-Refuses-from_gives_at name operands command Syntax same counted g =
-    (command, record { named = same; counted = counted }, λ reading i. g reading (Reads-from_instance name operands command reading same i))
-Refuses-from_gives_at name operands command Number same counted g =
-    (command, record { named = same; counted = counted }, g.0, IsInstance-from_reads name operands command g.0 same g.1, g.2)
-Refuses-from_gives_at name operands command BadId same counted g =
-    (command, record { named = same; counted = counted }, g.0, IsInstance-from_reads name operands command g.0 same g.1, g.2, g.3)
-Refuses-from_gives_at name operands command Memory same counted g =
-    (g.0, IsCall-from_reads_at name operands command g.0 same counted g.1)
+no_read : (words operands : List Word) (command : CommandName) → IsWellCounted words command operands → ((reading : Reading (form_of command)) → Reads (form_of command) operands reading → ⊥) → IsRead words → ⊥
+no_read words operands command counted none read =
+    let at = read_at words operands command counted read in
+    subst (λ (c : CommandName). (r : Reading (form_of c)) → Reads (form_of c) operands r → ⊥) at.1 none read.reading (subst (λ (ws : List Word). Reads (form_of read.name) ws read.reading) (sym at.0) read.reads)
 
-pub Refuses-from_gives : (words : List Word) (name : Word) (operands : List Word) (command : CommandName) (fault : CallFault) → words ≡ name ∷ operands → IsSameName name (command_text command) → IsCounted command (length words) → Gives command operands (Err fault) → Refuses words fault
-Refuses-from_gives words name operands command fault e same counted g =
-    rw e (Refuses-from_gives_at name operands command fault same (rw e at counted) g)
+pub Refuses-from_gives : (words operands : List Word) (command : CommandName) (fault : CallFault) → IsWellCounted words command operands → Gives (form_of command) (call_of command) operands (Err fault) → Refuses words fault
+Refuses-from_gives words operands command Unknown counted g = absurd g
+Refuses-from_gives words operands command Arity counted g = absurd g
+Refuses-from_gives words operands command Syntax counted g =
+    (record { name = command; operands = operands; counted = counted }, no_read words operands command counted g)
+Refuses-from_gives words operands command Number counted g =
+    (record { name = command; operands = operands; counted = counted; reading = g.0; reads = g.1 }, g.2)
+Refuses-from_gives words operands command BadId counted g =
+    (record { name = command; operands = operands; counted = counted; reading = g.0; reads = g.1 }, g.2, g.3)
+Refuses-from_gives words operands command Memory counted g = (g.0, IsCall-from_gives words operands command g.0 counted g.1)

@@ -1,153 +1,147 @@
--- The options of XADD and the words of a trim are read in one way.
-use Rattle.std.proofs.Common.{◌≡◌, List, [], ◌∷◌, ◌++◌, Option, Some, None, All, true, refl, sym, ap, ◌∙◌, append_assoc, append-nil, subst}
+-- Words fit a form with one reading, and a reading has one meaning.
+use Rattle.std.proofs.Common.{◌≡◌, ◌≢◌, ℕ, ℤ, List, [], ◌∷◌, ◌++◌, map, Option, Some, None, refl, sym, ap, ◌∙◌}
 use Rattle.std.specs.List.{flat_map}
-use Rattle.std.proofs.lemmas.List.Elements.{All-head, All-tail}
-use Rattle.sr_args.specs.declared.name.OptionName.{OptionName}
-use Rattle.sr_args.specs.declared.name.OptionName.TheVariants.{NoMkStream, Limit}
-use Rattle.sr_args.specs.declared.name.Measure.{Measure}
-use Rattle.sr_args.specs.declared.name.Measure.TheVariants.{MaxLen, MinId}
-use Rattle.sr_args.specs.declared.name.Sign.{Sign}
-use Rattle.sr_args.specs.Name.{IsSameName, option_text, measure_name}
-use Rattle.sr_args.specs.Form.{Word, Place, TrimReading, XaddOption, no_make, trimming, xadd, form, optional, optional_sign, trim_form, xadd_option, pair, Fits, IsTrimFit, IsOptionFit, IsXaddFit, is_xadd_name}
-use Rattle.sr_args.specs.Form.Place.{any, option}
-use Rattle.sr_args.specs.Options.{IsUnnamed, IsSigned}
-use Rattle.sr_args.proofs.NameLemmas.{sign_text-one}
-use Rattle.sr_args.proofs.OptionLemmas.{option-one, measure_name-one, measure-not_no_make, same_trim, IsUnnamed-any, IsUnnamed-end}
-use Rattle.sr_args.proofs.WordsLemmas.{IsNoOption}
+use Rattle.sr_ids.specs.declared.id.Id.{Id}
+use Rattle.sr_ids.specs.declared.spec.Spec.{Spec}
+use Rattle.sr_ids.proofs.SpellingLemmas.{SpellsId-one}
+use Rattle.sr_ids.proofs.SpecLemmas.{IsSpec-one}
+use Rattle.sr_ids.proofs.StartLemmas.{IsStart-one}
+use Rattle.sr_ids.proofs.EndLemmas.{IsEnd-one}
+use Rattle.sr_args.specs.Options.{Written, nothing, option_places, Choose}
+use Rattle.sr_args.specs.Place.{Word, IdForm, strict_id, range_start, range_end, new_id, IdOf, Spells, Fits, HasNumbers, HasIds, spelled}
+use Rattle.sr_args.specs.Form.{Form, end, text, id, optional_text, ids, pairs, options, trim, Reading, Values, places, pair_places, IsFit, Reads, AreIds, Means}
+use Rattle.sr_args.proofs.ChoiceLemmas.{HasNumbers-append, HasIds-append, Choose-one, Choose-numbers, Choose-ids, IsTrim-one, trim-numbers, trim-ids}
+use Rattle.sr_args.proofs.OptionLemmas.{options-one, trim-one}
 
-pub fields-one : (words : List Word) (a b : List (Word × Word)) → Fits words (flat_map pair a) → Fits words (flat_map pair b) → a ≡ b
-fields-one words [] [] f g = refl
-fields-one [] [] (q ∷ b) f g = absurd g
-fields-one (w ∷ words) [] (q ∷ b) f g = absurd f
-fields-one [] (p ∷ a) b f g = absurd f
-fields-one (w ∷ words) (p ∷ a) [] f g = absurd g
-fields-one (w ∷ []) (p ∷ a) (q ∷ b) f g = absurd f.1
-fields-one (w ∷ v ∷ words) ((x, y) ∷ a) ((s, t) ∷ b) f g = let rest = fields-one words a b f.1.1 g.1.1 in cc (rest, f.0, f.1.0, g.0, g.1.0)
+-- pairs with equal parts are equal
+pub same_pair : {A B : Type 0} (p q : A × B) → p.0 ≡ q.0 → p.1 ≡ q.1 → p ≡ q
+same_pair {A} {B} p q e f = ap (λ (x : A). (x, p.1)) e ∙ ap (λ (y : B). (q.0, y)) f
 
--- the words behind a part of a form that is read in one way, at the two forms that go on behind it
-record GoOn (ps qs : List Place) : Type 0 where
-  pub rest : List Word
-  pub left : Fits rest ps
-  pub right : Fits rest qs
+same_cons : {A : Type 0} (x y : A) (xs ys : List A) → x ≡ y → xs ≡ ys → x ∷ xs ≡ y ∷ ys
+same_cons {A} x y xs ys e f = cc
 
-sign-one : (words : List Word) (s t : Option Sign) (x y : Word) (ps qs : List Place) → IsSigned (s, x) → IsSigned (t, y) → Fits words (optional_sign s ++ (any x ∷ ps)) → Fits words (optional_sign t ++ (any y ∷ qs)) → (s ≡ t) × (x ≡ y) × GoOn ps qs
-sign-one [] None t x y ps qs m n f g = absurd f
-sign-one [] (Some s) t x y ps qs m n f g = absurd f
-sign-one (w ∷ words) None None x y ps qs m n f g = (refl, sym f.0 ∙ g.0, record { rest = words; left = f.1; right = g.1 })
-sign-one (w ∷ words) None (Some t) x y ps qs m n f g = absurd (m.sign_first t refl (sym f.0 ∙ g.0))
-sign-one (w ∷ words) (Some s) None x y ps qs m n f g = absurd (n.sign_first s refl (sym g.0 ∙ f.0))
-sign-one (w ∷ []) (Some s) (Some t) x y ps qs m n f g = absurd f.1
-sign-one (w ∷ v ∷ words) (Some s) (Some t) x y ps qs m n f g =
-    (ap Some (sign_text-one s t (sym f.0 ∙ g.0)), sym f.1.0 ∙ g.1.0, record { rest = words; left = f.1.1; right = g.1.1 })
+-- one reading
 
-limit-one : (words : List Word) (a b : Option Word) (ps qs : List Place) → IsUnnamed Limit ps → IsUnnamed Limit qs → Fits words (optional Limit a ++ ps) → Fits words (optional Limit b ++ qs) → (a ≡ b) × GoOn ps qs
-limit-one words None None ps qs m n f g = (refl, record { rest = words; left = f; right = g })
-limit-one [] None (Some b) ps qs m n f g = absurd g
-limit-one (w ∷ words) None (Some b) ps qs m n f g = absurd (m.unnamed w words g.0 f)
-limit-one [] (Some a) b ps qs m n f g = absurd f
-limit-one (w ∷ words) (Some a) None ps qs m n f g = absurd (n.unnamed w words f.0 g)
-limit-one (w ∷ []) (Some a) (Some b) ps qs m n f g = absurd f.1
-limit-one (w ∷ v ∷ words) (Some a) (Some b) ps qs m n f g =
-    (ap Some (sym f.1.0 ∙ g.1.0), record { rest = words; left = f.1.1; right = g.1.1 })
+optional_text-one : (words : List Word) (r s : Option Word) → Fits words (places optional_text r) → Fits words (places optional_text s) → r ≡ s
+optional_text-one words None None f g = refl
+optional_text-one [] None (Some b) f g = absurd g
+optional_text-one (w ∷ words) None (Some b) f g = absurd f
+optional_text-one [] (Some a) s f g = absurd f
+optional_text-one (w ∷ words) (Some a) None f g = absurd g
+optional_text-one (w ∷ words) (Some a) (Some b) f g = ap Some (sym f.0 ∙ g.0)
 
--- the places of a trim, and those behind it
-abbrev trim_then : TrimReading → List Place → List Place
-trim_then a ps = option (measure_name a.by) ∷ (optional_sign a.sign ++ (any a.bound ∷ (optional Limit a.limit ++ ps)))
+ids-one : (spelling : IdForm) (words r s : List Word) → Fits words (map (spelled spelling) r) → Fits words (map (spelled spelling) s) → r ≡ s
+ids-one spelling words [] [] f g = refl
+ids-one spelling [] [] (b ∷ s) f g = absurd g
+ids-one spelling (w ∷ words) [] (b ∷ s) f g = absurd f
+ids-one spelling [] (a ∷ r) s f g = absurd f
+ids-one spelling (w ∷ words) (a ∷ r) [] f g = absurd g
+ids-one spelling (w ∷ words) (a ∷ r) (b ∷ s) f g = same_cons a b r s (sym f.0 ∙ g.0) (ids-one spelling words r s f.1 g.1)
 
-trim_form-append : (a : TrimReading) (ps : List Place) → trim_form a ++ ps ≡ trim_then a ps
-trim_form-append a ps = ap (λ (qs : List Place). option (measure_name a.by) ∷ qs) (append_assoc (optional_sign a.sign) (any a.bound ∷ optional Limit a.limit) ps)
+pairs-one : (words : List Word) (r s : List (Word × Word)) → Fits words (flat_map pair_places r) → Fits words (flat_map pair_places s) → r ≡ s
+pairs-one words [] [] f g = refl
+pairs-one [] [] (q ∷ s) f g = absurd g
+pairs-one (w ∷ words) [] (q ∷ s) f g = absurd f
+pairs-one [] (p ∷ r) s f g = absurd f
+pairs-one (w ∷ words) (p ∷ r) [] f g = absurd g
+pairs-one (w ∷ []) (p ∷ r) (q ∷ s) f g = absurd f.1
+pairs-one (w ∷ v ∷ words) (p ∷ r) (q ∷ s) f g =
+    same_cons p q r s (same_pair p q (sym f.0 ∙ g.0) (sym f.1.0 ∙ g.1.0)) (pairs-one words r s f.1.1 g.1.1)
 
--- words begin with one trim, whatever stands behind it
-trim-before : (words : List Word) (a b : TrimReading) (ps qs : List Place) → IsTrimFit a → IsTrimFit b → IsUnnamed Limit ps → IsUnnamed Limit qs → Fits words (trim_then a ps) → Fits words (trim_then b qs) → (a ≡ b) × GoOn ps qs
-trim-before [] a b ps qs u v m n f g = absurd f
-trim-before (w ∷ words) a b ps qs u v m n f g =
-    let by = measure_name-one a.by b.by (option-one w (measure_name a.by) (measure_name b.by) f.0 g.0) in
-    let sign = sign-one words a.sign b.sign a.bound b.bound (optional Limit a.limit ++ ps) (optional Limit b.limit ++ qs) (record { sign_first = u.sign_first }) (record { sign_first = v.sign_first }) f.1 g.1 in
-    let limit = limit-one sign.2.rest a.limit b.limit ps qs m n sign.2.left sign.2.right in
-    (same_trim a b by sign.0 sign.1 limit.0, limit.1)
+reading-one : (form : Form) (words : List Word) (r s : Reading form) → Fits words (places form r) → Fits words (places form s) → IsFit form r → IsFit form s → r ≡ s
+reading-one end words r s f g p q = refl
+reading-one (text form) [] r s f g p q = absurd f
+reading-one (text form) (w ∷ words) r s f g p q = same_pair r s (sym f.0 ∙ g.0) (reading-one form words r.1 s.1 f.1 g.1 p q)
+reading-one (id spelling form) [] r s f g p q = absurd f
+reading-one (id spelling form) (w ∷ words) r s f g p q = same_pair r s (sym f.0 ∙ g.0) (reading-one form words r.1 s.1 f.1 g.1 p q)
+reading-one optional_text words r s f g p q = optional_text-one words r s f g
+reading-one (ids spelling) words r s f g p q = ids-one spelling words r s f g
+reading-one pairs words r s f g p q = pairs-one words r s f g
+reading-one (options set form) words r s f g p q =
+    let one = options-one set words r.0 s.0 (places form r.1) (places form s.1) p.0 q.0 p.1 q.1 f g in
+    same_pair r s one.0 (reading-one form one.1.rest r.1 s.1 one.1.left one.1.right p.2 q.2)
+reading-one trim words r s f g p q = trim-one words r s p q f g
 
--- nothing stands behind the trim of XTRIM
-pub trim-one : (words : List Word) (a b : TrimReading) → IsTrimFit a → IsTrimFit b → Fits words (trim_form a) → Fits words (trim_form b) → a ≡ b
-trim-one words a b u v f g =
-    let left : Fits words (trim_then a []) = subst (λ ps. Fits words ps) (sym (append-nil (trim_form a)) ∙ trim_form-append a []) f in
-    let right : Fits words (trim_then b []) = subst (λ ps. Fits words ps) (sym (append-nil (trim_form b)) ∙ trim_form-append b []) g in
-    (trim-before words a b [] [] u v (IsUnnamed-end Limit) (IsUnnamed-end Limit) left right).0
+pub Reads-one : (form : Form) (words : List Word) (r s : Reading form) → Reads form words r → Reads form words s → r ≡ s
+Reads-one form words r s p q = reading-one form words r s p.fits q.fits p.fit q.fit
 
-measure_name-of_xadd : (m : Measure) → is_xadd_name (measure_name m) ≡ true
-measure_name-of_xadd MaxLen = refl
-measure_name-of_xadd MinId = refl
+-- one meaning
 
-measure_name-no_limit : (m : Measure) → measure_name m ≡ Limit → ⊥
-measure_name-no_limit MaxLen e = cc
-measure_name-no_limit MinId e = cc
+Spells-one : (spelling : IdForm) (word : Word) (i j : IdOf spelling) → Spells spelling word i → Spells spelling word j → i ≡ j
+Spells-one strict_id word i j p q = SpellsId-one 0 word i j p q
+Spells-one range_start word i j p q = IsStart-one word i j p q
+Spells-one range_end word i j p q = IsEnd-one word i j p q
+Spells-one new_id word i j p q = IsSpec-one word i j p q
 
--- the name with which an option of XADD begins
-abbrev first_name : XaddOption → OptionName
-first_name no_make = NoMkStream
-first_name (trimming trim) = measure_name trim.by
+AreIds-one : (spelling : IdForm) (words : List Word) (is js : List (IdOf spelling)) → AreIds spelling words is → AreIds spelling words js → is ≡ js
+AreIds-one spelling [] [] [] p q = refl
+AreIds-one spelling [] (i ∷ is) js p q = absurd p
+AreIds-one spelling [] [] (j ∷ js) p q = absurd q
+AreIds-one spelling (word ∷ words) [] js p q = absurd p
+AreIds-one spelling (word ∷ words) (i ∷ is) [] p q = absurd q
+AreIds-one spelling (word ∷ words) (i ∷ is) (j ∷ js) p q =
+    same_cons i j is js (Spells-one spelling word i j p.0 q.0) (AreIds-one spelling words is js p.1 q.1)
 
-first_name-of_xadd : (o : XaddOption) → is_xadd_name (first_name o) ≡ true
-first_name-of_xadd no_make = refl
-first_name-of_xadd (trimming trim) = measure_name-of_xadd trim.by
+pub Means-one : (form : Form) (reading : Reading form) (v w : Values form) → Means form reading v → Means form reading w → v ≡ w
+Means-one end reading v w p q = refl
+Means-one (text form) reading v w p q = same_pair v w (p.0 ∙ sym q.0) (Means-one form reading.1 v.1 w.1 p.1 q.1)
+Means-one (id spelling form) reading v w p q = same_pair v w (Spells-one spelling reading.0 v.0 w.0 p.0 q.0) (Means-one form reading.1 v.1 w.1 p.1 q.1)
+Means-one optional_text reading v w p q = p ∙ sym q
+Means-one (ids spelling) reading v w p q = AreIds-one spelling reading v w p q
+Means-one pairs reading v w p q = p ∙ sym q
+Means-one (options set form) reading v w p q = same_pair v w (Choose-one reading.0 nothing v.0 w.0 p.0 q.0) (Means-one form reading.1 v.1 w.1 p.1 q.1)
+Means-one trim reading v w p q = IsTrim-one reading v w p q
 
--- what stands behind the options of XADD
-abbrev behind : Word → List (Word × Word) → List Place
-behind id fields = any id ∷ flat_map pair fields
+-- what means something has its numbers and its ids
 
-first-named : (word : Word) (words : List Word) (o : XaddOption) (ps qs : List Place) → Fits (word ∷ words) ((xadd_option o ++ ps) ++ qs) → IsSameName word (option_text (first_name o))
-first-named word words no_make ps qs f = f.0
-first-named word words (trimming trim) ps qs f = f.0
+pub pairs-numbers : (fields : List (Word × Word)) → HasNumbers (flat_map pair_places fields)
+pairs-numbers [] = tt
+pairs-numbers (pair ∷ fields) = (tt, (tt, pairs-numbers fields))
 
-first_name-no_limit : (o : XaddOption) → first_name o ≡ Limit → ⊥
-first_name-no_limit no_make e = cc
-first_name-no_limit (trimming trim) e = measure_name-no_limit trim.by e
+pub pairs-ids : (fields : List (Word × Word)) → HasIds (flat_map pair_places fields)
+pairs-ids [] = tt
+pairs-ids (pair ∷ fields) = (tt, (tt, pairs-ids fields))
 
-has_no_limit : (options : List XaddOption) (id : Word) (fields : List (Word × Word)) → IsNoOption id → IsUnnamed Limit (flat_map xadd_option options ++ behind id fields)
-has_no_limit [] id fields no_name = IsUnnamed-any Limit id (flat_map pair fields) (no_name Limit refl)
-has_no_limit (o ∷ options) id fields no_name = record {
-  unnamed = λ word words same f.
-      first_name-no_limit o (option-one word (first_name o) Limit (first-named word words o (flat_map xadd_option options) (behind id fields) f) same);
-}
+pub ids-numbers : (spelling : IdForm) (words : List Word) → HasNumbers (map (spelled spelling) words)
+ids-numbers spelling [] = tt
+ids-numbers spelling (word ∷ words) = (tt, ids-numbers spelling words)
 
--- a word that is no name begins no option
-no_option : (word : Word) (words : List Word) (o : XaddOption) (ps qs : List Place) (id : Word) → IsNoOption id → word ≡ id → Fits (word ∷ words) ((xadd_option o ++ ps) ++ qs) → ⊥
-no_option word words o ps qs id no_name e f = no_name (first_name o) (first_name-of_xadd o) (rw e at (first-named word words o ps qs f))
+pub HasIds-from_are : (spelling : IdForm) (words : List Word) (is : List (IdOf spelling)) → AreIds spelling words is → HasIds (map (spelled spelling) words)
+HasIds-from_are spelling [] is p = tt
+HasIds-from_are spelling (word ∷ words) [] p = absurd p
+HasIds-from_are spelling (word ∷ words) (i ∷ is) p = ((i, p.0), HasIds-from_are spelling words is p.1)
 
-trim-behind : (words : List Word) (t : TrimReading) (ps qs : List Place) → Fits words ((trim_form t ++ ps) ++ qs) → Fits words (trim_then t (ps ++ qs))
-trim-behind words t ps qs f = subst (λ rs. Fits words rs) (append_assoc (trim_form t) ps qs ∙ trim_form-append t (ps ++ qs)) f
+optional_text-numbers : (word : Option Word) → HasNumbers (places optional_text word)
+optional_text-numbers None = tt
+optional_text-numbers (Some word) = (tt, tt)
 
--- the options of XADD end where a word is no option's name
-options-one : (words : List Word) (a b : List XaddOption) (i j : Word) (fs gs : List (Word × Word)) → All IsOptionFit a → All IsOptionFit b → IsNoOption i → IsNoOption j → Fits words (flat_map xadd_option a ++ behind i fs) → Fits words (flat_map xadd_option b ++ behind j gs) → (a ≡ b) × (i ≡ j) × (fs ≡ gs)
-options-one [] [] b i j fs gs u v m n f g = absurd f
-options-one (w ∷ words) [] [] i j fs gs u v m n f g = (refl, sym f.0 ∙ g.0, fields-one words fs gs f.1 g.1)
-options-one (w ∷ words) [] (q ∷ b) i j fs gs u v m n f g = absurd (no_option w words q (flat_map xadd_option b) (behind j gs) i m f.0 g)
-options-one [] (o ∷ a) [] i j fs gs u v m n f g = absurd g
-options-one (w ∷ words) (o ∷ a) [] i j fs gs u v m n f g = absurd (no_option w words o (flat_map xadd_option a) (behind i fs) j n g.0 f)
-options-one [] (no_make ∷ a) (q ∷ b) i j fs gs u v m n f g = absurd f
-options-one [] (trimming t ∷ a) (q ∷ b) i j fs gs u v m n f g = absurd f
-options-one (w ∷ words) (no_make ∷ a) (no_make ∷ b) i j fs gs u v m n f g =
-    let rest = options-one words a b i j fs gs (All-tail IsOptionFit no_make a u) (All-tail IsOptionFit no_make b v) m n f.1 g.1 in
-    (ap (λ (os : List XaddOption). no_make ∷ os) rest.0, rest.1, rest.2)
-options-one (w ∷ words) (no_make ∷ a) (trimming t ∷ b) i j fs gs u v m n f g =
-    absurd (measure-not_no_make t.by (option-one w NoMkStream (measure_name t.by) f.0 g.0))
-options-one (w ∷ words) (trimming t ∷ a) (no_make ∷ b) i j fs gs u v m n f g =
-    absurd (measure-not_no_make t.by (option-one w NoMkStream (measure_name t.by) g.0 f.0))
-options-one (w ∷ words) (trimming t ∷ a) (trimming s ∷ b) i j fs gs u v m n f g =
-    let left = trim-behind (w ∷ words) t (flat_map xadd_option a) (behind i fs) f in
-    let right = trim-behind (w ∷ words) s (flat_map xadd_option b) (behind j gs) g in
-    let trim = trim-before (w ∷ words) t s (flat_map xadd_option a ++ behind i fs) (flat_map xadd_option b ++ behind j gs) (All-head IsOptionFit (trimming t) a u) (All-head IsOptionFit (trimming s) b v) (has_no_limit a i fs m) (has_no_limit b j gs n) left right in
-    let rest = options-one trim.1.rest a b i j fs gs (All-tail IsOptionFit (trimming t) a u) (All-tail IsOptionFit (trimming s) b v) m n trim.1.left trim.1.right in
-    let first = trim.0 in
-    let options = rest.0 in
-    (cc, rest.1, rest.2)
+optional_text-ids : (word : Option Word) → HasIds (places optional_text word)
+optional_text-ids None = tt
+optional_text-ids (Some word) = (tt, tt)
 
-pub XaddFits-one : (words : List Word) (k l : Word) (a b : List XaddOption) (i j : Word) (fs gs : List (Word × Word)) → IsXaddFit a i fs → IsXaddFit b j gs → Fits words (form (xadd k a i fs)) → Fits words (form (xadd l b j gs)) → xadd k a i fs ≡ xadd l b j gs
-XaddFits-one [] k l a b i j fs gs u v f g = absurd f
-XaddFits-one (w ∷ words) k l a b i j fs gs u v f g =
-    let rest = options-one words a b i j fs gs u.each v.each u.id_no_name v.id_no_name f.1 g.1 in
-    let options = rest.0 in
-    let id = rest.1 in
-    let fields = rest.2 in
-    let left = f.0 in
-    let right = g.0 in
-    cc
+pub HasNumbers-from_means : (form : Form) (reading : Reading form) (values : Values form) → Means form reading values → HasNumbers (places form reading)
+HasNumbers-from_means end r v p = tt
+HasNumbers-from_means (text form) r v p = (tt, HasNumbers-from_means form r.1 v.1 p.1)
+HasNumbers-from_means (id spelling form) r v p = (tt, HasNumbers-from_means form r.1 v.1 p.1)
+HasNumbers-from_means optional_text r v p = optional_text-numbers r
+HasNumbers-from_means (ids spelling) r v p = ids-numbers spelling r
+HasNumbers-from_means pairs r v p = pairs-numbers r
+HasNumbers-from_means (options set form) r v p =
+    HasNumbers-append (flat_map option_places r.0) (places form r.1) (Choose-numbers r.0 nothing v.0 p.0) (HasNumbers-from_means form r.1 v.1 p.1)
+HasNumbers-from_means trim r v p = trim-numbers r v p
+
+pub HasIds-from_means : (form : Form) (reading : Reading form) (values : Values form) → Means form reading values → HasIds (places form reading)
+HasIds-from_means end r v p = tt
+HasIds-from_means (text form) r v p = (tt, HasIds-from_means form r.1 v.1 p.1)
+HasIds-from_means (id spelling form) r v p = ((v.0, p.0), HasIds-from_means form r.1 v.1 p.1)
+HasIds-from_means optional_text r v p = optional_text-ids r
+HasIds-from_means (ids spelling) r v p = HasIds-from_are spelling r v p
+HasIds-from_means pairs r v p = pairs-ids r
+HasIds-from_means (options set form) r v p =
+    HasIds-append (flat_map option_places r.0) (places form r.1) (Choose-ids r.0 nothing v.0 p.0) (HasIds-from_means form r.1 v.1 p.1)
+HasIds-from_means trim r v p = trim-ids r v p
+
+-- words that spell ids spell a list of them
+pub AreIds-exist : (spelling : IdForm) (words : List Word) → HasIds (map (spelled spelling) words) → (list : List (IdOf spelling)) × AreIds spelling words list
+AreIds-exist spelling [] has = ([], tt)
+AreIds-exist spelling (word ∷ words) has = let rest = AreIds-exist spelling words has.1 in (has.0.0 ∷ rest.0, (has.0.1, rest.1))

@@ -1,8 +1,11 @@
 pub mod AnswerLemmas
+pub mod ChoiceLemmas
 pub mod FormLemmas
+pub mod LoopLemmas
 pub mod NameLemmas
 pub mod NumberLemmas
 pub mod OptionLemmas
-pub mod ReadingLemmas
-pub mod ValueLemmas
-pub mod WordsLemmas
+pub mod PartLemmas
+pub mod RangeLemmas
+pub mod XaddLemmas
+pub mod XtrimLemmas

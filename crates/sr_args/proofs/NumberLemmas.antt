@@ -8,7 +8,6 @@ use Rattle.sr_bytes.specs.Decimal.{IsDecimal}
 use Rattle.sr_bytes.proofs.DecimalLemmas.{IsDecimal-one}
 use Rattle.sr_args.specs.Number.{IsInt, IsNat}
 use Rattle.sr_args.specs.Number.IsInt.{positive, negative}
-use Rattle.sr_args.specs.Command.{IsOptionalInt, IsLimit}
 
 pub IsInt-from_negative : (word digits : List ℕ) (n : ℕ) (read : Option ℤ) → word ≡ 45 ∷ digits → IsDecimal 19 digits n → SomeIff read (FitsSigned w64 (pos 0 -ℤ pos n)) (pos 0 -ℤ pos n) → IfSome read (IsInt word)
 IsInt-from_negative word digits n None e d h = tt
@@ -17,11 +16,6 @@ IsInt-from_negative word digits n (Some z) e d h = let fits = h.0 in negative di
 pub IsInt-from_positive : {E : Type 0} (word : List ℕ) (n : ℕ) (read : Result ℤ E) → IsDecimal 19 word n → OkIff read (FitsSigned w64 (pos n)) (pos n) → IfSome (result_ok read) (IsInt word)
 IsInt-from_positive word n (Ok z) d h = let fits = h.0 in positive n d (omega (arith, ints)) (omega (arith, ints, h.1))
 IsInt-from_positive word n (Err e) d h = tt
-
--- a word that writes no number writes none in an optional place
-pub IsOptionalInt-none : (word : List ℕ) → ((z : ℤ) → IsInt word z → ⊥) → (z : Option ℤ) → IsOptionalInt (Some word) z → ⊥
-IsOptionalInt-none word none None h = h
-IsOptionalInt-none word none (Some z) h = none z h
 
 -- digits do not begin with a dash
 IsDecimal-no_dash : (word digits : List ℕ) (n : ℕ) → word ≡ codes "-" ++ digits → IsDecimal 19 word n → ⊥
@@ -36,17 +30,5 @@ IsInt-one word x y (negative ds m v d _ e) (negative es n w f _ g) =
     let same : m ≡ n = IsDecimal-one (rw behind at d) f in
     e ∙ ap (λ (k : ℕ). neg_ℤ (pos k)) same ∙ sym g
 
-pub IsOptionalInt-one : (word : Option (List ℕ)) (x y : Option ℤ) → IsOptionalInt word x → IsOptionalInt word y → x ≡ y
-IsOptionalInt-one None None None p q = refl
-IsOptionalInt-one (Some word) (Some x) (Some y) p q = ap Some (IsInt-one word x y p q)
-IsOptionalInt-one None (Some x) y p q = absurd p
-IsOptionalInt-one None None (Some y) p q = absurd q
-IsOptionalInt-one (Some word) None y p q = absurd p
-IsOptionalInt-one (Some word) (Some x) None p q = absurd q
-
 pub IsNat-one : (word : List ℕ) (m n : ℕ) → IsNat word m → IsNat word n → m ≡ n
 IsNat-one word m n p q = let same = IsInt-one word (pos m) (pos n) p q in omega (arith, ints)
-
-pub IsLimit-one : (word : Option (List ℕ)) (m n : ℕ) → IsLimit word m → IsLimit word n → m ≡ n
-IsLimit-one None m n p q = p ∙ sym q
-IsLimit-one (Some word) m n p q = IsNat-one word m n p q

@@ -1,22 +1,31 @@
--- The options of XADD, and the parts of a trim: how the readers of parts join.
-use Rattle.std.proofs.Common.{◌≡◌, ◌≢◌, ℕ, cond, List, [], ◌∷◌, ◌++◌, map, codes, Option, Some, None, Bool, true, false, not, ◌||◌, All, refl, sym, ap, ◌∙◌, arith, rules, append_assoc}
+-- Options are read in one way, and what they ask for is one.
+use Rattle.std.proofs.Common.{◌≡◌, ◌≢◌, ◌⊎◌, inl, inr, ℕ, cond, List, [], ◌∷◌, ◌++◌, map, codes, Option, Some, None, Bool, true, false, All, refl, sym, ap, ◌∙◌, arith, append_assoc, append-nil, subst, pos}
 use Rattle.std.specs.Bool.{⊤}
-use Rattle.std.proofs.lemmas.List.Elements.{All-nil, All-cons}
-use Rattle.std.proofs.lemmas.List.Sums.{sum_by-cons}
-use Rattle.std.proofs.lemmas.Option.{same_Some}
 use Rattle.std.specs.Char.{to_ascii_lowercase}
-use Rattle.std.specs.Str.{bytes_eq}
 use Rattle.std.specs.List.{flat_map}
-use Rattle.sr_args.specs.declared.name.OptionName.{OptionName}
-use Rattle.sr_args.specs.declared.name.OptionName.TheVariants.{Count, NoMkStream, MaxLen, MinId, Limit}
+use Rattle.std.specs.Str.{bytes_eq}
+use Rattle.std.proofs.lemmas.List.Elements.{All-head, All-tail}
+use Rattle.std.proofs.lemmas.Option.{same_Some}
+use Rattle.sr_ids.specs.declared.id.Id.{Id}
+use Rattle.sr_ids.proofs.SpellingLemmas.{SpellsId-one}
+use Rattle.sr_args.specs.declared.call.Trim.{Trim}
+use Rattle.sr_args.specs.declared.call.TrimBy.{TrimBy}
+use Rattle.sr_args.specs.declared.call.TrimBy.TheVariants as bounds
 use Rattle.sr_args.specs.declared.name.Measure.{Measure}
 use Rattle.sr_args.specs.declared.name.Measure.TheVariants as measures
+use Rattle.sr_args.specs.declared.name.OptionName.{OptionName}
+use Rattle.sr_args.specs.declared.name.OptionName.TheVariants.{Count, NoMkStream, MaxLen, MinId, Limit}
 use Rattle.sr_args.specs.declared.name.Sign.{Sign}
-use Rattle.sr_args.specs.declared.words.XaddOptions.{XaddOptions}
-use Rattle.sr_args.specs.Name.{IsSameName, option_text, measure_name}
-use Rattle.sr_args.specs.Form.{Word, Place, option, any, optional, optional_sign, TrimReading, trim_form, XaddOption, no_make, trimming, xadd_option, IsOptionFit, IsTrimFit, Fits}
-use Rattle.sr_args.specs.Command.{trim_of, makes}
-use Rattle.sr_args.specs.Options.{AreOptions, optional_trim_reading, Begins, BeginsNone, IsUnnamed, IsPastOptions, IsPastTrim, IsAny, IsEither, signed_form, IsSigned, IsLimitOf, no_make_form, optional_trim, IsOptionalTrimFit, AreXaddOptions}
+use Rattle.sr_args.specs.declared.name.Sign.TheVariants.{Exact, Nearly}
+use Rattle.sr_args.specs.declared.options.OptionKind.{OptionKind}
+use Rattle.sr_args.specs.declared.options.OptionSet.{OptionSet}
+use Rattle.sr_args.specs.declared.options.OptionSet.TheVariants as sets
+use Rattle.sr_args.specs.Name.{IsSameName, measure_name, option_text, sign_text}
+use Rattle.sr_args.specs.Number.{IsInt, IsNat}
+use Rattle.sr_args.specs.Place.{Word, Place, Stands, Fits, HasNumbers, HasIds, option, any, numeric, spelled, IdForm}
+use Rattle.sr_args.specs.Options.{TrimReading, Written, count, no_make, trimming, sign_places, bound_place, limit_places, first_name, operand_places, option_places, is_of, kind, IsTrimFit, IsOptionFit, IsIn, AreDistinct, AreOptionsFit, IsUnnamed, IsPast, Chosen, nothing, IsBound, IsLimit, IsTrim, Sets, Choose}
+use Rattle.sr_args.specs.steps.Options.{IsUnlimited, IsSigned, IsOptionEnd}
+use Rattle.sr_args.proofs.NumberLemmas.{IsInt-one, IsNat-one}
 
 -- the option with this name in small letters
 abbrev option_at : List ℕ → Option OptionName
@@ -36,8 +45,19 @@ option_at-text MinId = refl
 option_at-text Limit = refl
 
 -- no word names two options
-pub option-one : (word : Word) (a b : OptionName) → IsSameName word (option_text a) → IsSameName word (option_text b) → a ≡ b
-option-one word a b p q = same_Some a b (sym (option_at-text a) ∙ ap option_at (sym p ∙ q) ∙ option_at-text b)
+pub name-one : (word : Word) (a b : OptionName) → IsSameName word (option_text a) → IsSameName word (option_text b) → a ≡ b
+name-one word a b p q = same_Some a b (sym (option_at-text a) ∙ ap option_at (sym p ∙ q) ∙ option_at-text b)
+
+-- no word is two signs
+abbrev sign_at : List ℕ → Option Sign
+sign_at text = cond (bytes_eq text (codes "=")) (Some Exact) (cond (bytes_eq text (codes "~")) (Some Nearly) None)
+
+sign_at-text : (sign : Sign) → sign_at (sign_text sign) ≡ Some sign
+sign_at-text Exact = refl
+sign_at-text Nearly = refl
+
+pub sign_text-one : (a b : Sign) → sign_text a ≡ sign_text b → a ≡ b
+sign_text-one a b e = same_Some a b (sym (sign_at-text a) ∙ ap sign_at e ∙ sign_at-text b)
 
 pub measure_name-one : (a b : Measure) → measure_name a ≡ measure_name b → a ≡ b
 measure_name-one measures.MaxLen measures.MaxLen e = refl
@@ -45,26 +65,7 @@ measure_name-one measures.MaxLen measures.MinId e = cc
 measure_name-one measures.MinId measures.MaxLen e = cc
 measure_name-one measures.MinId measures.MinId e = refl
 
-pub measure-not_no_make : (by : Measure) → NoMkStream ≢ measure_name by
-measure-not_no_make measures.MaxLen = λ e. cc
-measure-not_no_make measures.MinId = λ e. cc
-
--- places that a name does not begin
-IsUnnamed-option : (a b : OptionName) (places : List Place) → a ≢ b → IsUnnamed a (option b ∷ places)
-IsUnnamed-option a b places other = record { unnamed = λ word words same f. other (option-one word a b same f.0) }
-
-pub IsUnnamed-any : (name : OptionName) (id : Word) (places : List Place) → (IsSameName id (option_text name) → ⊥) → IsUnnamed name (any id ∷ places)
-IsUnnamed-any name id places other = record { unnamed = λ word words same f. other (rw f.0 at same) }
-
-pub IsUnnamed-end : (name : OptionName) → IsUnnamed name []
-IsUnnamed-end name = record { unnamed = λ word words same f. f }
-
--- a trim is the name of its measure, a signed bound and a limit
-trim_places : (sign : Option Sign) (bound : Word) (limit : Option Word) (places : List Place) → (optional_sign sign ++ any bound ∷ optional Limit limit) ++ places ≡ signed_form (sign, bound) ++ (optional Limit limit ++ places)
-trim_places None bound limit places = refl
-trim_places (Some sign) bound limit places = refl
-
-abbrev trim_with : Measure → Option Sign → Word → Option Word → TrimReading
+abbrev pub trim_with : Measure → Option Sign → Word → Option Word → TrimReading
 trim_with by sign bound limit = record { by = by; sign = sign; bound = bound; limit = limit }
 
 same_parts : (by by′ : Measure) (sign sign′ : Option Sign) (bound bound′ : Word) (limit limit′ : Option Word) → by ≡ by′ → sign ≡ sign′ → bound ≡ bound′ → limit ≡ limit′ → trim_with by sign bound limit ≡ trim_with by′ sign′ bound′ limit′
@@ -73,179 +74,165 @@ same_parts by by′ sign sign′ bound bound′ limit limit′ e f g h = cc
 pub same_trim : (a b : TrimReading) → a.by ≡ b.by → a.sign ≡ b.sign → a.bound ≡ b.bound → a.limit ≡ b.limit → a ≡ b
 same_trim a b = same_parts a.by b.by a.sign b.sign a.bound b.bound a.limit b.limit
 
-pub Begins-trim : (word : Word) (rest behind last : List Word) (trim : TrimReading) → IsSameName word (option_text (measure_name trim.by)) → Begins signed_form IsSigned IsAny rest (trim.sign, trim.bound) behind → Begins (optional Limit) (IsLimitOf trim.sign) (IsUnnamed Limit) behind trim.limit last → Begins trim_form IsTrimFit (IsUnnamed Limit) (word ∷ rest) trim last
-Begins-trim word rest behind last trim same s l = record {
-  right = record { sign_first = s.right.sign_first; limit_nearly = l.right };
-  fits = λ places f. (same, rw (trim_places trim.sign trim.bound trim.limit places) (s.fits (optional Limit trim.limit ++ places) (l.fits places f)));
-  only = λ other places r u f.
-      let signed = s.only (other.sign, other.bound) (optional Limit other.limit ++ places) (record { sign_first = r.sign_first }) tt (rw (trim_places other.sign other.bound other.limit places) at f.1) in
-      let same_sign : other.sign ≡ trim.sign = ap (λ (p : Option Sign × Word). p.0) signed.0 in
-      let same_bound : other.bound ≡ trim.bound = ap (λ (p : Option Sign × Word). p.1) signed.0 in
-      let limited = l.only other.limit places (rw same_sign at r.limit_nearly) u signed.1 in
-      let by : other.by ≡ trim.by = measure_name-one other.by trim.by (option-one word (measure_name other.by) (measure_name trim.by) f.0 same) in
-      (same_trim other trim by same_sign same_bound limited.0, limited.1);
-}
+-- the words after a part of a form that is read in one way, and the two forms that go on with them
+pub record GoOn (ps qs : List Place) : Type 0 where
+  pub rest : List Word
+  pub left : Fits rest ps
+  pub right : Fits rest qs
 
-pub BeginsNone-unsigned : (word : Word) (rest : List Word) → BeginsNone signed_form IsSigned IsAny rest → BeginsNone trim_form IsTrimFit (IsUnnamed Limit) (word ∷ rest)
-BeginsNone-unsigned word rest none = λ other places r u f.
-    none (other.sign, other.bound) (optional Limit other.limit ++ places) (record { sign_first = r.sign_first }) tt (rw (trim_places other.sign other.bound other.limit places) at f.1)
+-- a bound's word stands for itself
+pub bound-stands : (by : Measure) (word bound : Word) → Stands word (bound_place by bound) → word ≡ bound
+bound-stands measures.MaxLen word bound s = s
+bound-stands measures.MinId word bound s = s
 
-pub BeginsNone-limit : (word : Word) (rest behind : List Word) (sign : Option Sign) (bound : Word) → Begins signed_form IsSigned IsAny rest (sign, bound) behind → BeginsNone (optional Limit) (IsLimitOf sign) (IsUnnamed Limit) behind → BeginsNone trim_form IsTrimFit (IsUnnamed Limit) (word ∷ rest)
-BeginsNone-limit word rest behind sign bound s none = λ other places r u f.
-    let signed = s.only (other.sign, other.bound) (optional Limit other.limit ++ places) (record { sign_first = r.sign_first }) tt (rw (trim_places other.sign other.bound other.limit places) at f.1) in
-    let same_sign : other.sign ≡ sign = ap (λ (p : Option Sign × Word). p.0) signed.0 in
-    none other.limit places (rw same_sign at r.limit_nearly) u signed.1
+pub bound-itself : (by : Measure) (word : Word) → Stands word (bound_place by word)
+bound-itself measures.MaxLen word = refl
+bound-itself measures.MinId word = refl
 
--- the options of XADD: NOMKSTREAM in front of the trim or behind it, each where it is written
-abbrev no_makes : Bool → List XaddOption
-no_makes true = no_make ∷ []
-no_makes false = []
+sign-one : (words : List Word) (by by′ : Measure) (s t : Option Sign) (x y : Word) (ps qs : List Place) → IsSigned (s, x) → IsSigned (t, y) → Fits words (sign_places s ++ (bound_place by x ∷ ps)) → Fits words (sign_places t ++ (bound_place by′ y ∷ qs)) → (s ≡ t) × (x ≡ y) × GoOn ps qs
+sign-one [] by by′ None t x y ps qs m n f g = absurd f
+sign-one [] by by′ (Some s) t x y ps qs m n f g = absurd f
+sign-one (w ∷ words) by by′ None None x y ps qs m n f g = (refl, sym (bound-stands by w x f.0) ∙ bound-stands by′ w y g.0, record { rest = words; left = f.1; right = g.1 })
+sign-one (w ∷ words) by by′ None (Some t) x y ps qs m n f g = absurd (m.sign_first t refl (sym (bound-stands by w x f.0) ∙ g.0))
+sign-one (w ∷ words) by by′ (Some s) None x y ps qs m n f g = absurd (n.sign_first s refl (sym (bound-stands by′ w y g.0) ∙ f.0))
+sign-one (w ∷ []) by by′ (Some s) (Some t) x y ps qs m n f g = absurd f.1
+sign-one (w ∷ v ∷ words) by by′ (Some s) (Some t) x y ps qs m n f g =
+    (ap Some (sign_text-one s t (sym f.0 ∙ g.0)), sym (bound-stands by v x f.1.0) ∙ bound-stands by′ v y g.1.0, record { rest = words; left = f.1.1; right = g.1.1 })
 
-abbrev trims : Option TrimReading → List XaddOption
-trims None = []
-trims (Some trim) = trimming trim ∷ []
+limit-one : (words : List Word) (a b : Option Word) (ps qs : List Place) → IsUnlimited ps → IsUnlimited qs → Fits words (limit_places a ++ ps) → Fits words (limit_places b ++ qs) → (a ≡ b) × GoOn ps qs
+limit-one words None None ps qs m n f g = (refl, record { rest = words; left = f; right = g })
+limit-one [] None (Some b) ps qs m n f g = absurd g
+limit-one (w ∷ words) None (Some b) ps qs m n f g = absurd (m.unnamed w words g.0 f)
+limit-one [] (Some a) b ps qs m n f g = absurd f
+limit-one (w ∷ words) (Some a) None ps qs m n f g = absurd (n.unnamed w words f.0 g)
+limit-one (w ∷ []) (Some a) (Some b) ps qs m n f g = absurd f.1
+limit-one (w ∷ v ∷ words) (Some a) (Some b) ps qs m n f g =
+    (ap Some (sym f.1.0 ∙ g.1.0), record { rest = words; left = f.1.1; right = g.1.1 })
 
-abbrev pub laid_out : Bool → Option TrimReading → Bool → List XaddOption
-laid_out before trim after = no_makes before ++ trims trim ++ no_makes after
+-- what follows the name of a trim, and the places after it
+abbrev operands_then : TrimReading → List Place → List Place
+operands_then t ps = sign_places t.sign ++ (bound_place t.by t.bound ∷ (limit_places t.limit ++ ps))
 
--- NOMKSTREAM stands once, and behind a trim alone
-abbrev IsLayout : Bool → Option TrimReading → Bool → Type 0
-IsLayout before trim false = ⊤
-IsLayout false (Some trim) true = ⊤
-IsLayout _ _ true = ⊥
+pub trim-regroup : (t : TrimReading) (ps : List Place) → operand_places (trimming t) ++ ps ≡ operands_then t ps
+trim-regroup t ps = append_assoc (sign_places t.sign) (bound_place t.by t.bound ∷ limit_places t.limit) ps
 
-record IsLaidOut (options : List XaddOption) : Type 0 where
-  pub before : Bool
-  pub trim : Option TrimReading
-  pub after : Bool
-  pub are : options ≡ laid_out before trim after
-  pub behind : IsLayout before trim after
-  pub fit : IsOptionalTrimFit trim
+trim_operands-one : (words : List Word) (a b : TrimReading) (ps qs : List Place) → a.by ≡ b.by → IsTrimFit a → IsTrimFit b → IsUnlimited ps → IsUnlimited qs → Fits words (operand_places (trimming a) ++ ps) → Fits words (operand_places (trimming b) ++ qs) → (a ≡ b) × GoOn ps qs
+trim_operands-one words a b ps qs by u v m n f g =
+    let left : Fits words (operands_then a ps) = subst (λ (rs : List Place). Fits words rs) (trim-regroup a ps) f in
+    let right : Fits words (operands_then b qs) = subst (λ (rs : List Place). Fits words rs) (trim-regroup b qs) g in
+    let sign = sign-one words a.by b.by a.sign b.sign a.bound b.bound (limit_places a.limit ++ ps) (limit_places b.limit ++ qs) (record { sign_first = u.sign_first }) (record { sign_first = v.sign_first }) left right in
+    let limit = limit-one sign.2.rest a.limit b.limit ps qs m n sign.2.left sign.2.right in
+    (same_trim a b by sign.0 sign.1 limit.0, limit.1)
 
-IsLaidOut-from_options : (options : List XaddOption) → AreXaddOptions options → IsLaidOut options
-IsLaidOut-from_options [] o = record { before = false; trim = None; after = false; are = refl; behind = tt; fit = tt }
-IsLaidOut-from_options (no_make ∷ []) o = record { before = true; trim = None; after = false; are = refl; behind = tt; fit = tt }
-IsLaidOut-from_options (trimming t ∷ []) o = record { before = false; trim = Some t; after = false; are = refl; behind = tt; fit = o.each 0 no_make (omega arith) }
-IsLaidOut-from_options (no_make ∷ trimming t ∷ []) o = record { before = true; trim = Some t; after = false; are = refl; behind = tt; fit = o.each 1 no_make (omega arith) }
-IsLaidOut-from_options (trimming t ∷ no_make ∷ []) o = record { before = false; trim = Some t; after = true; are = refl; behind = tt; fit = o.each 0 no_make (omega arith) }
-IsLaidOut-from_options (no_make ∷ no_make ∷ options) o = absurd (omega (arith, simp sum_by-cons at o.one_no_make))
-IsLaidOut-from_options (trimming t ∷ trimming u ∷ options) o = absurd (omega (arith, simp sum_by-cons at o.one_trim))
-IsLaidOut-from_options (no_make ∷ trimming t ∷ no_make ∷ options) o = absurd (omega (arith, simp sum_by-cons at o.one_no_make))
-IsLaidOut-from_options (no_make ∷ trimming t ∷ trimming u ∷ options) o = absurd (omega (arith, simp sum_by-cons at o.one_trim))
-IsLaidOut-from_options (trimming t ∷ no_make ∷ no_make ∷ options) o = absurd (omega (arith, simp sum_by-cons at o.one_no_make))
-IsLaidOut-from_options (trimming t ∷ no_make ∷ trimming u ∷ options) o = absurd (omega (arith, simp sum_by-cons at o.one_trim))
+-- after its name an option is read in one way
+number-one : (words : List Word) (x y : Word) (ps qs : List Place) → Fits words (operand_places (count x) ++ ps) → Fits words (operand_places (count y) ++ qs) → (x ≡ y) × GoOn ps qs
+number-one [] x y ps qs f g = absurd f
+number-one (w ∷ words) x y ps qs f g = (sym f.0 ∙ g.0, record { rest = words; left = f.1; right = g.1 })
 
-laid_out-places : (before : Bool) (trim : Option TrimReading) (after : Bool) (places : List Place) → flat_map xadd_option (laid_out before trim after) ++ places ≡ no_make_form before ++ (optional_trim trim ++ (no_make_form after ++ places))
-laid_out-places false None false places = refl
-laid_out-places false None true places = refl
-laid_out-places true None false places = refl
-laid_out-places true None true places = refl
-laid_out-places false (Some t) false places = append_assoc (trim_form t) [] places
-laid_out-places false (Some t) true places = append_assoc (trim_form t) (option NoMkStream ∷ []) places
-laid_out-places true (Some t) false places = ap (λ (p : List Place). option NoMkStream ∷ p) (append_assoc (trim_form t) [] places)
-laid_out-places true (Some t) true places = ap (λ (p : List Place). option NoMkStream ∷ p) (append_assoc (trim_form t) (option NoMkStream ∷ []) places)
+pub count-no_trim : (by : Measure) → Count ≢ measure_name by
+count-no_trim measures.MaxLen = λ e. cc
+count-no_trim measures.MinId = λ e. cc
 
--- which option stands first behind each part
-trim-unnamed : (before : Bool) (trim : Option TrimReading) (after : Bool) (places : List Place) → IsLayout before trim after → IsPastOptions places → IsUnnamed NoMkStream (optional_trim trim ++ (no_make_form after ++ places))
-trim-unnamed before None false places b u = u.no_make
-trim-unnamed false None true places b u = absurd b
-trim-unnamed true None true places b u = absurd b
-trim-unnamed before (Some t) after places b u = IsUnnamed-option NoMkStream (measure_name t.by) _ (measure-not_no_make t.by)
+pub no_make-no_trim : (by : Measure) → NoMkStream ≢ measure_name by
+no_make-no_trim measures.MaxLen = λ e. cc
+no_make-no_trim measures.MinId = λ e. cc
 
-after-unnamed : (after : Bool) (places : List Place) → IsPastOptions places → IsPastTrim (no_make_form after ++ places)
-after-unnamed false places u = record { max_len = u.max_len; min_id = u.min_id; limit = u.limit }
-after-unnamed true places u = record {
-  max_len = IsUnnamed-option MaxLen NoMkStream places (λ e. cc);
-  min_id = IsUnnamed-option MinId NoMkStream places (λ e. cc);
-  limit = IsUnnamed-option Limit NoMkStream places (λ e. cc);
-}
+pub operands-one : (words : List Word) (a b : Written) (ps qs : List Place) → first_name a ≡ first_name b → IsOptionFit a → IsOptionFit b → IsOptionEnd a ps → IsOptionEnd b qs → Fits words (operand_places a ++ ps) → Fits words (operand_places b ++ qs) → (a ≡ b) × GoOn ps qs
+operands-one words (count x) (count y) ps qs e u v m n f g = let one = number-one words x y ps qs f g in (ap count one.0, one.1)
+operands-one words no_make no_make ps qs e u v m n f g = (refl, record { rest = words; left = f; right = g })
+operands-one words (trimming a) (trimming b) ps qs e u v m n f g =
+    let one = trim_operands-one words a b ps qs (measure_name-one a.by b.by e) u v m n f g in (ap trimming one.0, one.1)
+operands-one words (count x) no_make ps qs e u v m n f g = cc
+operands-one words (count x) (trimming b) ps qs e u v m n f g = absurd (count-no_trim b.by e)
+operands-one words no_make (count y) ps qs e u v m n f g = cc
+operands-one words no_make (trimming b) ps qs e u v m n f g = absurd (no_make-no_trim b.by e)
+operands-one words (trimming a) (count y) ps qs e u v m n f g = absurd (count-no_trim a.by (sym e))
+operands-one words (trimming a) no_make ps qs e u v m n f g = absurd (no_make-no_trim a.by (sym e))
 
--- NOMKSTREAM stands in front or behind, and not in both places
-abbrev IsOnce : Bool → Bool → Type 0
-IsOnce true true = ⊥
-IsOnce _ _ = ⊤
+-- LIMIT begins no option
+measure_name-no_limit : (by : Measure) → measure_name by ≢ Limit
+measure_name-no_limit measures.MaxLen = λ e. cc
+measure_name-no_limit measures.MinId = λ e. cc
 
-each-no_makes : (after : Bool) → All IsOptionFit (no_makes after)
-each-no_makes true = All-cons IsOptionFit no_make [] tt (All-nil IsOptionFit)
-each-no_makes false = All-nil IsOptionFit
+pub first_name-no_limit : (o : Written) → first_name o ≢ Limit
+first_name-no_limit (count most) = λ e. cc
+first_name-no_limit no_make = λ e. cc
+first_name-no_limit (trimming trim) = measure_name-no_limit trim.by
 
-each-behind : (trim : Option TrimReading) (after : Bool) → IsOptionalTrimFit trim → All IsOptionFit (laid_out false trim after)
-each-behind None after f = each-no_makes after
-each-behind (Some t) after f = All-cons IsOptionFit (trimming t) (no_makes after) f (each-no_makes after)
+-- a set with a trim has LIMIT
+limit-of_set : (set : OptionSet) (by : Measure) → is_of set (measure_name by) ≡ true → is_of set Limit ≡ true
+limit-of_set sets.Range measures.MaxLen e = cc
+limit-of_set sets.Range measures.MinId e = cc
+limit-of_set sets.Xadd measures.MaxLen e = refl
+limit-of_set sets.Xadd measures.MinId e = refl
 
-each-laid_out : (before : Bool) (trim : Option TrimReading) (after : Bool) → IsOptionalTrimFit trim → All IsOptionFit (laid_out before trim after)
-each-laid_out true trim after f = All-cons IsOptionFit no_make (laid_out false trim after) tt (each-behind trim after f)
-each-laid_out false trim after f = each-behind trim after f
+-- the options of a set and what follows them
+abbrev pub then_places : List Written → List Place → List Place
+then_places os ps = flat_map option_places os ++ ps
 
-AreXaddOptions-laid_out : (before : Bool) (trim : Option TrimReading) (after : Bool) → IsOnce before after → IsOptionalTrimFit trim → AreXaddOptions (laid_out before trim after)
-AreXaddOptions-laid_out true trim true b f = absurd b
-AreXaddOptions-laid_out true None false b f = record { each = each-laid_out true None false f; one_no_make = search rules; one_trim = search rules }
-AreXaddOptions-laid_out false None true b f = record { each = each-laid_out false None true f; one_no_make = search rules; one_trim = search rules }
-AreXaddOptions-laid_out false None false b f = record { each = each-laid_out false None false f; one_no_make = search rules; one_trim = search rules }
-AreXaddOptions-laid_out true (Some t) false b f = record { each = each-laid_out true (Some t) false f; one_no_make = search rules; one_trim = search rules }
-AreXaddOptions-laid_out false (Some t) true b f = record { each = each-laid_out false (Some t) true f; one_no_make = search rules; one_trim = search rules }
-AreXaddOptions-laid_out false (Some t) false b f = record { each = each-laid_out false (Some t) false f; one_no_make = search rules; one_trim = search rules }
+pub then-cons : (o : Written) (os : List Written) (ps : List Place) → then_places (o ∷ os) ps ≡ option (first_name o) ∷ (operand_places o ++ then_places os ps)
+then-cons o os ps = ap (λ (rs : List Place). option (first_name o) ∷ rs) (append_assoc (operand_places o) (flat_map option_places os) ps)
 
--- words that are options in any order: what the readers of NOMKSTREAM and of a trim find
-reached : (words behind last : List Word) (before : Bool) (trim : Option TrimReading) (options : List XaddOption) (o : IsLaidOut options) (places : List Place) → Begins no_make_form IsEither (IsUnnamed NoMkStream) words before behind → Begins optional_trim IsOptionalTrimFit IsPastTrim behind trim last → IsPastOptions places → Fits words (flat_map xadd_option options ++ places) → (o.before ≡ before) × (o.trim ≡ trim) × Fits last (no_make_form o.after ++ places)
-reached words behind last before trim options o places n t u f =
-    let laid : Fits words (flat_map xadd_option (laid_out o.before o.trim o.after) ++ places) = rw o.are at f in
-    let one = n.only o.before (optional_trim o.trim ++ (no_make_form o.after ++ places)) tt (trim-unnamed o.before o.trim o.after places o.behind u) (rw (laid_out-places o.before o.trim o.after places) at laid) in
-    let two = t.only o.trim (no_make_form o.after ++ places) o.fit (after-unnamed o.after places u) one.1 in
-    (one.0, two.0, two.1)
+unlimited-after : (set : OptionSet) (by : Measure) (os : List Written) (ps : List Place) → is_of set (measure_name by) ≡ true → IsPast set ps → IsUnlimited (then_places os ps)
+unlimited-after set by [] ps e p = record { unnamed = λ word words same f. p.unnamed word words f Limit (limit-of_set set by e) same }
+unlimited-after set by (o ∷ os) ps e p = record { unnamed = λ word words same f. first_name-no_limit o (name-one word (first_name o) Limit f.0 same) }
 
-last-front : (options : List XaddOption) (before : Bool) (other : Option TrimReading) (after : Bool) (trim : Option TrimReading) (places : List Place) (last : List Word) → options ≡ laid_out before other after → IsLayout before other after → before ≡ true → other ≡ trim → Fits last (no_make_form after ++ places) → (options ≡ laid_out true trim false) × Fits last places
-last-front options before other false trim places last are b e g f = (cc, f)
-last-front options false other true trim places last are b e g f = cc
-last-front options true None true trim places last are b e g f = absurd b
-last-front options true (Some t) true trim places last are b e g f = absurd b
+pub end-after : (set : OptionSet) (o : Written) (os : List Written) (ps : List Place) → is_of set (first_name o) ≡ true → IsPast set ps → IsOptionEnd o (then_places os ps)
+end-after set (count most) os ps e p = tt
+end-after set no_make os ps e p = tt
+end-after set (trimming trim) os ps e p = unlimited-after set trim.by os ps e p
 
-last-after : (options : List XaddOption) (o : IsLaidOut options) (trim : Option TrimReading) (places : List Place) (last : List Word) → o.before ≡ true → o.trim ≡ trim → Fits last (no_make_form o.after ++ places) → (options ≡ laid_out true trim false) × Fits last places
-last-after options o trim places last e g f = last-front options o.before o.trim o.after trim places last o.are o.behind e g f
+-- what is said of options holds of those after the first
+abbrev Each : OptionSet → List Written → Type 0
+Each set os = All IsOptionFit os × All (λ o. is_of set (first_name o) ≡ true) os
 
-pub Begins-front : (words behind last : List Word) (trim : Option TrimReading) → Begins no_make_form IsEither (IsUnnamed NoMkStream) words true behind → Begins optional_trim IsOptionalTrimFit IsPastTrim behind trim last → Begins (flat_map xadd_option) AreXaddOptions IsPastOptions words (laid_out true trim false) last
-Begins-front words behind last trim n t = record {
-  right = AreXaddOptions-laid_out true trim false tt t.right;
-  fits = λ places f. rw (laid_out-places true trim false places) (n.fits (optional_trim trim ++ places) (t.fits places f));
-  only = λ other places r u f.
-      let o = IsLaidOut-from_options other r in
-      let reach = reached words behind last true trim other o places n t u f in
-      last-after other o trim places last reach.0 reach.1 reach.2;
-}
+Each-tail : (set : OptionSet) (o : Written) (os : List Written) → Each set (o ∷ os) → Each set os
+Each-tail set o os e = (All-tail IsOptionFit o os e.0, All-tail (λ o. is_of set (first_name o) ≡ true) o os e.1)
 
-pub Begins-behind : (words behind next last : List Word) (trim : Option TrimReading) (after : Bool) → Begins no_make_form IsEither (IsUnnamed NoMkStream) words false behind → Begins optional_trim IsOptionalTrimFit IsPastTrim behind trim next → Begins no_make_form IsEither (IsUnnamed NoMkStream) next after last → Begins (flat_map xadd_option) AreXaddOptions IsPastOptions words (laid_out false trim after) last
-Begins-behind words behind next last trim after n t m = record {
-  right = AreXaddOptions-laid_out false trim after tt t.right;
-  fits = λ places f. rw (laid_out-places false trim after places) (n.fits (optional_trim trim ++ (no_make_form after ++ places)) (t.fits (no_make_form after ++ places) (m.fits places f)));
-  only = λ other places r u f.
-      let o = IsLaidOut-from_options other r in
-      let reach = reached words behind next false trim other o places n t u f in
-      let third = m.only o.after places tt u.no_make reach.2 in
-      (cc (o.are, reach.0, reach.1, third.0), third.1);
-}
+pub head-fit : (o : Written) (os : List Written) → All IsOptionFit (o ∷ os) → IsOptionFit o
+head-fit o os e = All-head IsOptionFit o os e
 
-pub BeginsNone-options : (words behind : List Word) (before : Bool) → Begins no_make_form IsEither (IsUnnamed NoMkStream) words before behind → BeginsNone optional_trim IsOptionalTrimFit IsPastTrim behind → BeginsNone (flat_map xadd_option) AreXaddOptions IsPastOptions words
-BeginsNone-options words behind before n none = λ other places r u f.
-    let o = IsLaidOut-from_options other r in
-    let laid : Fits words (flat_map xadd_option (laid_out o.before o.trim o.after) ++ places) = rw o.are at f in
-    let one = n.only o.before (optional_trim o.trim ++ (no_make_form o.after ++ places)) tt (trim-unnamed o.before o.trim o.after places o.behind u) (rw (laid_out-places o.before o.trim o.after places) at laid) in
-    none o.trim (no_make_form o.after ++ places) o.fit (after-unnamed o.after places u) one.1
+pub head-of_set : (set : OptionSet) (o : Written) (os : List Written) → All (λ o. is_of set (first_name o) ≡ true) (o ∷ os) → is_of set (first_name o) ≡ true
+head-of_set set o os e = All-head (λ o. is_of set (first_name o) ≡ true) o os e
 
--- what laid out options say
-laid_out-makes : (before : Bool) (trim : Option TrimReading) (after : Bool) → makes (laid_out before trim after) ≡ not (before || after)
-laid_out-makes true trim after = refl
-laid_out-makes false None true = refl
-laid_out-makes false None false = refl
-laid_out-makes false (Some t) true = refl
-laid_out-makes false (Some t) false = refl
+-- the words of a command are read as options of a set in one way, and the same words follow
+options-one-each : (set : OptionSet) (words : List Word) (a b : List Written) (ps qs : List Place) → Each set a → Each set b → IsPast set ps → IsPast set qs → Fits words (then_places a ps) → Fits words (then_places b qs) → (a ≡ b) × GoOn ps qs
+options-one-each set words [] [] ps qs u v m n f g = (refl, record { rest = words; left = f; right = g })
+options-one-each set [] [] (o ∷ b) ps qs u v m n f g = absurd g
+options-one-each set (w ∷ words) [] (o ∷ b) ps qs u v m n f g = absurd (m.unnamed w words f (first_name o) (head-of_set set o b v.1) g.0)
+options-one-each set [] (o ∷ a) b ps qs u v m n f g = absurd f
+options-one-each set (w ∷ words) (o ∷ a) [] ps qs u v m n f g = absurd (n.unnamed w words g (first_name o) (head-of_set set o a u.1) f.0)
+options-one-each set (w ∷ words) (o ∷ a) (q ∷ b) ps qs u v m n f g =
+    let left : Fits (w ∷ words) (option (first_name o) ∷ (operand_places o ++ then_places a ps)) = subst (λ (rs : List Place). Fits (w ∷ words) rs) (then-cons o a ps) f in
+    let right : Fits (w ∷ words) (option (first_name q) ∷ (operand_places q ++ then_places b qs)) = subst (λ (rs : List Place). Fits (w ∷ words) rs) (then-cons q b qs) g in
+    let name = name-one w (first_name o) (first_name q) left.0 right.0 in
+    let of_o = head-of_set set o a u.1 in
+    let of_q = head-of_set set q b v.1 in
+    let first = operands-one words o q (then_places a ps) (then_places b qs) name (head-fit o a u.0) (head-fit q b v.0) (end-after set o a ps of_o m) (end-after set q b qs of_q n) left.1 right.1 in
+    let rest = options-one-each set first.1.rest a b ps qs (Each-tail set o a u) (Each-tail set q b v) m n first.1.left first.1.right in
+    let head = first.0 in
+    let tail = rest.0 in
+    (cc, rest.1)
 
-laid_out-trim : (before : Bool) (trim : Option TrimReading) (after : Bool) → trim_of (laid_out before trim after) ≡ trim
-laid_out-trim true None true = refl
-laid_out-trim true None false = refl
-laid_out-trim false None true = refl
-laid_out-trim false None false = refl
-laid_out-trim true (Some t) after = refl
-laid_out-trim false (Some t) after = refl
+pub options-one : (set : OptionSet) (words : List Word) (a b : List Written) (ps qs : List Place) → AreOptionsFit set a → AreOptionsFit set b → IsPast set ps → IsPast set qs → Fits words (flat_map option_places a ++ ps) → Fits words (flat_map option_places b ++ qs) → (a ≡ b) × GoOn ps qs
+options-one set words a b ps qs u v m n f g = options-one-each set words a b ps qs (u.each, u.of_set) (v.each, v.of_set) m n f g
 
-pub laid_out-options : (read : XaddOptions) (before after : Bool) → read.no_make ≡ before || after → AreOptions read (laid_out before (optional_trim_reading read.trim) after)
-laid_out-options read before after e = record { no_make = rw e (laid_out-makes before (optional_trim_reading read.trim) after); trim = laid_out-trim before (optional_trim_reading read.trim) after }
+-- the trim of XTRIM is read in one way
+pub trim-one : (words : List Word) (a b : TrimReading) → IsTrimFit a → IsTrimFit b → Fits words (option_places (trimming a)) → Fits words (option_places (trimming b)) → a ≡ b
+trim-one [] a b u v f g = absurd f
+trim-one (w ∷ words) a b u v f g =
+    let end : IsUnlimited [] = record { unnamed = λ word rest same fits. fits } in
+    let name = name-one w (measure_name a.by) (measure_name b.by) f.0 g.0 in
+    let left : Fits words (operand_places (trimming a) ++ []) = rw append-nil f.1 in
+    let right : Fits words (operand_places (trimming b) ++ []) = rw append-nil g.1 in
+    (trim_operands-one words a b [] [] (measure_name-one a.by b.by name) u v end end left right).0
+
+-- the word after the options is no name of one
+pub IsPast-any : (set : OptionSet) (word : Word) (places : List Place) → IsUnnamed set word → IsPast set (any word ∷ places)
+IsPast-any set word places differs = record { unnamed = λ other words f name is same. differs name is (rw f.0 at same) }
+
+pub IsPast-id : (set : OptionSet) (form : IdForm) (word : Word) (places : List Place) → IsUnnamed set word → IsPast set (spelled form word ∷ places)
+IsPast-id set form word places differs = record { unnamed = λ other words f name is same. differs name is (rw f.0 at same) }
+
+pub IsPast-end : (set : OptionSet) → IsPast set []
+IsPast-end set = record { unnamed = λ word words f. absurd f }

@@ -1,145 +1,105 @@
--- Which words are a command, and which command; and else the first reason why they are none.
+-- Which words are a command, and which command; and else the first reason why they are not one.
 -- Source: Redis documentation, the page of each command.
 
-use Rattle.std.specs.Prelude.{◌≡◌, ℕ, ℤ, List, [], ◌∷◌, length, Option, Some, None, IfSome, Bool, not, Result, Ok, Err, ⊤}
-use Rattle.std.specs.List.{list_any}
-use Rattle.sr_ids.specs.declared.id.Id.{Id}
-use Rattle.sr_ids.specs.declared.spec.Spec.{Spec}
-use Rattle.sr_ids.specs.Spec.{IsSpec}
-use Rattle.sr_ids.specs.Spelling.{SpellsId, IsStart, IsEnd}
-use Rattle.sr_args.specs.declared.name.CommandName.{CommandName}
+use Rattle.std.specs.Prelude.{◌≡◌, ◌⊎◌, List, length, Result, Ok, Err}
+use Rattle.sr_args.specs.declared.table.CommandName.{CommandName}
+use Rattle.sr_args.specs.declared.table.CommandName.TheVariants as commands
 use Rattle.sr_args.specs.declared.call.Call.{Call}
-use Rattle.sr_args.specs.declared.name.Measure.{Measure}
-use Rattle.sr_args.specs.declared.name.Measure.TheVariants as measures
-use Rattle.sr_args.specs.declared.call.TrimBy.{TrimBy}
-use Rattle.sr_args.specs.declared.call.TrimBy.TheVariants.{MaxLen, MinId}
-use Rattle.sr_args.specs.declared.call.Trim.{Trim}
-use Rattle.sr_args.specs.declared.call.Call.TheVariants.{Ping, Xadd, Xtrim, Xdel, Xlen, Xrange, Xrevrange}
 use Rattle.sr_args.specs.declared.call.Command.{Command}
 use Rattle.sr_args.specs.declared.call.Command.TheVariants as command
 use Rattle.sr_args.specs.declared.fault.CallFault.{CallFault}
 use Rattle.sr_args.specs.declared.fault.CallFault.TheVariants as faults
-use Rattle.sr_args.specs.Name.{IsCounted}
-use Rattle.sr_args.specs.Number.{IsInt, IsNat}
-use Rattle.sr_args.specs.Form.{Word, TrimReading, XaddOption, no_make, trimming, is_no_make, Reading, ping, xadd, xtrim, xdel, xlen, xrange, xrevrange, IsNamed, IsInstance}
+use Rattle.sr_args.specs.Place.{Word, Place, HasNumbers, HasIds}
+use Rattle.sr_args.specs.Table.{IsNamed, IsHalfNamed, IsCounted}
+use Rattle.sr_args.specs.Form.{Form, Reading, Values, places, Reads, Means}
+use Rattle.sr_args.specs.commands.Ping as ping
+use Rattle.sr_args.specs.commands.Xadd as xadd
+use Rattle.sr_args.specs.commands.Xtrim as xtrim
+use Rattle.sr_args.specs.commands.Xdel as xdel
+use Rattle.sr_args.specs.commands.Xlen as xlen
+use Rattle.sr_args.specs.commands.Xrange as xrange
+use Rattle.sr_args.specs.commands.Xrevrange as xrevrange
 
--- the word of an optional number, where it is written, writes this number
-abbrev pub IsOptionalInt : Option Word → Option ℤ → Type 0
-IsOptionalInt None None = ⊤
-IsOptionalInt (Some word) (Some z) = IsInt word z
-IsOptionalInt _ _ = ⊥
+-- the form of each command, after its name
+abbrev pub form_of : CommandName → Form
+form_of commands.Ping = ping.form
+form_of commands.Xadd = xadd.form
+form_of commands.Xtrim = xtrim.form
+form_of commands.Xdel = xdel.form
+form_of commands.Xlen = xlen.form
+form_of commands.Xrange = xrange.form
+form_of commands.Xrevrange = xrevrange.form
 
--- the bound of a trim: a number of entries, or an id
-abbrev pub IsBound : Measure → Word → TrimBy → Type 0
-IsBound measures.MaxLen word (MaxLen n) = IsNat word n
-IsBound measures.MinId word (MinId id) = SpellsId 0 word id
-IsBound _ _ _ = ⊥
+-- the call that the values in a command's form are
+abbrev pub call_of : (command : CommandName) → Values (form_of command) → Call
+call_of commands.Ping values = ping.call values
+call_of commands.Xadd values = xadd.call values
+call_of commands.Xtrim values = xtrim.call values
+call_of commands.Xdel values = xdel.call values
+call_of commands.Xlen values = xlen.call values
+call_of commands.Xrange values = xrange.call values
+call_of commands.Xrevrange values = xrevrange.call values
 
--- the limit of a trim: 0, which is none, where it is not written
-abbrev pub IsLimit : Option Word → ℕ → Type 0
-IsLimit None n = n ≡ 0
-IsLimit (Some word) n = IsNat word n
-
--- the words of a trim, read
-pub record IsTrim (reading : TrimReading) (trim : Trim) : Type 0 where
-  pub by : IsBound reading.by reading.bound trim.by
-  pub limit : IsLimit reading.limit trim.limit
-
-abbrev pub IsOptionalTrim : Option TrimReading → Option Trim → Type 0
-IsOptionalTrim None None = ⊤
-IsOptionalTrim (Some reading) (Some trim) = IsTrim reading trim
-IsOptionalTrim _ _ = ⊥
-
--- the trim among the options of XADD, where there is one
-abbrev pub trim_of : List XaddOption → Option TrimReading
-trim_of [] = None
-trim_of (no_make ∷ options) = trim_of options
-trim_of (trimming trim ∷ options) = Some trim
-
--- a missing key is made where NOMKSTREAM is not among the options
-abbrev pub makes : List XaddOption → Bool
-makes options = not (list_any is_no_make options)
-
--- the words spell these ids, one each
-abbrev pub AreIds : List Word → List Id → Type 0
-AreIds [] [] = ⊤
-AreIds (word ∷ words) (id ∷ ids) = SpellsId 0 word id × AreIds words ids
-AreIds _ _ = ⊥
-
--- the bound of a trim by number is one, and so is its limit
-abbrev pub HasBoundNumber : Measure → Word → Type 0
-HasBoundNumber measures.MaxLen word = (n : ℕ) × IsNat word n
-HasBoundNumber measures.MinId word = ⊤
-
-pub record HasTrimNumbers (trim : TrimReading) : Type 0 where
-  pub bound : HasBoundNumber trim.by trim.bound
-  pub limit : (n : ℕ) × IsLimit trim.limit n
-
--- the bound of a trim by id is one
-abbrev pub HasBoundId : Measure → Word → Type 0
-HasBoundId measures.MaxLen word = ⊤
-HasBoundId measures.MinId word = (id : Id) × SpellsId 0 word id
-
-abbrev pub HasTrimIds : TrimReading → Type 0
-HasTrimIds trim = HasBoundId trim.by trim.bound
-
--- each place of a number holds one
-abbrev pub HasNumbers : Reading → Type 0
-HasNumbers (xadd key options id fields) = IfSome (trim_of options) HasTrimNumbers
-HasNumbers (xtrim key trim) = HasTrimNumbers trim
-HasNumbers (xrange key start end count) = (z : Option ℤ) × IsOptionalInt count z
-HasNumbers (xrevrange key end start count) = (z : Option ℤ) × IsOptionalInt count z
-HasNumbers _ = ⊤
-
--- each place of an id holds one
-abbrev pub HasIds : Reading → Type 0
-HasIds (xadd key options id fields) = IfSome (trim_of options) HasTrimIds × ((spec : Spec) × IsSpec id spec)
-HasIds (xtrim key trim) = HasTrimIds trim
-HasIds (xdel key ids) = (list : List Id) × AreIds ids list
-HasIds (xrange key start end count) = ((i : Id) × IsStart start i) × ((i : Id) × IsEnd end i)
-HasIds (xrevrange key end start count) = ((i : Id) × IsEnd end i) × ((i : Id) × IsStart start i)
-HasIds _ = ⊤
-
--- the reading, with its numbers and ids read, is the call
-abbrev pub Means : Reading → Call → Type 0
-Means (ping message) (Ping sent) = sent ≡ message
-Means (xadd key options id fields) (Xadd to make trim spec pairs) = (to ≡ key) × (make ≡ makes options) × IsOptionalTrim (trim_of options) trim × IsSpec id spec × (pairs ≡ fields)
-Means (xtrim key reading) (Xtrim to trim) = (to ≡ key) × IsTrim reading trim
-Means (xdel key ids) (Xdel from list) = (from ≡ key) × AreIds ids list
-Means (xlen key) (Xlen of) = of ≡ key
-Means (xrange key start end count) (Xrange of from until most) = (of ≡ key) × IsStart start from × IsEnd end until × IsOptionalInt count most
-Means (xrevrange key end start count) (Xrevrange of until from most) = (of ≡ key) × IsEnd end until × IsStart start from × IsOptionalInt count most
-Means _ _ = ⊥
-
--- the first word names the command, which takes as many words as there are
-pub record IsWellCounted (words : List Word) (command : CommandName) : Type 0 where
-  pub named : IsNamed words command
+-- the words name the command, these operands follow its name, and it takes that many words
+pub record IsWellCounted (words : List Word) (command : CommandName) (operands : List Word) : Type 0 where
+  pub named : IsNamed command words operands
   pub counted : IsCounted command (length words)
+
+-- the words fit the form of a command that takes that many words
+pub record IsRead (words : List Word) : Type 0 where
+  pub name : CommandName
+  pub operands : List Word
+  pub counted : IsWellCounted words name operands
+  pub reading : Reading (form_of name)
+  pub reads : Reads (form_of name) operands reading
+
+-- the words in the places of their form
+abbrev pub places_of : (words : List Word) → IsRead words → List Place
+places_of words read = places (form_of read.name) read.reading
 
 -- the words are the call
 pub record IsCall (words : List Word) (call : Call) : Type 0 where
-  pub name : CommandName
-  pub counted : IsWellCounted words name
-  pub reading : Reading
-  pub instance : IsInstance words reading
-  pub means : Means reading call
+  pub read : IsRead words
+  pub values : Values (form_of read.name)
+  pub means : Means (form_of read.name) read.reading values
+  pub is : call ≡ call_of read.name values
 
--- the words are no call, and this is the first reason: no command has the name; the command takes another number of
--- words; the words fit its form in no way, whatever stands in the places of numbers and ids; they fit it, and some
--- number's place holds none; or all numbers are there, and some id's place holds none. Memory runs out for calls alone.
+-- the words begin with a command's name
+pub record IsCommandNamed (words : List Word) : Type 0 where
+  pub name : CommandName
+  pub operands : List Word
+  pub named : IsNamed name words operands
+
+-- the words name a command that takes that many words
+pub record IsCommandCounted (words : List Word) : Type 0 where
+  pub name : CommandName
+  pub operands : List Word
+  pub counted : IsWellCounted words name operands
+
+-- the words name a command that takes another number of words
+pub record IsMiscounted (words : List Word) : Type 0 where
+  pub name : CommandName
+  pub operands : List Word
+  pub named : IsNamed name words operands
+  pub uncounted : IsCounted name (length words) → ⊥
+
+-- the words are not a call, and this is the first reason: no command has the name, nor does a longer name begin so; the
+-- name is cut short, or its command takes another number of words; the words do not fit its form, whatever stands in the
+-- places of numbers and ids; they fit it, and some number's place does not hold one; or all numbers are there, and some
+-- id's place does not hold one. Memory runs out for calls alone.
 abbrev pub Refuses : List Word → CallFault → Type 0
-Refuses words faults.Unknown = (command : CommandName) → IsNamed words command → ⊥
-Refuses words faults.Arity = (command : CommandName) × IsNamed words command × (IsCounted command (length words) → ⊥)
-Refuses words faults.Syntax = (command : CommandName) × IsWellCounted words command × ((reading : Reading) → IsInstance words reading → ⊥)
-Refuses words faults.Number = (command : CommandName) × IsWellCounted words command × (reading : Reading) × IsInstance words reading × (HasNumbers reading → ⊥)
-Refuses words faults.BadId = (command : CommandName) × IsWellCounted words command × (reading : Reading) × IsInstance words reading × HasNumbers reading × (HasIds reading → ⊥)
+Refuses words faults.Unknown = (IsCommandNamed words → ⊥) × (IsHalfNamed words → ⊥)
+Refuses words faults.Arity = IsMiscounted words ⊎ IsHalfNamed words
+Refuses words faults.Syntax = IsCommandCounted words × (IsRead words → ⊥)
+Refuses words faults.Number = (read : IsRead words) × (HasNumbers (places_of words read) → ⊥)
+Refuses words faults.BadId = (read : IsRead words) × HasNumbers (places_of words read) × (HasIds (places_of words read) → ⊥)
 Refuses words faults.Memory = (call : Call) × IsCall words call
 
 -- the words are what the request asks for
 abbrev pub IsCommand : List Word → Command → Type 0
 IsCommand words (command.Call call) = IsCall words call
 
--- a right answer to the words: the command that they are, or the reason why they are none
+-- a right answer to the words: the command that they are, or the reason why they are not one
 abbrev pub Answers : List Word → Result Command CallFault → Type 0
 Answers words (Ok command) = IsCommand words command
 Answers words (Err fault) = Refuses words fault

@@ -1,6 +1,9 @@
+pub mod Command
+pub mod Form
 pub mod Name
 pub mod Number
-pub mod Form
-pub mod Command
-pub mod Reader
 pub mod Options
+pub mod Place
+pub mod Table
+pub mod commands
+pub mod steps

@@ -78,15 +78,3 @@ pub enum Command {
     /// A call that acts on the keys.
     Call(Call),
 }
-
-impl Command {
-    ghost use Rattle.std.specs.Prelude.{◌≡◌};
-
-    /// The call that the request asks for.
-    pub fn as_call(&self) -> &Call
-        ensures { self.now ≡ Command.Call result.now }
-    {
-        let Command::Call(call) = self;
-        call
-    }
-}

@@ -2,16 +2,19 @@
 #![tactic(auto)]
 
 mod call;
+mod commands;
 mod fault;
 mod name;
 mod number;
+mod options;
 mod read;
-#[cfg(test)]
-mod tests;
+mod table;
 mod value;
 mod words;
 
 pub use call::{Call, Command, Trim, TrimBy};
 pub use fault::CallFault;
-pub use name::{CommandName, Measure, OptionName, Sign};
+pub use name::{Measure, OptionName, Sign};
+pub use options::{OptionKind, OptionSet};
 pub use read::{one_answer, read_call};
+pub use table::CommandName;

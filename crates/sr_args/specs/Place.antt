@@ -1,0 +1,93 @@
+-- The places in the form of a command: which words stand there, and which numbers and ids these words write.
+-- Source: Redis documentation, the page of each command, "Syntax".
+
+use Rattle.std.specs.Prelude.{◌≡◌, ℕ, ℤ, List, [], ◌∷◌, ⊤}
+use Rattle.sr_ids.specs.declared.id.Id.{Id}
+use Rattle.sr_ids.specs.declared.spec.Spec.{Spec}
+use Rattle.sr_ids.specs.Spec.{IsSpec}
+use Rattle.sr_ids.specs.Spelling.{SpellsId, IsStart, IsEnd}
+use Rattle.sr_args.specs.declared.name.OptionName.{OptionName}
+use Rattle.sr_args.specs.Name.{IsSameName, option_text}
+use Rattle.sr_args.specs.Number.{IsInt, IsNat}
+
+abbrev pub Word : Type 0
+Word = List ℕ
+
+-- which numbers a place takes: any of 64 bits with a sign, or those that are not below 0
+pub data Range : Type 0 where
+  int : Range
+  nat : Range
+
+abbrev pub Number : Range → Type 0
+Number int = ℤ
+Number nat = ℕ
+
+-- the word writes the number
+abbrev pub Writes : (range : Range) → Word → Number range → Type 0
+Writes int word z = IsInt word z
+Writes nat word n = IsNat word n
+
+-- how the id of a place is spelled: as a written id, as the start or the end of a range, or as the id of a new entry
+pub data IdForm : Type 0 where
+  strict_id : IdForm
+  range_start : IdForm
+  range_end : IdForm
+  new_id : IdForm
+
+abbrev pub IdOf : IdForm → Type 0
+IdOf strict_id = Id
+IdOf range_start = Id
+IdOf range_end = Id
+IdOf new_id = Spec
+
+-- the word spells the id
+abbrev pub Spells : (form : IdForm) → Word → IdOf form → Type 0
+Spells strict_id word id = SpellsId 0 word id
+Spells range_start word id = IsStart word id
+Spells range_end word id = IsEnd word id
+Spells new_id word spec = IsSpec word spec
+
+-- a place in a form: the name of an option, any word, a word that is to write a number, or one that is to spell an id
+pub data Place : Type 0 where
+  option : OptionName → Place
+  any : Word → Place
+  numeric : Range → Word → Place
+  spelled : IdForm → Word → Place
+
+-- the word stands in the place; the name of an option in any case
+abbrev pub Stands : Word → Place → Type 0
+Stands word (option name) = IsSameName word (option_text name)
+Stands word (any other) = word ≡ other
+Stands word (numeric range other) = word ≡ other
+Stands word (spelled form other) = word ≡ other
+
+-- the words stand in these places, one in each
+abbrev pub Fits : List Word → List Place → Type 0
+Fits [] [] = ⊤
+Fits (word ∷ words) (place ∷ places) = Stands word place × Fits words places
+Fits [] (place ∷ places) = ⊥
+Fits (word ∷ words) [] = ⊥
+
+-- if the place is a number's, its word writes one in its range
+abbrev pub HasNumber : Place → Type 0
+HasNumber (option name) = ⊤
+HasNumber (any word) = ⊤
+HasNumber (numeric range word) = (n : Number range) × Writes range word n
+HasNumber (spelled form word) = ⊤
+
+-- if the place is an id's, its word spells one
+abbrev pub HasId : Place → Type 0
+HasId (option name) = ⊤
+HasId (any word) = ⊤
+HasId (numeric range word) = ⊤
+HasId (spelled form word) = (id : IdOf form) × Spells form word id
+
+-- each place of a number holds one
+abbrev pub HasNumbers : List Place → Type 0
+HasNumbers [] = ⊤
+HasNumbers (place ∷ places) = HasNumber place × HasNumbers places
+
+-- each place of an id holds one
+abbrev pub HasIds : List Place → Type 0
+HasIds [] = ⊤
+HasIds (place ∷ places) = HasId place × HasIds places

@@ -1,0 +1,14 @@
+-- XADD key [NOMKSTREAM] [MAXLEN|MINID [=|~] bound [LIMIT number]] id field value [field value ..]
+-- Source: Redis documentation, command XADD.
+
+use Rattle.sr_args.specs.declared.call.Call.{Call}
+use Rattle.sr_args.specs.declared.call.Call.TheVariants as calls
+use Rattle.sr_args.specs.declared.options.OptionSet.TheVariants as sets
+use Rattle.sr_args.specs.Place.{new_id}
+use Rattle.sr_args.specs.Form.{Form, text, options, id, pairs, Values}
+
+abbrev pub form : Form
+form = text (options sets.Xadd (id new_id pairs))
+
+abbrev pub call : Values form → Call
+call (key, (chosen, (spec, fields))) = calls.Xadd key chosen.make chosen.trim spec fields

@@ -1,0 +1,14 @@
+-- XRANGE key start end [COUNT int]
+-- Source: Redis documentation, command XRANGE.
+
+use Rattle.sr_args.specs.declared.call.Call.{Call}
+use Rattle.sr_args.specs.declared.call.Call.TheVariants as calls
+use Rattle.sr_args.specs.declared.options.OptionSet.TheVariants as sets
+use Rattle.sr_args.specs.Place.{range_start, range_end}
+use Rattle.sr_args.specs.Form.{Form, end, text, id, options, Values}
+
+abbrev pub form : Form
+form = text (id range_start (id range_end (options sets.Range end)))
+
+abbrev pub call : Values form → Call
+call (key, (start, (until, (chosen, nothing_more)))) = calls.Xrange key start until chosen.count

@@ -1,0 +1,5 @@
+pub mod Gives
+pub mod Names
+pub mod Options
+pub mod Pairs
+pub mod Ranges

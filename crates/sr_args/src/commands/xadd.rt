@@ -1,0 +1,82 @@
+ghost use Rattle.std.specs.Prelude.{◌≡◌, List, IfSome, IfNone, IfOk};
+ghost use Rattle.sr_args.specs.Form.{Reading, Reads};
+ghost use Rattle.sr_args.specs.Options.{Written};
+ghost use Rattle.sr_args.specs.commands.Xadd as xadd_form;
+ghost use Rattle.sr_args.specs.steps.Gives.{Gives};
+ghost use Rattle.sr_args.specs.steps.Options.{AreJudged};
+ghost use Rattle.sr_args.specs.steps.Pairs.{pairs_of};
+
+use crate::options::{Choice, OptionSet, ValueFault, read_options};
+use crate::value::copy_word;
+use crate::words::Words;
+use crate::{Call, CallFault};
+use sr_bytes::Fields;
+use sr_ids::parse_spec;
+use std::alloc::{AllocError, Global};
+
+/// The words of XADD, in their places, and what its options ask for.
+#[derive(Drop)]
+struct XaddWords<'a> {
+    key: &'a [u8],
+    judged: Result<Choice, ValueFault>,
+    id: &'a [u8],
+    /// Each field with its value, at least one.
+    fields: Words<'a>,
+}
+
+/// `XADD key [NOMKSTREAM] [MAXLEN|MINID [=|~] bound [LIMIT number]] id field value [field value ..]`
+pub(crate) fn read_xadd(alloc: Global, words: Words<'_>) -> Result<Call, CallFault>
+    ensures { Gives xadd_form.form xadd_form.call words.entry result }
+{
+    let Some(read) = xadd_words(words) else {
+        return Err(CallFault::Syntax);
+    };
+    let choice = read.judged?;
+    let Some(id) = parse_spec(read.id) else {
+        return Err(CallFault::BadId);
+    };
+    let key = copy_word(alloc, read.key)?;
+    let fields = copy_fields(alloc, read.fields)?;
+    Ok(Call::Xadd {
+        key,
+        make: choice.make,
+        trim: choice.trim,
+        id,
+        fields,
+    })
+}
+
+/// The words of XADD: the key, options in any order, the id, and fields with their values.
+fn xadd_words(mut words: Words<'_>) -> Option<XaddWords<'_>>
+    ensures found { IfSome result (λ read. (written : List Written) × AreJudged written read.judged × Reads xadd_form.form words.entry (read.key.now, (written, (read.id.now, pairs_of read.fields)))) }
+    ensures none { IfNone result ((reading : Reading xadd_form.form) → Reads xadd_form.form words.entry reading → ⊥) }
+{
+    let key = words.next()?;
+    let judged = read_options(OptionSet::Xadd, &mut words)?;
+    let id = words.next()?;
+    if words.is_empty() || words.len() % 2 != 0 {
+        return None;
+    }
+    Some(XaddWords {
+        key,
+        judged,
+        id,
+        fields: words,
+    })
+}
+
+/// A copy of fields with their values.
+fn copy_fields(alloc: Global, mut words: Words<'_>) -> Result<Fields, AllocError>
+    ensures { IfOk result (λ fields. fields ≡ pairs_of words.entry) }
+{
+    let mut fields = Vec::with_capacity(alloc, words.len() / 2)?;
+    while let Some(field) = words.next() {
+        let Some(value) = words.next() else {
+            break;
+        };
+        let field = copy_word(alloc, field)?;
+        let value = copy_word(alloc, value)?;
+        fields.push((field, value))?;
+    }
+    Ok(Fields::new(fields))
+}

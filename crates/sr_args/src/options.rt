@@ -1,0 +1,335 @@
+ghost use Rattle.std.specs.Prelude.{◌≡◌, ◌+◌, ◌<◌, ◌≤◌, ◌++◌, ℕ, List, [], ◌∷◌, length, Option, IfSome, IfNone, Result, Err, true, false};
+ghost use Rattle.std.specs.Option.{option_copied};
+ghost use Rattle.sr_args.specs.Name.{IsSameName, option_text};
+ghost use Rattle.sr_args.specs.Place.{Word};
+ghost use Rattle.sr_args.specs.Options as written;
+ghost use Rattle.sr_args.specs.Options.{Written, operand_places, is_of, IsUnnamed, IsLimit};
+ghost use Rattle.sr_args.specs.steps.Options.{AreJudged, Begins, BeginsNone, BeginsNoOptions, EndsOptions, GivesBound, GivesTrim, IsAny, IsJudged, IsLimitOf, IsOptionEnd, IsOptionNamed, IsSigned, IsTrimBy, IsTrimEnd, IsUnlimitedAfter, chosen_of, fault_of, index_of, signed_places, trim_operands, trim_reading, written_of};
+
+use crate::name::{option_named, sign_named};
+use crate::number::{read_int, read_nat};
+use crate::words::Words;
+use crate::{CallFault, Measure, OptionName, Sign, Trim, TrimBy};
+use sr_ids::parse_strict;
+
+/// The options that stand in one place of a command's form, in any order and each once at most.
+#[derive(Clone, Copy, Debug, PartialEq, Eq)]
+pub enum OptionSet {
+    /// Those of XRANGE and XREVRANGE.
+    Range,
+    /// Those of XADD.
+    Xadd,
+}
+
+/// What an option is. MAXLEN and MINID are both a trim.
+#[derive(Clone, Copy, Debug, PartialEq, Eq)]
+pub enum OptionKind {
+    Count,
+    NoMkStream,
+    Trim,
+}
+
+/// How many kinds of options there are.
+const KINDS: usize = 3;
+
+/// The words of a trim, in the places of its form.
+#[derive(Clone, Copy)]
+pub(crate) struct TrimWords<'a> {
+    by: Measure,
+    sign: Option<Sign>,
+    bound: &'a [u8],
+    limit: Option<&'a [u8]>,
+}
+
+/// The words of an option, in the places of its form.
+#[derive(Clone, Copy)]
+pub(crate) enum OptionWords<'a> {
+    Count(&'a [u8]),
+    NoMkStream,
+    Trim(TrimWords<'a>),
+}
+
+/// What options ask for.
+#[derive(Clone, Copy)]
+pub(crate) struct Choice {
+    /// Whether a missing key is made.
+    pub(crate) make: bool,
+    pub(crate) trim: Option<Trim>,
+    pub(crate) count: Option<i64>,
+}
+
+/// What is wrong with the words of options that fit their form.
+#[derive(Clone, Copy)]
+pub(crate) enum ValueFault {
+    /// A word in the place of a number is none, or one out of its range.
+    Number,
+    /// A word in the place of an id is none.
+    BadId,
+}
+
+impl From<ValueFault> for CallFault {
+    ghost from_gives = { λ value fault. fault ≡ fault_of value };
+
+    fn from(fault: ValueFault) -> CallFault {
+        match fault {
+            ValueFault::Number => CallFault::Number,
+            ValueFault::BadId => CallFault::BadId,
+        }
+    }
+}
+
+/// Reads the options of a set up to the first word that names none of them, and what they ask for.
+///
+/// `None` if these words fit no options. What they ask for is judged while they are read, and the fault is kept: a word
+/// that is no number comes before one that is no id, and both come after every fault of the form.
+pub(crate) fn read_options(
+    set: OptionSet,
+    words: &mut Words<'_>,
+) -> Option<Result<Choice, ValueFault>>
+    ensures found { IfSome result (λ judged. (written : List Written) × EndsOptions set words.old written words.new × AreJudged written judged) }
+    ensures none { IfNone result (BeginsNoOptions set words.old) }
+{
+    let mut seen = [false; KINDS];
+    let mut judged = Ok(nothing());
+    while let Some(name) = next_name(set, words) {
+        let option = operand_words(name, words)?;
+        let kind = index_of_kind(kind_of(option));
+        if seen[kind] {
+            return None;
+        }
+        seen[kind] = true;
+        judged = judge_next(judged, option);
+    }
+    Some(judged)
+}
+
+/// The name of an option of the set, if it is the next word, which is then read.
+fn next_name(set: OptionSet, words: &mut Words<'_>) -> Option<OptionName>
+    ensures of_set { IfSome result (λ name. is_of set name ≡ true) }
+    ensures found { IfSome result (λ name. (word : Word) × (words.old ≡ word ∷ words.new) × IsSameName word (option_text name)) }
+    ensures shorter { IfSome result (λ _. length words.new + 1 ≡ length words.old) }
+    ensures none { IfNone result ((word : Word) (rest : List Word) → words.old ≡ word ∷ rest → IsUnnamed set word) }
+    ensures same { IfNone result (words.new ≡ words.old) }
+{
+    let name = option_named(words.peek()?)?;
+    if !has_option(set, name) {
+        return None;
+    }
+    words.next()?;
+    Some(name)
+}
+
+/// Whether the name stands in the set.
+fn has_option(set: OptionSet, name: OptionName) -> bool
+    ensures { result ≡ is_of set name }
+{
+    match set {
+        OptionSet::Range => match name {
+            OptionName::Count => true,
+            OptionName::NoMkStream | OptionName::MaxLen | OptionName::MinId | OptionName::Limit =>
+                false,
+        },
+        OptionSet::Xadd => match name {
+            OptionName::NoMkStream | OptionName::MaxLen | OptionName::MinId | OptionName::Limit =>
+                true,
+            OptionName::Count => false,
+        },
+    }
+}
+
+/// The words that follow the name of an option.
+fn operand_words<'a>(name: OptionName, words: &mut Words<'a>) -> Option<OptionWords<'a>>
+    ensures found { IfSome result (λ read. Begins operand_places (IsOptionNamed name) IsOptionEnd words.old (written_of read) words.new) }
+    ensures none { IfNone result (BeginsNone operand_places (IsOptionNamed name) IsOptionEnd words.old) }
+    ensures shorter { IfSome result (λ _. length words.new ≤ length words.old) }
+{
+    match name {
+        OptionName::Count => Some(OptionWords::Count(words.next()?)),
+        OptionName::NoMkStream => Some(OptionWords::NoMkStream),
+        OptionName::MaxLen => Some(OptionWords::Trim(trim_words(Measure::MaxLen, words)?)),
+        OptionName::MinId => Some(OptionWords::Trim(trim_words(Measure::MinId, words)?)),
+        OptionName::Limit => None,
+    }
+}
+
+/// The words of a trim that follow the name of its measure: `[=|~] bound [LIMIT number]`
+pub(crate) fn trim_words<'a>(by: Measure, words: &mut Words<'a>) -> Option<TrimWords<'a>>
+    ensures found { IfSome result (λ read. Begins trim_operands (IsTrimBy by) IsTrimEnd words.old (trim_reading read) words.new) }
+    ensures none { IfNone result (BeginsNone trim_operands (IsTrimBy by) IsTrimEnd words.old) }
+    ensures shorter { IfSome result (λ _. length words.new ≤ length words.old) }
+{
+    let (sign, bound) = signed_word(by, words)?;
+    let limit = limit_word(sign, words)?;
+    Some(TrimWords {
+        by,
+        sign,
+        bound,
+        limit,
+    })
+}
+
+/// `[=|~] bound`
+fn signed_word<'a>(by: Measure, words: &mut Words<'a>) -> Option<(Option<Sign>, &'a [u8])>
+    ensures found { IfSome result (λ read. Begins (signed_places by) IsSigned IsAny words.old (read.0, read.1.now) words.new) }
+    ensures none { IfNone result (BeginsNone (signed_places by) IsSigned IsAny words.old) }
+    ensures shorter { IfSome result (λ _. length words.new ≤ length words.old) }
+{
+    let first = words.next()?;
+    let Some(sign) = sign_named(first) else {
+        return Some((None, first));
+    };
+    let bound = words.next()?;
+    Some((Some(sign), bound))
+}
+
+/// `[LIMIT number]`, which goes with `~` alone
+fn limit_word<'a>(sign: Option<Sign>, words: &mut Words<'a>) -> Option<Option<&'a [u8]>>
+    ensures found { IfSome result (λ read. Begins written.limit_places (IsLimitOf sign) IsUnlimitedAfter words.old (option_copied read) words.new) }
+    ensures none { IfNone result (BeginsNone written.limit_places (IsLimitOf sign) IsUnlimitedAfter words.old) }
+    ensures shorter { IfSome result (λ _. length words.new ≤ length words.old) }
+{
+    let Some(word) = words.peek() else {
+        return Some(None);
+    };
+    if !is_named(word, OptionName::Limit) {
+        return Some(None);
+    }
+    let Some(Sign::Nearly) = sign else {
+        return None;
+    };
+    words.next()?;
+    Some(Some(words.next()?))
+}
+
+/// Whether the word names the option.
+fn is_named(word: &[u8], name: OptionName) -> bool
+    ensures yes { result ≡ true → IsSameName word.now (option_text name) }
+    ensures no { result ≡ false → IsSameName word.now (option_text name) → ⊥ }
+{
+    match option_named(word) {
+        None => false,
+        Some(found) => found == name,
+    }
+}
+
+/// What an option is.
+fn kind_of(option: OptionWords<'_>) -> OptionKind
+    ensures { result ≡ written.kind (written_of option.entry) }
+{
+    match option {
+        OptionWords::Count(_) => OptionKind::Count,
+        OptionWords::NoMkStream => OptionKind::NoMkStream,
+        OptionWords::Trim(_) => OptionKind::Trim,
+    }
+}
+
+/// The place of a kind among the kinds.
+fn index_of_kind(kind: OptionKind) -> usize
+    ensures value { result ≡ index_of kind }
+    ensures within { result < KINDS }
+{
+    match kind {
+        OptionKind::Count => 0,
+        OptionKind::NoMkStream => 1,
+        OptionKind::Trim => 2,
+    }
+}
+
+/// What is asked for if no option is written.
+fn nothing() -> Choice
+    ensures { chosen_of result ≡ written.nothing }
+{
+    Choice {
+        make: true,
+        trim: None,
+        count: None,
+    }
+}
+
+/// What options ask for with one more, or the first fault: a number that is none comes before an id that is none.
+fn judge_next(
+    judged: Result<Choice, ValueFault>,
+    option: OptionWords<'_>,
+) -> Result<Choice, ValueFault>
+    ensures { (options : List Written) → AreJudged options judged → AreJudged (options ++ written_of option.entry ∷ []) result }
+{
+    match judged {
+        Ok(choice) => judge(choice, option),
+        Err(fault) => Err(worse(fault, option)),
+    }
+}
+
+/// The first fault of options with one more, if those before it have this one.
+fn worse(fault: ValueFault, option: OptionWords<'_>) -> ValueFault
+    ensures { (options : List Written) → AreJudged options (Err fault) → AreJudged (options ++ written_of option.entry ∷ []) (Err result) }
+{
+    match fault {
+        ValueFault::Number => ValueFault::Number,
+        ValueFault::BadId => match judge(nothing(), option) {
+            Ok(_) => ValueFault::BadId,
+            Err(fault) => fault,
+        },
+    }
+}
+
+/// What is asked for after an option, or the fault of its words.
+fn judge(choice: Choice, option: OptionWords<'_>) -> Result<Choice, ValueFault>
+    ensures { IsJudged (written_of option.entry) (chosen_of choice) result }
+{
+    match option {
+        OptionWords::Count(most) => {
+            let count = read_int(most).ok_or(ValueFault::Number)?;
+            Ok(Choice {
+                count: Some(count),
+                ..choice
+            })
+        }
+        OptionWords::NoMkStream => Ok(Choice {
+            make: false,
+            ..choice
+        }),
+        OptionWords::Trim(words) => {
+            let trim = read_trim(words)?;
+            Ok(Choice {
+                trim: Some(trim),
+                ..choice
+            })
+        }
+    }
+}
+
+/// The trim that words write. A number in it that is none comes before an id that is none.
+pub(crate) fn read_trim(words: TrimWords<'_>) -> Result<Trim, ValueFault>
+    ensures { GivesTrim (trim_reading words.entry) result }
+{
+    let limit = read_limit(words.limit).ok_or(ValueFault::Number)?;
+    let by = read_bound(words.by, words.bound)?;
+    Ok(Trim { by, limit })
+}
+
+/// The limit of a trim: 0, which is no limit, if it is left out.
+fn read_limit(word: Option<&[u8]>) -> Option<u64>
+    ensures found { IfSome result (IsLimit (option_copied word.entry)) }
+    ensures none { IfNone result ((n : ℕ) → IsLimit (option_copied word.entry) n → ⊥) }
+{
+    match word {
+        None => Some(0),
+        Some(word) => read_nat(word),
+    }
+}
+
+/// The bound of a trim by this measure.
+fn read_bound(by: Measure, word: &[u8]) -> Result<TrimBy, ValueFault>
+    ensures { GivesBound by word.now result }
+{
+    match by {
+        Measure::MaxLen => {
+            let length = read_nat(word).ok_or(ValueFault::Number)?;
+            Ok(TrimBy::MaxLen(length))
+        }
+        Measure::MinId => {
+            let id = parse_strict(word).ok_or(ValueFault::BadId)?;
+            Ok(TrimBy::MinId(id))
+        }
+    }
+}
