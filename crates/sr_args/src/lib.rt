@@ -9,6 +9,8 @@ mod number;
 mod options;
 mod read;
 mod table;
+#[cfg(test)]
+mod tests;
 mod value;
 mod words;
 

@@ -100,7 +100,7 @@ fn table_row(
 }
 
 /// How words meet the name of a row.
-fn name_match<'a>(row: &Row, mut words: Words<'a>) -> NameMatch<'a>
+pub(crate) fn name_match<'a>(row: &Row, mut words: Words<'a>) -> NameMatch<'a>
     ensures { IsMatch (shown row.now).name words.entry result }
 {
     let Some(word) = words.next() else {
