@@ -7,3 +7,5 @@ pub mod Place
 pub mod Table
 pub mod commands
 pub mod steps
+
+pub use Rattle.sr_args.specs.Command.{Answers, IsCall, IsCommand, Refuses}

@@ -16,7 +16,6 @@ mod words;
 
 pub use call::{Call, Command, Trim, TrimBy};
 pub use fault::CallFault;
-pub use name::{Measure, OptionName, Sign};
-pub use options::{OptionKind, OptionSet};
+pub(crate) use name::{Measure, OptionName, Sign};
 pub use read::{one_answer, read_call};
-pub use table::CommandName;
+pub(crate) use table::CommandName;

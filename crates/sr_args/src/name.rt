@@ -5,7 +5,7 @@ ghost use Rattle.sr_args.specs.Name.{IsSameName, option_text, sign_text};
 
 /// The options of commands, by name. Names ignore ASCII case.
 #[derive(Clone, Copy, Debug, PartialEq, Eq)]
-pub enum OptionName {
+pub(crate) enum OptionName {
     /// How many entries are wanted at most.
     Count,
     /// A missing key is not made.
@@ -20,7 +20,7 @@ pub enum OptionName {
 
 /// By what a trim measures.
 #[derive(Clone, Copy, Debug, PartialEq, Eq)]
-pub enum Measure {
+pub(crate) enum Measure {
     /// By the number of entries.
     MaxLen,
     /// By their ids.
@@ -29,7 +29,7 @@ pub enum Measure {
 
 /// The sign before the bound of a trim.
 #[derive(Clone, Copy, Debug, PartialEq, Eq)]
-pub enum Sign {
+pub(crate) enum Sign {
     /// `=`
     Exact,
     /// `~`

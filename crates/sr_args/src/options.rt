@@ -14,7 +14,7 @@ use sr_ids::parse_strict;
 
 /// The options that stand in one place of a command's form, in any order and each once at most.
 #[derive(Clone, Copy, Debug, PartialEq, Eq)]
-pub enum OptionSet {
+pub(crate) enum OptionSet {
     /// Those of XRANGE and XREVRANGE.
     Range,
     /// Those of XADD.
@@ -23,7 +23,7 @@ pub enum OptionSet {
 
 /// What an option is. MAXLEN and MINID are both a trim.
 #[derive(Clone, Copy, Debug, PartialEq, Eq)]
-pub enum OptionKind {
+pub(crate) enum OptionKind {
     Count,
     NoMkStream,
     Trim,

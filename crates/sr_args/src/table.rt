@@ -9,7 +9,7 @@ use crate::words::Words;
 ///
 /// Source: Redis documentation, the page of each command.
 #[derive(Clone, Copy, Debug, PartialEq, Eq)]
-pub enum CommandName {
+pub(crate) enum CommandName {
     Ping,
     Xadd,
     Xtrim,
