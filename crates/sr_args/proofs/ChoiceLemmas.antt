@@ -83,10 +83,6 @@ bound-id measures.MaxLen word bound p = tt
 bound-id measures.MinId word (bounds.MaxLen n) p = absurd p
 bound-id measures.MinId word (bounds.MinId id) p = (id, p)
 
-bound-exists : (by : Measure) (word : Word) → HasNumber (bound_place by word) → HasId (bound_place by word) → (bound : TrimBy) × IsBound by word bound
-bound-exists measures.MaxLen word n i = (bounds.MaxLen n.0, n.1)
-bound-exists measures.MinId word n i = (bounds.MinId i.0, i.1)
-
 bound_value-one : (by : Measure) (word : Word) (a b : TrimBy) → IsBound by word a → IsBound by word b → a ≡ b
 bound_value-one measures.MaxLen word (bounds.MaxLen m) (bounds.MaxLen n) p q = ap bounds.MaxLen (IsNat-one word m n p q)
 bound_value-one measures.MinId word (bounds.MinId i) (bounds.MinId j) p q = ap bounds.MinId (SpellsId-one 0 word i j p q)
@@ -106,14 +102,6 @@ trim-numbers t trim p =
 pub trim-ids : (t : TrimReading) (trim : Trim) → IsTrim t trim → HasIds (option_places (trimming t))
 trim-ids t trim p =
     (tt, HasIds-append (sign_places t.sign) (after_sign t) (sign-ids t.sign) (bound-id t.by t.bound trim.by p.by, limit-ids t.limit))
-
-pub trim-exists : (t : TrimReading) → HasNumbers (option_places (trimming t)) → HasIds (option_places (trimming t)) → (trim : Trim) × IsTrim t trim
-trim-exists t n i =
-    let numbers = HasNumbers-back (sign_places t.sign) (after_sign t) n.1 in
-    let ids = HasIds-back (sign_places t.sign) (after_sign t) i.1 in
-    let bound = bound-exists t.by t.bound numbers.0 ids.0 in
-    let limit = limit-exists t.limit numbers.1 in
-    (record { by = bound.0; limit = limit.0 }, record { by = bound.1; limit = limit.1 })
 
 abbrev trim_of_parts : TrimBy → ℕ → Trim
 trim_of_parts by limit = record { by = by; limit = limit }
@@ -135,11 +123,6 @@ Sets-ids (count most) a b s = (tt, (tt, tt))
 Sets-ids no_make a b s = (tt, tt)
 Sets-ids (trimming t) a b s = trim-ids t s.0 s.1
 
-pub Sets-exists : (o : Written) (a : Chosen) → HasNumbers (option_places o) → HasIds (option_places o) → (b : Chosen) × Sets o a b
-Sets-exists (count most) a n i = (record a { count = Some n.1.0.0 }, (n.1.0.0, n.1.0.1, refl))
-Sets-exists no_make a n i = (record a { make = false }, refl)
-Sets-exists (trimming t) a n i = let trim = trim-exists t n i in (record a { trim = Some trim.0 }, (trim.0, trim.1, refl))
-
 pub Sets-one : (o : Written) (a b c : Chosen) → Sets o a b → Sets o a c → b ≡ c
 Sets-one (count most) a b c s t = s.2 ∙ ap (λ (z : ℤ). record a { count = Some z }) (IsInt-one most s.0 t.0 s.1 t.1) ∙ sym t.2
 Sets-one no_make a b c s t = s ∙ sym t
@@ -153,13 +136,6 @@ Choose-numbers (o ∷ os) a b p = HasNumbers-append (option_places o) (flat_map 
 pub Choose-ids : (os : List Written) (a b : Chosen) → Choose os a b → HasIds (flat_map option_places os)
 Choose-ids [] a b p = tt
 Choose-ids (o ∷ os) a b p = HasIds-append (option_places o) (flat_map option_places os) (Sets-ids o a p.0 p.1) (Choose-ids os p.0 b p.2)
-
-pub Choose-exists : (os : List Written) (a : Chosen) → HasNumbers (flat_map option_places os) → HasIds (flat_map option_places os) → (b : Chosen) × Choose os a b
-Choose-exists [] a n i = (a, refl)
-Choose-exists (o ∷ os) a n i =
-    let first = Sets-exists o a (HasNumbers-front (option_places o) (flat_map option_places os) n) (HasIds-front (option_places o) (flat_map option_places os) i) in
-    let rest = Choose-exists os first.0 (HasNumbers-back (option_places o) (flat_map option_places os) n) (HasIds-back (option_places o) (flat_map option_places os) i) in
-    (rest.0, (first.0, first.1, rest.1))
 
 pub Choose-one : (os : List Written) (a b c : Chosen) → Choose os a b → Choose os a c → b ≡ c
 Choose-one [] a b c p q = p ∙ sym q

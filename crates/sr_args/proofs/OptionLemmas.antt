@@ -228,9 +228,6 @@ trim-one (w ∷ words) a b u v f g =
     (trim_operands-one words a b [] [] (measure_name-one a.by b.by name) u v end end left right).0
 
 -- the word after the options is no name of one
-pub IsPast-any : (set : OptionSet) (word : Word) (places : List Place) → IsUnnamed set word → IsPast set (any word ∷ places)
-IsPast-any set word places differs = record { unnamed = λ other words f name is same. differs name is (rw f.0 at same) }
-
 pub IsPast-id : (set : OptionSet) (form : IdForm) (word : Word) (places : List Place) → IsUnnamed set word → IsPast set (spelled form word ∷ places)
 IsPast-id set form word places differs = record { unnamed = λ other words f name is same. differs name is (rw f.0 at same) }
 

@@ -1,7 +1,8 @@
 -- The options of commands: which words each takes, which stand in which set, and what they ask for.
 -- Source: Redis documentation, the page of each command.
 
-use Rattle.std.specs.Prelude.{◌≡◌, ◌≢◌, ◌⊎◌, ℕ, ℤ, List, [], ◌∷◌, ◌++◌, map, Option, Some, None, Bool, true, false, All, ⊤}
+use Rattle.std.specs.Prelude.{◌≡◌, ◌≢◌, ◌⊎◌, ℕ, ℤ, List, [], ◌∷◌, ◌++◌, map}
+use Rattle.std.specs.Prelude.{Option, Some, None, Bool, true, false, All, ⊤}
 use Rattle.std.specs.List.{flat_map}
 use Rattle.sr_ids.specs.Spelling.{SpellsId}
 use Rattle.sr_args.specs.declared.call.Trim.{Trim}
@@ -76,13 +77,13 @@ IsOptionFit (count most) = ⊤
 IsOptionFit no_make = ⊤
 IsOptionFit (trimming trim) = IsTrimFit trim
 
--- what an option is: MAXLEN and MINID are both a trim
+-- what kind of option it is: MAXLEN and MINID are both a trim
 abbrev pub kind : Written → OptionKind
 kind (count most) = kinds.Count
 kind no_make = kinds.NoMkStream
 kind (trimming trim) = kinds.Trim
 
--- the names that stand in each set, those within an option with them
+-- the names in each set, with those inside an option: LIMIT
 abbrev pub is_of : OptionSet → OptionName → Bool
 is_of sets.Range options.Count = true
 is_of sets.Range options.NoMkStream = false
@@ -95,7 +96,7 @@ is_of sets.Xadd options.MaxLen = true
 is_of sets.Xadd options.MinId = true
 is_of sets.Xadd options.Limit = true
 
--- it is one of them
+-- the kind is one of these
 abbrev pub IsIn : OptionKind → List OptionKind → Type 0
 IsIn k [] = ⊥
 IsIn k (other ∷ ks) = (k ≡ other) ⊎ IsIn k ks
@@ -151,7 +152,8 @@ pub record IsTrim (reading : TrimReading) (trim : Trim) : Type 0 where
 abbrev pub Sets : Written → Chosen → Chosen → Type 0
 Sets (count most) before after = (z : ℤ) × IsInt most z × (after ≡ record before { count = Some z })
 Sets no_make before after = after ≡ record before { make = false }
-Sets (trimming reading) before after = (trim : Trim) × IsTrim reading trim × (after ≡ record before { trim = Some trim })
+Sets (trimming reading) before after =
+    (trim : Trim) × IsTrim reading trim × (after ≡ record before { trim = Some trim })
 
 -- the options in the order in which they are written turn the first choice into the last
 abbrev pub Choose : List Written → Chosen → Chosen → Type 0

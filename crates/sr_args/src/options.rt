@@ -1,10 +1,14 @@
-ghost use Rattle.std.specs.Prelude.{◌≡◌, ◌+◌, ◌<◌, ◌≤◌, ◌++◌, ℕ, List, [], ◌∷◌, length, Option, IfSome, IfNone, Result, Err, true, false};
+ghost use Rattle.std.specs.Prelude.{◌≡◌, ◌+◌, ◌<◌, ◌≤◌, ◌++◌, ℕ, List, [], ◌∷◌};
+ghost use Rattle.std.specs.Prelude.{length, Option, IfSome, IfNone, Result, Err, true, false};
 ghost use Rattle.std.specs.Option.{option_copied};
 ghost use Rattle.sr_args.specs.Name.{IsSameName, option_text};
 ghost use Rattle.sr_args.specs.Place.{Word};
 ghost use Rattle.sr_args.specs.Options as written;
 ghost use Rattle.sr_args.specs.Options.{Written, operand_places, is_of, IsUnnamed, IsLimit};
-ghost use Rattle.sr_args.specs.steps.Options.{AreJudged, Begins, BeginsNone, BeginsNoOptions, EndsOptions, GivesBound, GivesTrim, IsAny, IsJudged, IsLimitOf, IsOptionEnd, IsOptionNamed, IsSigned, IsTrimBy, IsTrimEnd, IsUnlimitedAfter, chosen_of, fault_of, index_of, signed_places, trim_operands, trim_reading, written_of};
+ghost use Rattle.sr_args.specs.steps.Options.{BeginsNoOptions, EndsOptions, AreJudged, IsJudged, GivesTrim};
+ghost use Rattle.sr_args.specs.steps.Options.{Begins, BeginsNone, IsAny, IsLimitOf, IsOptionEnd, IsOptionNamed, IsSigned};
+ghost use Rattle.sr_args.specs.steps.Options.{GivesBound, IsTrimBy, IsTrimEnd, IsUnlimitedAfter, chosen_of, fault_of, index_of};
+ghost use Rattle.sr_args.specs.steps.Options.{signed_places, trim_operands, trim_reading, written_of};
 
 use crate::name::{option_named, sign_named};
 use crate::number::{read_int, read_nat};
@@ -86,7 +90,8 @@ pub(crate) fn read_options(
     set: OptionSet,
     words: &mut Words<'_>,
 ) -> Option<Result<Choice, ValueFault>>
-    ensures found { IfSome result (λ judged. (written : List Written) × EndsOptions set words.old written words.new × AreJudged written judged) }
+    ensures found { IfSome result (λ judged. (written : List Written) ×
+        EndsOptions set words.old written words.new × AreJudged written judged) }
     ensures none { IfNone result (BeginsNoOptions set words.old) }
 {
     let mut seen = [false; KINDS];
@@ -106,9 +111,11 @@ pub(crate) fn read_options(
 /// The name of an option of the set, if it is the next word, which is then read.
 fn next_name(set: OptionSet, words: &mut Words<'_>) -> Option<OptionName>
     ensures of_set { IfSome result (λ name. is_of set name ≡ true) }
-    ensures found { IfSome result (λ name. (word : Word) × (words.old ≡ word ∷ words.new) × IsSameName word (option_text name)) }
+    ensures found { IfSome result (λ name. (word : Word) ×
+        (words.old ≡ word ∷ words.new) × IsSameName word (option_text name)) }
     ensures shorter { IfSome result (λ _. length words.new + 1 ≡ length words.old) }
-    ensures none { IfNone result ((word : Word) (rest : List Word) → words.old ≡ word ∷ rest → IsUnnamed set word) }
+    ensures none { IfNone result ((word : Word) (rest : List Word) →
+        words.old ≡ word ∷ rest → IsUnnamed set word) }
     ensures same { IfNone result (words.new ≡ words.old) }
 {
     let name = option_named(words.peek()?)?;
@@ -139,7 +146,8 @@ fn has_option(set: OptionSet, name: OptionName) -> bool
 
 /// The words that follow the name of an option.
 fn operand_words<'a>(name: OptionName, words: &mut Words<'a>) -> Option<OptionWords<'a>>
-    ensures found { IfSome result (λ read. Begins operand_places (IsOptionNamed name) IsOptionEnd words.old (written_of read) words.new) }
+    ensures found { IfSome result (λ read.
+        Begins operand_places (IsOptionNamed name) IsOptionEnd words.old (written_of read) words.new) }
     ensures none { IfNone result (BeginsNone operand_places (IsOptionNamed name) IsOptionEnd words.old) }
     ensures shorter { IfSome result (λ _. length words.new ≤ length words.old) }
 {
@@ -154,7 +162,8 @@ fn operand_words<'a>(name: OptionName, words: &mut Words<'a>) -> Option<OptionWo
 
 /// The words of a trim that follow the name of its measure: `[=|~] bound [LIMIT number]`
 pub(crate) fn trim_words<'a>(by: Measure, words: &mut Words<'a>) -> Option<TrimWords<'a>>
-    ensures found { IfSome result (λ read. Begins trim_operands (IsTrimBy by) IsTrimEnd words.old (trim_reading read) words.new) }
+    ensures found { IfSome result (λ read.
+        Begins trim_operands (IsTrimBy by) IsTrimEnd words.old (trim_reading read) words.new) }
     ensures none { IfNone result (BeginsNone trim_operands (IsTrimBy by) IsTrimEnd words.old) }
     ensures shorter { IfSome result (λ _. length words.new ≤ length words.old) }
 {
@@ -170,7 +179,8 @@ pub(crate) fn trim_words<'a>(by: Measure, words: &mut Words<'a>) -> Option<TrimW
 
 /// `[=|~] bound`
 fn signed_word<'a>(by: Measure, words: &mut Words<'a>) -> Option<(Option<Sign>, &'a [u8])>
-    ensures found { IfSome result (λ read. Begins (signed_places by) IsSigned IsAny words.old (read.0, read.1.now) words.new) }
+    ensures found { IfSome result (λ read.
+        Begins (signed_places by) IsSigned IsAny words.old (read.0, read.1.now) words.new) }
     ensures none { IfNone result (BeginsNone (signed_places by) IsSigned IsAny words.old) }
     ensures shorter { IfSome result (λ _. length words.new ≤ length words.old) }
 {
@@ -184,7 +194,8 @@ fn signed_word<'a>(by: Measure, words: &mut Words<'a>) -> Option<(Option<Sign>, 
 
 /// `[LIMIT number]`, which goes with `~` alone
 fn limit_word<'a>(sign: Option<Sign>, words: &mut Words<'a>) -> Option<Option<&'a [u8]>>
-    ensures found { IfSome result (λ read. Begins written.limit_places (IsLimitOf sign) IsUnlimitedAfter words.old (option_copied read) words.new) }
+    ensures found { IfSome result (λ read.
+        Begins written.limit_places (IsLimitOf sign) IsUnlimitedAfter words.old (option_copied read) words.new) }
     ensures none { IfNone result (BeginsNone written.limit_places (IsLimitOf sign) IsUnlimitedAfter words.old) }
     ensures shorter { IfSome result (λ _. length words.new ≤ length words.old) }
 {
@@ -251,7 +262,8 @@ fn judge_next(
     judged: Result<Choice, ValueFault>,
     option: OptionWords<'_>,
 ) -> Result<Choice, ValueFault>
-    ensures { (options : List Written) → AreJudged options judged → AreJudged (options ++ written_of option.entry ∷ []) result }
+    ensures { (options : List Written) →
+        AreJudged options judged → AreJudged (options ++ written_of option.entry ∷ []) result }
 {
     match judged {
         Ok(choice) => judge(choice, option),
@@ -261,7 +273,8 @@ fn judge_next(
 
 /// The first fault of options with one more, if those before it have this one.
 fn worse(fault: ValueFault, option: OptionWords<'_>) -> ValueFault
-    ensures { (options : List Written) → AreJudged options (Err fault) → AreJudged (options ++ written_of option.entry ∷ []) (Err result) }
+    ensures { (options : List Written) →
+        AreJudged options (Err fault) → AreJudged (options ++ written_of option.entry ∷ []) (Err result) }
 {
     match fault {
         ValueFault::Number => ValueFault::Number,

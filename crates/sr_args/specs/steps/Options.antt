@@ -1,7 +1,8 @@
 -- How the words of a command begin with its options, and what reading them leaves. No public clause speaks of it.
 -- Source: Redis documentation, the page of each command.
 
-use Rattle.std.specs.Prelude.{◌≡◌, ◌≢◌, ◌⊎◌, ℕ, List, [], ◌∷◌, ◌++◌, length, get_or, map, Bool, true, false, Option, Some, None, Result, Ok, Err, ⊤}
+use Rattle.std.specs.Prelude.{◌≡◌, ◌≢◌, ◌⊎◌, ℕ, List, [], ◌∷◌, ◌++◌, length, get_or, map}
+use Rattle.std.specs.Prelude.{Bool, true, false, Option, Some, None, Result, Ok, Err, ⊤}
 use Rattle.std.specs.List.{flat_map}
 use Rattle.std.specs.Option.{option_copied}
 use Rattle.sr_args.specs.declared.fault.CallFault.{CallFault}
@@ -24,22 +25,30 @@ use Rattle.sr_args.specs.declared.name.Sign.{Sign}
 use Rattle.sr_args.specs.declared.name.Sign.TheVariants.{Nearly}
 use Rattle.sr_args.specs.Name.{IsSameName, measure_name, option_text, sign_text}
 use Rattle.sr_args.specs.Place.{Word, Place, Fits, HasNumber, HasNumbers, HasId, HasIds, any}
-use Rattle.sr_args.specs.Options.{TrimReading, Written, count, no_make, trimming, operand_places, sign_places, bound_place, limit_places, option_places, first_name, is_of, IsTrimFit, IsOptionFit, kind, IsIn, AreOptionsFit, IsUnnamed, IsPast, Chosen, Choose, Sets, IsBound, IsLimit, IsTrim, nothing}
+use Rattle.sr_args.specs.Options.{TrimReading, Written, count, no_make, trimming, operand_places, sign_places}
+use Rattle.sr_args.specs.Options.{bound_place, limit_places, option_places, first_name, is_of, kind, IsIn}
+use Rattle.sr_args.specs.Options.{IsTrimFit, IsOptionFit, AreOptionsFit, IsUnnamed, IsPast, Chosen, Choose, Sets}
+use Rattle.sr_args.specs.Options.{IsBound, IsLimit, IsTrim, nothing}
 
 -- the words begin with a part: they fit its places with any after them, if the rest fits those; and before places that
 -- may follow they fit no other part
-pub record Begins {T : Type 0} (form : T → List Place) (IsRight : T → Type 0) (IsNext : T → List Place → Type 0) (words : List Word) (part : T) (rest : List Word) : Type 0 where
+pub record Begins {T : Type 0} (form : T → List Place) (IsRight : T → Type 0) (IsNext : T → List Place → Type 0)
+    (words : List Word) (part : T) (rest : List Word) : Type 0 where
   pub right : IsRight part
   pub fits : (places : List Place) → Fits rest places → Fits words (form part ++ places)
-  pub only : (other : T) (places : List Place) → IsRight other → IsNext other places → Fits words (form other ++ places) → (other ≡ part) × Fits rest places
+  pub only : (other : T) (places : List Place) → IsRight other → IsNext other places →
+      Fits words (form other ++ places) → (other ≡ part) × Fits rest places
 
 -- the words begin with no such part
-abbrev pub BeginsNone : {T : Type 0} (form : T → List Place) (IsRight : T → Type 0) (IsNext : T → List Place → Type 0) (words : List Word) → Type 0
-BeginsNone {T} form IsRight IsNext words = (other : T) (places : List Place) → IsRight other → IsNext other places → Fits words (form other ++ places) → ⊥
+abbrev pub BeginsNone : {T : Type 0} (form : T → List Place) (IsRight : T → Type 0)
+    (IsNext : T → List Place → Type 0) (words : List Word) → Type 0
+BeginsNone {T} form IsRight IsNext words =
+    (other : T) (places : List Place) → IsRight other → IsNext other places → Fits words (form other ++ places) → ⊥
 
 -- the name of LIMIT fits the first of these places in no words
 pub record IsUnlimited (places : List Place) : Type 0 where
-  pub unnamed : (word : Word) (words : List Word) → IsSameName word (option_text options.Limit) → Fits (word ∷ words) places → ⊥
+  pub unnamed : (word : Word) (words : List Word) → IsSameName word (option_text options.Limit) →
+      Fits (word ∷ words) places → ⊥
 
 -- any places may follow
 abbrev pub IsAny : {T : Type 0} → T → List Place → Type 0
@@ -93,22 +102,26 @@ pub record GoesOn (written others : List Written) (left : List Word) (places : L
 pub record BeginsOptions (set : OptionSet) (words : List Word) (written : List Written) (left : List Word) : Type 0 where
   pub right : AreOptionsFit set written
   pub fits : (places : List Place) → Fits left places → Fits words (flat_map option_places written ++ places)
-  pub only : (others : List Written) (places : List Place) → AreOptionsFit set others → IsPast set places → Fits words (flat_map option_places others ++ places) → GoesOn written others left places
+  pub only : (others : List Written) (places : List Place) → AreOptionsFit set others → IsPast set places →
+      Fits words (flat_map option_places others ++ places) → GoesOn written others left places
 
 -- the words begin with the options written and no more: they are the one reading, and what is left follows them
 pub record EndsOptions (set : OptionSet) (words : List Word) (written : List Written) (left : List Word) : Type 0 where
   pub right : AreOptionsFit set written
   pub fits : (places : List Place) → Fits left places → Fits words (flat_map option_places written ++ places)
-  pub only : (others : List Written) (places : List Place) → AreOptionsFit set others → IsPast set places → Fits words (flat_map option_places others ++ places) → (others ≡ written) × Fits left places
+  pub only : (others : List Written) (places : List Place) → AreOptionsFit set others → IsPast set places →
+      Fits words (flat_map option_places others ++ places) → (others ≡ written) × Fits left places
   pub past : (word : Word) (rest : List Word) → left ≡ word ∷ rest → IsUnnamed set word
 
 -- the words begin with no options of the set that anything may follow
 abbrev pub BeginsNoOptions : OptionSet → List Word → Type 0
-BeginsNoOptions set words = (others : List Written) (places : List Place) → AreOptionsFit set others → IsPast set places → Fits words (flat_map option_places others ++ places) → ⊥
+BeginsNoOptions set words = (others : List Written) (places : List Place) → AreOptionsFit set others →
+    IsPast set places → Fits words (flat_map option_places others ++ places) → ⊥
 
 -- the words of a trim
 abbrev pub trim_reading : TrimWords → TrimReading
-trim_reading words = record { by = words.by; sign = words.sign; bound = words.bound.now; limit = option_copied words.limit }
+trim_reading words =
+    record { by = words.by; sign = words.sign; bound = words.bound.now; limit = option_copied words.limit }
 
 -- the words of an option
 abbrev pub written_of : OptionWords → Written
@@ -123,7 +136,8 @@ chosen_of choice = record { make = choice.make; trim = choice.trim; count = choi
 abbrev pub AreJudged : List Written → Result Choice ValueFault → Type 0
 AreJudged written (Ok choice) = Choose written nothing (chosen_of choice)
 AreJudged written (Err faults.Number) = HasNumbers (flat_map option_places written) → ⊥
-AreJudged written (Err faults.BadId) = HasNumbers (flat_map option_places written) × (HasIds (flat_map option_places written) → ⊥)
+AreJudged written (Err faults.BadId) =
+    HasNumbers (flat_map option_places written) × (HasIds (flat_map option_places written) → ⊥)
 
 -- the same of a single option after what was asked for before it
 abbrev pub IsJudged : Written → Chosen → Result Choice ValueFault → Type 0
@@ -160,7 +174,8 @@ pub record AreSeen (seen : List Bool) (written : List Written) : Type 0 where
   pub no : (k : OptionKind) → get_or seen (index_of k) false ≡ false → IsIn k (map kind written) → ⊥
 
 -- the loop over options between two of them
-pub record IsUnderway (set : OptionSet) (words left : List Word) (seen : List Bool) (judged : Result Choice ValueFault) : Type 0 where
+pub record IsUnderway (set : OptionSet) (words left : List Word) (seen : List Bool)
+    (judged : Result Choice ValueFault) : Type 0 where
   pub written : List Written
   pub begins : BeginsOptions set words written left
   pub seen_are : AreSeen seen written

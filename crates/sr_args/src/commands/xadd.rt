@@ -48,8 +48,10 @@ pub(crate) fn read_xadd(alloc: Global, words: Words<'_>) -> Result<Call, CallFau
 
 /// The words of XADD: the key, options in any order, the id, and fields with their values.
 fn xadd_words(mut words: Words<'_>) -> Option<XaddWords<'_>>
-    ensures found { IfSome result (λ read. (written : List Written) × AreJudged written read.judged × Reads xadd_form.form words.entry (read.key.now, (written, (read.id.now, pairs_of read.fields)))) }
-    ensures none { IfNone result ((reading : Reading xadd_form.form) → Reads xadd_form.form words.entry reading → ⊥) }
+    ensures found { IfSome result (λ read. (written : List Written) × AreJudged written read.judged
+        × Reads xadd_form.form words.entry (read.key.now, (written, (read.id.now, pairs_of read.fields)))) }
+    ensures none { IfNone result ((reading : Reading xadd_form.form) →
+        Reads xadd_form.form words.entry reading → ⊥) }
 {
     let key = words.next()?;
     let judged = read_options(OptionSet::Xadd, &mut words)?;

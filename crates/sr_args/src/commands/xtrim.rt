@@ -35,7 +35,8 @@ pub(crate) fn read_xtrim(alloc: Global, words: Words<'_>) -> Result<Call, CallFa
 /// The words of XTRIM: the key, and a trim.
 fn xtrim_words(mut words: Words<'_>) -> Option<XtrimWords<'_>>
     ensures found { IfSome result (λ read. Reads xtrim_form.form words.entry (read.key.now, trim_reading read.trim)) }
-    ensures none { IfNone result ((reading : Reading xtrim_form.form) → Reads xtrim_form.form words.entry reading → ⊥) }
+    ensures none { IfNone result ((reading : Reading xtrim_form.form) →
+        Reads xtrim_form.form words.entry reading → ⊥) }
 {
     let key = words.next()?;
     let by = measure_named(words.next()?)?;
@@ -49,7 +50,8 @@ fn xtrim_words(mut words: Words<'_>) -> Option<XtrimWords<'_>>
 /// The measure of the trim that a word begins.
 fn measure_named(word: &[u8]) -> Option<Measure>
     ensures found { IfSome result (λ measure. IsSameName word.now (option_text (measure_name measure))) }
-    ensures none { IfNone result ((measure : measures.Measure) → IsSameName word.now (option_text (measure_name measure)) → ⊥) }
+    ensures none { IfNone result ((measure : measures.Measure) →
+        IsSameName word.now (option_text (measure_name measure)) → ⊥) }
 {
     match option_named(word)? {
         OptionName::MaxLen => Some(Measure::MaxLen),
