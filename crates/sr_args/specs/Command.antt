@@ -83,16 +83,17 @@ pub record IsMiscounted (words : List Word) : Type 0 where
   pub named : IsNamed name words operands
   pub uncounted : IsCounted name (length words) → ⊥
 
--- the words are not a call, and this is the first reason: no command has the name, nor does a longer name begin so; the
--- name is cut short, or its command takes another number of words; the words do not fit its form, whatever stands in the
--- places of numbers and ids; they fit it, and some number's place does not hold one; or all numbers are there, and some
--- id's place does not hold one. Memory runs out for calls alone.
+-- the words are not a call, and this is the first reason: they name no command, nor the first part of one; the name is
+-- cut short, or its command takes another number of words; the words do not fit its form, whatever is in the places of
+-- numbers and ids; they fit it, and some number's place does not hold a number; or all numbers are there, and some id's
+-- place does not hold an id. Memory runs out for calls alone.
 abbrev pub Refuses : List Word → CallFault → Type 0
 Refuses words faults.Unknown = (IsCommandNamed words → ⊥) × (IsHalfNamed words → ⊥)
 Refuses words faults.Arity = IsMiscounted words ⊎ IsHalfNamed words
 Refuses words faults.Syntax = IsCommandCounted words × (IsRead words → ⊥)
 Refuses words faults.Number = (read : IsRead words) × (HasNumbers (places_of words read) → ⊥)
-Refuses words faults.BadId = (read : IsRead words) × HasNumbers (places_of words read) × (HasIds (places_of words read) → ⊥)
+Refuses words faults.BadId =
+    (read : IsRead words) × HasNumbers (places_of words read) × (HasIds (places_of words read) → ⊥)
 Refuses words faults.Memory = (call : Call) × IsCall words call
 
 -- the words are what the request asks for

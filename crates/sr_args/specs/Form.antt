@@ -64,8 +64,8 @@ places pairs fields = flat_map pair_places fields
 places (options set form) reading = flat_map option_places reading.0 ++ places form reading.1
 places trim reading = option_places (trimming reading)
 
--- what the places alone do not say: there is at least one id, and at least one field; options are those of their set, and
--- no word after them names another
+-- what the places alone do not say: there is at least one id and at least one field; options are of their set, each once;
+-- and the word after them names no option of it
 abbrev pub IsFit : (form : Form) → Reading form → Type 0
 IsFit end reading = ⊤
 IsFit (text form) reading = IsFit form reading.1
@@ -73,7 +73,8 @@ IsFit (id spelling form) reading = IsFit form reading.1
 IsFit optional_text word = ⊤
 IsFit (ids spelling) words = words ≢ []
 IsFit pairs fields = fields ≢ []
-IsFit (options set form) reading = AreOptionsFit set reading.0 × IsPast set (places form reading.1) × IsFit form reading.1
+IsFit (options set form) reading =
+    AreOptionsFit set reading.0 × IsPast set (places form reading.1) × IsFit form reading.1
 IsFit trim reading = IsTrimFit reading
 
 -- the words fit the form, with this reading

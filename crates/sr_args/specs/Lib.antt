@@ -7,5 +7,4 @@ pub mod Place
 pub mod Table
 pub mod commands
 pub mod steps
-
 pub use Rattle.sr_args.specs.Command.{Answers, IsCall, IsCommand, Refuses}

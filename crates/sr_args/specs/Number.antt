@@ -1,10 +1,10 @@
--- Numbers among the words of a command: of 64 bits, with a sign where they are below 0.
+-- Numbers among the words of a command: of 64 bits, with a sign if they are below 0.
 -- Source: Redis documentation, "Data types" (integers are signed and of 64 bits), and the page of XRANGE, "COUNT".
 
 use Rattle.std.specs.Prelude.{◌≡◌, ℕ, ◌^◌, ◌<◌, ◌≤◌, List, ◌++◌, codes, ℤ, pos, neg_ℤ}
 use Rattle.sr_bytes.specs.Decimal.{IsDecimal}
 
--- the word writes the number in 1 to 19 digits, behind a "-" where it is below 0, and also where it is 0
+-- the word writes the number in 1 to 19 digits, after a "-" if it is below 0; "-0" is 0
 pub data IsInt (word : List ℕ) (z : ℤ) : Type 0 where
   positive : (n : ℕ) → IsDecimal 19 word n → n < 2 ^ 63 → z ≡ pos n → IsInt word z
   negative : (digits : List ℕ) (n : ℕ) → word ≡ codes "-" ++ digits → IsDecimal 19 digits n → n ≤ 2 ^ 63 → z ≡ neg_ℤ (pos n) → IsInt word z

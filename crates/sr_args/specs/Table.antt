@@ -7,8 +7,8 @@ use Rattle.sr_args.specs.declared.table.CommandName.TheVariants.{Ping, Xadd, Xtr
 use Rattle.sr_args.specs.Name.{IsSameName}
 use Rattle.sr_args.specs.Place.{Word}
 
--- a row of the table: the words of the name, the fewest words of the command, its name counted, and the most if there is
--- a bound
+-- a row of the table: the words of the name, the fewest words of the command, its name counted, and the most if there
+-- is a bound
 pub record Row : Type 0 where
   pub name : List Word
   pub fewest : ℕ

@@ -6,7 +6,7 @@ use sr_ids::{Id, Ids, Spec};
 /// Source: Redis documentation, command XTRIM.
 #[derive(Clone, Copy, Debug, PartialEq, Eq)]
 pub enum TrimBy {
-    /// MAXLEN: so many of the newest entries.
+    /// MAXLEN: that many of the newest entries.
     MaxLen(u64),
     /// MINID: the entries that are not below this id.
     MinId(Id),
@@ -19,7 +19,7 @@ pub enum TrimBy {
 pub struct Trim {
     /// What it leaves.
     pub by: TrimBy,
-    /// LIMIT: how many entries it removes at most, where it is above 0.
+    /// LIMIT: how many entries it removes at most, if it is above 0.
     pub limit: u64,
 }
 
@@ -37,7 +37,7 @@ pub enum Call {
         key: Name,
         /// Whether a missing key is made: not with NOMKSTREAM.
         make: bool,
-        /// How the stream is trimmed behind it.
+        /// How the stream is trimmed after it.
         trim: Option<Trim>,
         id: Spec,
         fields: Fields,

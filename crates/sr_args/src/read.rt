@@ -26,7 +26,8 @@ pub fn read_call(alloc: Global, words: &[Name]) -> Result<Command, CallFault>
     ensures ok { IfOk result (λ command. IsCommand words.now command) }
     ensures err { IfErr result (Refuses words.now) }
     // the one right answer, unless memory runs out
-    ensures only { (answer : Result declared.Command faults.CallFault) → answer ≢ Err CallFault.Memory → Answers words.now answer → (result ≡ answer) ⊎ (result ≡ Err CallFault.Memory) }
+    ensures only { (answer : Result declared.Command faults.CallFault) → answer ≢ Err CallFault.Memory →
+        Answers words.now answer → (result ≡ answer) ⊎ (result ≡ Err CallFault.Memory) }
 {
     match find_command(&Words::new(words)) {
         Found::Unknown => Err(CallFault::Unknown),

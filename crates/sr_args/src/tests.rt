@@ -35,8 +35,8 @@ fn are_texts(fields: &Fields, texts: &[(&[u8], &[u8])]) -> bool {
             && is_text(value, text.1))
 }
 
-// A refusal takes no memory, so it stays the same when memory runs out: a failed allocation fails this test only while the
-// words are made.
+// A refusal takes no memory, so it stays the same when memory runs out: a failed allocation fails this test only while
+// the words are made.
 #[test]
 fn first_fault_is_answered(rt: HostRuntime) -> Result<(), Fail> {
     for (line, want) in [

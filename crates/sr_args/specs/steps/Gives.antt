@@ -22,6 +22,9 @@ Gives form call_of words (Ok call) = GivesCall form call_of words call
 Gives form call_of words (Err faults.Unknown) = ⊥
 Gives form call_of words (Err faults.Arity) = ⊥
 Gives form call_of words (Err faults.Syntax) = (reading : Reading form) → Reads form words reading → ⊥
-Gives form call_of words (Err faults.Number) = (reading : Reading form) × Reads form words reading × (HasNumbers (places form reading) → ⊥)
-Gives form call_of words (Err faults.BadId) = (reading : Reading form) × Reads form words reading × HasNumbers (places form reading) × (HasIds (places form reading) → ⊥)
+Gives form call_of words (Err faults.Number) =
+    (reading : Reading form) × Reads form words reading × (HasNumbers (places form reading) → ⊥)
+Gives form call_of words (Err faults.BadId) =
+    (reading : Reading form) × Reads form words reading × HasNumbers (places form reading) ×
+    (HasIds (places form reading) → ⊥)
 Gives form call_of words (Err faults.Memory) = (call : Call) × GivesCall form call_of words call

@@ -10,5 +10,6 @@ use Rattle.sr_args.specs.Form.{Form, end, text, id, options, Reading}
 abbrev pub range_form : IdForm → IdForm → Form
 range_form first second = text (id first (id second (options sets.Range end)))
 
-abbrev pub range_reading : (key left right : Word) → List Written → (first second : IdForm) → Reading (range_form first second)
+abbrev pub range_reading : (key left right : Word) → List Written → (first second : IdForm) →
+    Reading (range_form first second)
 range_reading key left right written first second = (key, (left, (right, (written, tt))))

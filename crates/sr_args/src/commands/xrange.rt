@@ -73,8 +73,12 @@ pub(crate) fn read_xrevrange(alloc: Global, words: Words<'_>) -> Result<Call, Ca
 
 /// The words of a range, whichever of its ids comes first, and what its options ask for.
 fn range_words(mut words: Words<'_>) -> Option<RangeWords<'_>>
-    ensures found { IfSome result (λ read. (written : List Written) × ((first second : IdForm) → Reads (range_form first second) words.entry (range_reading read.key.now read.first.now read.second.now written first second)) × AreJudged written read.judged) }
-    ensures none { IfNone result ((first second : IdForm) (reading : Reading (range_form first second)) → Reads (range_form first second) words.entry reading → ⊥) }
+    ensures found { IfSome result (λ read. (written : List Written) ×
+        ((first second : IdForm) → Reads (range_form first second) words.entry
+        (range_reading read.key.now read.first.now read.second.now written first second)) ×
+        AreJudged written read.judged) }
+    ensures none { IfNone result ((first second : IdForm) (reading : Reading (range_form first second)) →
+        Reads (range_form first second) words.entry reading → ⊥) }
 {
     let key = words.next()?;
     let first = words.next()?;
