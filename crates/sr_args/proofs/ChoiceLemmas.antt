@@ -1,22 +1,19 @@
 -- What options ask for: it is one, it has its numbers and ids, and numbers and ids give it.
-use Rattle.std.proofs.Common.{◌≡◌, ℕ, ℤ, List, [], ◌∷◌, ◌++◌, Option, Some, None, Result, Ok, Err, true, false, refl, sym, ap, ◌∙◌, append_assoc, subst, arith, to_z, of_z, w64, FitsSigned}
+use Rattle.std.proofs.Common.{◌≡◌, ℕ, ℤ, List, [], ◌∷◌, ◌++◌, Option, Some, None, Result, Ok, Err, refl, sym, ap, ◌∙◌, arith, to_z, of_z, w64, FitsSigned}
 use Rattle.std.specs.List.{flat_map}
 use Rattle.std.proofs.lemmas.Int.{ints, to_z-of_z}
-use Rattle.sr_ids.specs.declared.id.Id.{Id}
 use Rattle.sr_ids.proofs.SpellingLemmas.{SpellsId-one}
 use Rattle.sr_args.specs.declared.call.Trim.{Trim}
 use Rattle.sr_args.specs.declared.call.TrimBy.{TrimBy}
 use Rattle.sr_args.specs.declared.call.TrimBy.TheVariants as bounds
-use Rattle.sr_args.specs.declared.fault.CallFault.{CallFault}
 use Rattle.sr_args.specs.declared.name.Measure.{Measure}
 use Rattle.sr_args.specs.declared.name.Measure.TheVariants as measures
 use Rattle.sr_args.specs.declared.name.Sign.{Sign}
 use Rattle.sr_args.specs.declared.options.Choice.{Choice}
 use Rattle.sr_args.specs.declared.options.ValueFault.{ValueFault}
 use Rattle.sr_args.specs.declared.options.ValueFault.TheVariants as faults
-use Rattle.sr_args.specs.Name.{sign_text}
-use Rattle.sr_args.specs.Place.{Word, Place, HasNumber, HasId, HasNumbers, HasIds, any, option}
-use Rattle.sr_args.specs.Options.{TrimReading, Written, count, no_make, trimming, sign_places, bound_place, limit_places, first_name, operand_places, option_places, Chosen, nothing, IsBound, IsLimit, IsTrim, Sets, Choose}
+use Rattle.sr_args.specs.Place.{Word, Place, HasNumber, HasId, HasNumbers, HasIds}
+use Rattle.sr_args.specs.Options.{TrimReading, Written, count, no_make, trimming, sign_places, bound_place, limit_places, option_places, Chosen, nothing, IsBound, IsLimit, IsTrim, Sets, Choose}
 use Rattle.sr_args.specs.steps.Options.{AreJudged, IsJudged, GivesBound, GivesTrim, chosen_of, trim_operands}
 use Rattle.sr_args.specs.Number.{IsInt}
 use Rattle.sr_args.specs.Number.IsInt.{positive, negative}

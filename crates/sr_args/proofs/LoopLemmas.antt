@@ -1,19 +1,17 @@
 -- How the loop over options goes on: one option more, none that fits, one that is written twice, and the end.
-use Rattle.std.proofs.Common.{◌≡◌, ◌≢◌, ◌⊎◌, inl, inr, ℕ, zero, suc, ◌<◌, List, [], ◌∷◌, ◌++◌, length, get_or, map, Bool, true, false, All, Result, Ok, Err, refl, sym, ap, ◌∙◌, arith, append_assoc, append-nil, subst}
+use Rattle.std.proofs.Common.{◌≡◌, ◌≢◌, ◌⊎◌, inl, inr, ℕ, zero, suc, ◌<◌, List, [], ◌∷◌, ◌++◌, length, get_or, map, Bool, true, false, All, refl, sym, ap, ◌∙◌, arith, append_assoc, append-nil, subst}
 use Rattle.std.specs.List.{flat_map}
 use Rattle.std.proofs.Math.ListN.{set}
 use Rattle.std.proofs.lemmas.List.{get_or-set_same, get_or-set_other, length-set}
 use Rattle.std.proofs.lemmas.List.Elements.{All-nil, All-cons, All-append, All-tail}
 use Rattle.sr_args.specs.declared.name.OptionName.{OptionName}
-use Rattle.sr_args.specs.declared.options.Choice.{Choice}
 use Rattle.sr_args.specs.declared.options.OptionKind.{OptionKind}
 use Rattle.sr_args.specs.declared.options.OptionKind.TheVariants as kinds
 use Rattle.sr_args.specs.declared.options.OptionSet.{OptionSet}
-use Rattle.sr_args.specs.declared.options.ValueFault.{ValueFault}
 use Rattle.sr_args.specs.Name.{IsSameName, option_text}
 use Rattle.sr_args.specs.Place.{Word, Place, Fits, option}
-use Rattle.sr_args.specs.Options.{Written, first_name, operand_places, option_places, is_of, kind, IsOptionFit, IsIn, AreDistinct, AreOptionsFit, IsUnnamed, IsPast, nothing}
-use Rattle.sr_args.specs.steps.Options.{Begins, BeginsNone, IsOptionNamed, IsOptionEnd, GoesOn, BeginsOptions, BeginsNoOptions, EndsOptions, AreJudged, AreSeen, IsUnderway, chosen_of, index_of}
+use Rattle.sr_args.specs.Options.{Written, first_name, operand_places, option_places, is_of, kind, IsOptionFit, IsIn, AreDistinct, AreOptionsFit, IsUnnamed, IsPast}
+use Rattle.sr_args.specs.steps.Options.{Begins, BeginsNone, IsOptionNamed, IsOptionEnd, GoesOn, BeginsOptions, BeginsNoOptions, EndsOptions, AreSeen, index_of}
 use Rattle.sr_args.proofs.OptionLemmas.{name-one, then_places, then-cons, end-after, head-fit, head-of_set}
 
 -- kinds: each is in a list or not

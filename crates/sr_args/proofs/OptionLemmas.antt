@@ -1,31 +1,22 @@
 -- Options are read in one way, and what they ask for is one.
-use Rattle.std.proofs.Common.{◌≡◌, ◌≢◌, ◌⊎◌, inl, inr, ℕ, cond, List, [], ◌∷◌, ◌++◌, map, codes, Option, Some, None, Bool, true, false, All, refl, sym, ap, ◌∙◌, arith, append_assoc, append-nil, subst, pos}
-use Rattle.std.specs.Bool.{⊤}
+use Rattle.std.proofs.Common.{◌≡◌, ◌≢◌, ℕ, cond, List, [], ◌∷◌, ◌++◌, map, codes, Option, Some, None, true, All, refl, sym, ap, ◌∙◌, append_assoc, append-nil, subst}
 use Rattle.std.specs.Char.{to_ascii_lowercase}
 use Rattle.std.specs.List.{flat_map}
 use Rattle.std.specs.Str.{bytes_eq}
 use Rattle.std.proofs.lemmas.List.Elements.{All-head, All-tail}
 use Rattle.std.proofs.lemmas.Option.{same_Some}
-use Rattle.sr_ids.specs.declared.id.Id.{Id}
-use Rattle.sr_ids.proofs.SpellingLemmas.{SpellsId-one}
-use Rattle.sr_args.specs.declared.call.Trim.{Trim}
-use Rattle.sr_args.specs.declared.call.TrimBy.{TrimBy}
-use Rattle.sr_args.specs.declared.call.TrimBy.TheVariants as bounds
 use Rattle.sr_args.specs.declared.name.Measure.{Measure}
 use Rattle.sr_args.specs.declared.name.Measure.TheVariants as measures
 use Rattle.sr_args.specs.declared.name.OptionName.{OptionName}
 use Rattle.sr_args.specs.declared.name.OptionName.TheVariants.{Count, NoMkStream, MaxLen, MinId, Limit}
 use Rattle.sr_args.specs.declared.name.Sign.{Sign}
 use Rattle.sr_args.specs.declared.name.Sign.TheVariants.{Exact, Nearly}
-use Rattle.sr_args.specs.declared.options.OptionKind.{OptionKind}
 use Rattle.sr_args.specs.declared.options.OptionSet.{OptionSet}
 use Rattle.sr_args.specs.declared.options.OptionSet.TheVariants as sets
 use Rattle.sr_args.specs.Name.{IsSameName, measure_name, option_text, sign_text}
-use Rattle.sr_args.specs.Number.{IsInt, IsNat}
-use Rattle.sr_args.specs.Place.{Word, Place, Stands, Fits, HasNumbers, HasIds, option, any, numeric, spelled, IdForm}
-use Rattle.sr_args.specs.Options.{TrimReading, Written, count, no_make, trimming, sign_places, bound_place, limit_places, first_name, operand_places, option_places, is_of, kind, IsTrimFit, IsOptionFit, IsIn, AreDistinct, AreOptionsFit, IsUnnamed, IsPast, Chosen, nothing, IsBound, IsLimit, IsTrim, Sets, Choose}
+use Rattle.sr_args.specs.Place.{Word, Place, Stands, Fits, option, spelled, IdForm}
+use Rattle.sr_args.specs.Options.{TrimReading, Written, count, no_make, trimming, sign_places, bound_place, limit_places, first_name, operand_places, option_places, is_of, IsTrimFit, IsOptionFit, AreOptionsFit, IsUnnamed, IsPast}
 use Rattle.sr_args.specs.steps.Options.{IsUnlimited, IsSigned, IsOptionEnd}
-use Rattle.sr_args.proofs.NumberLemmas.{IsInt-one, IsNat-one}
 
 -- the option with this name in small letters
 abbrev option_at : List ℕ → Option OptionName

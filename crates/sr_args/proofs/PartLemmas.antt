@@ -1,14 +1,11 @@
 -- The parts of an option, as they are read one after the other.
-use Rattle.std.proofs.Common.{◌≡◌, ◌≢◌, List, [], ◌∷◌, ◌++◌, Option, Some, None, refl, sym, ap, subst}
+use Rattle.std.proofs.Common.{◌≡◌, List, [], ◌++◌, Option, Some, None, refl, sym, ap, subst}
 use Rattle.sr_args.specs.declared.name.Measure.{Measure}
-use Rattle.sr_args.specs.declared.name.OptionName.{OptionName}
-use Rattle.sr_args.specs.declared.name.OptionName.TheVariants.{Count, NoMkStream, Limit}
 use Rattle.sr_args.specs.declared.name.Sign.{Sign}
-use Rattle.sr_args.specs.Name.{measure_name}
 use Rattle.sr_args.specs.Place.{Word, Place, Fits}
-use Rattle.sr_args.specs.Options.{TrimReading, Written, count, no_make, trimming, limit_places, first_name, operand_places}
-use Rattle.sr_args.specs.steps.Options.{Begins, BeginsNone, IsAny, IsSigned, IsLimitOf, IsUnlimitedAfter, IsTrimBy, IsTrimEnd, IsOptionNamed, IsOptionEnd, signed_places, trim_operands}
-use Rattle.sr_args.proofs.OptionLemmas.{count-no_trim, no_make-no_trim, first_name-no_limit, measure_name-one, same_trim, trim_with}
+use Rattle.sr_args.specs.Options.{TrimReading, limit_places}
+use Rattle.sr_args.specs.steps.Options.{Begins, BeginsNone, IsAny, IsSigned, IsLimitOf, IsUnlimitedAfter, IsTrimBy, IsTrimEnd, signed_places, trim_operands}
+use Rattle.sr_args.proofs.OptionLemmas.{same_trim, trim_with}
 
 -- a trim is a signed bound and a limit
 parts : (by : Measure) (sign : Option Sign) (bound : Word) (limit : Option Word) (places : List Place) → trim_operands (trim_with by sign bound limit) ++ places ≡ signed_places by (sign, bound) ++ (limit_places limit ++ places)

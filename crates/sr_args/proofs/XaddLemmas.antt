@@ -1,5 +1,5 @@
 -- The words of XADD once its options are read.
-use Rattle.std.proofs.Common.{◌≡◌, ◌≢◌, ℕ, ◌*◌, ◌%◌, ◌/◌, ◌-◌, suc, zero, List, [], ◌∷◌, ◌++◌, length, Result, Ok, Err, refl, sym, arith, subst}
+use Rattle.std.proofs.Common.{◌≡◌, ◌≢◌, ℕ, ◌*◌, ◌%◌, ◌/◌, ◌-◌, suc, zero, List, [], ◌∷◌, length, Err, refl, sym, arith, subst}
 use Rattle.std.specs.List.{flat_map}
 use Rattle.sr_ids.specs.declared.spec.Spec.{Spec}
 use Rattle.sr_ids.specs.Spec.{IsSpec}
@@ -8,7 +8,7 @@ use Rattle.sr_args.specs.declared.options.Choice.{Choice}
 use Rattle.sr_args.specs.declared.options.OptionSet.TheVariants as sets
 use Rattle.sr_args.specs.declared.options.ValueFault.{ValueFault}
 use Rattle.sr_args.specs.declared.options.ValueFault.TheVariants as faults
-use Rattle.sr_args.specs.Place.{Word, Place, Fits, HasNumbers, HasIds, spelled, new_id}
+use Rattle.sr_args.specs.Place.{Word, Fits, HasNumbers, HasIds, spelled, new_id}
 use Rattle.sr_args.specs.Form.{Reading, Reads, pair_places, places}
 use Rattle.sr_args.specs.Options.{Written, option_places, nothing, Choose}
 use Rattle.sr_args.specs.commands.Xadd.{form, call}

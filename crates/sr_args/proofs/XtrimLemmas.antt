@@ -6,7 +6,7 @@ use Rattle.sr_args.specs.declared.name.Measure.{Measure}
 use Rattle.sr_args.specs.Name.{IsSameName, measure_name, option_text}
 use Rattle.sr_args.specs.Place.{Word, Place, Fits, option}
 use Rattle.sr_args.specs.Form.{Reading, Reads, places}
-use Rattle.sr_args.specs.Options.{TrimReading, trimming, operand_places, IsTrim, IsTrimFit}
+use Rattle.sr_args.specs.Options.{TrimReading, IsTrim}
 use Rattle.sr_args.specs.commands.Xtrim.{form, call}
 use Rattle.sr_args.specs.steps.Gives.{GivesCall}
 use Rattle.sr_args.specs.steps.Options.{Begins, BeginsNone, IsTrimBy, IsTrimEnd, IsUnlimited, trim_operands}

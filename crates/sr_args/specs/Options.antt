@@ -3,7 +3,6 @@
 
 use Rattle.std.specs.Prelude.{◌≡◌, ◌≢◌, ◌⊎◌, ℕ, ℤ, List, [], ◌∷◌, ◌++◌, map}
 use Rattle.std.specs.Prelude.{Option, Some, None, Bool, true, false, All, ⊤}
-use Rattle.std.specs.List.{flat_map}
 use Rattle.sr_ids.specs.Spelling.{SpellsId}
 use Rattle.sr_args.specs.declared.call.Trim.{Trim}
 use Rattle.sr_args.specs.declared.call.TrimBy.{TrimBy}

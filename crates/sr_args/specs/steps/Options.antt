@@ -23,12 +23,12 @@ use Rattle.sr_args.specs.declared.options.OptionKind.TheVariants as kinds
 use Rattle.sr_args.specs.declared.options.OptionSet.{OptionSet}
 use Rattle.sr_args.specs.declared.name.Sign.{Sign}
 use Rattle.sr_args.specs.declared.name.Sign.TheVariants.{Nearly}
-use Rattle.sr_args.specs.Name.{IsSameName, measure_name, option_text, sign_text}
-use Rattle.sr_args.specs.Place.{Word, Place, Fits, HasNumber, HasNumbers, HasId, HasIds, any}
+use Rattle.sr_args.specs.Name.{IsSameName, option_text, sign_text}
+use Rattle.sr_args.specs.Place.{Word, Place, Fits, HasNumber, HasNumbers, HasId, HasIds}
 use Rattle.sr_args.specs.Options.{TrimReading, Written, count, no_make, trimming, operand_places, sign_places}
-use Rattle.sr_args.specs.Options.{bound_place, limit_places, option_places, first_name, is_of, kind, IsIn}
+use Rattle.sr_args.specs.Options.{bound_place, option_places, first_name, kind, IsIn}
 use Rattle.sr_args.specs.Options.{IsTrimFit, IsOptionFit, AreOptionsFit, IsUnnamed, IsPast, Chosen, Choose, Sets}
-use Rattle.sr_args.specs.Options.{IsBound, IsLimit, IsTrim, nothing}
+use Rattle.sr_args.specs.Options.{IsBound, IsTrim, nothing}
 
 -- the words begin with a part: they fit its places with any after them, if the rest fits those; and before places that
 -- may follow they fit no other part

@@ -1,7 +1,7 @@
-use Rattle.std.proofs.Common.{◌≡◌, Result, Ok, Err, refl}
+use Rattle.std.proofs.Common.{Ok, Err, refl}
 use Rattle.std.proofs.lemmas.Result.{err_from_is_err_and}
 use Rattle.sr_args.specs.declared.call.Call.TheVariants.{Xadd}
-use Rattle.sr_args.specs.steps.Options.{AreJudged, chosen_of}
+use Rattle.sr_args.specs.steps.Options.{AreJudged}
 use Rattle.sr_args.specs.steps.Pairs.{pairs_of}
 use Rattle.sr_args.proofs.XaddLemmas.{Gives-from_options, xadd-bad_id, xadd-gives}
 use Rattle.sr_args.proofs.commands.xadd.read_xadd.Goals as goal

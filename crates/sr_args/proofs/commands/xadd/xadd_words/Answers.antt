@@ -1,4 +1,4 @@
-use Rattle.std.proofs.Common.{◌≡◌, ◌*◌, ◌-◌, ◌/◌, suc, [], length, ◌∙◌, sym, ap, arith}
+use Rattle.std.proofs.Common.{◌≡◌, ◌-◌, ◌/◌, [], length, ◌∙◌, sym, ap, arith}
 use Rattle.std.proofs.lemmas.Bool.{false≢true}
 use Rattle.sr_args.proofs.XaddLemmas.{xadd-rest, fields-paired, even-some, xadd-reads}
 use Rattle.sr_args.proofs.commands.xadd.xadd_words.Goals as goal
