@@ -1,5 +1,5 @@
 -- Words have one right answer: each fault is of words that come less far on their way to a call.
-use Rattle.std.proofs.Common.{◌≡◌, ◌≢◌, ℕ, ◌<◌, List, ◌∷◌, length, Result, Ok, Err, inl, inr, ◌⊎◌, refl, sym, ap, subst, arith}
+use Rattle.std.proofs.Common.{◌≡◌, ◌≢◌, ℕ, ◌<◌, List, Result, Ok, Err, inl, inr, ◌⊎◌, refl, sym, ap, subst, arith}
 use Rattle.sr_args.specs.declared.table.CommandName.{CommandName}
 use Rattle.sr_args.specs.declared.call.Call.{Call}
 use Rattle.sr_args.specs.declared.call.Command.{Command}
@@ -7,9 +7,9 @@ use Rattle.sr_args.specs.declared.call.Command.TheVariants as command
 use Rattle.sr_args.specs.declared.fault.CallFault.{CallFault}
 use Rattle.sr_args.specs.declared.fault.CallFault.TheVariants.{Unknown, Arity, Syntax, Number, BadId, Memory}
 use Rattle.sr_args.specs.Place.{Word, HasNumbers, HasIds}
-use Rattle.sr_args.specs.Table.{IsNamed, IsHalfNamed, IsCounted}
-use Rattle.sr_args.specs.Form.{Form, Reading, Values, places, Reads, Means}
-use Rattle.sr_args.specs.Command.{form_of, call_of, IsWellCounted, IsRead, places_of, IsCall, IsCommandNamed, IsCommandCounted, IsMiscounted, Refuses, Answers}
+use Rattle.sr_args.specs.Table.{IsHalfNamed}
+use Rattle.sr_args.specs.Form.{Reading, Values, places, Reads, Means}
+use Rattle.sr_args.specs.Command.{form_of, call_of, IsWellCounted, IsRead, places_of, IsCall, IsCommandNamed, IsCommandCounted, Refuses, Answers}
 use Rattle.sr_args.specs.steps.Gives.{GivesCall, Gives}
 use Rattle.sr_args.proofs.FormLemmas.{Reads-one, Means-one, HasNumbers-from_means, HasIds-from_means}
 use Rattle.sr_args.proofs.NameLemmas.{IsNamed-one, operands-one, IsCut-unnamed}

@@ -1,13 +1,11 @@
 -- Words fit a form with one reading, and a reading has one meaning.
-use Rattle.std.proofs.Common.{◌≡◌, ◌≢◌, ℕ, ℤ, List, [], ◌∷◌, ◌++◌, map, Option, Some, None, refl, sym, ap, ◌∙◌}
+use Rattle.std.proofs.Common.{◌≡◌, List, [], ◌∷◌, map, Option, Some, None, refl, sym, ap, ◌∙◌}
 use Rattle.std.specs.List.{flat_map}
-use Rattle.sr_ids.specs.declared.id.Id.{Id}
-use Rattle.sr_ids.specs.declared.spec.Spec.{Spec}
 use Rattle.sr_ids.proofs.SpellingLemmas.{SpellsId-one}
 use Rattle.sr_ids.proofs.SpecLemmas.{IsSpec-one}
 use Rattle.sr_ids.proofs.StartLemmas.{IsStart-one}
 use Rattle.sr_ids.proofs.EndLemmas.{IsEnd-one}
-use Rattle.sr_args.specs.Options.{Written, nothing, option_places, Choose}
+use Rattle.sr_args.specs.Options.{nothing, option_places}
 use Rattle.sr_args.specs.Place.{Word, IdForm, strict_id, range_start, range_end, new_id, IdOf, Spells, Fits, HasNumbers, HasIds, spelled}
 use Rattle.sr_args.specs.Form.{Form, end, text, id, optional_text, ids, pairs, options, trim, Reading, Values, places, pair_places, IsFit, Reads, AreIds, Means}
 use Rattle.sr_args.proofs.ChoiceLemmas.{HasNumbers-append, HasIds-append, Choose-one, Choose-numbers, Choose-ids, IsTrim-one, trim-numbers, trim-ids}

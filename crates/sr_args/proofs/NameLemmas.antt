@@ -1,5 +1,5 @@
 -- Words name one command at most, and a name cut short is not the name of another command.
-use Rattle.std.proofs.Common.{◌≡◌, ◌≢◌, ℕ, ◌+◌, ◌<◌, zero, suc, Bool, cond, true, false, List, [], ◌∷◌, ◌++◌, length, take, get_or, map, Option, Some, None, refl, sym, ap, ◌∙◌, append_assoc, append-nil, length-append, arith}
+use Rattle.std.proofs.Common.{◌≡◌, ℕ, ◌+◌, ◌<◌, Bool, cond, true, false, List, [], ◌∷◌, ◌++◌, length, take, get_or, map, Option, Some, None, refl, sym, ap, ◌∙◌, append_assoc, append-nil, length-append, arith}
 use Rattle.std.proofs.lemmas.Option.{same_Some}
 use Rattle.std.proofs.lemmas.List.{take_more}
 use Rattle.std.specs.Char.{to_ascii_lowercase}
@@ -10,7 +10,7 @@ use Rattle.sr_args.specs.declared.table.Found.{Found}
 use Rattle.sr_args.specs.declared.table.Found.TheVariants as found
 use Rattle.sr_args.specs.declared.table.TheConstants.{COMMANDS}
 use Rattle.sr_args.specs.Place.{Word}
-use Rattle.sr_args.specs.Table.{Row, row_of, Begins, IsCut, IsNamed, IsHalfNamed}
+use Rattle.sr_args.specs.Table.{Row, row_of, Begins, IsCut, IsNamed}
 use Rattle.sr_args.specs.steps.Names.{IsOther, AreOther, IsFound, IsFoundAmong}
 
 -- words in small letters

@@ -1,5 +1,5 @@
 -- Numbers among the words of a command: how the code reads them, and that no word is read to two.
-use Rattle.std.proofs.Common.{◌≡◌, ℕ, List, ◌∷◌, ◌++◌, codes, Option, Some, None, IfSome, Result, Ok, Err, ℤ, pos, neg_ℤ, ◌-ℤ◌, refl, sym, ap, ◌∙◌, arith, w64, FitsSigned}
+use Rattle.std.proofs.Common.{◌≡◌, ℕ, List, ◌∷◌, ◌++◌, codes, Option, Some, None, IfSome, Result, Ok, Err, ℤ, pos, neg_ℤ, ◌-ℤ◌, sym, ap, ◌∙◌, arith, w64, FitsSigned}
 use Rattle.std.specs.Option.{SomeIff}
 use Rattle.std.specs.Result.{OkIff, result_ok}
 use Rattle.std.proofs.lemmas.Int.{ints}

@@ -1,5 +1,5 @@
 -- What XRANGE and XREVRANGE answer, over the words of a range with its ids in either order.
-use Rattle.std.proofs.Common.{◌≡◌, List, [], ◌∷◌, ◌++◌, refl, Ok, Err}
+use Rattle.std.proofs.Common.{◌≡◌, List, [], ◌∷◌, refl, Ok, Err}
 use Rattle.std.specs.List.{flat_map}
 use Rattle.sr_args.specs.declared.call.Call.{Call}
 use Rattle.sr_args.specs.declared.options.Choice.{Choice}

@@ -1,7 +1,7 @@
 -- What the reader of a command answers to the words after the command's name. No public clause cites this module.
 -- Source: Redis documentation, the page of each command.
 
-use Rattle.std.specs.Prelude.{◌≡◌, List, [], ◌∷◌, Result, Ok, Err}
+use Rattle.std.specs.Prelude.{◌≡◌, List, Result, Ok, Err}
 use Rattle.sr_args.specs.declared.call.Call.{Call}
 use Rattle.sr_args.specs.declared.fault.CallFault.{CallFault}
 use Rattle.sr_args.specs.declared.fault.CallFault.TheVariants as faults

@@ -1,6 +1,6 @@
 -- How the words of a request meet the names of the table. No public clause cites this module.
 
-use Rattle.std.specs.Prelude.{◌≡◌, List, [], ◌∷◌, option_to_list}
+use Rattle.std.specs.Prelude.{List, [], ◌∷◌, option_to_list}
 use Rattle.std.specs.Option.{option_copied}
 use Rattle.sr_args.specs.declared.table.CommandName.{CommandName}
 use Rattle.sr_args.specs.declared.table.Row as declared

@@ -1,4 +1,4 @@
-use Rattle.std.proofs.Common.{◌≡◌, length, Ok, Err, rules}
+use Rattle.std.proofs.Common.{length, Ok, Err, rules}
 use Rattle.std.proofs.lemmas.Result.{err_from_is_err_and}
 use Rattle.sr_args.specs.declared.call.Command.TheVariants.{Call}
 use Rattle.sr_args.specs.Table.{IsCounted, IsNamed}
