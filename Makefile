@@ -1,21 +1,28 @@
-# The set-up is the Rattle toolchain, whose command is `rt`, and nothing else.
+# All that is needed is the Rattle toolchain, whose command is `rt`, and the python3 that it runs on.
 
-.PHONY: run test check memory compare bench bench-solver
+.PHONY: run test replay check memory compare bench bench-solver
 
-# Builds the server and answers the requests of the first example.
+# Builds the server and sends it the commands of examples/first.session as a client spells them.
 run:
-	@cd crates/sr_server && rt run -- --stdio < ../../examples/first.resp
+	@cd crates/sr_server && rt run -- --stdio < stdin
 
-# The whole gate: every proof from nothing, the must-fail edits, the tests and the program's stored run.
+# The whole gate: every proof from nothing, the must-fail edits, the tests and the program's stored run. Then the program that
+# was proved replays the sessions of the README and of examples/.
 test:
 	rt ci
+	@scripts/replay crates/sr_server/out/sr_server README.md examples/*.session
+
+# The sessions alone.
+replay:
+	@cd crates/sr_server && rt run -- --stdio < /dev/null
+	@scripts/replay crates/sr_server/out/sr_server README.md examples/*.session
 
 # One crate while it is written: make check C=sr_ids
 check:
 	cd crates/$(C) && rt check
 
-# Runs the tests of a crate N times, with its first allocation refused, its second and so on, and prints what then fails by
-# anything else than that refusal: make memory C=sr_solver N=60
+# Runs the tests of a crate N times, with its first allocation refused, then its second and so on, and prints each test that
+# then fails for any other reason: make memory C=sr_solver N=60
 memory:
 	@cd crates/$(C) && for n in $$(seq $(N)); do \
 	    rt try --test --fail-alloc $$n 2>&1 | awk -v n=$$n ' \
@@ -26,18 +33,18 @@ memory:
 	        END { exit bad || !ended }' || exit 1; \
 	done
 
-# Builds the server, sends it and a Redis server (Debian: redis-server) the same random commands, and prints the replies that differ.
+# Builds the server, sends it and a Redis server (Debian: redis-server) the same random commands, and prints replies that differ.
 compare:
 	@cd crates/sr_server && rt run -- --stdio < /dev/null
 	@python3 bench/compare.py crates/sr_server/out/sr_server
 
-# Builds the server and times it on streams of requests over a pipe, as docs/BENCH.md tells. It needs python3, as rt does.
+# Builds the server and times it on streams of requests over a pipe, as docs/BENCH.md describes.
 bench:
 	@cd crates/sr_server && rt run -- --stdio < /dev/null
 	@python3 bench/streams.py crates/sr_server/out/sr_server
 
-# Times the solver on the families of problems of docs/BENCH.md, and, where its headers are installed, LEMON's network simplex
-# on the same problems.
+# Times the solver on the families of problems of docs/BENCH.md and, if its headers are installed, LEMON's network simplex on
+# the same problems.
 bench-solver:
 	@cd crates/bench_solver && rt run -- run
 	@if echo "#include <lemon/network_simplex.h>" | $(CXX) -E -x c++ - > /dev/null 2>&1; then \
