@@ -4,7 +4,7 @@
 use Rattle.std.specs.Prelude.{◌≡◌, ℕ, ◌<◌, ◌≤◌, List, length}
 use Rattle.std.specs.Str.Parse.{AllDigits, digits_value}
 
--- digits write n: there is at least one and at most so many, each is a digit, and their value is n
+-- digits write n: there is at least one and at most `most`, each is a digit, and their value is n
 pub record IsDecimal (most : ℕ) (digits : List ℕ) (n : ℕ) : Type 0 where
   pub some : 0 < length digits
   pub few : length digits ≤ most

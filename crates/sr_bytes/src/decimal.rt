@@ -3,7 +3,7 @@ ghost use Rattle.sr_bytes.specs.Decimal.{IsDecimal};
 
 /// The number that these bytes write in 1 to `most` decimal digits, leading zeros allowed.
 ///
-/// `None` where they are no such digits, and where the number does not fit 64 bits.
+/// `None` if the bytes are not such digits, or if the number does not fit 64 bits.
 pub fn read_decimal(digits: &[u8], most: usize) -> Option<u64>
     ensures found { IfSome result (IsDecimal most digits.now) }
     ensures none { IfNone result ((n : ℕ) → n < 2 ^ 64 → IsDecimal most digits.now n → ⊥) }

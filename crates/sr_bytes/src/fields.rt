@@ -21,21 +21,21 @@ impl Model for Fields {
 }
 
 impl Fields {
-    /// These pairs of a field and its value. It takes no memory.
+    /// Fields made of these pairs. Takes no memory.
     pub fn new(pairs: Vec<(Name, Name)>) -> Fields
         ensures { result ≡ pairs.items }
     {
         Fields { pairs }
     }
 
-    /// The pairs of a field and its value.
+    /// The pairs, each a field and its value.
     pub fn as_slice(&self) -> &[(Name, Name)]
         ensures { result.now ≡ self.now }
     {
         self.pairs.as_slice()
     }
 
-    /// A second list of the same fields and values.
+    /// A copy with the same fields and values.
     pub fn copy(&self, alloc: Global) -> Result<Fields, AllocError>
         ensures { IfOk result (λ f. f ≡ self.now) }
     {

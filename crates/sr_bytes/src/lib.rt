@@ -1,5 +1,4 @@
-//! What every crate of the server shares: byte strings, fields with their values, and numbers written in
-//! decimal digits.
+//! What every crate of the server shares: byte strings, fields with their values, and decimal numbers.
 #![tactic(auto)]
 
 mod decimal;

@@ -25,7 +25,7 @@ impl Model for Name {
 }
 
 impl Name {
-    /// The byte string of these bytes. It takes no memory.
+    /// A byte string of these bytes. Takes no memory.
     pub fn new(bytes: Vec<u8>) -> Name
         ensures { result ≡ bytes.items }
     {
@@ -39,7 +39,7 @@ impl Name {
         self.bytes.as_slice()
     }
 
-    /// Its bytes, given back without taking memory.
+    /// Gives its bytes back. Takes no memory.
     pub fn into_vec(self) -> Vec<u8>
         ensures { result.items ≡ self }
     {
@@ -47,14 +47,14 @@ impl Name {
         bytes
     }
 
-    /// How many bytes it has.
+    /// Its length in bytes.
     pub fn len(&self) -> usize
         ensures { result ≡ length self.now }
     {
         self.bytes.len()
     }
 
-    /// A second string of the same bytes.
+    /// A copy with the same bytes.
     pub fn copy(&self, alloc: Global) -> Result<Name, AllocError>
         ensures { IfOk result (λ n. n ≡ self.now) }
     {

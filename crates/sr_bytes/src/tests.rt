@@ -1,4 +1,4 @@
-//! Digits beside their numbers, and byte strings and fields made, copied and given back.
+//! What no clause says: which digits write which numbers, and that names and fields can be made and copied.
 use crate::{Fields, Name, read_decimal};
 use std::alloc::{AllocError, Global};
 use std::collections::HashMap;
@@ -72,8 +72,8 @@ fn names_are_keys(rt: HostRuntime) -> Result<(), Fail> {
     Ok(())
 }
 
-// `rt try --test --fail-alloc N` with N from 5 to 8 refuses each allocation of the copy in turn: the test then fails by
-// that refusal alone, since the fields are looked at before it.
+// With N from 5 to 8, `rt try --test --fail-alloc N` refuses each allocation of the copy in turn. Then the test fails
+// only by that refusal, since it checks the fields first.
 #[test]
 fn copies_hold_the_same(rt: HostRuntime) -> Result<(), Fail> {
     let alloc = rt.alloc();

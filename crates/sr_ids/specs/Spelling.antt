@@ -15,7 +15,7 @@ pub record IsWhole (text : List ℕ) (id : Id) : Type 0 where
   pub seq : IsDecimal 20 behind id.seq
   pub spelled : text ≡ before ++ codes "-" ++ behind
 
--- "5": the milliseconds alone, where a missing sequence number stands for this one
+-- "5": the milliseconds alone; the sequence number is then this one
 pub record IsShort (missing : ℕ) (text : List ℕ) (id : Id) : Type 0 where
   pub ms : IsDecimal 20 text id.ms
   pub seq : id.seq ≡ missing
@@ -25,21 +25,23 @@ pub record SpellsId (missing : ℕ) (text : List ℕ) (id : Id) : Type 0 where
   pub valid : IsId id
   pub written : IsWhole text id ⊎ IsShort missing text id
 
--- the text says from where a range starts: at the least id, at the greatest, at the id that it spells, or behind
--- a "(" at the id after that one
+-- as the start of a range, the text is this id: "-" is the least id, "+" the greatest, a spelling its id, and "("
+-- before a spelling the id after that one
 pub data IsStart (text : List ℕ) (id : Id) : Type 0 where
   at_least : text ≡ codes "-" → id ≡ least_id → IsStart text id
   at_greatest : text ≡ codes "+" → id ≡ greatest_id → IsStart text id
   at_written : SpellsId 0 text id → IsStart text id
-  after_written : (digits : List ℕ) (written : Id) → text ≡ codes "(" ++ digits → SpellsId 0 digits written → IsNext written id → IsStart text id
+  after_written : (digits : List ℕ) (written : Id) → text ≡ codes "(" ++ digits → SpellsId 0 digits written
+      → IsNext written id → IsStart text id
 
--- the text says at which id a range ends, as for its start, where a missing sequence number stands for the
--- greatest, and behind a "(" at the id before the one that is spelled
+-- as the end of a range, the text is this id: like a start, but a missing sequence number is the greatest, and "("
+-- before a spelling is the id before that one
 pub data IsEnd (text : List ℕ) (id : Id) : Type 0 where
   at_least : text ≡ codes "-" → id ≡ least_id → IsEnd text id
   at_greatest : text ≡ codes "+" → id ≡ greatest_id → IsEnd text id
   at_written : SpellsId 0xffff_ffff_ffff_ffff text id → IsEnd text id
-  before_written : (digits : List ℕ) (written : Id) → text ≡ codes "(" ++ digits → SpellsId 0xffff_ffff_ffff_ffff digits written → IsId id → IsNext id written → IsEnd text id
+  before_written : (digits : List ℕ) (written : Id) → text ≡ codes "(" ++ digits
+      → SpellsId 0xffff_ffff_ffff_ffff digits written → IsId id → IsNext id written → IsEnd text id
 
 -- the one spelling of an id in replies: no leading zeros, and both parts
 abbrev pub spelling : Id → List ℕ

@@ -19,7 +19,7 @@ impl Model for Ids {
 }
 
 impl Ids {
-    /// These ids. It takes no memory.
+    /// A list of these ids. Takes no memory.
     pub fn new(list: Vec<Id>) -> Ids
         ensures { result ≡ list.items }
     {

@@ -1,4 +1,4 @@
-//! Entry ids: read from the words of a command, given to new entries, and written as the replies spell them.
+//! Entry ids: parsed from the words of a command, generated for new entries, and printed as in replies.
 #![tactic(auto)]
 
 mod id;

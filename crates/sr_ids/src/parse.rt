@@ -43,9 +43,9 @@ pub fn parse_spec(text: &[u8]) -> Option<Spec>
     }
 }
 
-/// The first id of the range that starts here: `-`, `+`, an id, or `(` before an id, which it leaves out.
+/// The first id of the range that starts at this word: `-`, `+`, an id, or `(` and an id that the range leaves out.
 ///
-/// `(` before the greatest id is no start, nor is `(` before `-` or `+`.
+/// `(` and the greatest id is not a start, and neither is `(-` or `(+`.
 ///
 /// Source: Redis documentation, command XRANGE.
 pub fn parse_start(text: &[u8]) -> Option<Id>
@@ -60,10 +60,9 @@ pub fn parse_start(text: &[u8]) -> Option<Id>
     }
 }
 
-/// The last id of the range that ends here: `-`, `+`, an id, or `(` before an id, which it leaves out.
+/// The last id of the range that ends at this word: `-`, `+`, an id, or `(` and an id that the range leaves out.
 ///
-/// `ms` alone stands for the last id of that millisecond. `(` before 0-0 is no end, nor is `(` before `-` or
-/// `+`.
+/// `ms` alone means the last id of that millisecond. `(` and 0-0 is not an end, and neither is `(-` or `(+`.
 ///
 /// Source: Redis documentation, command XRANGE.
 pub fn parse_end(text: &[u8]) -> Option<Id>
@@ -78,7 +77,7 @@ pub fn parse_end(text: &[u8]) -> Option<Id>
     }
 }
 
-/// The id that digits spell, where a missing sequence number stands for `missing`.
+/// The id that the text spells. A missing sequence number is `missing`.
 fn parse_written(text: &[u8], missing: u64) -> Option<Id>
     ensures found { IfSome result (SpellsId missing text.now) }
     ensures none { IfNone result ((id : ids.Id) → SpellsId missing text.now id → ⊥) }
@@ -96,7 +95,8 @@ fn parse_written(text: &[u8], missing: u64) -> Option<Id>
     }
 }
 
-/// No text is read to two ids: neither as a word, nor as the start of a range or its end. Nor does it ask for two.
+/// Law: a text spells at most one id, and has at most one meaning as a start, as an end and in XADD. Calling this has
+/// no effect.
 pub fn one_reading()
     ensures written { (missing : ℕ) (text : List ℕ) (a b : ids.Id) →
         SpellsId missing text a → SpellsId missing text b → a ≡ b }

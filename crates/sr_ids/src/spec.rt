@@ -1,14 +1,14 @@
 use crate::Id;
 
-/// The id that an entry shall have when it is added.
+/// Which id is asked for when an entry is added.
 ///
 /// Source: Redis documentation, command XADD, "Specifying a Stream ID as an argument".
 #[derive(Clone, Copy, Debug, PartialEq, Eq)]
 pub enum Spec {
-    /// `*`: one that the server chooses by its clock.
+    /// `*`: an id that the server chooses by its clock.
     Auto,
-    /// `ms-*`: the next one in this millisecond.
+    /// `ms-*`: the next id in this millisecond.
     Ms(u64),
-    /// This one.
+    /// `ms-seq`, or `ms` alone: this id.
     Written(Id),
 }

@@ -1,4 +1,4 @@
-//! Spellings beside the ids that they are read as, ids beside their spellings, and ids beside the next ones.
+//! What no clause says: which words parse to which ids, how ids are printed, and which id is next.
 use crate::{
     Id, IdFault, Spec, next_auto, next_in, parse_end, parse_spec, parse_start, parse_strict, succ,
     write_id,

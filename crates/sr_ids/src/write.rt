@@ -4,9 +4,9 @@ ghost use Rattle.sr_ids.specs.Spelling.{SpellsId, spelling};
 use crate::Id;
 use itoa::Buffer;
 
-/// Writes the spelling of an id at the front of `out`, and answers how many bytes it has.
+/// Writes the spelling of an id to the front of `out`, and returns its length.
 ///
-/// It is the one spelling without leading zeros, as replies have it, and `parse_strict` reads it back.
+/// Replies use this spelling: both parts, and no leading zeros. `parse_strict` reads it back.
 ///
 /// Source: Redis documentation, "Streams", section "Entry IDs".
 pub fn write_id(id: Id, out: &mut [u8; 41]) -> usize
