@@ -1,6 +1,6 @@
 -- The texts of simple strings and of errors.
 -- Source: RESP2 protocol specification, "Simple strings" and "Simple errors"; Redis documentation, command PING and the
--- pages of the X* commands. The words behind ERR, NOGROUP and BUSYGROUP, and the codes OOM, STALE and TOOMANY, are this
+-- pages of the X* commands. The words after ERR, NOGROUP and BUSYGROUP, and the codes OOM, STALE and TOOMANY, are this
 -- server's own.
 
 use Rattle.std.specs.Prelude.{ℕ, List, codes}

@@ -14,12 +14,12 @@ use Rattle.sr_resp.specs.Code.{word_text, error_text}
 abbrev pub Answer : Type 0
 Answer = List Part
 
--- how many replies a part asks for behind it: an array its items, any other none
+-- how many replies have to follow a part: the items of an array, and none after any other part
 abbrev pub items_of : Part → ℕ
 items_of (Array items) = items
 items_of _ = 0
 
--- the parts are so many replies, one after another, and each array has its items
+-- the parts are this many replies, one after another, and each array has its items
 abbrev pub AreReplies : ℕ → List Part → Type 0
 AreReplies n [] = n ≡ 0
 AreReplies zero (part ∷ parts) = ⊥

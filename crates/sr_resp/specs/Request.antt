@@ -13,19 +13,20 @@ Words = List (List ℕ)
 abbrev pub header : List ℕ → List ℕ → List ℕ
 header mark digits = mark ++ digits ++ line_end
 
--- a word: how many bytes it has, at most 1,048,576, and the bytes
+-- a word: the number of its bytes, at most 1,048,576, and the bytes
 pub record IsWord (text word : List ℕ) : Type 0 where
   pub digits : List ℕ
   pub number : IsDecimal 10 digits (length word)
   pub short : length word ≤ 1048576
   pub spelled : text ≡ header (codes "$") digits ++ word ++ line_end
 
--- words, one behind the other
+-- words, one after another
 abbrev pub AreWords : List ℕ → Words → Type 0
 AreWords text [] = text ≡ []
-AreWords text (word ∷ words) = (front : List ℕ) × (behind : List ℕ) × IsWord front word × AreWords behind words × (text ≡ front ++ behind)
+AreWords text (word ∷ words) =
+    (front : List ℕ) × (behind : List ℕ) × IsWord front word × AreWords behind words × (text ≡ front ++ behind)
 
--- a request: how many words it has, from 1 to 4,096, and the words, with at most 16,777,216 bytes in all
+-- a request: the number of its words, from 1 to 4,096, and the words, which have at most 16,777,216 bytes in all
 pub record IsRequest (text : List ℕ) (words : Words) : Type 0 where
   pub digits : List ℕ
   pub body : List ℕ
@@ -36,13 +37,13 @@ pub record IsRequest (text : List ℕ) (words : Words) : Type 0 where
   pub each : AreWords body words
   pub spelled : text ≡ header (codes "*") digits ++ body
 
--- an array of no words, which is no command and gets no reply
+-- an empty command: an array without words, which gets no reply
 pub record IsEmpty (text : List ℕ) : Type 0 where
   pub digits : List ℕ
   pub number : IsDecimal 10 digits 0 ⊎ (digits ≡ codes "-1")
   pub spelled : text ≡ header (codes "*") digits
 
--- the text spells a request, or no command
+-- the text spells a request, or an empty command
 abbrev pub Spells : List ℕ → Option Words → Type 0
 Spells text (Some words) = IsRequest text words
 Spells text None = IsEmpty text

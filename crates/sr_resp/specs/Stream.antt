@@ -4,10 +4,11 @@
 use Rattle.std.specs.Prelude.{◌≡◌, ◌≢◌, ℕ, List, [], ◌∷◌, ◌++◌, Option, Some, None, Bool, MatchBool}
 use Rattle.sr_resp.specs.Request.{Words, Spells}
 
--- the text is the spellings of these requests and empty commands, one behind the other
+-- the text is the spellings of these requests and empty commands, one after another
 abbrev pub AreSpelled : List ℕ → List (Option Words) → Type 0
 AreSpelled text [] = text ≡ []
-AreSpelled text (item ∷ items) = (front : List ℕ) × (behind : List ℕ) × Spells front item × AreSpelled behind items × (text ≡ front ++ behind)
+AreSpelled text (item ∷ items) =
+    (front : List ℕ) × (behind : List ℕ) × Spells front item × AreSpelled behind items × (text ≡ front ++ behind)
 
 -- the requests among them
 abbrev pub requests_in : List (Option Words) → List Words
@@ -15,7 +16,7 @@ requests_in [] = []
 requests_in (None ∷ items) = requests_in items
 requests_in (Some words ∷ items) = words ∷ requests_in items
 
--- the stream is spellings of these requests, with empty commands before, between and behind them, and then the rest
+-- the stream is the spellings of these requests, with empty commands before, between and after them, and then the rest
 pub record Splits (stream : List ℕ) (requests : List Words) (rest : List ℕ) : Type 0 where
   pub items : List (Option Words)
   pub spelled : List ℕ
@@ -23,19 +24,19 @@ pub record Splits (stream : List ℕ) (requests : List Words) (rest : List ℕ) 
   pub only : requests_in items ≡ requests
   pub whole : stream ≡ spelled ++ rest
 
--- less than a spelling, and more bytes can make it one
+-- the beginning of a spelling: more bytes can complete it
 pub record IsPartial (rest : List ℕ) : Type 0 where
   pub more : List ℕ
   pub item : Option Words
   pub whole : Spells (rest ++ more) item
   pub lacking : more ≢ []
 
--- however it goes on, no spelling comes
+-- a fault: however the bytes go on, no spelling comes
 abbrev pub IsFault : List ℕ → Type 0
 IsFault rest = (more text after : List ℕ) (item : Option Words) → Spells text item → rest ++ more ≡ text ++ after → ⊥
 
--- where a reader stands: the requests that wait to be handed out, what has come of the next one, and whether the
--- stream went wrong
+-- the state of a reader: the requests that wait to be handed out, what has come of the next one, and whether the stream
+-- went wrong
 pub record Progress : Type 0 where
   pub waiting : List Words
   pub rest : List ℕ
@@ -48,6 +49,7 @@ pub record Stands (taken : List ℕ) (given : List Words) (now : Progress) : Typ
   pub stream : Splits taken (given ++ now.waiting) rest
   pub end : MatchBool now.failed (IsFault rest) ((now.rest ≡ rest) × IsPartial rest)
 
--- whatever was taken and handed out before, the piece was taken too
+-- whatever was taken and handed out before, the piece has now been taken too
 abbrev pub Advances : Progress → Progress → List ℕ → Type 0
-Advances old new piece = (taken : List ℕ) (given : List Words) → Stands taken given old → Stands (taken ++ piece) given new
+Advances old new piece =
+    (taken : List ℕ) (given : List Words) → Stands taken given old → Stands (taken ++ piece) given new

@@ -11,7 +11,7 @@ pub enum Word {
 }
 
 impl Word {
-    /// The text behind the `+`.
+    /// The text after the `+`.
     pub fn text(self) -> &'static str
         ensures { result.now ≡ word_text self }
     {
@@ -29,15 +29,15 @@ impl Word {
 pub enum ErrCode {
     /// No command has this name.
     Unknown,
-    /// The command takes more words, or fewer.
+    /// The command takes more words, or fewer words.
     Arity,
     /// The words do not fit the command's form.
     Syntax,
-    /// A word in the place of a number is none, or one out of its range.
+    /// A word in the place of a number is not one, or is out of range.
     Number,
-    /// A word in the place of an id is none.
+    /// A word in the place of an id is not one.
     BadId,
-    /// The bytes are no request.
+    /// The bytes are not a request.
     Protocol,
     /// XADD was given the id 0-0.
     IdZero,
@@ -49,11 +49,11 @@ pub enum ErrCode {
     NoKey,
     /// The key or the consumer group does not exist.
     NoGroup,
-    /// The consumer group exists already.
+    /// The consumer group already exists.
     BusyGroup,
-    /// Memory ran out. Nothing was changed.
+    /// An allocation failed. Nothing was changed.
     Memory,
-    /// The history can hold no further record.
+    /// The history cannot hold another record.
     Full,
     /// The group changed while the plan was made.
     Stale,
@@ -62,7 +62,7 @@ pub enum ErrCode {
 }
 
 impl ErrCode {
-    /// The text behind the `-`.
+    /// The text after the `-`.
     pub fn text(self) -> &'static str
         ensures { result.now ≡ error_text self }
     {

@@ -32,7 +32,7 @@ pub fn encode(alloc: Global, reply: &Reply) -> Result<Vec<u8>, AllocError>
     Ok(text)
 }
 
-/// Appends part by part. An `Err` may leave some of the spelling behind what was there.
+/// Appends the parts in turn. An `Err` may leave some of the spelling in `out`.
 fn append_parts(out: &mut Vec<u8>, reply: &Reply) -> Result<(), AllocError>
     ensures ok { OnOk result (out.new.items ≡ out.old.items ++ reply_text reply.now) }
     ensures err { OnErr result (StartsWith out.new.items out.old.items) }
@@ -45,7 +45,7 @@ fn append_parts(out: &mut Vec<u8>, reply: &Reply) -> Result<(), AllocError>
     Ok(())
 }
 
-/// Appends the spelling of one part. An `Err` may leave some of it behind what was there.
+/// Appends the spelling of one part. An `Err` may leave some of it in `out`.
 fn append_part(out: &mut Vec<u8>, part: &Part) -> Result<(), AllocError>
     ensures ok { OnOk result (out.new.items ≡ out.old.items ++ part_text part.now) }
     ensures err { OnErr result (StartsWith out.new.items out.old.items) }
@@ -65,7 +65,7 @@ fn append_part(out: &mut Vec<u8>, part: &Part) -> Result<(), AllocError>
     }
 }
 
-/// Appends a line: its mark, its text and the line end. An `Err` may leave some of it behind what was there.
+/// Appends a line: its mark, its text and the line end. An `Err` may leave some of it in `out`.
 fn append_line(out: &mut Vec<u8>, mark: &[u8], text: &[u8]) -> Result<(), AllocError>
     ensures ok { OnOk result (out.new.items ≡ out.old.items ++ mark.now ++ text.now ++ line_end) }
     ensures err { OnErr result (StartsWith out.new.items out.old.items) }

@@ -6,26 +6,26 @@ use sr_bytes::Name;
 use std::alloc::{AllocError, AllocFailed, Global};
 use std::marker::Model;
 
-/// How many digits a header's number has at most.
+/// The most digits that the number in a header may have.
 const MAX_DIGITS: usize = 10;
 
-/// How many words a request has at most.
+/// The most words that a request may have.
 const MAX_WORDS: usize = 4096;
 
-/// How many bytes a word has at most.
+/// The most bytes that a word may have.
 const MAX_WORD_BYTES: usize = 1_048_576;
 
-/// How many bytes the words of a request have at most, taken together.
+/// The most bytes that the words of a request may have together.
 const MAX_REQUEST_BYTES: usize = 16_777_216;
 
-/// Why reading stopped before the end of what is to be read.
+/// Why reading stopped early.
 #[derive(Drop)]
 pub enum Stop {
-    /// The bytes end first.
+    /// The bytes ended.
     More,
-    /// A byte stands where it cannot.
+    /// A byte cannot follow the ones before it.
     Bad,
-    /// Memory ran out.
+    /// An allocation failed.
     Memory,
 }
 
@@ -62,7 +62,7 @@ impl Model for Request {
 }
 
 impl Request {
-    /// Its words, given out without taking memory.
+    /// Gives its words out. Takes no memory.
     pub fn into_words(self) -> Vec<Name>
         ensures words { result.items ≡ self }
         ensures some { 0 < vec_len result }
@@ -72,7 +72,7 @@ impl Request {
     }
 }
 
-/// The bytes behind a text that has to stand at the front.
+/// The bytes after a text that they have to begin with.
 #[tactic(auto, using(std::proofs::lemmas::List::drop_more, std::proofs::lemmas::List::drop_all))]
 fn literal<'a>(text: &[u8], bytes: &'a [u8]) -> Result<&'a [u8], Stop>
     ensures { Gives (λ x. (tt, x.now)) result (literal_at text.now bytes.now) }
@@ -92,7 +92,7 @@ fn literal<'a>(text: &[u8], bytes: &'a [u8]) -> Result<&'a [u8], Stop>
     Ok(rest)
 }
 
-/// The number on the line at the front, of at most 10 digits and not above `most`, and the bytes behind the line.
+/// The number on the line at the front, of at most 10 digits and not above `most`, and the bytes after the line.
 fn number(bytes: &[u8], most: usize) -> Result<(usize, &[u8]), Stop>
     requires { most ≤ 16777216 }
     ensures exact { Gives (λ x. (x.0, x.1.now)) result (digits_at most 0 0 bytes.now) }
@@ -114,7 +114,7 @@ fn number(bytes: &[u8], most: usize) -> Result<(usize, &[u8]), Stop>
     Err(Stop::More)
 }
 
-/// The word at the front, of at most `room` bytes, and the bytes behind it.
+/// The word at the front, of at most `room` bytes, and the bytes after it.
 #[tactic(auto, unfolding(crate::specs::Reading::word_at))]
 fn word(alloc: Global, room: usize, bytes: &[u8]) -> Result<(Name, &[u8]), Stop>
     requires { room ≤ 16777216 }
@@ -131,7 +131,7 @@ fn word(alloc: Global, room: usize, bytes: &[u8]) -> Result<(Name, &[u8]), Stop>
     Ok((Name::new(Vec::from_slice(alloc, word)?), rest))
 }
 
-/// So many words, and the bytes behind them.
+/// This many words, and the bytes after them.
 fn words(alloc: Global, count: usize, bytes: &[u8]) -> Result<(Vec<Name>, &[u8]), Stop>
     ensures exact { Gives (λ x. (x.0.items, x.1.now)) result (words_at count 16777216 bytes.now) }
     ensures len { IfOk result (λ x. vec_len x.0 ≡ count) }
@@ -148,7 +148,7 @@ fn words(alloc: Global, count: usize, bytes: &[u8]) -> Result<(Vec<Name>, &[u8])
     Ok((words, rest))
 }
 
-/// What stands behind the `*`: a request, or no command, and the bytes behind it.
+/// What follows the `*`: a request or an empty command, and the bytes after it.
 #[tactic(auto, unfolding(crate::specs::Reading::array_at))]
 fn array(alloc: Global, bytes: &[u8]) -> Result<(Option<Request>, &[u8]), Stop>
     ensures { Gives (λ x. (x.0, x.1.now)) result (array_at bytes.now) }
@@ -164,7 +164,7 @@ fn array(alloc: Global, bytes: &[u8]) -> Result<(Option<Request>, &[u8]), Stop>
     Ok((Some(Request { words }), rest))
 }
 
-/// The request at the front, or no command, and the bytes behind it.
+/// The request or empty command at the front, and the bytes after it.
 #[tactic(auto, unfolding(crate::specs::Reading::item_at))]
 pub fn item(alloc: Global, bytes: &[u8]) -> Result<(Option<Request>, &[u8]), Stop>
     ensures { Gives (λ x. (x.0, x.1.now)) result (item_at bytes.now) }

@@ -13,10 +13,10 @@ use std::marker::Model;
 /// Why a piece was refused.
 #[derive(Clone, Copy, Debug, PartialEq, Eq)]
 pub enum ReadFault {
-    /// Memory ran out. The piece was not taken, and the reader is as it was before.
+    /// An allocation failed. The piece was not taken, and the reader is as it was before.
     Memory,
-    /// The stream went wrong. Every later piece is refused alike; requests that stood whole before are still handed
-    /// out.
+    /// The stream went wrong. Every later piece is refused too. Requests that were complete before the fault are still
+    /// handed out.
     Protocol,
 }
 
@@ -33,9 +33,9 @@ impl From<AllocError> for ReadFault {
 /// Source: RESP2 protocol specification, "Sending commands to a Redis server".
 #[derive(Drop)]
 pub struct Reader {
-    /// The requests that stood whole and are not handed out yet, oldest first.
+    /// The complete requests that are not handed out yet, oldest first.
     waiting: VecDeque<Request>,
-    /// The bytes behind them.
+    /// The bytes after them.
     rest: Vec<u8>,
     /// Whether the stream went wrong.
     failed: bool,
@@ -53,14 +53,14 @@ impl Model for Reader {
 #[derive(Drop)]
 struct Parsed<'a> {
     requests: VecDeque<Request>,
-    /// The bytes behind them.
+    /// The bytes after them.
     rest: &'a [u8],
-    /// Whether no request can come there, however the bytes go on.
+    /// Whether they are a fault: no request can come, however the bytes go on.
     fault: bool,
 }
 
 impl Reader {
-    /// A reader at the start of a stream. It takes no memory.
+    /// A reader at the start of a stream. Takes no memory.
     pub fn new(alloc: Global) -> Reader
         ensures stands { Stands [] [] result }
         ensures fresh { (result.waiting ≡ []) × (result.failed ≡ false) }
@@ -76,9 +76,10 @@ impl Reader {
     pub fn feed(&mut self, alloc: Global, piece: &[u8]) -> Result<(), ReadFault>
         ensures ok { OnOk result (self.new.failed ≡ false) }
         ensures advances { OnOk result (Advances self.old self.new piece.now) }
-        ensures protocol { IsErrOf result ReadFault.Protocol → (self.new.failed ≡ true) × Advances self.old self.new piece.now }
+        ensures protocol { IsErrOf result ReadFault.Protocol
+            → (self.new.failed ≡ true) × Advances self.old self.new piece.now }
         ensures memory { IsErrOf result ReadFault.Memory → self.new ≡ self.old }
-        // after a fault every piece is refused, and what waits stays
+        // after a fault every piece is refused, and the waiting requests stay
         ensures failed { self.old.failed ≡ true → (result ≡ Err ReadFault.Protocol) × (self.new ≡ self.old) }
     {
         if self.failed {
@@ -97,7 +98,7 @@ impl Reader {
         }
     }
 
-    /// Moves the requests that stand whole at the front of the rest to those that wait.
+    /// Moves the complete requests at the front of the rest to the waiting ones.
     fn sort_out(&mut self, alloc: Global) -> Result<(), AllocError>
         ensures ok { OnOk result (Sorts self.old self.new) }
         ensures err { OnErr result (self.new ≡ self.old) }
@@ -107,7 +108,7 @@ impl Reader {
             rest,
             fault,
         } = parse_all(alloc, self.rest.as_slice())?;
-        // A long request comes in many pieces. Until it is whole its bytes stay where they are.
+        // A long request comes in many pieces. Until it is complete, its bytes are not moved.
         if rest.len() == self.rest.len() {
             self.failed = fault;
             return Ok(());
@@ -119,11 +120,13 @@ impl Reader {
         Ok(())
     }
 
-    /// Hands out the oldest request that waits. It takes no memory.
+    /// Hands out the oldest waiting request. Takes no memory.
     pub fn next_request(&mut self) -> Option<Vec<Name>>
-        ensures some { IfSome result (λ words. self.old ≡ record self.new { waiting = words.items ∷ self.new.waiting }) }
+        ensures some { IfSome result (λ words.
+            self.old ≡ record self.new { waiting = words.items ∷ self.new.waiting }) }
         ensures words { IfSome result (λ words. 0 < vec_len words) }
-        ensures given { IfSome result (λ words. (taken : List ℕ) (given : List Words) → Stands taken given self.old → Stands taken (given ++ words.items ∷ []) self.new) }
+        ensures given { IfSome result (λ words. (taken : List ℕ) (given : List Words)
+            → Stands taken given self.old → Stands taken (given ++ words.items ∷ []) self.new) }
         ensures none { IfNone result ((self.old.waiting ≡ []) × (self.new ≡ self.old)) }
     {
         let request = self.waiting.pop_front()?;
@@ -131,7 +134,7 @@ impl Reader {
     }
 }
 
-/// The requests that stand whole at the front of the bytes, and what is behind them.
+/// The complete requests at the front of the bytes, and what follows them.
 fn parse_all(alloc: Global, bytes: &[u8]) -> Result<Parsed<'_>, AllocError>
     ensures { IfOk result (λ p. Parses bytes.now p.requests.items p.rest.now p.fault) }
 {
@@ -163,22 +166,24 @@ fn parse_all(alloc: Global, bytes: &[u8]) -> Result<Parsed<'_>, AllocError>
     }
 }
 
-/// No spelling of a request, or of no command, begins another.
+/// Law: no spelling of a request or of an empty command begins another. Calling this has no effect.
 pub fn one_spelling()
     ensures { (a b x y : List ℕ) (m n : Option Words) → Spells a m → Spells b n → a ++ x ≡ b ++ y → (a ≡ b) × (m ≡ n) }
 {}
 
-/// A stream is read in one way: up to a rest that is part of a spelling, or a fault, it has these requests and no
-/// others.
+/// Law: a stream has one reading. Before a rest that is part of a spelling, or a fault, it has these requests and no
+/// others. Calling this has no effect.
 pub fn one_reading()
-    ensures { (stream : List ℕ) (xs ys : List Words) (u v : List ℕ) → Splits stream xs u → (IsPartial u ⊎ IsFault u) → Splits stream ys v → (IsPartial v ⊎ IsFault v) → (xs ≡ ys) × (u ≡ v) }
+    ensures { (stream : List ℕ) (xs ys : List Words) (u v : List ℕ)
+        → Splits stream xs u → (IsPartial u ⊎ IsFault u) → Splits stream ys v → (IsPartial v ⊎ IsFault v)
+        → (xs ≡ ys) × (u ≡ v) }
 {}
 
 #[cfg(test)]
 mod tests {
     use super::*;
 
-    /// Feeds a piece, and feeds it again if memory ran out: the reader is then as it was before.
+    /// Feeds a piece, and feeds it again if an allocation failed, since the reader is then as it was before.
     fn feed(alloc: Global, reader: &mut Reader, piece: &[u8]) -> Result<(), ReadFault> {
         match reader.feed(alloc, piece) {
             Err(ReadFault::Memory) => reader.feed(alloc, piece),
@@ -186,14 +191,14 @@ mod tests {
         }
     }
 
-    /// Feeds the bytes one by one. Gives the place of the first byte that was refused.
+    /// Feeds the bytes one by one. Returns the place of the first byte that was refused.
     fn place_of_fault(alloc: Global, reader: &mut Reader, bytes: &[u8]) -> Option<usize> {
         bytes
             .iter()
             .position(|byte| feed(alloc, reader, &[*byte]).is_err())
     }
 
-    /// How many requests wait, up to ten. They are handed out.
+    /// Hands out up to ten waiting requests, and returns their number.
     fn count(reader: &mut Reader) -> usize {
         (0..10).filter(|_| reader.next_request().is_some()).count()
     }
@@ -257,7 +262,7 @@ mod tests {
         }
     }
 
-    /// The front of a request with 16 words of 1,048,576 bytes, and the header of one word more.
+    /// The beginning of a request: 16 words of 1,048,576 bytes, and the header of one more word.
     fn long_request(alloc: Global, header: &[u8]) -> Result<Vec<u8>, AllocError> {
         let word = Vec::from_elem(alloc, b'a', 1_048_576)?;
         let mut bytes = Vec::from_slice(alloc, b"*17\r\n")?;

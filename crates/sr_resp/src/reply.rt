@@ -8,7 +8,7 @@ use sr_bytes::Name;
 use std::alloc::{AllocError, Global};
 use std::marker::Model;
 
-/// One part of a reply, as it is sent. An array is a header, behind which its items follow.
+/// One part of a reply, as it is sent. An array is a header followed by its items.
 ///
 /// Source: RESP2 protocol specification, "RESP protocol description".
 #[derive(PartialEq, Eq, Drop)]
@@ -57,7 +57,7 @@ impl Reply {
     ghost use Rattle.std.specs.Prelude.{◌≡◌, ◌≤◌, ◌∷◌, [], ◌++◌, List, IfOk, OnOk, OnErr};
     ghost use Rattle.sr_resp.specs.Reply.{Answer, IsReply, IsArray, simple_string, error_reply, integer, bulk_string, null_string, null_array, array_of};
 
-    /// A simple string. It takes no memory.
+    /// A simple string. Takes no memory.
     pub fn simple(alloc: Global, word: Word) -> Reply
         ensures { result ≡ simple_string word }
     {
@@ -67,7 +67,7 @@ impl Reply {
         }
     }
 
-    /// An error. It takes no memory.
+    /// An error. Takes no memory.
     pub fn error(alloc: Global, code: ErrCode) -> Reply
         ensures { result ≡ error_reply code }
     {
@@ -77,7 +77,7 @@ impl Reply {
         }
     }
 
-    /// An integer. It takes no memory.
+    /// An integer. Takes no memory.
     pub fn int(alloc: Global, n: i64) -> Reply
         ensures { result ≡ integer n }
     {
@@ -87,7 +87,7 @@ impl Reply {
         }
     }
 
-    /// A bulk string of these bytes. It takes no memory.
+    /// A bulk string of these bytes. Takes no memory.
     pub fn bulk(alloc: Global, bytes: Name) -> Reply
         ensures { result ≡ bulk_string bytes }
     {
@@ -97,7 +97,7 @@ impl Reply {
         }
     }
 
-    /// The null bulk string. It takes no memory.
+    /// The null bulk string. Takes no memory.
     pub fn null_bulk(alloc: Global) -> Reply
         ensures { result ≡ null_string }
     {
@@ -107,7 +107,7 @@ impl Reply {
         }
     }
 
-    /// The null array. It takes no memory.
+    /// The null array. Takes no memory.
     pub fn no_array(alloc: Global) -> Reply
         ensures { result ≡ null_array }
     {
@@ -117,7 +117,7 @@ impl Reply {
         }
     }
 
-    /// An array with no items, to which `push` adds. It takes no memory.
+    /// An array without items, to which `push` adds. Takes no memory.
     pub fn empty_array(alloc: Global) -> Reply
         ensures { result ≡ array_of [] }
     {
@@ -156,14 +156,14 @@ impl Reply {
         Ok(())
     }
 
-    /// Its first part, and the parts behind it.
+    /// Its first part, and the parts after it.
     pub(crate) fn parts(&self) -> (&Part, &[Part])
         ensures { result.0.now ∷ result.1.now ≡ self.now }
     {
         (&self.first, self.others.as_slice())
     }
 
-    /// A second reply that is equal to this one.
+    /// A copy of this reply.
     pub fn copy(&self, alloc: Global) -> Result<Reply, AllocError>
         ensures { IfOk result (λ r. r ≡ self.now) }
     {
@@ -195,7 +195,7 @@ impl Eq for Reply {
     ghost laws = { lists_equiv part_eq.laws-law };
 }
 
-/// A second part that is equal to this one.
+/// A copy of this part.
 fn copy_part(alloc: Global, part: &Part) -> Result<Part, AllocError>
     ensures { IfOk result (λ p. p ≡ part.now) }
 {

@@ -1,4 +1,4 @@
-// What no clause says: the bytes that a client reads, and what a writer that fails was given.
+// What no clause says: the bytes that a client reads, and the bytes that a failing writer was given.
 use crate::{ErrCode, Reply, SendFault, Word, WriteTo, append_reply, encode, send_all};
 use sr_bytes::Name;
 use std::alloc::{AllocError, Global};
@@ -151,7 +151,7 @@ fn no_bytes_need_no_write(rt: HostRuntime) {
     assert_eq!(rt; send_all(&mut WriteTo::new(&mut writer), b""), Ok(()));
 }
 
-/// The reply to XRANGE of a stream with the one entry 1-1, whose field a has the value b.
+/// The reply to XRANGE for a stream with one entry, 1-1, whose field a has the value b.
 fn entries(alloc: Global) -> Result<Reply, AllocError> {
     let fields = Reply::array(alloc, [bulk(alloc, b"a")?, bulk(alloc, b"b")?])?;
     let entry = Reply::array(alloc, [bulk(alloc, b"1-1")?, fields])?;
@@ -167,13 +167,13 @@ fn bulk(alloc: Global, bytes: &[u8]) -> Result<Reply, AllocError> {
 /// What a writer does at one write.
 #[derive(Clone, Copy)]
 enum Turn {
-    /// It takes so many bytes at most.
+    /// It takes at most this many bytes.
     Takes(usize),
     Interrupted,
     Fails,
 }
 
-/// A writer that takes its turns one by one, and fails behind the last.
+/// A writer that takes its turns one by one, and fails after the last.
 #[derive(Drop)]
 struct Scripted<'a> {
     got: Vec<u8>,
