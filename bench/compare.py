@@ -3,10 +3,10 @@
 usage: compare.py SR_SERVER [ROUNDS [SEED]]
 
 It starts `redis-server` (Debian: redis-server) on a socket of its own. Each round has 40 commands on two keys, of which the first
-is there from the start. Where both servers answer an error, or an empty list of either kind, or an id of the clock, the replies
-count as the same: texts of errors and moments are each server's own. Commands are left out whose replies differ by decision
-(docs/DECISIONS.md): `~`, an option given twice, numbers with a leading zero or of `-0`, ids that begin with a sign or a
-space, and XDEL of a bad id where the key may be missing. The status is 1 where anything differs.
+exists from the start. Replies count as the same if both are errors, both are empty lists of either kind, or both are ids that the
+clock gave, since the texts of errors and the moments are each server's own. Commands whose replies differ by decision
+(docs/DECISIONS.md) are left out: `~`, an option given twice, numbers with a leading zero and `-0`, ids that begin with a sign or
+a space, and XDEL of a bad id if the key may be missing. The status is 1 if anything differs.
 """
 
 import os
@@ -66,7 +66,7 @@ def replies_of_redis(path, commands):
 
 
 class Commands:
-    """Random commands: right ones, wrong ones, and such as stand at the limits."""
+    """Random commands: right ones, wrong ones, and ones at the limits."""
 
     def __init__(self, seed):
         self.random = random.Random(seed)
@@ -125,7 +125,7 @@ class Commands:
 
 
 def compare(program, path, seed):
-    """How many replies of a round were the same, and how many of these were errors; prints the first that differs."""
+    """How many replies of a round were the same, and how many of these were errors. Prints the first that differs."""
     commands = Commands(seed)
     sent = [["XADD", "s", "0-1", "f", "v"]] + [commands.one() for _ in range(COMMANDS_A_ROUND - 1)]
     same, errors = 0, 0
