@@ -15,6 +15,8 @@ use std::process::Abort;
 use std::random::RandomSource;
 use std::test::Fail;
 
+mod sessions;
+
 /// `XLEN s`
 const XLEN: &[u8] = b"*2\r\n$4\r\nXLEN\r\n$1\r\ns\r\n";
 
@@ -258,145 +260,6 @@ fn spelled(alloc: Global, lines: &str) -> Result<Vec<u8>, Fail> {
         }
     }
     Ok(bytes)
-}
-
-/// Whether a session gives these replies to these requests.
-fn answers(
-    rt: &(impl AllocGlobal + RandomSource),
-    requests: &str,
-    replies: &str,
-) -> Result<bool, Fail> {
-    let bytes = spelled(rt.alloc(), requests)?;
-    let reader = Pieces::new(bytes.as_slice(), 4096, 4096);
-    gives(rt, reader, End::Closed, replies.as_bytes())
-}
-
-#[test]
-fn refusals_are_written_out(rt: HostRuntime) -> Result<(), Fail> {
-    let bad_id = "-ERR Invalid stream ID specified as stream command argument\r\n";
-    for (lines, replies) in [
-        ("PING a b", "-ERR wrong number of arguments\r\n"),
-        ("FOO", "-ERR unknown command\r\n"),
-        ("XADD s 1-1 a b c", "-ERR syntax error\r\n"),
-        ("XADD s x a b", bad_id),
-        ("XADD s COUNT a b", bad_id),
-        ("XTRIM s MINID x", bad_id),
-        ("XDEL s 1-1 x", bad_id),
-        ("XADD s MAXLEN 5 LIMIT 3 1-1 a b", "-ERR syntax error\r\n"),
-        ("XADD s NOMKSTREAM a b", "-ERR syntax error\r\n"),
-        ("XTRIM s MAXLEN 1 LIMIT 2", "-ERR syntax error\r\n"),
-        (
-            "XADD s MAXLEN x y a b",
-            "-ERR value is not an integer or out of range\r\n",
-        ),
-        ("XRANGE s (- +", bad_id),
-        (
-            "XRANGE s ! + COUNT x",
-            "-ERR value is not an integer or out of range\r\n",
-        ),
-        ("xRaNgE s - + COUNT 0", "*0\r\n"),
-        ("xlen s", ":0\r\n"),
-        (
-            "XADD s 0-0 a b\nXLEN s",
-            "-ERR The ID specified in XADD must be greater than 0-0\r\n:0\r\n",
-        ),
-        (
-            "XADD s 1-1 a b\nXADD s 1-1 a b",
-            "$3\r\n1-1\r\n-ERR The ID specified in XADD is equal or smaller than the target stream top item\r\n",
-        ),
-    ] {
-        assert!(rt; answers(&rt, lines, replies)?, "{lines}");
-    }
-    Ok(())
-}
-
-#[test]
-fn replies_are_written_out(rt: HostRuntime) -> Result<(), Fail> {
-    for (lines, replies) in [
-        ("PING hello", "$5\r\nhello\r\n"),
-        ("XLEN s\nXRANGE s - +", ":0\r\n*0\r\n"),
-        (
-            "XADD s 1-1 a b\nXADD t 1-1 c d\nXLEN s\nXRANGE t - +",
-            "$3\r\n1-1\r\n$3\r\n1-1\r\n:1\r\n*1\r\n*2\r\n$3\r\n1-1\r\n*2\r\n$1\r\nc\r\n$1\r\nd\r\n",
-        ),
-        (
-            "XADD s 18446744073709551615-18446744073709551615 a b\nXADD s 5-1 a b",
-            "$41\r\n18446744073709551615-18446744073709551615\r\n-ERR The stream has exhausted the last possible ID, unable to add more items\r\n",
-        ),
-        (
-            "XADD s 1-1 a b\nXADD s 2-1 a b\nXRANGE s - + COUNT 1\nXRANGE s (1-1 + COUNT 9",
-            "$3\r\n1-1\r\n$3\r\n2-1\r\n*1\r\n*2\r\n$3\r\n1-1\r\n*2\r\n$1\r\na\r\n$1\r\nb\r\n*1\r\n*2\r\n$3\r\n2-1\r\n*2\r\n$1\r\na\r\n$1\r\nb\r\n",
-        ),
-        (
-            "XADD s 1-1 a b\nXADD s 2-1 a b\nXRANGE s 2 2\nXRANGE s - (2-1\nXRANGE s 3 +\nXRANGE s 2 1\nXRANGE s - + COUNT -1",
-            "$3\r\n1-1\r\n$3\r\n2-1\r\n*1\r\n*2\r\n$3\r\n2-1\r\n*2\r\n$1\r\na\r\n$1\r\nb\r\n*1\r\n*2\r\n$3\r\n1-1\r\n*2\r\n$1\r\na\r\n$1\r\nb\r\n*0\r\n*0\r\n*0\r\n",
-        ),
-    ] {
-        assert!(rt; answers(&rt, lines, replies)?, "{lines}");
-    }
-    Ok(())
-}
-
-#[test]
-fn ids_are_given(rt: HostRuntime) -> Result<(), Fail> {
-    for (lines, replies) in [
-        (
-            "XADD s 5 a b\nXADD s 5-* a c\nXADD s 5-1 a d",
-            "$3\r\n5-0\r\n$3\r\n5-1\r\n-ERR The ID specified in XADD is equal or smaller than the target stream top item\r\n",
-        ),
-        (
-            "XADD s * a b\nXADD s * a b\nXADD s 7 a b\nXADD s * a b",
-            "$3\r\n5-0\r\n$3\r\n5-1\r\n$3\r\n7-0\r\n$3\r\n7-1\r\n",
-        ),
-        (
-            "XADD s 1000-18446744073709551615 a b\nXADD s * a c",
-            "$25\r\n1000-18446744073709551615\r\n$6\r\n1001-0\r\n",
-        ),
-        (
-            "XADD s 18446744073709551615-18446744073709551615 a d\nXADD s * a e\nXADD s 3-1 a b",
-            "$41\r\n18446744073709551615-18446744073709551615\r\n-ERR The stream has exhausted the last possible ID, unable to add more items\r\n-ERR The stream has exhausted the last possible ID, unable to add more items\r\n",
-        ),
-        (
-            "XADD s 5-18446744073709551615 a b\nXADD s 5-* a b\nXADD s * a b",
-            "$22\r\n5-18446744073709551615\r\n-ERR The ID specified in XADD is equal or smaller than the target stream top item\r\n$3\r\n6-0\r\n",
-        ),
-        (
-            "XADD s NOMKSTREAM 1-1 a b\nXADD s NOMKSTREAM 0-0 a b\nXADD s 0 a b\nXLEN s",
-            "$-1\r\n-ERR The ID specified in XADD must be greater than 0-0\r\n-ERR The ID specified in XADD must be greater than 0-0\r\n:0\r\n",
-        ),
-    ] {
-        assert!(rt; answers(&rt, lines, replies)?, "{lines}");
-    }
-    Ok(())
-}
-
-#[test]
-fn streams_are_cut(rt: HostRuntime) -> Result<(), Fail> {
-    for (lines, replies) in [
-        (
-            "XADD s MAXLEN 0 7-1 a b\nXLEN s\nXADD s 7-1 a b",
-            "$3\r\n7-1\r\n:0\r\n-ERR The ID specified in XADD is equal or smaller than the target stream top item\r\n",
-        ),
-        (
-            "XADD s 1-1 a b\nXADD s 2-1 a b\nXADD s 3-1 a b\nXADD s 4-1 a b\nXADD s 5-1 a b\nXTRIM s MAXLEN ~ 1 LIMIT 2\nXTRIM s MINID 4\nXRANGE s (4-1 +\nXREVRANGE s + - COUNT 1\nXTRIM s MAXLEN 1 LIMIT 2\nXLEN s",
-            "$3\r\n1-1\r\n$3\r\n2-1\r\n$3\r\n3-1\r\n$3\r\n4-1\r\n$3\r\n5-1\r\n:2\r\n:1\r\n*1\r\n*2\r\n$3\r\n5-1\r\n*2\r\n$1\r\na\r\n$1\r\nb\r\n*1\r\n*2\r\n$3\r\n5-1\r\n*2\r\n$1\r\na\r\n$1\r\nb\r\n-ERR syntax error\r\n:2\r\n",
-        ),
-        (
-            "XADD t 0-* a b\nXADD t MAXLEN ~ 0 LIMIT 0 1-1 a b\nXLEN t",
-            "$3\r\n0-1\r\n$3\r\n1-1\r\n:0\r\n",
-        ),
-        (
-            "XADD s 1-1 a b\nXADD s 2-1 a b\nXDEL s 1-1 1-1 9-9\nXLEN s\nXDEL t 1-1\nXTRIM t MAXLEN 0\nXDEL s 2-1\nXADD s 2-1 a b\nXLEN s",
-            "$3\r\n1-1\r\n$3\r\n2-1\r\n:1\r\n:1\r\n:0\r\n:0\r\n:1\r\n-ERR The ID specified in XADD is equal or smaller than the target stream top item\r\n:0\r\n",
-        ),
-        (
-            "XADD s 1-1 a b\nXADD s 2-1 a b\nXREVRANGE s 1 -\nXREVRANGE s - +\nXREVRANGE s + - COUNT 0\nXREVRANGE t + -",
-            "$3\r\n1-1\r\n$3\r\n2-1\r\n*1\r\n*2\r\n$3\r\n1-1\r\n*2\r\n$1\r\na\r\n$1\r\nb\r\n*0\r\n*0\r\n*0\r\n",
-        ),
-    ] {
-        assert!(rt; answers(&rt, lines, replies)?, "{lines}");
-    }
-    Ok(())
 }
 
 /// Each read of it is interrupted once.
