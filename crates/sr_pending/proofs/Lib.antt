@@ -1,0 +1,7 @@
+pub mod ChangeLemmas
+pub mod ListingLemmas
+pub mod NackLemmas
+pub mod RoomLemmas
+pub mod SearchLemmas
+pub mod SoundLemmas
+pub mod Splitting

@@ -1,0 +1,23 @@
+use Rattle.std.proofs.Common.{◌≡◌, ◌-◌, ◌≤◌, false, ap, sym, refl, vec_len, vec_capacity, arith}
+use Rattle.sr_pending.specs.declared.nack.Nack.{Nack}
+use Rattle.sr_pending.specs.Pending.{PendingState, has_id}
+use Rattle.sr_pending.proofs.ChangeLemmas.{map-none}
+use Rattle.sr_pending.proofs.SoundLemmas.{IsSound-changed}
+use Rattle.sr_pending.proofs.pending.Pending.touch.Goals as goal
+
+pub invariant_of-self : goal.invariant_of-self
+invariant_of-self c =
+    let old = c.self.inside.nacks in
+    let new = c.touch_at.new.nacks in
+    let rooms = c.self.inside.rooms.items in
+    let change : Nack → Nack = λ n. record { id = n.id; owner = n.owner; time = c.args.time; count = c.args.count } in
+    let spare : vec_capacity old - vec_len old ≤ vec_capacity new - vec_len new = omega (arith, c.touch_at.ensures.len, c.touch_at.ensures.capacity) in
+    IsSound-changed c.args.id change (λ _. refl) (λ _. (c.requires.time, c.requires.count)) old.items new.items rooms rooms (vec_capacity old - vec_len old) (vec_capacity new - vec_len new) c.self.invariant c.touch_at.ensures.items (omega arith) spare
+
+pub returns-in-None-clause-nacks : goal.returns-in-None-clause-nacks
+returns-in-None-clause-nacks c =
+    let list = c.as_slice.ensures.value in
+    let shown = ap (λ (p : PendingState). p.nacks) c.self.view_is in
+    let change : Nack → Nack = λ n. record { id = n.id; owner = n.owner; time = c.args.time; count = c.args.count } in
+    let none : has_id c.args.id c.args.self.now.nacks ≡ false = rw (← shown, ← list) c.in-None.ensures.none in
+    sym (map-none c.args.id change c.args.self.now.nacks none)

@@ -1,0 +1,15 @@
+use Rattle.std.proofs.Common.{rules, Bool, sym}
+use Rattle.std.proofs.lemmas.List.Sorted.{IsPartitionPoint-from_clause}
+use Rattle.sr_pending.specs.declared.nack.Nack.{Nack}
+use Rattle.sr_pending.specs.Pending.{is_below}
+use Rattle.sr_pending.proofs.SearchLemmas.{below_first}
+use Rattle.sr_pending.proofs.Splitting.{Splits-point, Splits-count}
+use Rattle.sr_pending.proofs.search.count_below.Goals as goal
+
+pub returns : goal.returns
+returns c =
+    let nacks = c.args.nacks.now in
+    let before : Nack → Bool = λ e. is_below e.id c.args.id in
+    let place = c.partition_point.result in
+    let point = IsPartitionPoint-from_clause before nacks place c.partition_point.ensures.partitioned (below_first nacks c.args.id c.requires) (λ a r q k. search rules) in
+    sym (Splits-count before nacks place (Splits-point before nacks place c.partition_point.ensures.bound point))

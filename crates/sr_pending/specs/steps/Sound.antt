@@ -1,0 +1,14 @@
+-- What the type keeps. No public clause cites it.
+
+use Rattle.std.specs.Prelude.{ℕ, ◌≤◌, List}
+use Rattle.std.specs.List.{All}
+use Rattle.sr_pending.specs.declared.nack.Nack.{Nack}
+use Rattle.sr_pending.specs.declared.room.Room.{Room}
+use Rattle.sr_pending.specs.steps.Room.{rooms_in_all}
+use Rattle.sr_pending.specs.Pending.{AreRising, IsCountable}
+
+-- the ids rise, times and counts are countable, and the spare places hold what was reserved
+pub record IsSound (nacks : List Nack) (rooms : List Room) (spare : ℕ) : Type 0 where
+  pub rising : AreRising nacks
+  pub countable : All IsCountable nacks
+  pub fits : rooms_in_all rooms ≤ spare

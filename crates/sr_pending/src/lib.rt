@@ -1,0 +1,17 @@
+//! The pending entries of a consumer group by rising id: put, moved to another owner, found, listed and removed.
+#![tactic(auto)]
+
+mod edit;
+mod nack;
+mod nacks;
+mod owner;
+mod pending;
+mod room;
+mod search;
+
+pub use nack::Nack;
+pub use nacks::Nacks;
+pub use pending::Pending;
+
+#[cfg(test)]
+mod tests;

@@ -1,0 +1,45 @@
+ghost use Rattle.std.specs.Prelude.{◌≡◌, IfOk};
+
+use sr_bytes::Name;
+use sr_ids::Id;
+use std::alloc::{AllocError, Global};
+
+/// An entry that was delivered to a consumer and is not acknowledged yet.
+///
+/// Source: Redis documentation, command XPENDING, "Extended form".
+#[derive(Drop)]
+pub struct Nack {
+    /// The id of the entry.
+    pub id: Id,
+    /// The consumer that it was delivered to last.
+    pub owner: Name,
+    /// When it was delivered last, in milliseconds since 1970.
+    pub time: u64,
+    /// How many times it was delivered.
+    pub count: u64,
+}
+
+impl Nack {
+    /// A second one with the same contents.
+    pub fn copy(&self, alloc: Global) -> Result<Nack, AllocError>
+        ensures { IfOk result (λ nack. nack ≡ self.now) }
+    {
+        Ok(Nack {
+            id: self.id,
+            owner: self.owner.copy(alloc)?,
+            time: self.time,
+            count: self.count,
+        })
+    }
+}
+
+/// Copies of the entries.
+pub(crate) fn copies(alloc: Global, nacks: &[Nack]) -> Result<Vec<Nack>, AllocError>
+    ensures { IfOk result (λ v. v.items ≡ nacks.now) }
+{
+    let mut list = Vec::with_capacity(alloc, nacks.len())?;
+    for nack in nacks {
+        list.push(nack.copy(alloc)?)?;
+    }
+    Ok(list)
+}

@@ -1,0 +1,109 @@
+ghost use Rattle.std.specs.Prelude.{◌≡◌, [], ◌∷◌, IfSome, IfNone};
+ghost use Rattle.std.specs.Option.{option_copied};
+ghost use Rattle.sr_pending.specs.Pending.{first_of, is_of, owned_by_named};
+ghost use Rattle.sr_pending.specs.steps.Search.{IsFirstOf};
+
+use crate::Nack;
+use sr_bytes::Name;
+use std::marker::Model;
+
+/// Pending entries in rising order, looked at where they lie.
+#[derive(Drop)]
+pub struct Nacks<'a> {
+    owned: Owned<'a>,
+    left: Option<u64>,
+}
+
+impl<'a> Model for Nacks<'a> {
+    ghost use Rattle.std.specs.Prelude.{List};
+    ghost use Rattle.sr_pending.specs.declared.nack.Nack.{Nack};
+    ghost use Rattle.sr_pending.specs.Pending.{first_of};
+
+    ghost Value = { List Nack };
+
+    ghost view = { λ n. first_of n.left n.owned };
+}
+
+impl<'a> Nacks<'a> {
+    /// At most `count` of these entries, and of this owner if one is named.
+    pub(crate) fn new(rest: &'a [Nack], count: Option<u64>, owner: Option<&'a Name>) -> Nacks<'a>
+        ensures { result ≡ first_of count (owned_by_named (option_copied owner.entry) rest.now) }
+    {
+        Nacks {
+            owned: Owned { rest, owner },
+            left: count,
+        }
+    }
+
+    /// The next entry. None if there is no other.
+    pub fn next(&mut self) -> Option<&'a Nack>
+        ensures some { IfSome result (λ nack. self.old ≡ nack.now ∷ self.new) }
+        ensures none { IfNone result (self.old ≡ []) }
+    {
+        match self.left {
+            None => self.owned.next(),
+            Some(0) => None,
+            Some(n) => {
+                self.left = Some(n - 1);
+                self.owned.next()
+            }
+        }
+    }
+}
+
+/// The entries of an owner, if one is named.
+#[derive(Drop)]
+struct Owned<'a> {
+    rest: &'a [Nack],
+    owner: Option<&'a Name>,
+}
+
+impl<'a> Model for Owned<'a> {
+    ghost use Rattle.std.specs.Prelude.{List};
+    ghost use Rattle.std.specs.Option.{option_copied};
+    ghost use Rattle.sr_pending.specs.declared.nack.Nack.{Nack};
+    ghost use Rattle.sr_pending.specs.Pending.{owned_by_named};
+
+    ghost Value = { List Nack };
+
+    ghost view = { λ o. owned_by_named (option_copied o.owner) o.rest.now };
+}
+
+impl<'a> Owned<'a> {
+    fn next(&mut self) -> Option<&'a Nack>
+        ensures some { IfSome result (λ nack. self.old ≡ nack.now ∷ self.new) }
+        ensures none { IfNone result (self.old ≡ []) }
+    {
+        match first_of_owner(self.rest, self.owner) {
+            None => None,
+            Some(place) => {
+                let nack = &self.rest[place];
+                self.rest = &self.rest[place + 1..];
+                Some(nack)
+            }
+        }
+    }
+}
+
+/// Whether it is this owner's, if one is named.
+fn is_wanted(nack: &Nack, owner: Option<&Name>) -> bool
+    ensures { result ≡ is_of (option_copied owner.entry) nack.now }
+{
+    match owner {
+        None => true,
+        Some(owner) => nack.owner == *owner,
+    }
+}
+
+/// The place of the first entry of this owner's, if one is named.
+fn first_of_owner(nacks: &[Nack], owner: Option<&Name>) -> Option<usize>
+    ensures some { IfSome result (IsFirstOf (option_copied owner.entry) nacks.now) }
+    ensures none { IfNone result (owned_by_named (option_copied owner.entry) nacks.now ≡ []) }
+{
+    for (place, nack) in nacks.iter().enumerate() {
+        if is_wanted(nack, owner) {
+            return Some(place);
+        }
+    }
+    None
+}

@@ -1,0 +1,257 @@
+use crate::Nack;
+use crate::edit::{give_at, put_at, touch_at};
+use crate::nack::copies;
+use crate::nacks::Nacks;
+use crate::owner::{count_owned, keep_others};
+use crate::room::{Room, add_room, in_all, room_for, use_room};
+use crate::search::{count_below, pending_place, place_of, range_of};
+use sr_bytes::Name;
+use sr_ids::Id;
+use std::alloc::{AllocError, Global};
+use std::marker::Model;
+
+/// The pending entries of a consumer group, by rising id.
+///
+/// Room for further entries of an owner is made by `reserve`, and used by `put` and `move_to`.
+///
+/// Source: Redis documentation, "Streams", section "Consumer groups".
+#[derive(Drop)]
+pub struct Pending {
+    nacks: Vec<Nack>,
+    rooms: Vec<Room>,
+}
+
+impl Model for Pending {
+    ghost use Rattle.std.specs.Prelude.{◌-◌, vec_len, vec_capacity};
+    ghost use Rattle.sr_pending.specs.Pending.{PendingState};
+    ghost use Rattle.sr_pending.specs.steps.Sound.{IsSound};
+
+    ghost Value = { PendingState };
+
+    ghost view = { λ p. record { nacks = p.nacks.items; rooms = p.rooms.items } };
+
+    ghost invariant = { λ p. IsSound p.nacks.items p.rooms.items (vec_capacity p.nacks - vec_len p.nacks) };
+}
+
+impl Pending {
+    ghost use Rattle.std.specs.Prelude.{◌≡◌, ◌+◌, ◌^◌, ◌<◌, ◌≤◌, [], true, false, length, OnOk, OnErr, IfOk, IfSome, IfNone};
+    ghost use Rattle.std.specs.Option.{option_copied};
+    ghost use Rattle.std.specs.List.{All};
+    ghost use Rattle.sr_pending.specs.Pending.{AreRising, IsCountable, KeepsRooms, UsesRoom, greatest_pending, has_id, least_pending, moved, nack_with, owned_by, owned_by_named, pending_between, first_of, room_of, touched, with_nack, without, without_owner};
+
+    /// No pending entries, and no room. It takes no memory.
+    pub fn new(alloc: Global) -> Pending
+        ensures nacks { result.nacks ≡ [] }
+        ensures rooms { result.rooms ≡ [] }
+    {
+        Pending {
+            nacks: Vec::new(alloc),
+            rooms: Vec::new(alloc),
+        }
+    }
+
+    /// How many entries are pending.
+    pub fn len(&self) -> usize
+        ensures value { result ≡ length self.now.nacks }
+        ensures bound { result < 2 ^ 63 }
+    {
+        self.nacks.as_slice().len()
+    }
+
+    /// For how many more entries of this owner there is room.
+    pub fn room(&self, owner: &Name) -> usize
+        ensures { result ≡ room_of owner.now self.now.rooms }
+    {
+        room_for(self.rooms.as_slice(), owner)
+    }
+
+    /// Makes room for `n` entries of this owner, the only step of a delivery that can fail.
+    ///
+    /// The rooms of several owners hold side by side, each until it is used.
+    pub fn reserve(&mut self, alloc: Global, owner: &Name, n: usize) -> Result<(), AllocError>
+        ensures nacks { self.new.nacks ≡ self.old.nacks }
+        ensures room { OnOk result (n ≤ room_of owner.now self.new.rooms) }
+        ensures keeps { OnOk result (KeepsRooms self.old.rooms self.new.rooms) }
+        ensures err { OnErr result (self.new ≡ self.old) }
+    {
+        let more = n.saturating_sub(room_for(self.rooms.as_slice(), owner));
+        if more == 0 {
+            return Ok(());
+        }
+        self.nacks
+            .reserve(in_all(self.rooms.as_slice()).saturating_add(more))?;
+        add_room(&mut self.rooms, alloc, owner, more)?;
+        Ok(())
+    }
+
+    /// Adds an entry that was not pending, in the room that its owner has. It takes no memory.
+    pub fn put(&mut self, nack: Nack)
+        requires fresh { has_id nack.id self.old.nacks ≡ false }
+        requires countable { IsCountable nack }
+        requires room { 0 < room_of nack.owner self.old.rooms }
+        ensures nacks { self.new.nacks ≡ with_nack nack self.old.nacks }
+        ensures room { UsesRoom nack.owner self.old.rooms self.new.rooms }
+    {
+        use_room(&mut self.rooms, &nack.owner);
+        let place = count_below(self.nacks.as_slice(), nack.id);
+        put_at(&mut self.nacks, place, nack);
+    }
+
+    /// Gives a pending entry to another owner, in the room that this one has. It takes no memory.
+    ///
+    /// Source: Redis documentation, command XCLAIM.
+    pub fn move_to(&mut self, id: Id, owner: Name, time: u64, count: u64)
+        requires pending { has_id id self.old.nacks ≡ true }
+        requires time { time < 2 ^ 63 }
+        requires count { count < 2 ^ 63 }
+        requires room { 0 < room_of owner self.old.rooms }
+        ensures nacks { self.new.nacks ≡ moved id owner time count self.old.nacks }
+        ensures room { UsesRoom owner self.old.rooms self.new.rooms }
+    {
+        use_room(&mut self.rooms, &owner);
+        let place = pending_place(self.nacks.as_slice(), id);
+        give_at(
+            &mut self.nacks,
+            place,
+            Nack {
+                id,
+                owner,
+                time,
+                count,
+            },
+        );
+    }
+
+    /// Sets the time and the count of the entry with this id, if it is pending. It takes no memory.
+    pub fn touch(&mut self, id: Id, time: u64, count: u64)
+        requires time { time < 2 ^ 63 }
+        requires count { count < 2 ^ 63 }
+        ensures nacks { self.new.nacks ≡ touched id time count self.old.nacks }
+        ensures rooms { self.new.rooms ≡ self.old.rooms }
+    {
+        match place_of(self.nacks.as_slice(), id) {
+            None => {}
+            Some(place) => touch_at(&mut self.nacks, place, id, time, count),
+        }
+    }
+
+    /// Removes the entry with this id, if it is pending, and answers whether it was. It takes no memory.
+    ///
+    /// Source: Redis documentation, command XACK.
+    pub fn remove(&mut self, id: Id) -> bool
+        ensures nacks { self.new.nacks ≡ without id self.old.nacks }
+        ensures found { result ≡ has_id id self.old.nacks }
+        ensures rooms { self.new.rooms ≡ self.old.rooms }
+    {
+        match place_of(self.nacks.as_slice(), id) {
+            None => false,
+            Some(place) => {
+                drop(self.nacks.remove(place));
+                true
+            }
+        }
+    }
+
+    /// Removes the entries of this owner, and answers how many. It takes no memory.
+    ///
+    /// Source: Redis documentation, command XGROUP DELCONSUMER.
+    pub fn drop_owner(&mut self, owner: &Name) -> u64
+        ensures nacks { self.new.nacks ≡ without_owner owner.now self.old.nacks }
+        ensures count { result ≡ length (owned_by owner.now self.old.nacks) }
+        ensures bound { result < 2 ^ 63 }
+        ensures rooms { self.new.rooms ≡ self.old.rooms }
+    {
+        let owned = self.count_of(owner);
+        keep_others(&mut self.nacks, owner);
+        owned as u64
+    }
+
+    /// Whether the entry with this id is pending.
+    pub fn contains(&self, id: Id) -> bool
+        ensures { result ≡ has_id id self.now.nacks }
+    {
+        match place_of(self.nacks.as_slice(), id) {
+            Some(_place) => true,
+            None => false,
+        }
+    }
+
+    /// The entry with this id, found by binary search.
+    pub fn get(&self, id: Id) -> Option<&Nack>
+        ensures { option_copied result ≡ nack_with id self.now.nacks }
+    {
+        match place_of(self.nacks.as_slice(), id) {
+            Some(place) => Some(&self.nacks[place]),
+            None => None,
+        }
+    }
+
+    /// The entries from `start` to `end`, both included, at most `count` of them, and of this owner if one is named.
+    ///
+    /// Source: Redis documentation, command XPENDING, "Extended form".
+    pub fn range<'a>(
+        &'a self,
+        start: Id,
+        end: Id,
+        count: Option<u64>,
+        owner: Option<&'a Name>,
+    ) -> Nacks<'a>
+        ensures { result ≡
+            first_of count (owned_by_named (option_copied owner.entry) (pending_between start end self.now.nacks)) }
+    {
+        Nacks::new(range_of(self.nacks.as_slice(), start, end), count, owner)
+    }
+
+    /// The entries of this owner.
+    pub fn of<'a>(&'a self, owner: &'a Name) -> Nacks<'a>
+        ensures { result ≡ owned_by owner.now self.now.nacks }
+    {
+        Nacks::new(self.nacks.as_slice(), None, Some(owner))
+    }
+
+    /// How many entries this owner has.
+    pub fn count_of(&self, owner: &Name) -> usize
+        ensures value { result ≡ length (owned_by owner.now self.now.nacks) }
+        ensures bound { result < 2 ^ 63 }
+    {
+        count_owned(self.nacks.as_slice(), owner)
+    }
+
+    /// The least pending id.
+    pub fn least_id(&self) -> Option<Id>
+        ensures { result ≡ least_pending self.now.nacks }
+    {
+        match self.nacks.first() {
+            Some(nack) => Some(nack.id),
+            None => None,
+        }
+    }
+
+    /// The greatest pending id.
+    pub fn greatest_id(&self) -> Option<Id>
+        ensures { result ≡ greatest_pending self.now.nacks }
+    {
+        match self.nacks.last() {
+            Some(nack) => Some(nack.id),
+            None => None,
+        }
+    }
+
+    /// Law: the ids rise, and each time and count fits 63 bits. Calling this has no effect.
+    pub fn sound(&self)
+        ensures rising { AreRising self.now.nacks }
+        ensures countable { All IsCountable self.now.nacks }
+    {
+        let _ = &self.nacks;
+    }
+
+    /// A second list of the same entries, with no room.
+    pub fn copy(&self, alloc: Global) -> Result<Pending, AllocError>
+        ensures nacks { IfOk result (λ p. p.nacks ≡ self.now.nacks) }
+        ensures rooms { IfOk result (λ p. p.rooms ≡ []) }
+    {
+        let nacks = copies(alloc, self.nacks.as_slice())?;
+        let rooms = Vec::new(alloc);
+        Ok(Pending { nacks, rooms })
+    }
+}
