@@ -1,0 +1,5 @@
+pub mod Bounds
+pub mod Rules
+pub mod File
+pub mod Snapshot
+pub mod Problem

@@ -1,0 +1,86 @@
+-- What a snapshot of a group shows: its stranded entries, and the consumers that could take them.
+-- Source: docs/RECOVERY.md.
+
+use Rattle.std.specs.Prelude.{◌≡◌, ℕ, ◌+◌, ◌-◌, ◌≤◌, IsTrue, List, length, All, Bool, Option, IfSome, nat_eq}
+use Rattle.std.specs.List.{AllAdjacentBelow, list_any}
+use Rattle.std.specs.Ordering.{is_lt, nat_cmp}
+use Rattle.std.specs.Cmp.Lexicographic.{slice_cmp, pointwise}
+use Rattle.sr_ids.specs.declared.id.Id.{Id}
+use Rattle.sr_ids.specs.Id.{IsBelow}
+use Rattle.sr_policy.specs.declared.stranded.Stranded.{Stranded}
+use Rattle.sr_policy.specs.declared.live.Live.{Live}
+use Rattle.sr_policy.specs.Bounds.{most_consumers, most_classes, most_limit, most_rate, most_weight, most_stranded}
+use Rattle.sr_policy.specs.Rules.{Text}
+
+-- the key and the group; the names of the dead consumers; the entries that are pending for them and still in the stream,
+-- and those that are no longer in the stream, each with its owner; the consumers that could take them; and for each class
+-- the rate of each of these consumers, None if it may not take the class. No times and no counts
+pub record Shown : Type 0 where
+  pub key : Text
+  pub group : Text
+  pub dead : List Text
+  pub stranded : List Stranded
+  pub gone : List (Id × Text)
+  pub live : List Live
+  pub rates : List (Text × List (Option ℕ))
+
+-- name a comes before name b, in byte order
+abbrev pub comes_before : Text → Text → Bool
+comes_before a b = is_lt (slice_cmp nat_cmp a b)
+
+abbrev pub ComesBefore : Text → Text → Type 0
+ComesBefore a b = IsTrue (comes_before a b)
+
+-- each element comes before the next one
+abbrev pub AreInOrder : {X : Type 0} → (X → X → Type 0) → List X → Type 0
+AreInOrder IsBefore xs = AllAdjacentBelow IsBefore xs (length xs)
+
+-- ids rise, so that each is there once
+pub record AreIdsInOrder (shown : Shown) : Type 0 where
+  pub stranded : AreInOrder (λ a b. IsBelow a.id b.id) shown.stranded
+  pub gone : AreInOrder (λ a b. IsBelow a.0 b.0) shown.gone
+
+-- names rise, so that each is there once
+pub record AreNamesInOrder (shown : Shown) : Type 0 where
+  pub dead : AreInOrder ComesBefore shown.dead
+  pub live : AreInOrder (λ a b. ComesBefore a.name b.name) shown.live
+  pub rates : AreInOrder (λ a b. ComesBefore a.0 b.0) shown.rates
+
+-- the name is one of the names
+abbrev pub is_among : List Text → Text → Bool
+is_among names name = list_any (λ other. pointwise nat_eq other name) names
+
+-- every owner is dead
+pub record AreOwnersDead (shown : Shown) : Type 0 where
+  pub stranded : All (λ entry. IsTrue (is_among shown.dead entry.owner)) shown.stranded
+  pub gone : All (λ entry. IsTrue (is_among shown.dead entry.1)) shown.gone
+
+-- the weight of an entry
+pub record IsWeight (weight : ℕ) : Type 0 where
+  pub some : 1 ≤ weight
+  pub small : weight ≤ most_weight
+
+-- the rates of a class: one place for each consumer
+pub record AreRates (consumers : ℕ) (rates : List (Option ℕ)) : Type 0 where
+  pub places : length rates ≡ consumers
+  pub small : All (λ rate. IfSome rate (λ n. n ≤ most_rate)) rates
+
+-- no list is too long, and no number too great; `*` may be there beside the classes of the policy
+pub record IsWithinBounds (shown : Shown) : Type 0 where
+  pub few_stranded : length shown.stranded ≤ most_stranded
+  pub few_live : length shown.live ≤ most_consumers
+  pub few_classes : length shown.rates ≤ most_classes + 1
+  pub weights : All (λ entry. IsWeight entry.weight) shown.stranded
+  pub limits : All (λ consumer. consumer.limit ≤ most_limit) shown.live
+  pub rates : All (λ class. AreRates (length shown.live) class.1) shown.rates
+
+-- these lists make a snapshot
+pub record IsSnapshot (shown : Shown) : Type 0 where
+  pub ids : AreIdsInOrder shown
+  pub names : AreNamesInOrder shown
+  pub owners : AreOwnersDead shown
+  pub bounds : IsWithinBounds shown
+
+-- how many more entries may become pending for a consumer with this limit
+abbrev pub room_of : ℕ → ℕ → ℕ
+room_of limit pending = limit - pending

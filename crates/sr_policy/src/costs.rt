@@ -1,0 +1,113 @@
+ghost use Rattle.std.specs.Prelude.{◌≡◌, ◌++◌, ◌*◌, ◌≤◌, ◌^◌, IfOk, OnOk, All, IfSome, None, option_map, map};
+ghost use Rattle.std.specs.List.{flat_map};
+ghost use Rattle.sr_policy.specs.Snapshot.{IsWeight};
+ghost use Rattle.sr_policy.specs.Problem.{room_at, costs_at, costs_of as costs_in, problem_of};
+
+use crate::live::Live;
+use crate::numbers::found;
+use crate::snapshot::Snapshot;
+use crate::stranded::Stranded;
+use sr_transport::Problem;
+use std::alloc::{AllocError, Global};
+
+/// The transportation problem of a snapshot: who could take its stranded entries, and at what cost.
+#[tactic(auto, using(crate::proofs::ProblemLemmas::problem_within))]
+pub fn problem(alloc: Global, snapshot: &Snapshot) -> Result<Problem, AllocError>
+    ensures { IfOk result (λ problem. problem ≡ problem_of snapshot.now) }
+{
+    snapshot.sound();
+    let rooms = rooms_of(alloc, snapshot.live())?;
+    let costs = costs_of(alloc, snapshot)?;
+    match Problem::new(rooms, snapshot.stranded().len(), costs) {
+        Some(problem) => Ok(problem),
+        None => unreachable!("a snapshot is within the limits of a problem"),
+    }
+}
+
+/// The room of each consumer.
+fn rooms_of(alloc: Global, live: &[Live]) -> Result<Vec<u64>, AllocError>
+    ensures { IfOk result (λ rooms. rooms.items ≡ map room_at live.now) }
+{
+    let mut rooms = Vec::with_capacity(alloc, live.len())?;
+    for consumer in live {
+        rooms.push(consumer.room())?;
+    }
+    Ok(rooms)
+}
+
+/// What each stranded entry costs at each consumer, row by entry.
+fn costs_of(alloc: Global, snapshot: &Snapshot) -> Result<Vec<Option<u64>>, AllocError>
+    ensures { IfOk result (λ costs. costs.items ≡ flat_map (costs_in snapshot.now) snapshot.now.stranded) }
+{
+    snapshot.sound();
+    let entries = snapshot.stranded();
+    let mut costs = Vec::new(alloc);
+    for entry in entries {
+        add_row(&mut costs, snapshot, entry)?;
+    }
+    Ok(costs)
+}
+
+/// Adds what an entry costs at each consumer.
+fn add_row(
+    costs: &mut Vec<Option<u64>>,
+    snapshot: &Snapshot,
+    entry: &Stranded,
+) -> Result<(), AllocError>
+    requires { IsWeight entry.now.weight }
+    ensures { OnOk result (costs.new.items ≡ costs.old.items ++ costs_in snapshot.now entry.now) }
+{
+    snapshot.sound();
+    match found(snapshot.rates(), &entry.class) {
+        Some(rates) => add_costs(costs, rates.as_slice(), entry.weight),
+        None => add_none(costs, snapshot.live()),
+    }
+}
+
+/// Adds what an entry of this weight costs at consumers with these rates.
+fn add_costs(
+    costs: &mut Vec<Option<u64>>,
+    rates: &[Option<u64>],
+    weight: u64,
+) -> Result<(), AllocError>
+    requires rates { All (λ rate. IfSome rate (λ n. n ≤ 2 ^ 20)) rates.now }
+    requires weight { weight ≤ 2 ^ 20 }
+    ensures { OnOk result (costs.new.items ≡ costs.old.items ++ costs_at weight rates.now) }
+{
+    for rate in rates {
+        costs.push(cost_of(*rate, weight))?;
+    }
+    Ok(())
+}
+
+/// Rate times weight, or `None` without a rate.
+fn cost_of(rate: Option<u64>, weight: u64) -> Option<u64>
+    requires rate { IfSome rate (λ n. n ≤ 2 ^ 20) }
+    requires weight { weight ≤ 2 ^ 20 }
+    ensures { result ≡ option_map (λ n. n * weight) rate }
+{
+    match rate {
+        Some(rate) => Some(priced(rate, weight)),
+        None => None,
+    }
+}
+
+/// Rate times weight.
+#[tactic(auto, using(crate::proofs::ProblemLemmas::cost_small))]
+fn priced(rate: u64, weight: u64) -> u64
+    requires rate { rate ≤ 2 ^ 20 }
+    requires weight { weight ≤ 2 ^ 20 }
+    ensures { result ≡ rate * weight }
+{
+    rate * weight
+}
+
+/// Adds a place without a cost for each consumer: the entry is allowed none.
+fn add_none(costs: &mut Vec<Option<u64>>, live: &[Live]) -> Result<(), AllocError>
+    ensures { OnOk result (costs.new.items ≡ costs.old.items ++ map (λ _. None) live.now) }
+{
+    for _consumer in live {
+        costs.push(None)?;
+    }
+    Ok(())
+}

@@ -1,0 +1,86 @@
+ghost use Rattle.std.specs.Prelude.{◌≡◌, IfOk};
+ghost use Rattle.toml.specs.View.{table_view};
+ghost use Rattle.sr_policy.specs.File.{rules_of as rules_of_file, rates_of as rates_in_table};
+
+use crate::Policy;
+use crate::numbers::{Numbers, numbers_of};
+use crate::range::is_in_range;
+use crate::shape::has_shape;
+use crate::table::{name_of, table_at, text_at};
+use sr_bytes::Name;
+use std::alloc::{AllocError, Global};
+use toml::Table;
+
+/// Why a text is not a policy.
+#[derive(Clone, Copy, Debug, PartialEq, Eq)]
+pub enum PolicyFault {
+    /// It is not a TOML document.
+    Toml,
+    /// It has another key, a value of another kind, or a rate for a consumer without a limit.
+    Shape,
+    /// A number is out of its range, or there are too many consumers or classes.
+    Range,
+    /// Memory was refused. The rest was not judged.
+    Memory,
+}
+
+impl Policy {
+    ghost use Rattle.std.specs.Prelude.{◌≡◌, ◌≢◌, Ok, Err, IfOk, IfErr};
+    ghost use Rattle.sr_policy.specs.File.{meaning_of};
+
+    /// Reads a policy file.
+    pub fn read(alloc: Global, text: &str) -> Result<Policy, PolicyFault>
+        ensures ok { IfOk result (λ policy. meaning_of text.now ≡ Ok policy) }
+        ensures err { IfErr result (λ fault. fault ≢ PolicyFault.Memory → meaning_of text.now ≡ Err fault) }
+    {
+        let file = match toml::table_from_str(alloc, text) {
+            Ok(file) => file,
+            Err(error) if error.is_memory() => return Err(PolicyFault::Memory),
+            Err(_) => return Err(PolicyFault::Toml),
+        };
+        if !has_shape(&file) {
+            return Err(PolicyFault::Shape);
+        }
+        if !is_in_range(&file) {
+            return Err(PolicyFault::Range);
+        }
+        match policy_of(alloc, &file) {
+            Ok(policy) => Ok(policy),
+            Err(_) => Err(PolicyFault::Memory),
+        }
+    }
+}
+
+/// The policy of a file that has the shape of one and is in range.
+fn policy_of(alloc: Global, file: &Table) -> Result<Policy, AllocError>
+    ensures { IfOk result (λ policy. policy ≡ rules_of_file (table_view file.now)) }
+{
+    let class_field = match text_at(file, "class_field") {
+        Some(text) => Some(name_of(alloc, text)?),
+        None => None,
+    };
+    let limits = match table_at(file, "limits") {
+        Some(limits) => numbers_of(alloc, limits)?,
+        None => Numbers::none(alloc),
+    };
+    let rates = match table_at(file, "rates") {
+        Some(classes) => rates_of(alloc, classes)?,
+        None => Vec::new(alloc),
+    };
+    Policy::of(alloc, class_field, limits, rates)
+}
+
+/// The rates of each class.
+fn rates_of(alloc: Global, classes: &Table) -> Result<Vec<(Name, Numbers)>, AllocError>
+    ensures { IfOk result (λ rates. rates.items ≡ rates_in_table (table_view classes.now)) }
+{
+    let mut rates = Vec::with_capacity(alloc, classes.len())?;
+    for (class, value) in classes.iter() {
+        let numbers = match value.as_table() {
+            Some(numbers) => numbers_of(alloc, numbers)?,
+            None => Numbers::none(alloc),
+        };
+        rates.push((name_of(alloc, class.as_str())?, numbers))?;
+    }
+    Ok(rates)
+}

@@ -1,0 +1,152 @@
+//! Whether parts make a snapshot.
+ghost use Rattle.std.specs.Prelude.{◌≡◌, ◌↔◌, ◌≤◌, length, IsTrue, All};
+ghost use Rattle.sr_ids.specs.Id.{IsBelow};
+ghost use Rattle.sr_policy.specs.Snapshot as spec;
+
+use crate::bounds::{MAX_CLASSES, MAX_CONSUMERS, MAX_LIMIT, MAX_RATE, MAX_STRANDED, MAX_WEIGHT};
+use crate::live::Live;
+use crate::rates::Rates;
+use crate::snapshot::Parts;
+use crate::stranded::Stranded;
+use sr_bytes::Name;
+use sr_ids::Id;
+
+/// Whether the parts are in order and within their bounds, and every owner is dead.
+pub(crate) fn is_snapshot(parts: &Parts) -> bool
+    ensures { IsTrue result ↔ spec.IsSnapshot parts.now }
+{
+    are_ids_in_order(parts)
+        && are_names_in_order(parts)
+        && are_owners_dead(parts)
+        && is_within_bounds(parts)
+}
+
+/// Whether ids rise.
+fn are_ids_in_order(parts: &Parts) -> bool
+    ensures { IsTrue result ↔ spec.AreIdsInOrder parts.now }
+{
+    are_entries_rising(parts.stranded.as_slice()) && are_gone_rising(parts.gone.as_slice())
+}
+
+/// Whether names rise.
+fn are_names_in_order(parts: &Parts) -> bool
+    ensures { IsTrue result ↔ spec.AreNamesInOrder parts.now }
+{
+    are_names_rising(parts.dead.as_slice())
+        && are_live_rising(parts.live.as_slice())
+        && are_classes_rising(parts.rates.as_slice())
+}
+
+/// Whether a name comes before another, in byte order.
+fn comes_before(a: &Name, b: &Name) -> bool
+    ensures { result ≡ spec.comes_before a.now b.now }
+{
+    a.as_slice().cmp(&b.as_slice()).is_lt()
+}
+
+/// Whether an id is below another.
+fn is_below(a: Id, b: Id) -> bool
+    ensures { IsTrue result ↔ IsBelow a b }
+{
+    a.ms < b.ms || (a.ms == b.ms && a.seq < b.seq)
+}
+
+fn are_names_rising(names: &[Name]) -> bool
+    ensures { IsTrue result ↔ spec.AreInOrder spec.ComesBefore names.now }
+{
+    names
+        .windows(2)
+        .all(|pair| comes_before(&pair[0], &pair[1]))
+}
+
+fn are_entries_rising(entries: &[Stranded]) -> bool
+    ensures { IsTrue result ↔ spec.AreInOrder (λ a b. IsBelow a.id b.id) entries.now }
+{
+    entries
+        .windows(2)
+        .all(|pair| is_below(pair[0].id, pair[1].id))
+}
+
+fn are_gone_rising(entries: &[(Id, Name)]) -> bool
+    ensures { IsTrue result ↔ spec.AreInOrder (λ a b. IsBelow a.0 b.0) entries.now }
+{
+    entries
+        .windows(2)
+        .all(|pair| is_below(pair[0].0, pair[1].0))
+}
+
+fn are_live_rising(live: &[Live]) -> bool
+    ensures { IsTrue result ↔ spec.AreInOrder (λ a b. spec.ComesBefore a.name b.name) live.now }
+{
+    live.windows(2)
+        .all(|pair| comes_before(&pair[0].name, &pair[1].name))
+}
+
+fn are_classes_rising(classes: &[(Name, Rates)]) -> bool
+    ensures { IsTrue result ↔ spec.AreInOrder (λ a b. spec.ComesBefore a.0 b.0) classes.now }
+{
+    classes
+        .windows(2)
+        .all(|pair| comes_before(&pair[0].0, &pair[1].0))
+}
+
+/// Whether every owner is dead.
+fn are_owners_dead(parts: &Parts) -> bool
+    ensures { IsTrue result ↔ spec.AreOwnersDead parts.now }
+{
+    are_stranded_owners(parts.dead.as_slice(), parts.stranded.as_slice())
+        && are_gone_owners(parts.dead.as_slice(), parts.gone.as_slice())
+}
+
+/// Whether each stranded entry has one of the names as its owner.
+fn are_stranded_owners(names: &[Name], entries: &[Stranded]) -> bool
+    ensures { IsTrue result ↔ All (λ entry. IsTrue (spec.is_among names.now entry.owner)) entries.now }
+{
+    entries.iter().all(|entry| is_among(names, &entry.owner))
+}
+
+/// Whether each gone entry has one of the names as its owner.
+fn are_gone_owners(names: &[Name], entries: &[(Id, Name)]) -> bool
+    ensures { IsTrue result ↔ All (λ entry. IsTrue (spec.is_among names.now entry.1)) entries.now }
+{
+    entries.iter().all(|entry| is_among(names, &entry.1))
+}
+
+/// Whether a name is one of the names.
+fn is_among(names: &[Name], name: &Name) -> bool
+    ensures { result ≡ spec.is_among names.now name.now }
+{
+    names.iter().any(|other| *other == *name)
+}
+
+/// Whether no list is too long and no number too great.
+fn is_within_bounds(parts: &Parts) -> bool
+    ensures { IsTrue result ↔ spec.IsWithinBounds parts.now }
+{
+    parts.stranded.len() <= MAX_STRANDED
+        && parts.live.len() <= MAX_CONSUMERS
+        && parts.rates.len() <= MAX_CLASSES + 1
+        && parts.stranded.iter().all(|entry| is_weight(entry.weight))
+        && parts
+            .live
+            .iter()
+            .all(|consumer| consumer.limit <= MAX_LIMIT)
+        && parts
+            .rates
+            .iter()
+            .all(|class| are_rates(parts.live.len(), class.1.as_slice()))
+}
+
+/// Whether a number is the weight of an entry.
+fn is_weight(weight: u64) -> bool
+    ensures { IsTrue result ↔ spec.IsWeight weight }
+{
+    1 <= weight && weight <= MAX_WEIGHT
+}
+
+/// Whether these are rates of a class, one for each consumer.
+fn are_rates(consumers: usize, rates: &[Option<u64>]) -> bool
+    ensures { IsTrue result ↔ spec.AreRates consumers rates.now }
+{
+    rates.len() == consumers && rates.iter().all(|rate| rate.is_none_or(|n| n <= MAX_RATE))
+}

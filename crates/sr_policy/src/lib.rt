@@ -1,0 +1,32 @@
+//! Who may take a dead consumer's entries, and at what cost: the policy that an operator writes, the snapshot of a group
+//! under it, and the transportation problem of that snapshot.
+#![tactic(auto)]
+
+mod bounds;
+mod costs;
+mod file;
+mod judge;
+mod live;
+mod numbers;
+mod policy;
+mod range;
+mod rates;
+mod room;
+mod shape;
+mod snapshot;
+mod stranded;
+mod table;
+mod weight;
+
+pub use costs::problem;
+pub use file::PolicyFault;
+pub use live::Live;
+pub use policy::Policy;
+pub use rates::Rates;
+pub use room::room_of;
+pub use snapshot::Snapshot;
+pub use stranded::Stranded;
+pub use weight::weight_of;
+
+#[cfg(test)]
+mod tests;

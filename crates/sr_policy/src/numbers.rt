@@ -1,0 +1,89 @@
+ghost use Rattle.std.specs.Prelude.{◌≡◌, IfOk, option_map, map};
+ghost use Rattle.toml.specs.View.{table_view};
+ghost use Rattle.sr_policy.specs.Rules.{value_at};
+ghost use Rattle.sr_policy.specs.File.{numbers_of as numbers_in};
+
+use crate::table::{name_of, natural_of};
+use sr_bytes::Name;
+use std::alloc::{AllocError, Global};
+use std::marker::Model;
+use toml::Table;
+
+/// Numbers by name: the limits of consumers, or their rates for a class.
+#[derive(Drop)]
+pub(crate) struct Numbers {
+    pairs: Vec<(Name, u64)>,
+}
+
+impl Model for Numbers {
+    ghost use Rattle.std.specs.Prelude.{List, ℕ};
+
+    ghost Value = { List (List ℕ × ℕ) };
+
+    ghost view = { λ n. n.pairs.items };
+}
+
+impl Numbers {
+    ghost use Rattle.std.specs.Prelude.{◌≡◌, []};
+    ghost use Rattle.sr_policy.specs.Rules.{value_at};
+
+    /// No numbers. It takes no memory.
+    pub(crate) fn none(alloc: Global) -> Numbers
+        ensures { result ≡ [] }
+    {
+        Numbers {
+            pairs: Vec::new(alloc),
+        }
+    }
+
+    /// The names with their numbers, in their order.
+    pub(crate) fn as_slice(&self) -> &[(Name, u64)]
+        ensures { result.now ≡ self.now }
+    {
+        self.pairs.as_slice()
+    }
+
+    /// The number of the first pair with this name.
+    pub(crate) fn get(&self, name: &Name) -> Option<u64>
+        ensures { result ≡ value_at name.now self.now }
+    {
+        found(self.as_slice(), name).copied()
+    }
+}
+
+/// What the first of the pairs with this name holds.
+pub(crate) fn found<'a, V>(pairs: &'a [(Name, V)], name: &Name) -> Option<&'a V>
+    ensures { option_map (λ value. value.now) result ≡ value_at name.now pairs.now }
+{
+    for (other, value) in pairs {
+        if name == other {
+            return Some(value);
+        }
+    }
+    None
+}
+
+/// The numbers of a table of a file, by key.
+pub(crate) fn numbers_of(alloc: Global, table: &Table) -> Result<Numbers, AllocError>
+    ensures { IfOk result (λ numbers. numbers ≡ numbers_in (table_view table.now)) }
+{
+    let mut pairs = Vec::with_capacity(alloc, table.len())?;
+    for (key, value) in table.iter() {
+        pairs.push((
+            name_of(alloc, key.as_str())?,
+            natural_of(value).unwrap_or(0),
+        ))?;
+    }
+    Ok(Numbers { pairs })
+}
+
+/// The names of some numbers, in their order.
+pub(crate) fn names_of(alloc: Global, pairs: &[(Name, u64)]) -> Result<Vec<Name>, AllocError>
+    ensures { IfOk result (λ names. names.items ≡ map (λ pair. pair.0) pairs.now) }
+{
+    let mut names = Vec::with_capacity(alloc, pairs.len())?;
+    for (name, _) in pairs {
+        names.push(name.copy(alloc)?)?;
+    }
+    Ok(names)
+}

@@ -1,0 +1,125 @@
+ghost use Rattle.std.specs.Prelude.{◌≡◌, IfOk};
+ghost use Rattle.sr_policy.specs.Rules.{other_class as all_others};
+
+use crate::numbers::{Numbers, found, names_of};
+use sr_bytes::{Fields, Name};
+use std::alloc::{AllocError, Global};
+use std::marker::Model;
+
+/// What an operator allows: how many entries each consumer may have pending, which consumers may take the entries of
+/// which class, and at which rate.
+///
+/// Source: docs/POLICY.md.
+#[derive(Drop)]
+pub struct Policy {
+    class_field: Option<Name>,
+    // The names in `limits`, once more, so that they can be lent as one list.
+    consumers: Vec<Name>,
+    limits: Numbers,
+    rates: Vec<(Name, Numbers)>,
+}
+
+impl Model for Policy {
+    ghost use Rattle.std.specs.Prelude.{◌≡◌, map};
+    ghost use Rattle.sr_policy.specs.Rules.{Rules};
+
+    ghost Value = { Rules };
+
+    ghost view = { λ p. record { class_field = p.class_field; limits = p.limits; rates = p.rates.items } };
+
+    ghost invariant = { λ p. p.consumers.items ≡ map (λ limit. limit.0) p.limits };
+}
+
+impl Policy {
+    ghost use Rattle.std.specs.Prelude.{◌≡◌, IfOk, option_map};
+    ghost use Rattle.sr_policy.specs.Rules.{no_rules, value_at, consumers_of, limit_of, rate_of, classed_by as classed_in, class_of as class_by};
+
+    /// The policy without consumers and rates, under which no entry can be given to anybody. It takes no memory.
+    pub fn empty(alloc: Global) -> Policy
+        ensures { result ≡ no_rules }
+    {
+        Policy {
+            class_field: None,
+            consumers: Vec::new(alloc),
+            limits: Numbers::none(alloc),
+            rates: Vec::new(alloc),
+        }
+    }
+
+    /// The policy of these parts.
+    pub(crate) fn of(
+        alloc: Global,
+        class_field: Option<Name>,
+        limits: Numbers,
+        rates: Vec<(Name, Numbers)>,
+    ) -> Result<Policy, AllocError>
+        ensures { IfOk result (λ policy. policy ≡ record { class_field = class_field; limits = limits; rates = rates.items }) }
+    {
+        let consumers = names_of(alloc, limits.as_slice())?;
+        Ok(Policy {
+            class_field,
+            consumers,
+            limits,
+            rates,
+        })
+    }
+
+    /// The consumers, in byte order.
+    pub fn consumers(&self) -> &[Name]
+        ensures { result.now ≡ consumers_of self.now }
+    {
+        self.consumers.as_slice()
+    }
+
+    /// How many entries a consumer may have pending, or `None` if the policy doesn't name it.
+    pub fn limit(&self, consumer: &Name) -> Option<u64>
+        ensures { result ≡ limit_of self.now consumer.now }
+    {
+        self.limits.get(consumer)
+    }
+
+    /// What an entry of a class costs at a consumer for each unit of its weight, or `None` if the consumer may not take
+    /// it.
+    pub fn rate(&self, class: &Name, consumer: &Name) -> Option<u64>
+        ensures { result ≡ rate_of self.now class.now consumer.now }
+    {
+        match self.rates_for(class) {
+            Some(rates) => rates.get(consumer),
+            None => None,
+        }
+    }
+
+    /// The class of an entry with these fields.
+    pub fn class_of(&self, alloc: Global, fields: &Fields) -> Result<Name, AllocError>
+        ensures { IfOk result (λ class. class ≡ class_by self.now fields.now) }
+    {
+        match self.classed_by(fields) {
+            Some(value) if self.rates_for(value).is_some() => value.copy(alloc),
+            _ => other_class(alloc),
+        }
+    }
+
+    /// The rates of a class, by consumer.
+    fn rates_for(&self, class: &Name) -> Option<&Numbers>
+        ensures { option_map (λ rates. rates.now) result ≡ value_at class.now self.now.rates }
+    {
+        found(self.rates.as_slice(), class)
+    }
+
+    /// The value of the first field with the name of the class field.
+    fn classed_by<'a>(&self, fields: &'a Fields) -> Option<&'a Name>
+        ensures { option_map (λ value. value.now) result ≡ classed_in self.now fields.now }
+    {
+        match &self.class_field {
+            Some(field) => found(fields.as_slice(), field),
+            None => None,
+        }
+    }
+}
+
+/// The class of all entries that no other class takes.
+fn other_class(alloc: Global) -> Result<Name, AllocError>
+    ensures { IfOk result (λ class. class ≡ all_others) }
+{
+    Ok(Name::new(Vec::from_slice(alloc, b"*")?))
+}
