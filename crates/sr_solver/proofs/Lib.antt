@@ -9,3 +9,4 @@ pub mod PlaceLemmas
 pub mod ShortageLemmas
 pub mod SolvedLemmas
 pub mod OrderLemmas
+pub mod RenamedShortageLemmas

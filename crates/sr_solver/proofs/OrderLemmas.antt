@@ -60,7 +60,7 @@ order_sum f n order is =
     sum_below-same (λ k. f (get_or (numbers_below n) k 0)) f n (λ k l. ap f (numbers_at n k 0 l)) in
     omega (arith, in_order, rising, plain, sum_by-IsPermutation f (numbers_below n) order is)
 
-eqb_flips : (x y : ℕ) → (x == y) ≡ (y == x)
+pub eqb_flips : (x y : ℕ) → (x == y) ≡ (y == x)
 eqb_flips x y = elim (cases_eq x y) [
   | inl same ↦ eq-eqb x y same ∙ sym (eq-eqb y x (sym same))
   | inr other ↦ ne_eqb x y other ∙ sym (ne_eqb y x (λ e. other (sym e)))
@@ -142,7 +142,7 @@ rows_at p order (suc n) k c lt ltc =
     ]
 
 -- a cost in the order
-order_cost : (p q : Transport) (order : List ℕ) → IsReordered p q order → (k c : ℕ) → k < p.entries → c < consumers p
+pub order_cost : (p q : Transport) (order : List ℕ) → IsReordered p q order → (k c : ℕ) → k < p.entries → c < consumers p
     → cost_at q k c ≡ cost_at p (get_or order k 0) c
 order_cost p q order re k c lt ltc =
     ap (λ r. get_or q.costs (k * length r + c) None) re.rooms
@@ -154,7 +154,7 @@ order_cost_of p q order re k c lt ltc =
     let cost : Option ℕ → ℕ = λ o. unwrap_or o 0 in
     ap cost (order_cost p q order re k c lt ltc)
 
-same_consumers : (p q : Transport) (order : List ℕ) → IsReordered p q order → consumers q ≡ consumers p
+pub same_consumers : (p q : Transport) (order : List ℕ) → IsReordered p q order → consumers q ≡ consumers p
 same_consumers p q order re = ap length re.rooms
 
 same_load : (order ys xs : List ℕ) (n c : ℕ) → IsOrder n order → length ys ≡ n → length xs ≡ n → IsRenamed order ys xs n

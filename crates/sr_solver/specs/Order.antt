@@ -1,7 +1,7 @@
 -- A problem with its entries in another order.
 
-use Rattle.std.specs.Prelude.{◌≡◌, ℕ, zero, suc, ◌<◌, List, [], ◌∷◌, ◌++◌, slice_index, Option}
-use Rattle.std.specs.List.Sorted.{IsPermutation}
+use Rattle.std.specs.Prelude.{◌≡◌, ℕ, zero, suc, ◌<◌, List, [], ◌∷◌, ◌++◌, slice_index, Option, map}
+use Rattle.std.specs.List.Sorted.{IsPermutation, IsNonDecreasing}
 use Rattle.sr_transport.specs.Problem.{Transport, consumers, cost_at}
 
 -- the numbers below n, rising
@@ -32,3 +32,8 @@ pub record IsReordered (p q : Transport) (order : List ℕ) : Type 0 where
 -- what stands at place k of ys stands at the number of xs that the order has there
 abbrev pub IsRenamed : List ℕ → List ℕ → List ℕ → ℕ → Type 0
 IsRenamed order ys xs n = (k : ℕ) → k < n → slice_index xs (slice_index order k) ≡ slice_index ys k
+
+-- the entries that the order has at these places, rising
+pub record AreEntriesAt (order places entries : List ℕ) : Type 0 where
+  pub moved : IsPermutation (map (slice_index order) places) entries
+  pub rising : IsNonDecreasing entries

@@ -15,5 +15,6 @@ mod solution;
 mod table;
 #[cfg(test)]
 mod tests;
+mod wanted;
 
 pub use solution::{Solved, solve};

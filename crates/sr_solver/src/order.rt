@@ -1,6 +1,6 @@
 ghost use Rattle.std.specs.Prelude.{◌≡◌, ◌<◌, ◌≤◌, ◌++◌, length, All, IfOk};
 ghost use Rattle.sr_transport.specs.Problem.{consumers, IsWithinLimits};
-ghost use Rattle.sr_solver.specs.Order.{numbers_below, IsOrder, IsReordered, IsRenamed, row_below, rows_below};
+ghost use Rattle.sr_solver.specs.Order.{numbers_below, IsOrder, IsReordered, IsRenamed, AreEntriesAt, row_below, rows_below};
 
 use sr_transport::Problem;
 use std::alloc::{AllocError, Global};
@@ -100,4 +100,21 @@ pub fn rename(order: &[usize], assign: &[usize], renamed: &mut [usize])
     for place in 0..assign.len() {
         renamed[order[place]] = assign[place];
     }
+}
+
+/// The entries at these places of the order, rising.
+pub fn entries_at(
+    alloc: Global,
+    order: &[usize],
+    places: &[usize],
+) -> Result<Vec<usize>, AllocError>
+    requires { All (λ place. place < length order.now) places.now }
+    ensures { IfOk result (λ entries. AreEntriesAt order.now places.now entries.items) }
+{
+    let mut entries = Vec::with_capacity(alloc, places.len())?;
+    for place in places {
+        entries.push(order[*place])?;
+    }
+    entries.sort()?;
+    Ok(entries)
 }

@@ -5,18 +5,22 @@ ghost use Rattle.sr_solver.specs.Order.{IsOrder};
 
 use crate::order::{by_range, rows};
 use crate::solution::{Solved, solve_in_order};
+use crate::wanted::{crowds, wanted_price};
 use sr_transport::Problem;
 use std::alloc::{AllocError, Global};
 
-/// One entry of so many is in the sample.
+/// One entry out of this many is in the sample.
 const STEP: usize = 8;
 
-/// A sample of fewer entries is not worth its time.
+/// A smaller sample is not worth its time.
 const FEW: usize = 64;
 
-/// The entries, in the order in which they are placed: those first that want a consumer with a high price.
+/// How often a sample is solved: each time without the entries that had too few places the time before.
+const TRIES: usize = 4;
+
+/// The entries in the order in which they are placed: first those that want a consumer with a high price.
 ///
-/// The prices are those of a sample, which is solved before. Which sample that is, and whether it has an answer, matters for the
+/// The prices come from a sample, which is solved first. Which sample that is, and whether it has an answer, affects the
 /// time alone.
 pub fn placing_order(alloc: Global, problem: &Problem) -> Result<Vec<usize>, AllocError>
     ensures { IfOk result (λ order. IsOrder problem.now.entries order.items) }
@@ -26,27 +30,32 @@ pub fn placing_order(alloc: Global, problem: &Problem) -> Result<Vec<usize>, All
         return Ok(order);
     }
     let sample = sample(alloc, &order)?;
-    let Some(prices) = prices_of(alloc, problem, &sample)? else {
+    let Some(prices) = prices_of(alloc, problem, sample)? else {
         return Ok(order);
     };
     by_price(alloc, problem, &prices, &mut order)?;
     Ok(order)
 }
 
-/// The first of the entries, and each `STEP`-th after it.
+/// One of each `STEP` entries in a row. Which one follows no period.
 fn sample(alloc: Global, order: &[usize]) -> Result<Vec<usize>, AllocError>
     ensures { IfOk result (λ sample. (n : ℕ) → All (λ entry. entry < n) order.now → All (λ entry. entry < n) sample.items) }
 {
-    let mut sample = Vec::new(alloc);
-    for (place, entry) in order.iter().enumerate() {
-        if place % STEP == 0 {
-            sample.push(*entry)?;
-        }
+    let mut sample = Vec::with_capacity(alloc, order.len() / STEP)?;
+    for block in 0..order.len() / STEP {
+        let place = block * STEP + mixed(block as u64) as usize % STEP;
+        sample.push(order[place])?;
     }
     Ok(sample)
 }
 
-/// Sorts entries by falling price of the consumer where cost and price are least.
+/// A number in which those that follow one another differ without a pattern.
+fn mixed(number: u64) -> u64 {
+    let spread = number.wrapping_mul(0x9E37_79B9_7F4A_7C15);
+    (spread ^ (spread >> 32)).wrapping_mul(0xD6E8_FEB8_6659_FD93) >> 32
+}
+
+/// Sorts entries by falling price of the consumer that they want.
 fn by_price(
     alloc: Global,
     problem: &Problem,
@@ -57,60 +66,78 @@ fn by_price(
     requires below { All (λ entry. entry < problem.now.entries) order.old.items }
     ensures { IsPermutation order.old.items order.new.items }
 {
+    let crowds = crowds(alloc, problem, prices)?;
     let mut keys = vec![in alloc; 0u64; problem.entries()]?;
     for entry in order.iter() {
-        keys[*entry] = u64::MAX - wanted_price(problem, prices, *entry);
+        keys[*entry] = u64::MAX - wanted_price(problem, prices, &crowds, *entry);
     }
     order.sort_by_key(|entry| keys.get(*entry).copied())
 }
 
-/// The price of the consumer where the entry's cost and the price are least.
-fn wanted_price(problem: &Problem, prices: &[u64], entry: usize) -> u64
-    requires one_each { length prices.now ≡ consumers problem.now }
-    requires entry { entry < problem.now.entries }
-{
-    let mut least = u64::MAX;
-    let mut wanted = 0;
-    for (consumer, cost) in problem.costs(entry).iter().enumerate() {
-        let price = prices[consumer];
-        if let Some(cost) = *cost
-            && cost.saturating_add(price) < least
-        {
-            least = cost.saturating_add(price);
-            wanted = price;
-        }
-    }
-    wanted
-}
-
-/// The prices of a cheapest assignment of these entries alone, where the rooms are as much smaller as they are fewer.
+/// The prices of a cheapest assignment of these entries alone, with the rooms smaller in proportion.
 fn prices_of(
     alloc: Global,
     problem: &Problem,
-    sample: &[usize],
+    sample: Vec<usize>,
 ) -> Result<Option<Vec<u64>>, AllocError>
-    requires { All (λ entry. entry < problem.now.entries) sample.now }
+    requires { All (λ entry. entry < problem.now.entries) sample.items }
     ensures { IfOk result (λ found. IfSome found (λ prices. length prices.items ≡ consumers problem.now)) }
 {
-    let rooms = smaller_rooms(alloc, problem, sample.len())?;
-    let costs = rows(alloc, problem, sample)?;
-    let Some(smaller) = Problem::new(rooms, sample.len(), costs) else {
-        return Ok(None);
-    };
-    match solve_in_order(alloc, &smaller)? {
-        Solved::Best { prices, .. } => Ok(Some(prices)),
-        Solved::Short { .. } => Ok(None),
+    let whole = sample.len();
+    let mut sample = sample;
+    for _ in 0..TRIES {
+        let rooms = smaller_rooms(alloc, problem, whole)?;
+        let costs = rows(alloc, problem, &sample)?;
+        let Some(smaller) = Problem::new(rooms, sample.len(), costs) else {
+            return Ok(None);
+        };
+        match solve_in_order(alloc, &smaller)? {
+            Solved::Best { prices, .. } => {
+                return Ok(Some(prices));
+            }
+            Solved::Short { set } => {
+                sample = without(alloc, &sample, &set)?;
+            }
+        }
     }
+    Ok(None)
 }
 
-/// The rooms, for so many entries in place of all, rounded up.
+/// The entries but for those at these places.
+fn without(alloc: Global, entries: &[usize], places: &[usize]) -> Result<Vec<usize>, AllocError>
+    ensures { IfOk result (λ kept. (n : ℕ) → All (λ entry. entry < n) entries.now → All (λ entry. entry < n) kept.items) }
+{
+    let mut is_kept = vec![in alloc; true; entries.len()]?;
+    for place in places {
+        if let Some(kept) = is_kept.get_mut(*place) {
+            *kept = false;
+        }
+    }
+    let mut kept = Vec::new(alloc);
+    for (place, entry) in entries.iter().enumerate() {
+        if is_kept.get(place).copied().unwrap_or(false) {
+            kept.push(*entry)?;
+        }
+    }
+    Ok(kept)
+}
+
+/// The rooms for this many entries in place of all. Their sums are rounded, so that many small rooms do not grow.
 fn smaller_rooms(alloc: Global, problem: &Problem, entries: usize) -> Result<Vec<u64>, AllocError>
     ensures { IfOk result (λ rooms. length rooms.items ≡ consumers problem.now) }
 {
+    let all = problem.entries().max(1) as u64;
     let mut rooms = Vec::with_capacity(alloc, problem.consumers())?;
+    let mut places = 0u64;
+    let mut given = 0u64;
     for consumer in 0..problem.consumers() {
-        let places = problem.room(consumer).saturating_mul(entries as u64);
-        rooms.push(places.div_ceil(problem.entries().max(1) as u64))?;
+        places = places.saturating_add(problem.room(consumer));
+        let share = places
+            .saturating_mul(entries as u64)
+            .saturating_add(all / 2)
+            / all;
+        rooms.push(share.saturating_sub(given))?;
+        given = share;
     }
     Ok(rooms)
 }

@@ -7,7 +7,7 @@ ghost use Rattle.sr_solver.specs.Search.{IsStuck};
 ghost use Rattle.sr_solver.specs.Solved.{IsSolution, IsOptimal};
 
 use crate::label::Label;
-use crate::order::{rename, reordered};
+use crate::order::{entries_at, rename, reordered};
 use crate::path::{raise, shift};
 use crate::placement::Placement;
 use crate::sample::placing_order;
@@ -59,7 +59,10 @@ pub fn solve(alloc: Global, problem: &Problem) -> Result<Solved, AllocError>
                 total,
             })
         }
-        Solved::Short { .. } => solve_in_order(alloc, problem),
+        Solved::Short { set } => {
+            let set = entries_at(alloc, &order, &set)?;
+            Ok(Solved::Short { set })
+        }
     }
 }
 

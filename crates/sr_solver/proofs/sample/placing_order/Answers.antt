@@ -8,8 +8,8 @@ by_price-requires-clause-below c = order_below c.args.problem.now.entries c.in_o
 
 pub prices_of-requires : goal.prices_of-requires
 prices_of-requires c =
-    rw c.deref-2.ensures.value (c.in_ok-sample.ensures c.args.problem.now.entries
-    (rw c.deref.ensures.value (order_below c.args.problem.now.entries c.in_ok-order.order.items c.in_ok-order.ensures)))
+    c.in_ok-sample.ensures c.args.problem.now.entries
+    (rw c.deref.ensures.value (order_below c.args.problem.now.entries c.in_ok-order.order.items c.in_ok-order.ensures))
 
 pub returns : goal.returns
 returns c =

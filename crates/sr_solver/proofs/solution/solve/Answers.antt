@@ -1,7 +1,8 @@
 use Rattle.std.proofs.Common.{arith}
 use Rattle.std.proofs.lemmas.List.{take_at}
-use Rattle.sr_transport.proofs.CallerLemmas.{prices_show_cheapest}
+use Rattle.sr_transport.proofs.CallerLemmas.{prices_show_cheapest, shortage_excludes}
 use Rattle.sr_solver.proofs.OrderLemmas.{renamed_solution}
+use Rattle.sr_solver.proofs.RenamedShortageLemmas.{renamed_shortage_is, shortage_places}
 use Rattle.sr_solver.proofs.solution.solve.Goals as goal
 
 pub returns-in-Best-clause-solution : goal.returns-in-Best-clause-solution
@@ -19,3 +20,21 @@ pub returns-in-Best-clause-optimal : goal.returns-in-Best-clause-optimal
 returns-in-Best-clause-optimal c =
     let s = returns-in-Best-clause-solution c in
     (s.0, prices_show_cheapest c.args.problem.now _ c.in-Best.prices.items s.0 s.1)
+
+pub entries_at-requires : goal.entries_at-requires
+entries_at-requires c =
+    let short = rw c.in-Short.is at c.in_ok-assign.ensures.solution in
+    rw (c.deref-in-Short.ensures.value, c.deref-in-Short-2.ensures.value)
+    (shortage_places c.args.problem.now _ c.in_ok-order.order.items c.in-Short.set.items c.deref.result.now c.in_ok-order.ensures
+    c.in_ok-other.ensures.value short)
+
+pub returns-clause-solution : goal.returns-clause-solution
+returns-clause-solution c =
+    let short = rw c.in-Short.is at c.in_ok-assign.ensures.solution in
+    renamed_shortage_is c.args.problem.now _ c.in_ok-order.order.items c.in-Short.set.items c.deref.result.now
+    c.deref-in-Short.result.now c.deref-in-Short-2.result.now c.in_ok-set-in-Short.set.items c.in_ok-order.ensures
+    c.in_ok-other.ensures.value c.deref.ensures.value c.deref-in-Short.ensures.value c.deref-in-Short-2.ensures.value short
+    c.in_ok-set-in-Short.ensures
+
+pub returns-clause-optimal : goal.returns-clause-optimal
+returns-clause-optimal c = shortage_excludes c.args.problem.now c.in_ok-set-in-Short.set.items (returns-clause-solution c)
