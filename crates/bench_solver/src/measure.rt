@@ -2,8 +2,8 @@
 ghost use Rattle.std.specs.Prelude.{◌<◌};
 
 use crate::families::{self, CONSUMERS, ENTRIES};
-use sr_solver::{Solved, solve};
-use sr_transport::Problem;
+use sr_solver::solve;
+use sr_transport::{Problem, Solved};
 use std::alloc::{AllocError, Global};
 use std::fmt::Write;
 use std::io;

@@ -14,6 +14,7 @@ use Rattle.sr_transport.specs.Sum.{sum_below}
 use Rattle.sr_transport.specs.Problem.{Transport, IsWithinLimits, consumers, cost_at, cost_of, IsAllowed}
 use Rattle.sr_transport.specs.Assignment.{load, IsAssignment, total_of}
 use Rattle.sr_transport.specs.Certificate.{IsLeast, ShowsCheapest}
+use Rattle.sr_transport.specs.Solved.{IsBest}
 use Rattle.sr_transport.proofs.SumLemmas.{sum_below-same, sum_by_below}
 use Rattle.sr_solver.specs.Order.{numbers_below, IsOrder, IsReordered, IsRenamed, row_below, rows_below}
 
@@ -288,17 +289,18 @@ renamed_more n order ys xs place is every lt renamed k below =
 -- the same of the whole answer, where the lists are known by equations
 pub renamed_solution : (p q : Transport) (order ys zs first orders assigns xs prices : List ℕ) (total : ℕ) → IsOrder p.entries order
     → IsReordered p q first → first ≡ order → orders ≡ order → assigns ≡ ys → xs ≡ zs → length zs ≡ length assigns
-    → IsRenamed orders assigns zs (length assigns) → IsAssignment q ys × ShowsCheapest q ys prices × (total ≡ total_of q ys)
-    → IsAssignment p xs × ShowsCheapest p xs prices × (total ≡ total_of p xs)
-renamed_solution p q order ys zs first orders assigns xs prices total is re_first same_first same_orders same_assigns same_xs many renamed_all solved =
+    → IsRenamed orders assigns zs (length assigns) → IsBest q ys prices total → IsBest p xs prices total
+renamed_solution p q order ys zs first orders assigns xs prices total is re_first same_first same_orders same_assigns same_xs many renamed_all best =
     let re : IsReordered p q order = rw same_first at re_first in
-    let every_y : length ys ≡ p.entries = solved.0.every ∙ re.entries in
+    let every_y : length ys ≡ p.entries = best.assignment.every ∙ re.entries in
     let every : length zs ≡ p.entries = many ∙ (ap length same_assigns ∙ every_y) in
     let renamed : IsRenamed order ys zs p.entries = λ k l.
     ap (λ o. get_or zs (get_or o k 0) 0) (sym same_orders)
     ∙ (renamed_all k (omega (arith, l, many, every)) ∙ ap (λ a. get_or a k 0) same_assigns) in
-    rw same_xs (
-      renamed_assignment p q order ys zs is re every renamed solved.0,
-      renamed_shows p q order ys zs prices is re every renamed solved.0 solved.1,
-      solved.2 ∙ renamed_total p q order ys zs is re every renamed solved.0,
-    )
+    rw same_xs (record {
+      assignment = renamed_assignment p q order ys zs is re every renamed best.assignment;
+      shown = renamed_shows p q order ys zs prices is re every renamed best.assignment best.shown;
+      sum = best.sum ∙ renamed_total p q order ys zs is re every renamed best.assignment;
+      small_total = best.small_total;
+      small_prices = best.small_prices;
+    })

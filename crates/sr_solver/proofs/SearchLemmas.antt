@@ -5,26 +5,12 @@ use Rattle.std.proofs.lemmas.Bool.{cases_lt, false≢true}
 use Rattle.std.proofs.lemmas.List.{get_or_past}
 use Rattle.std.proofs.lemmas.List.Elements.{All-get_or}
 use Rattle.sr_transport.specs.Problem.{Transport, IsWithinLimits, consumers, cost_at, cost_of, IsAllowed}
+pub use Rattle.sr_transport.proofs.LimitLemmas.{cost_at_small, cost_small}
 use Rattle.sr_solver.specs.declared.label.Label.{Label}
 use Rattle.sr_solver.specs.Labels.{no_label, label_at}
 use Rattle.sr_solver.specs.Offers.{IsOffered}
 use Rattle.sr_solver.specs.Search.{IsFirstStep, IsSearch, IsRound, first_offer, IsStarted}
 use Rattle.sr_solver.proofs.LabelLemmas.{offered_split, open_count-le}
-
--- the costs that are within the limits
-some_small : (cost : Option ℕ) → IfSome cost (λ c. c ≤ 2 ^ 40) → unwrap_or cost 0 ≤ 2 ^ 40
-some_small None small = omega arith
-some_small (Some c) small = small
-
-pub cost_at_small : (p : Transport) → IsWithinLimits p.rooms p.entries p.costs → (i c : ℕ) → IfSome (cost_at p i c) (λ n. n ≤ 2 ^ 40)
-cost_at_small p limits i c =
-    elim (cases_lt (i * length p.rooms + c) (length p.costs)) [
-      | inl lt ↦ All-get_or (λ cost. IfSome cost (λ n. n ≤ 2 ^ 40)) p.costs (i * length p.rooms + c) None lt limits.small_costs
-      | inr past ↦ let none : cost_at p i c ≡ None = get_or_past p.costs (i * length p.rooms + c) None past in rw none tt
-    ]
-
-pub cost_small : (p : Transport) → IsWithinLimits p.rooms p.entries p.costs → (i c : ℕ) → cost_of p i c ≤ 2 ^ 40
-cost_small p limits i c = some_small (cost_at p i c) (cost_at_small p limits i c)
 
 -- a consumer past the last has no label
 past_label : (labels : List Label) (c : ℕ) → length labels ≤ c → label_at labels c ≡ no_label

@@ -1,8 +1,12 @@
 -- Where every entry is placed, the problem is solved.
-use Rattle.std.proofs.Common.{ℕ, List, arith}
+use Rattle.std.proofs.Common.{◌≡◌, ℕ, ◌^◌, ◌≤◌, List, Option, Some, arith}
+use Rattle.std.specs.Prelude.{IfSome}
+use Rattle.std.specs.List.{All}
+use Rattle.std.proofs.lemmas.List.Elements.{All-from_get_or}
 use Rattle.sr_transport.specs.Problem.{Transport}
-use Rattle.sr_transport.specs.Assignment.{IsAssignment}
+use Rattle.sr_transport.specs.Assignment.{IsAssignment, total_of}
 use Rattle.sr_transport.specs.Certificate.{ShowsCheapest}
+use Rattle.sr_transport.specs.Solved.{IsBest}
 use Rattle.sr_solver.specs.Placed.{IsPlaced}
 
 -- the placement is an assignment
@@ -18,4 +22,21 @@ placed_shows p xs prices placed = record {
   one_each = placed.one_each;
   least = λ i lt. placed.least i (omega (arith, lt, placed.every));
   filled = placed.filled;
+}
+
+-- none of which is too great
+placed_prices : (p : Transport) (xs prices : List ℕ) → IsPlaced p p.entries xs prices → All (λ price. price ≤ 2 ^ 58) prices
+placed_prices p xs prices placed =
+    All-from_get_or (λ price. price ≤ 2 ^ 58) prices 0
+    (λ c lt. omega (arith, placed.low c (omega (arith, lt, placed.one_each)), placed.limits.few_entries))
+
+-- so the answer is right, with the total that was found
+pub placed_best : (p : Transport) (xs prices : List ℕ) (found : Option ℕ) (total : ℕ) → IsPlaced p p.entries xs prices
+    → found ≡ Some total → IfSome found (λ t. t ≡ total_of p xs) → IfSome found (λ t. t ≤ 2 ^ 52) → IsBest p xs prices total
+placed_best p xs prices found total placed is same small = record {
+  assignment = placed_assignment p xs prices placed;
+  shown = placed_shows p xs prices placed;
+  sum = rw is at same;
+  small_total = rw is at small;
+  small_prices = placed_prices p xs prices placed;
 }

@@ -1,4 +1,3 @@
-pub mod Solved
 pub mod Labels
 pub mod Offers
 pub mod Placed

@@ -17,4 +17,4 @@ mod table;
 mod tests;
 mod wanted;
 
-pub use solution::{Solved, solve};
+pub use solution::solve;

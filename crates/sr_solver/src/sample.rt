@@ -4,9 +4,9 @@ ghost use Rattle.sr_transport.specs.Problem.{consumers};
 ghost use Rattle.sr_solver.specs.Order.{IsOrder};
 
 use crate::order::{by_range, rows};
-use crate::solution::{Solved, solve_in_order};
+use crate::solution::solve_in_order;
 use crate::wanted::{crowds, wanted_price};
-use sr_transport::Problem;
+use sr_transport::{Problem, Solved};
 use std::alloc::{AllocError, Global};
 
 /// One entry out of this many is in the sample.

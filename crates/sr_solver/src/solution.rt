@@ -1,10 +1,9 @@
 ghost use Rattle.std.specs.Prelude.{◌≡◌, ◌+◌, ◌<◌, length, IfOk, IfSome, IfNone, true, false};
-ghost use Rattle.sr_transport.specs.Problem.{consumers, IsWithinLimits};
-ghost use Rattle.sr_transport.specs.Assignment.{IsAssignment, total_of};
+ghost use Rattle.sr_transport.specs.Problem.{consumers};
 ghost use Rattle.sr_solver.specs.Placed.{IsPlaced, IsStanding};
 ghost use Rattle.sr_solver.specs.Table.{IsTable};
 ghost use Rattle.sr_solver.specs.Search.{IsStuck};
-ghost use Rattle.sr_solver.specs.Solved.{IsSolution, IsOptimal};
+ghost use Rattle.sr_transport.specs.Solved.{IsSolution, IsOptimal};
 
 use crate::label::Label;
 use crate::order::{entries_at, rename, reordered};
@@ -14,23 +13,8 @@ use crate::sample::placing_order;
 use crate::search::search;
 use crate::shortage::stranded;
 use crate::table::Bound;
-use sr_transport::Problem;
+use sr_transport::{Problem, Solved, total};
 use std::alloc::{AllocError, Global};
-
-/// What solves a problem.
-#[derive(Drop)]
-pub enum Solved {
-    /// A cheapest assignment: entry i goes to `assign[i]`; a price for each consumer that shows it; and its total.
-    Best {
-        assign: Vec<usize>,
-        prices: Vec<u64>,
-        total: u64,
-    },
-    /// There is no assignment: entries, rising, for which there are too few places.
-    Short {
-        set: Vec<usize>,
-    },
-}
 
 /// Solves a transportation problem: gives a cheapest assignment with prices that show it, or entries for which there
 /// are too few places.
@@ -99,7 +83,7 @@ fn best(problem: &Problem, assign: Vec<usize>, prices: Vec<u64>) -> Solved
     ensures solution { IsSolution problem.now result }
     ensures optimal { IsOptimal problem.now result }
 {
-    let total = total(problem, &assign);
+    let total = total(problem, &assign).unwrap();
     Solved::Best {
         assign,
         prices,
@@ -151,17 +135,4 @@ fn place(
     shift(problem, entry, end, labels, placement, table);
     placement.loads[end] += 1;
     true
-}
-
-/// What an assignment costs.
-fn total(problem: &Problem, assign: &[usize]) -> u64
-    requires limits { IsWithinLimits problem.now.rooms problem.now.entries problem.now.costs }
-    requires assignment { IsAssignment problem.now assign.now }
-    ensures { result ≡ total_of problem.now assign.now }
-{
-    let mut total = 0;
-    for (entry, consumer) in assign.iter().enumerate() {
-        total += problem.cost(entry, *consumer).unwrap();
-    }
-    total
 }

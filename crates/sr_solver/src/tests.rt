@@ -1,7 +1,7 @@
 // What no clause says: that a problem is solved while there is memory, what is found in problems worked by hand, and that
 // a refusal of memory is the only other answer.
-use crate::{Solved, solve};
-use sr_transport::Problem;
+use crate::solve;
+use sr_transport::{Problem, Solved};
 use std::alloc::{AllocError, Global};
 use std::process::Abort;
 use std::test::Fail;

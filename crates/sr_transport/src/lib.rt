@@ -2,11 +2,13 @@
 //! cheapest assignment and of a shortage.
 #![tactic(auto)]
 
-mod check;
+mod certificate;
 mod problem;
+mod solved;
 
-pub use check::{check_prices, check_shortage};
+pub use certificate::{check_prices, check_shortage};
 pub use problem::Problem;
+pub use solved::{Solved, check, total};
 
 #[cfg(test)]
 mod tests;

@@ -1,6 +1,6 @@
 // That the definitions mean what they should: small problems worked by hand, and the limits of a problem, each with the
 // number that is just taken and the one that is just refused.
-use crate::{Problem, check_prices, check_shortage};
+use crate::{Problem, Solved, check, check_prices, check_shortage, total};
 use std::alloc::{AllocError, Global};
 use std::process::Abort;
 use std::test::Fail;
@@ -70,6 +70,32 @@ fn two_entries_have_too_little_room(rt: HostRuntime) -> Result<(), Fail> {
     for (at, (set, want)) in rows.iter().enumerate() {
         assert_eq!(rt; check_shortage(&short, set), *want, "in row {at}");
     }
+    Ok(())
+}
+
+#[test]
+fn an_answer_is_checked_with_its_total(rt: HostRuntime) -> Result<(), Fail> {
+    let alloc = rt.alloc();
+    let both = problem(&rt, alloc, &[1, 1], 2, &[2, 4, 2, 200])?;
+    assert_eq!(rt; total(&both, &[1, 0]), Some(6));
+    assert_eq!(rt; total(&both, &[0, 1]), Some(202));
+    assert_eq!(rt; total(&both, &[0, 0]), None);
+    let rows: [(&[u64], u64, bool); 4] = [
+        (&[2, 0], 6, true),
+        (&[2, 0], 5, false),
+        (&[1, 0], 6, false),
+        (&[2], 6, false),
+    ];
+    for (at, (prices, total, want)) in rows.iter().enumerate() {
+        let answer = Solved::Best {
+            assign: Vec::from_slice(alloc, &[1, 0])?,
+            prices: Vec::from_slice(alloc, prices)?,
+            total: *total,
+        };
+        assert_eq!(rt; check(&both, &answer), *want, "in row {at}");
+    }
+    let set = Vec::from_slice(alloc, &[0, 1])?;
+    assert!(rt; !check(&both, &Solved::Short { set }));
     Ok(())
 }
 

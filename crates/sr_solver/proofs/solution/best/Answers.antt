@@ -1,9 +1,18 @@
+use Rattle.std.proofs.Common.{arith}
 use Rattle.sr_transport.proofs.CallerLemmas.{prices_show_cheapest}
-use Rattle.sr_solver.proofs.SolvedLemmas.{placed_assignment, placed_shows}
+use Rattle.sr_solver.proofs.SolvedLemmas.{placed_assignment, placed_best}
 use Rattle.sr_solver.proofs.solution.best.Goals as goal
+
+pub unwrap-total-requires : goal.unwrap-total-requires
+unwrap-total-requires c =
+    c.total.ensures.found.1 (rw c.deref.ensures.value (placed_assignment c.args.problem.now c.args.assign.items c.args.prices.items c.requires))
+
+pub returns-clause-solution : goal.returns-clause-solution
+returns-clause-solution c =
+    placed_best c.args.problem.now c.args.assign.items c.args.prices.items c.total.result c.unwrap-total.result c.requires c.unwrap-total.ensures
+    (rw c.deref.ensures.value at c.total.ensures.total) c.total.ensures.small
 
 pub returns-clause-optimal : goal.returns-clause-optimal
 returns-clause-optimal c =
-    let assignment = placed_assignment c.args.problem.now c.args.assign.items c.args.prices.items c.requires in
-    let shows = placed_shows c.args.problem.now c.args.assign.items c.args.prices.items c.requires in
-    (assignment, prices_show_cheapest c.args.problem.now c.args.assign.items c.args.prices.items assignment shows)
+    let best = returns-clause-solution c in
+    (best.assignment, prices_show_cheapest c.args.problem.now c.args.assign.items c.args.prices.items best.assignment best.shown)

@@ -8,18 +8,16 @@ use Rattle.sr_solver.proofs.solution.solve.Goals as goal
 pub returns-in-Best-clause-solution : goal.returns-in-Best-clause-solution
 returns-in-Best-clause-solution c =
     let s = rw c.in-Best.is at c.in_ok-assign.ensures.solution in
-    let r =
     renamed_solution c.args.problem.now _ c.in_ok-order.order.items c.in-Best.assign.items c.rename.new.renamed c.deref.result.now
     c.deref-in-Best.result.now c.deref-in-Best-2.result.now _ c.in-Best.prices.items c.in-Best.total c.in_ok-order.ensures
     c.in_ok-other.ensures.value c.deref.ensures.value c.deref-in-Best.ensures.value c.deref-in-Best-2.ensures.value
     (take_at c.rename.new.renamed _ c.in_ok-renamed.renamed.len (omega arith)) c.rename.ensures.every c.rename.ensures.renamed
-    (s.0, s.1, s.2) in
-    (r.0, r.1, r.2, s.3)
+    s
 
 pub returns-in-Best-clause-optimal : goal.returns-in-Best-clause-optimal
 returns-in-Best-clause-optimal c =
     let s = returns-in-Best-clause-solution c in
-    (s.0, prices_show_cheapest c.args.problem.now _ c.in-Best.prices.items s.0 s.1)
+    (s.assignment, prices_show_cheapest c.args.problem.now _ c.in-Best.prices.items s.assignment s.shown)
 
 pub entries_at-requires : goal.entries_at-requires
 entries_at-requires c =

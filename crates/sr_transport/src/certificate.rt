@@ -26,7 +26,7 @@ pub fn check_shortage(problem: &Problem, set: &[usize]) -> bool
 }
 
 /// Whether every entry goes to an allowed consumer, and no consumer gets more than its room.
-fn is_assignment(problem: &Problem, assign: &[usize]) -> bool
+pub(crate) fn is_assignment(problem: &Problem, assign: &[usize]) -> bool
     ensures { IsTrue result ↔ IsAssignment problem.now assign.now }
 {
     assign.len() == problem.entries()

@@ -1,6 +1,6 @@
 use Rattle.std.proofs.Common.{arith}
 use Rattle.sr_transport.proofs.LimitLemmas.{room_small, places_small}
-use Rattle.sr_transport.proofs.check.places.Goals as goal
+use Rattle.sr_transport.proofs.certificate.places.Goals as goal
 
 pub overflow_add-places : goal.overflow_add-places
 overflow_add-places c =

@@ -3,7 +3,7 @@ use Rattle.sr_transport.specs.Problem.{room_of}
 use Rattle.sr_transport.specs.Certificate.{is_reached}
 use Rattle.std.specs.Prelude.{if◌then◌else◌}
 use Rattle.sr_transport.specs.Sum.{sum_below}
-use Rattle.sr_transport.proofs.check.places.Given as goal
+use Rattle.sr_transport.proofs.certificate.places.Given as goal
 
 abbrev pub invariant-loop-consumer : goal.invariant-loop-consumer
 invariant-loop-consumer l =

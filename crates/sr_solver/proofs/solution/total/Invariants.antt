@@ -1,7 +1,0 @@
-use Rattle.std.proofs.Common.{◌≡◌, get_or}
-use Rattle.sr_transport.specs.Sum.{sum_below}
-use Rattle.sr_transport.specs.Problem.{cost_of}
-use Rattle.sr_solver.proofs.solution.total.Given as goal
-
-abbrev pub invariant-loop-entry : goal.invariant-loop-entry
-invariant-loop-entry l = l.total ≡ sum_below (λ i. cost_of l.problem i (get_or l.assign i 0)) l.entry
