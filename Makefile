@@ -1,6 +1,6 @@
 # All that is needed is the Rattle toolchain, whose command is `rt`, and the python3 that it runs on.
 
-.PHONY: run test replay check memory compare bench bench-solver
+.PHONY: run test replay check memory compare bench bench-solver check-solver
 
 # Builds the server and sends it the commands of examples/first.session as a client spells them.
 run:
@@ -43,11 +43,16 @@ bench:
 	@cd crates/sr_server && rt run -- --stdio < /dev/null
 	@python3 bench/streams.py crates/sr_server/out/sr_server
 
-# Times the solver on the families of problems of docs/BENCH.md and, if its headers are installed, LEMON's network simplex on
-# the same problems.
+# Times the solver on the families of problems of docs/BENCH.md, by turns with LEMON's network simplex on the same problems if its
+# headers are installed (Debian: liblemon-dev), and alone if not.
 bench-solver:
-	@cd crates/bench_solver && rt run -- run
+	@cd crates/bench_solver && rt run -- > /dev/null
 	@if echo "#include <lemon/network_simplex.h>" | $(CXX) -E -x c++ - > /dev/null 2>&1; then \
-	    $(CXX) -O3 -o crates/bench_solver/out/lemon bench/lemon.cpp && echo 'LEMON:' \
-	        && crates/bench_solver/out/bench_solver print | crates/bench_solver/out/lemon; \
-	else echo 'LEMON is not installed (Debian: liblemon-dev)'; fi
+	    $(CXX) -O3 -o crates/bench_solver/out/lemon bench/lemon.cpp \
+	        && python3 bench/turns.py crates/bench_solver/out/bench_solver crates/bench_solver/out/lemon 5; \
+	else echo 'LEMON is not installed (Debian: liblemon-dev)'; crates/bench_solver/out/bench_solver run; fi
+
+# Compares the solver's answers to 10,000 random small problems with those of scipy (Debian: python3-scipy).
+check-solver:
+	@cd crates/bench_solver && rt run -- > /dev/null
+	@crates/bench_solver/out/bench_solver small | /usr/bin/python3 bench/check_solver.py

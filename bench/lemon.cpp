@@ -22,7 +22,7 @@ using Graph = lemon::SmartDigraph;
 using Simplex = lemon::NetworkSimplex<Graph, std::int64_t, std::int64_t>;
 
 constexpr int entries = 4096;
-constexpr int runs = 5;
+constexpr int runs = 2;
 
 struct Pair {
   int entry;

@@ -10,18 +10,18 @@ pub(crate) const ENTRIES: usize = 4096;
 pub(crate) const CONSUMERS: usize = 64;
 
 /// The greatest cost of a pair that a problem may have.
-const MAX_COST: u64 = 1 << 40;
+pub(crate) const MAX_COST: u64 = 1 << 40;
 
 /// The seed of each generator of random numbers.
-const SEED: u64 = 2026;
+pub(crate) const SEED: u64 = 2026;
 
 /// The stream of the random numbers that a whole problem shares.
-const SHARED: u64 = 1 << 20;
+pub(crate) const SHARED: u64 = 1 << 20;
 
 /// Rates and weights are below this.
 const FACTORS: u64 = 1 << 20;
 
-type Costs = Vec<Option<u64>>;
+pub(crate) type Costs = Vec<Option<u64>>;
 
 /// Any cost for any pair.
 pub(crate) fn random(alloc: Global) -> Result<Costs, AllocError> {
@@ -80,7 +80,7 @@ pub(crate) fn classes(alloc: Global, count: u64) -> Result<Costs, AllocError> {
 }
 
 /// Adds a row: the rates of the stream `class`, times a weight.
-fn push_weighted(costs: &mut Costs, class: u64, weight: u64) -> Result<(), AllocError> {
+pub(crate) fn push_weighted(costs: &mut Costs, class: u64, weight: u64) -> Result<(), AllocError> {
     let mut rates = Pcg32::new(SEED, class);
     for _ in 0..CONSUMERS {
         let rate = rates.next_u64() % FACTORS;
@@ -188,7 +188,11 @@ pub(crate) fn last_is_short(alloc: Global) -> Result<Costs, AllocError> {
 }
 
 /// Adds a pair: a random cost where it is allowed, and `None` where it is not.
-fn push_random(costs: &mut Costs, rng: &mut Pcg32, is_allowed: bool) -> Result<(), AllocError> {
+pub(crate) fn push_random(
+    costs: &mut Costs,
+    rng: &mut Pcg32,
+    is_allowed: bool,
+) -> Result<(), AllocError> {
     let cost = rng.next_u64() % MAX_COST;
     costs.push(is_allowed.then_some(cost))?;
     Ok(())

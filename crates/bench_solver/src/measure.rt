@@ -2,6 +2,7 @@
 ghost use Rattle.std.specs.Prelude.{◌<◌};
 
 use crate::families::{self, CONSUMERS, ENTRIES};
+use crate::hostile;
 use sr_solver::solve;
 use sr_transport::{Problem, Solved};
 use std::alloc::{AllocError, Global};
@@ -17,98 +18,157 @@ const TIGHT: u64 = 64;
 const SLACK: u64 = 80;
 
 /// How often each problem is solved; the least of the times counts.
-const RUNS: usize = 5;
+const RUNS: usize = 3;
 
 /// What is done with each problem.
 #[derive(Clone, Copy)]
-pub(crate) enum Task {
+pub(crate) enum Work {
     /// To solve it, and print how long that took and the answer.
     Time,
     /// To print it, for another solver.
     Print,
 }
 
-/// Does the task for each family in turn.
-pub(crate) fn for_all<R: AllocGlobal + Clock + Print>(rt: &R, task: Task) -> io::Result<()> {
-    for_full(rt, task)?;
-    for_sparse(rt, task)
+/// Solves or prints the problem of each family in turn.
+pub(crate) fn for_all<R: AllocGlobal + Clock + Print>(rt: &R, what: Work) -> io::Result<()> {
+    for_full(rt, what)?;
+    for_sparse(rt, what)?;
+    for_hostile(rt, what)
 }
 
 /// The families where each entry is allowed each consumer.
-fn for_full<R: AllocGlobal + Clock + Print>(rt: &R, task: Task) -> io::Result<()> {
+fn for_full<R: AllocGlobal + Clock + Print>(rt: &R, what: Work) -> io::Result<()> {
     let alloc = rt.alloc();
-    tight(rt, task, "random, tight", families::random(alloc)?)?;
-    tight(rt, task, "equal, tight", families::equal(alloc)?)?;
-    tight(rt, task, "rising weights, tight", families::rising(alloc)?)?;
-    slack(rt, task, "rising weights, slack", families::rising(alloc)?)?;
+    tight(rt, what, "random, tight", families::random(alloc)?)?;
+    tight(rt, what, "equal, tight", families::equal(alloc)?)?;
+    tight(rt, what, "rising weights, tight", families::rising(alloc)?)?;
+    slack(rt, what, "rising weights, slack", families::rising(alloc)?)?;
     tight(
         rt,
-        task,
+        what,
         "falling weights, tight",
         families::falling(alloc)?,
     )?;
     slack(
         rt,
-        task,
+        what,
         "falling weights, slack",
         families::falling(alloc)?,
     )?;
-    tight(rt, task, "masked weights, tight", families::masked(alloc)?)?;
-    slack(rt, task, "masked weights, slack", families::masked(alloc)?)?;
-    tight(rt, task, "16 classes", families::classes(alloc, 16)?)?;
-    tight(rt, task, "1,024 classes", families::classes(alloc, 1024)?)?;
-    tight(rt, task, "line", families::line(alloc)?)?;
-    tight(rt, task, "conveyor of 32", families::conveyor(alloc)?)?;
-    tight(rt, task, "copies", families::copies(alloc)?)
+    tight(rt, what, "masked weights, tight", families::masked(alloc)?)?;
+    slack(rt, what, "masked weights, slack", families::masked(alloc)?)?;
+    tight(rt, what, "16 classes", families::classes(alloc, 16)?)?;
+    tight(rt, what, "1,024 classes", families::classes(alloc, 1024)?)?;
+    tight(rt, what, "line", families::line(alloc)?)?;
+    tight(rt, what, "conveyor of 32", families::conveyor(alloc)?)?;
+    tight(rt, what, "copies", families::copies(alloc)?)
 }
 
 /// The families where some entries are allowed some consumers alone.
-fn for_sparse<R: AllocGlobal + Clock + Print>(rt: &R, task: Task) -> io::Result<()> {
+fn for_sparse<R: AllocGlobal + Clock + Print>(rt: &R, what: Work) -> io::Result<()> {
     let alloc = rt.alloc();
-    tight(rt, task, "chain", families::chain(alloc)?)?;
-    tight(rt, task, "blocks", families::blocks(alloc)?)?;
-    tight(rt, task, "window of 8", families::window(alloc)?)?;
-    let rooms = one_narrow(alloc)?;
+    tight(rt, what, "chain", families::chain(alloc)?)?;
+    tight(rt, what, "blocks", families::blocks(alloc)?)?;
+    tight(rt, what, "window of 8", families::window(alloc)?)?;
     let costs = families::last_is_short(alloc)?;
-    work(rt, task, "shortage at the last entry", rooms, costs)
+    solve_or_print(
+        rt,
+        what,
+        "shortage at the last entry",
+        all_but(alloc, SLACK, 0, TIGHT - 1)?,
+        costs,
+    )
 }
 
-/// Does the task for a problem with one place for each entry.
+/// The families made against an order of placement, and those of few allowed pairs.
+fn for_hostile<R: AllocGlobal + Clock + Print>(rt: &R, what: Work) -> io::Result<()> {
+    let alloc = rt.alloc();
+    let name = "rising weights, one place short";
+    solve_or_print(
+        rt,
+        what,
+        name,
+        all_but(alloc, TIGHT, 0, TIGHT - 1)?,
+        families::rising(alloc)?,
+    )?;
+    slack(rt, what, "equal eighth", hostile::equal_eighth(alloc)?)?;
+    tight(
+        rt,
+        what,
+        "confined eighth",
+        hostile::confined_eighth(alloc)?,
+    )?;
+    solve_or_print(
+        rt,
+        what,
+        "fallback",
+        all_but(alloc, 32, CONSUMERS - 1, ENTRIES as u64)?,
+        hostile::fallback(alloc)?,
+    )?;
+    solve_or_print(
+        rt,
+        what,
+        "rooms of 1",
+        uneven(alloc, 1, 1009)?,
+        families::masked(alloc)?,
+    )?;
+    solve_or_print(
+        rt,
+        what,
+        "rooms of 17",
+        uneven(alloc, 17, 769)?,
+        families::masked(alloc)?,
+    )?;
+    slack(rt, what, "2 allowed", hostile::sparse(alloc, 2)?)?;
+    slack(rt, what, "3 allowed", hostile::sparse(alloc, 3)?)?;
+    slack(rt, what, "4 allowed", hostile::sparse(alloc, 4)?)?;
+    slack(rt, what, "5 allowed", hostile::sparse(alloc, 5)?)
+}
+
+/// Solves or prints a problem with one place for each entry.
 fn tight<R: AllocGlobal + Clock + Print>(
     rt: &R,
-    task: Task,
+    what: Work,
     family: &str,
     costs: Vec<Option<u64>>,
 ) -> io::Result<()> {
     let rooms = vec![in rt.alloc(); TIGHT; CONSUMERS]?;
-    work(rt, task, family, rooms, costs)
+    solve_or_print(rt, what, family, rooms, costs)
 }
 
-/// Does the task for a problem with more places than entries.
+/// Solves or prints a problem with more places than entries.
 fn slack<R: AllocGlobal + Clock + Print>(
     rt: &R,
-    task: Task,
+    what: Work,
     family: &str,
     costs: Vec<Option<u64>>,
 ) -> io::Result<()> {
     let rooms = vec![in rt.alloc(); SLACK; CONSUMERS]?;
-    work(rt, task, family, rooms, costs)
+    solve_or_print(rt, what, family, rooms, costs)
 }
 
-/// The rooms where the first consumer has one place too few for the entries that are allowed no other.
-fn one_narrow(alloc: Global) -> Result<Vec<u64>, AllocError> {
+/// The same room at each consumer but one.
+fn all_but(alloc: Global, others: u64, one: usize, room: u64) -> Result<Vec<u64>, AllocError> {
     let mut rooms = Vec::new(alloc);
-    rooms.push(TIGHT - 1)?;
-    for _ in 1..CONSUMERS {
-        rooms.push(SLACK)?;
+    for consumer in 0..CONSUMERS {
+        rooms.push(if consumer == one { room } else { others })?;
     }
     Ok(rooms)
 }
 
-/// Does the task for a problem.
-fn work<R: AllocGlobal + Clock + Print>(
+/// The same room at each consumer, except that each sixteenth, the last one too, has a great one.
+fn uneven(alloc: Global, small: u64, great: u64) -> Result<Vec<u64>, AllocError> {
+    let mut rooms = Vec::new(alloc);
+    for consumer in 0..CONSUMERS {
+        rooms.push(if consumer % 16 == 15 { great } else { small })?;
+    }
+    Ok(rooms)
+}
+
+/// Solves or prints a problem.
+fn solve_or_print<R: AllocGlobal + Clock + Print>(
     rt: &R,
-    task: Task,
+    what: Work,
     family: &str,
     rooms: Vec<u64>,
     costs: Vec<Option<u64>>,
@@ -116,9 +176,9 @@ fn work<R: AllocGlobal + Clock + Print>(
     let Some(problem) = Problem::new(rooms, ENTRIES, costs) else {
         return println!(rt; "{family}: not a problem within the limits");
     };
-    match task {
-        Task::Time => measure(rt, family, &problem),
-        Task::Print => print(rt, family, &problem),
+    match what {
+        Work::Time => measure(rt, family, &problem),
+        Work::Print => print(rt, family, &problem),
     }
 }
 
@@ -172,7 +232,7 @@ fn print<R: AllocGlobal + Print>(rt: &R, family: &str, problem: &Problem) -> io:
 }
 
 /// The costs of an entry, with a space behind each.
-fn costs_of(alloc: Global, problem: &Problem, entry: usize) -> Result<String, AllocError>
+pub(crate) fn costs_of(alloc: Global, problem: &Problem, entry: usize) -> Result<String, AllocError>
     requires { entry < problem.now.entries }
 {
     let mut row = String::new(alloc);

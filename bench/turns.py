@@ -1,0 +1,56 @@
+"""Times the solver and LEMON's network simplex by turns on the same problems, and prints a row for each family.
+
+usage: turns.py BENCH_SOLVER LEMON [ROUNDS]
+
+Each round runs both programs over all families, one after the other, so that both see the machine in the same minutes. The
+times printed are the least of all rounds; the ratios divide them. A family whose answers differ ends the run.
+"""
+
+import os
+import re
+import subprocess
+import sys
+
+LINE = re.compile(r"(?P<family>.*): (?P<whole>[0-9.]+) ms, (?:(?P<alone>[0-9.]+) of them the simplex alone, )?(?P<answer>.*)")
+
+
+def lines(command, stdin=None):
+    """The families that a program timed, with what it says of each."""
+    printed = subprocess.run(command, stdin=stdin, capture_output=True, text=True, check=True).stdout
+    return {found["family"]: found for found in map(LINE.fullmatch, printed.splitlines()) if found}
+
+
+def agree(ours, theirs):
+    """Whether two answers are the same total, or both say that there is no assignment."""
+    return ours == theirs or (ours.startswith("short") and theirs == "none")
+
+
+def main():
+    solver, lemon = sys.argv[1:3]
+    rounds = int(sys.argv[3]) if len(sys.argv) > 3 else 3
+    problems = os.path.join(os.path.dirname(lemon), "problems")
+    with open(problems, "w") as out:
+        subprocess.run([solver, "print"], stdout=out, check=True)
+    ours, whole, alone, answers = {}, {}, {}, {}
+    for _ in range(rounds):
+        for family, found in lines([solver, "run"]).items():
+            ours.setdefault(family, []).append(float(found["whole"]))
+            answers[family] = found["answer"]
+        with open(problems) as stdin:
+            for family, found in lines([lemon], stdin).items():
+                whole.setdefault(family, []).append(float(found["whole"]))
+                alone.setdefault(family, []).append(float(found["alone"]))
+                if not agree(answers[family], found["answer"]):
+                    sys.exit(f"{family}: {answers[family]}, and LEMON: {found['answer']}")
+    print("load averages:", *os.getloadavg())
+    print("| Family | Ours, ms | greatest | LEMON, ms | alone | ours / LEMON | Answer of both |")
+    print("|---|---|---|---|---|---|---|")
+    for family, times in ours.items():
+        least, other = min(times), min(whole[family])
+        print(
+            f"| {family} | {least:.1f} | {max(times):.1f} | {other:.1f} | {min(alone[family]):.1f} "
+            f"| {least / other:.2f} | {answers[family]} |"
+        )
+
+
+main()
