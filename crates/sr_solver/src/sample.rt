@@ -15,6 +15,9 @@ const STEP: usize = 8;
 /// A smaller sample is not worth its time.
 const FEW: usize = 64;
 
+/// No sample is taken if the entries are allowed no more consumers than this, on average.
+const SPARSE: usize = 8;
+
 /// How often a sample is solved: each time without the entries that had too few places the time before.
 const TRIES: usize = 4;
 
@@ -26,7 +29,7 @@ pub fn placing_order(alloc: Global, problem: &Problem) -> Result<Vec<usize>, All
     ensures { IfOk result (λ order. IsOrder problem.now.entries order.items) }
 {
     let mut order = by_range(alloc, problem)?;
-    if order.len() < FEW * STEP {
+    if order.len() < FEW * STEP || is_sparse(problem) {
         return Ok(order);
     }
     let sample = sample(alloc, &order)?;
@@ -35,6 +38,17 @@ pub fn placing_order(alloc: Global, problem: &Problem) -> Result<Vec<usize>, All
     };
     by_price(alloc, problem, &prices, &mut order)?;
     Ok(order)
+}
+
+/// Whether the entries are allowed so few consumers that a sample costs more time than it saves.
+fn is_sparse(problem: &Problem) -> bool {
+    let mut pairs = 0usize;
+    for entry in 0..problem.entries() {
+        for cost in problem.costs(entry) {
+            pairs = pairs.saturating_add(usize::from(cost.is_some()));
+        }
+    }
+    pairs <= problem.entries().saturating_mul(SPARSE)
 }
 
 /// One of each `STEP` entries in a row. Which one follows no period.
