@@ -1,8 +1,9 @@
-use Rattle.std.proofs.Common.{length, Ok, Err, rules}
+use Rattle.std.proofs.Common.{inl, length, Ok, Err, rules}
 use Rattle.std.proofs.lemmas.Result.{err_from_is_err_and}
 use Rattle.sr_args.specs.declared.call.Command.TheVariants.{Call}
+use Rattle.sr_args.specs.declared.fault.CallFault.TheVariants.{Arity}
 use Rattle.sr_args.specs.Table.{IsCounted, IsNamed}
-use Rattle.sr_args.specs.Command.{IsWellCounted}
+use Rattle.sr_args.specs.Command.{IsWellCounted, Refuses}
 use Rattle.sr_args.proofs.AnswerLemmas.{Answers-only, IsCall-from_gives, Refuses-from_gives}
 use Rattle.sr_args.proofs.read.read_call.Goals as goal
 
@@ -50,3 +51,14 @@ returns-in_ok-call-in-Command-clause-only c = λ answer n other.
     let right : IsWellCounted words command operands = record { named = named; counted = counted } in
     let call = c.in_ok-call-in-Command.call in
     Answers-only words (Ok (Call call)) answer (IsCall-from_gives words operands command call right c.in_ok-call-in-Command.ensures) n other
+
+-- the search finds this by trying commands one by one, and gives up when there are more of them
+pub returns-then-not-is_counted-clause-only : goal.returns-then-not-is_counted-clause-only
+returns-then-not-is_counted-clause-only c = λ answer n other.
+    let words = c.args.words.now in
+    let command = c.in-Command.command in
+    let operands = c.in-Command.operands in
+    let named : IsNamed command words operands = search rules in
+    let uncounted : IsCounted command (length words) → ⊥ = search rules in
+    let refused : Refuses words Arity = inl (record { name = command; operands = operands; named = named; uncounted = uncounted }) in
+    Answers-only words (Err Arity) answer refused n other
