@@ -1,6 +1,6 @@
 // What no clause says: that a session succeeds while there is memory, what it writes for bytes worked by hand, when it
 // writes, how often it asks the clock, and that a failed allocation changes no answer.
-ghost use Rattle.std.specs.Prelude.{◌≤◌, None, true};
+ghost use Rattle.std.specs.Prelude.{◌≤◌, None, true, false};
 
 use crate::{Clock, Desk, DeskFault, End, PlainDesk, ReadFailed, ReadFrom, Source, run_session};
 use sr_args::Call;
