@@ -1,6 +1,6 @@
 // What no clause says: that a session succeeds while there is memory, what it writes for bytes worked by hand, when it
 // writes, how often it asks the clock, and that a failed allocation changes no answer.
-ghost use Rattle.std.specs.Prelude.{◌≤◌, None, true, false};
+ghost use Rattle.std.specs.Prelude.{◌≡◌, ◌≤◌, None, true, false, IfOk};
 
 use crate::{Clock, Desk, DeskFault, End, PlainDesk, ReadFailed, ReadFrom, Source, run_session};
 use sr_args::Call;
@@ -54,12 +54,28 @@ struct Pieces<'a> {
 }
 
 impl<'a> Pieces<'a> {
-    fn new(bytes: &'a [u8], first: usize, later: usize) -> Pieces<'a> {
+    fn new(bytes: &'a [u8], first: usize, later: usize) -> Pieces<'a>
+        ensures { (result.ended ≡ false) × (result.failed ≡ false) }
+    {
         Pieces {
             bytes,
             first,
             later,
             fails: false,
+            ended: false,
+            failed: false,
+        }
+    }
+
+    /// The same pieces, of which none was read.
+    fn unread(self) -> Pieces<'a>
+        ensures { (result.ended ≡ false) × (result.failed ≡ false) }
+    {
+        Pieces {
+            bytes: self.bytes,
+            first: self.first,
+            later: self.later,
+            fails: self.fails,
             ended: false,
             failed: false,
         }
@@ -101,9 +117,12 @@ struct Kept {
 }
 
 impl Kept {
-    fn with_room(alloc: Global, room: usize) -> Result<Kept, Fail> {
+    fn with_room(alloc: Global, room: usize) -> Result<Kept, Fail>
+        ensures { IfOk result (λ kept. kept.failed ≡ false) }
+    {
+        let bytes = Vec::with_capacity(alloc, 512)?;
         Ok(Kept {
-            bytes: Vec::with_capacity(alloc, 512)?,
+            bytes,
             room,
             failed: false,
         })
@@ -130,13 +149,14 @@ impl Sink for Kept {
 /// How a session ends at a server without keys, and what it wrote.
 fn talk(
     rt: &(impl AllocGlobal + RandomSource),
-    mut reader: Pieces<'_>,
+    reader: Pieces<'_>,
     room: usize,
     turns: u64,
 ) -> Result<(End, Vec<u8>), Fail> {
     let alloc = rt.alloc();
     let mut space = Space::new(alloc, RandomState::new(rt)?);
     let mut desk = PlainDesk::new(&mut space);
+    let mut reader = reader.unread();
     let mut writer = Kept::with_room(alloc, room)?;
     let end = run_session(alloc, &mut reader, &mut writer, &mut desk, &Stopped, turns);
     Ok((end, writer.bytes))
@@ -369,9 +389,10 @@ fn a_call_asks_the_clock_once(rt: HostRuntime) -> Result<(), Fail> {
         let mut space = Space::new(rt.alloc(), RandomState::new(&rt)?);
         let mut desk = PlainDesk::new(&mut space);
         let mut writer = Kept::with_room(rt.alloc(), 512)?;
+        let mut reader = Pieces::new(bytes.as_slice(), 4096, 4096);
         let end = run_session(
             rt.alloc(),
-            &mut Pieces::new(bytes.as_slice(), 4096, 4096),
+            &mut reader,
             &mut writer,
             &mut desk,
             &Counting { asked: &asked },
@@ -439,9 +460,10 @@ fn gathered_replies_are_sent_before_a_call_that_may_wait(rt: HostRuntime) -> Res
             bytes: Vec::new(rt.alloc()),
             count: &count,
         };
+        let mut reader = Pieces::new(bytes.as_slice(), 4096, 4096);
         let end = run_session(
             rt.alloc(),
-            &mut Pieces::new(bytes.as_slice(), 4096, 4096),
+            &mut reader,
             &mut writer,
             &mut Noting { count: &count },
             &Stopped,
