@@ -228,32 +228,6 @@ fn more_than_64_consumers_or_1024_classes_are_out_of_range(rt: HostRuntime) -> R
 }
 
 #[test]
-fn a_policy_answers_its_limits_and_rates(rt: HostRuntime) -> Result<(), Fail> {
-    let alloc = rt.alloc();
-    let policy = Policy::read(alloc, TWO_CLASSES)?;
-    let (a, b, c) = (name(alloc, "A")?, name(alloc, "B")?, name(alloc, "C")?);
-    let (x, y, other) = (name(alloc, "x")?, name(alloc, "y")?, name(alloc, "*")?);
-    assert_eq!(rt; policy.consumers().len(), 2);
-    assert!(rt; policy.consumers()[0] == a);
-    assert!(rt; policy.consumers()[1] == b);
-    assert_eq!(rt; policy.limit(&a), Some(1));
-    assert_eq!(rt; policy.limit(&c), None);
-    assert_eq!(rt; policy.rate(&x, &b), Some(2));
-    assert_eq!(rt; policy.rate(&y, &b), Some(100));
-    assert_eq!(rt; policy.rate(&other, &a), None);
-    assert_eq!(rt; policy.rate(&x, &c), None);
-    let first = policy.class_of(alloc, &fields(alloc, &[("c", "y"), ("c", "x")])?)?;
-    assert!(rt; first == y);
-    let none = policy.class_of(alloc, &fields(alloc, &[("k", "v")])?)?;
-    assert!(rt; none == other);
-    let unknown = policy.class_of(alloc, &fields(alloc, &[("c", "z")])?)?;
-    assert!(rt; unknown == other);
-    let by_none = Policy::empty(alloc).class_of(alloc, &fields(alloc, &[("c", "x")])?)?;
-    assert!(rt; by_none == other);
-    Ok(())
-}
-
-#[test]
 fn weights_and_rooms(rt: HostRuntime) -> Result<(), Fail> {
     let alloc = rt.alloc();
     assert_eq!(rt; weight_of(&fields(alloc, &[("c", "x")])?), 2);
@@ -338,96 +312,6 @@ fn snapshot(alloc: Global, case: Case) -> Result<Option<Snapshot>, AllocError> {
         consumers,
         classes,
     ))
-}
-
-#[test]
-fn a_snapshot_is_in_order_and_within_its_bounds(rt: HostRuntime) -> Result<(), Fail> {
-    let base = TWO_ENTRIES;
-    let rows = [
-        (base, true),
-        (
-            Case {
-                ids: [2, 1],
-                ..base
-            },
-            false,
-        ),
-        (
-            Case {
-                ids: [1, 1],
-                ..base
-            },
-            false,
-        ),
-        (Case { owner: "E", ..base }, false),
-        (Case { weight: 0, ..base }, false),
-        (
-            Case {
-                weight: 1048576,
-                ..base
-            },
-            true,
-        ),
-        (
-            Case {
-                weight: 1048577,
-                ..base
-            },
-            false,
-        ),
-        (
-            Case {
-                limit: 1000000000,
-                ..base
-            },
-            true,
-        ),
-        (
-            Case {
-                limit: 1000000001,
-                ..base
-            },
-            false,
-        ),
-        (
-            Case {
-                rate: 1048576,
-                ..base
-            },
-            true,
-        ),
-        (
-            Case {
-                rate: 1048577,
-                ..base
-            },
-            false,
-        ),
-        (
-            Case {
-                names: ["B", "A"],
-                ..base
-            },
-            false,
-        ),
-        (
-            Case {
-                names: ["A", "A"],
-                ..base
-            },
-            false,
-        ),
-        (Case { places: 1, ..base }, false),
-        (Case { places: 3, ..base }, false),
-    ];
-    for (index, (case, taken)) in rows.into_iter().enumerate() {
-        assert_eq!(rt;
-            snapshot(rt.alloc(), case)?.is_some(),
-            taken,
-            "at row {index}"
-        );
-    }
-    Ok(())
 }
 
 #[test]
