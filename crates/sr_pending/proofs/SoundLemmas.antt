@@ -1,5 +1,5 @@
 -- What the type keeps, after each change.
-use Rattle.std.proofs.Common.{◌≡◌, ℕ, ◌+◌, ◌-◌, ◌≤◌, Bool, List, filter, map, arith}
+use Rattle.std.proofs.Common.{◌≡◌, ℕ, ◌+◌, ◌≤◌, Bool, List, filter, map, arith}
 use Rattle.std.proofs.lemmas.List.Elements.{All-filter}
 use Rattle.sr_ids.specs.declared.id.Id.{Id}
 use Rattle.sr_pending.specs.declared.nack.Nack.{Nack}

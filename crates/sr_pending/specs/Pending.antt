@@ -1,7 +1,7 @@
 -- The pending entries of a consumer group: delivered to a consumer, and not acknowledged yet.
 -- Source: Redis documentation, "Streams", section "Consumer groups", and the pages of XPENDING, XACK and XCLAIM.
 
-use Rattle.std.specs.Prelude.{◌≡◌, ℕ, ◌+◌, ◌-◌, ◌^◌, ◌<◌, ◌≤◌, ◌≢◌, ⊤, List, [], ◌∷◌, ◌++◌, Option, Some, None, Bool, true, ◌&&◌, ◌||◌, not, ◌==◌, nat_eq, nat_lt, if◌then◌else◌, length, map, filter, take, slice_get}
+use Rattle.std.specs.Prelude.{◌≡◌, ℕ, ◌+◌, ◌-◌, ◌^◌, ◌<◌, ◌≤◌, ◌≢◌, max, ⊤, List, [], ◌∷◌, ◌++◌, Option, Some, None, Bool, true, ◌&&◌, ◌||◌, not, ◌==◌, nat_eq, nat_lt, if◌then◌else◌, length, map, filter, take, slice_get}
 use Rattle.std.specs.List.{list_any, sum_by}
 use Rattle.std.specs.Option.{option_map}
 use Rattle.std.specs.Cmp.Lexicographic.{pointwise}
@@ -39,6 +39,11 @@ pub record UsesRoom (owner : List ℕ) (old new : List Room) : Type 0 where
 -- no owner has less room than before
 abbrev pub KeepsRooms : List Room → List Room → Type 0
 KeepsRooms old new = (owner : List ℕ) → room_of owner old ≤ room_of owner new
+
+-- this owner has room for n more, or what it had if that was more, and no other owner's room changes
+pub record Reserves (owner : List ℕ) (n : ℕ) (old new : List Room) : Type 0 where
+  pub owners : room_of owner new ≡ max n (room_of owner old)
+  pub others : (other : List ℕ) → other ≢ owner → room_of other new ≡ room_of other old
 
 -- the id lies below all entries
 abbrev pub AreAbove : Id → List Nack → Type 0

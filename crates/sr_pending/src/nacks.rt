@@ -39,6 +39,7 @@ impl<'a> Nacks<'a> {
     pub fn next(&mut self) -> Option<&'a Nack>
         ensures some { IfSome result (λ nack. self.old ≡ nack.now ∷ self.new) }
         ensures none { IfNone result (self.old ≡ []) }
+        ensures ended { IfNone result (self.new ≡ []) }
     {
         match self.left {
             None => self.owned.next(),
@@ -73,6 +74,7 @@ impl<'a> Owned<'a> {
     fn next(&mut self) -> Option<&'a Nack>
         ensures some { IfSome result (λ nack. self.old ≡ nack.now ∷ self.new) }
         ensures none { IfNone result (self.old ≡ []) }
+        ensures ended { IfNone result (self.new ≡ []) }
     {
         match first_of_owner(self.rest, self.owner) {
             None => None,

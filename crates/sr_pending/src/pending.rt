@@ -37,7 +37,7 @@ impl Pending {
     ghost use Rattle.std.specs.Prelude.{◌≡◌, ◌+◌, ◌^◌, ◌<◌, ◌≤◌, [], true, false, length, OnOk, OnErr, IfOk, IfSome, IfNone};
     ghost use Rattle.std.specs.Option.{option_copied};
     ghost use Rattle.std.specs.List.{All};
-    ghost use Rattle.sr_pending.specs.Pending.{AreRising, IsCountable, KeepsRooms, UsesRoom, greatest_pending, has_id, least_pending, moved, nack_with, owned_by, owned_by_named, pending_between, first_of, room_of, touched, with_nack, without, without_owner};
+    ghost use Rattle.sr_pending.specs.Pending.{AreRising, IsCountable, KeepsRooms, Reserves, UsesRoom, greatest_pending, has_id, least_pending, moved, nack_with, owned_by, owned_by_named, pending_between, first_of, room_of, touched, with_nack, without, without_owner};
 
     /// No pending entries, and no room. It takes no memory.
     pub fn new(alloc: Global) -> Pending
@@ -72,7 +72,9 @@ impl Pending {
         ensures nacks { self.new.nacks ≡ self.old.nacks }
         ensures room { OnOk result (n ≤ room_of owner.now self.new.rooms) }
         ensures keeps { OnOk result (KeepsRooms self.old.rooms self.new.rooms) }
+        ensures exact { OnOk result (Reserves owner.now n self.old.rooms self.new.rooms) }
         ensures err { OnErr result (self.new ≡ self.old) }
+        ensures full { OnErr result (room_of owner.now self.old.rooms < n) }
     {
         let more = n.saturating_sub(room_for(self.rooms.as_slice(), owner));
         if more == 0 {
