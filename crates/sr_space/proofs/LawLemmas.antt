@@ -1,5 +1,5 @@
 -- One stream changed: what each key has then; and what every command leaves.
-use Rattle.std.proofs.Common.{◌≡◌, ◌≢◌, ℕ, Bool, true, false, cond, List, [], ◌∷◌, Option, Some, None, nat_eq, refl, ap, sym, ◌∙◌, true≢false}
+use Rattle.std.proofs.Common.{◌≡◌, ◌≢◌, ℕ, Bool, true, false, cond, [], ◌∷◌, Option, Some, None, nat_eq, refl, ap, sym, ◌∙◌, true≢false}
 use Rattle.std.specs.Prelude.{IfSome, IsSome}
 use Rattle.std.specs.Cmp.Lexicographic.{pointwise, bytes_decides}
 use Rattle.sr_resp.specs.declared.code.ErrCode.{ErrCode}
@@ -7,9 +7,9 @@ use Rattle.sr_resp.specs.Reply.{error_reply}
 use Rattle.sr_args.specs.declared.call.Call.{Call}
 use Rattle.sr_stream.specs.Stream.{StreamState, IsStream}
 use Rattle.sr_space.specs.Keys.{Key, Keys, stream_at, with_stream, AreStreams}
-use Rattle.sr_space.specs.Touched.{Touched, Executed, reply_of, left_at, at_key}
+use Rattle.sr_space.specs.Touched.{Executed, reply_of, left_at}
 use Rattle.sr_space.specs.Effect.{executed}
-use Rattle.sr_space.proofs.CommandLaws.{IsLawful, IsApplied, executed-applied}
+use Rattle.sr_space.proofs.CommandLaws.{executed-applied}
 
 other_key : (a b : Key) → a ≢ b → pointwise nat_eq a b ≡ false
 other_key a b apart = by (pointwise nat_eq a b) refl

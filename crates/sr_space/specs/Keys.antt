@@ -4,6 +4,7 @@
 use Rattle.std.specs.Prelude.{◌≡◌, ℕ, List, [], Option, Some, None, nat_eq, map}
 use Rattle.std.specs.Cmp.Lexicographic.{pointwise}
 use Rattle.std.specs.Map.{lookup}
+use Rattle.std.specs.Option.{option_map}
 use Rattle.indexmap.specs.IndexMap.{insert_entry}
 use Rattle.sr_entries.specs.declared.entry.Entry.{Entry}
 use Rattle.sr_stream.specs.Stream.{StreamState, KeptStream, IsStream}
@@ -22,6 +23,10 @@ stream_at keys key = lookup (pointwise nat_eq key) keys
 abbrev pub entries_of : Option StreamState → List Entry
 entries_of None = []
 entries_of (Some stream) = stream.entries
+
+-- what is shown of a stream, if there is one
+abbrev pub shown_of : Option KeptStream → Option StreamState
+shown_of kept = option_map (λ (k : KeptStream). k.shown) kept
 
 -- the keys with this stream at a key: in the place of the one that it had, or after the others if the key is new
 abbrev pub with_stream : Keys → Key → StreamState → Keys

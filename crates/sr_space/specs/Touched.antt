@@ -22,6 +22,10 @@ pub record Touched : Type 0 where
 abbrev pub reply_of : Answer → Outcome
 reply_of answer = Reply answer answer
 
+-- no key changes, and this is replied
+abbrev pub unchanged : Keys → Answer → Executed
+unchanged keys answer = record { keys = keys; outcome = reply_of answer }
+
 -- nothing is written, and this is replied
 abbrev pub replies : Answer → Touched
 replies answer = record { written = None; outcome = reply_of answer }

@@ -12,11 +12,11 @@ pub(crate) struct Made {
     pub(crate) outcome: Outcome,
 }
 
-/// A command on the stream at one key.
+/// A command that changes the stream at one key.
 pub(crate) trait Touch {
     ghost use Rattle.std.specs.Prelude.{◌≡◌, Option, Some, None, OnOk, OnErr, IfOk};
-    ghost use Rattle.std.specs.Option.{option_map};
-    ghost use Rattle.sr_stream.specs.Stream.{StreamState, KeptStream};
+    ghost use Rattle.sr_stream.specs.Stream.{StreamState};
+    ghost use Rattle.sr_space.specs.Keys.{shown_of};
     ghost use Rattle.sr_space.specs.Touched.{Touched, left_of};
 
     /// What the command does to the stream, or without one.
@@ -32,7 +32,7 @@ pub(crate) trait Touch {
     /// Carries the command out at a missing key.
     fn at_missing(&self, alloc: Global) -> Result<Made, AllocError>
         ensures stream { IfOk result (λ made.
-            option_map (λ (kept : KeptStream). kept.shown) made.stream ≡ (touches self.now None).written) }
+            shown_of made.stream ≡ (touches self.now None).written) }
         ensures outcome { IfOk result (λ made. made.outcome ≡ (touches self.now None).outcome) };
 }
 

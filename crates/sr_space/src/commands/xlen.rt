@@ -1,24 +1,17 @@
+ghost use Rattle.std.specs.Prelude.{◌≡◌};
+ghost use Rattle.std.specs.Option.{option_copied};
+ghost use Rattle.sr_space.specs.{reply_of, shown_of};
 ghost use Rattle.sr_space.specs.commands.Xlen.{xlen};
 
 use crate::Outcome;
 use crate::outcome::numbered;
-use crate::touch::{Made, Touch, unmade};
 use sr_stream::Stream;
-use std::alloc::{AllocError, Global};
+use std::alloc::Global;
 
-/// XLEN at a key. It takes no memory.
-#[derive(Clone, Copy)]
-pub(crate) struct CountEntries;
-
-impl Touch for CountEntries {
-    ghost touches = { λ _. xlen };
-
-    fn at_stream(&self, alloc: Global, stream: &mut Stream) -> Result<Outcome, AllocError> {
-        let entries = stream.len();
-        Ok(numbered(alloc, entries as u64))
-    }
-
-    fn at_missing(&self, alloc: Global) -> Result<Made, AllocError> {
-        Ok(unmade(numbered(alloc, 0)))
-    }
+/// XLEN of the stream at a key, if the key is there. It takes no memory.
+pub(crate) fn count_entries(alloc: Global, stream: Option<&Stream>) -> Outcome
+    ensures { result ≡ reply_of (xlen (shown_of (option_copied stream.entry))) }
+{
+    let entries = stream.map_or(0, Stream::len);
+    numbered(alloc, entries as u64)
 }
