@@ -1,18 +1,19 @@
-ghost use Rattle.std.specs.Prelude.{List, IfSome, IfNone};
-ghost use Rattle.sr_args.specs.Place.{IdForm};
+ghost use Rattle.std.specs.Prelude.{◌≡◌, List, IfSome, IfNone};
+ghost use Rattle.sr_args.specs.Place.{IdForm, IdOf, Spells, HasId, spelled};
 ghost use Rattle.sr_args.specs.Options.{Written};
 ghost use Rattle.sr_args.specs.Form.{Reading, Reads};
 ghost use Rattle.sr_args.specs.commands.Xrange as xrange_form;
 ghost use Rattle.sr_args.specs.commands.Xrevrange as xrevrange_form;
 ghost use Rattle.sr_args.specs.steps.Gives.{Gives};
 ghost use Rattle.sr_args.specs.steps.Options.{AreJudged};
-ghost use Rattle.sr_args.specs.steps.Ranges.{range_form, range_reading};
+ghost use Rattle.sr_args.specs.steps.Ranges.{range_form, range_reading, spelling_of, id_at, asked_of};
 
 use crate::options::{Choice, OptionSet, ValueFault, read_options};
 use crate::value::copy_word;
 use crate::words::Words;
 use crate::{Call, CallFault};
-use sr_ids::{parse_end, parse_start};
+use sr_bytes::Name;
+use sr_ids::{Id, parse_end, parse_start};
 use std::alloc::Global;
 
 /// The words of XRANGE or of XREVRANGE, in their places.
@@ -25,26 +26,32 @@ struct RangeWords<'a> {
     judged: Result<Choice, ValueFault>,
 }
 
+/// Which end of a range an id is.
+#[derive(Clone, Copy)]
+pub(crate) enum Bound {
+    Start,
+    End,
+}
+
+/// What XRANGE or XREVRANGE asks for, with its ids in the order in which they are written.
+#[derive(Drop)]
+pub(crate) struct Asked {
+    pub(crate) key: Name,
+    pub(crate) first: Id,
+    pub(crate) second: Id,
+    pub(crate) count: Option<i64>,
+}
+
 /// `XRANGE key start end [COUNT int]`
 pub(crate) fn read_xrange(alloc: Global, words: Words<'_>) -> Result<Call, CallFault>
     ensures { Gives xrange_form.form xrange_form.call words.entry result }
 {
-    let Some(read) = range_words(words) else {
-        return Err(CallFault::Syntax);
-    };
-    let choice = read.judged?;
-    let Some(start) = parse_start(read.first) else {
-        return Err(CallFault::BadId);
-    };
-    let Some(end) = parse_end(read.second) else {
-        return Err(CallFault::BadId);
-    };
-    let key = copy_word(alloc, read.key)?;
+    let asked = read_range(alloc, words, Bound::Start, Bound::End)?;
     Ok(Call::Xrange {
-        key,
-        start,
-        end,
-        count: choice.count,
+        key: asked.key,
+        start: asked.first,
+        end: asked.second,
+        count: asked.count,
     })
 }
 
@@ -52,23 +59,53 @@ pub(crate) fn read_xrange(alloc: Global, words: Words<'_>) -> Result<Call, CallF
 pub(crate) fn read_xrevrange(alloc: Global, words: Words<'_>) -> Result<Call, CallFault>
     ensures { Gives xrevrange_form.form xrevrange_form.call words.entry result }
 {
+    let asked = read_range(alloc, words, Bound::End, Bound::Start)?;
+    Ok(Call::Xrevrange {
+        key: asked.key,
+        end: asked.first,
+        start: asked.second,
+        count: asked.count,
+    })
+}
+
+/// `key id id [COUNT int]`, where the ids are these ends of a range.
+fn read_range(
+    alloc: Global,
+    words: Words<'_>,
+    first: Bound,
+    second: Bound,
+) -> Result<Asked, CallFault>
+    ensures { Gives (range_form (spelling_of first) (spelling_of second)) (asked_of first second) words.entry result }
+{
     let Some(read) = range_words(words) else {
         return Err(CallFault::Syntax);
     };
     let choice = read.judged?;
-    let Some(end) = parse_end(read.first) else {
+    let Some(first) = read_bound(first, read.first) else {
         return Err(CallFault::BadId);
     };
-    let Some(start) = parse_start(read.second) else {
+    let Some(second) = read_bound(second, read.second) else {
         return Err(CallFault::BadId);
     };
     let key = copy_word(alloc, read.key)?;
-    Ok(Call::Xrevrange {
+    Ok(Asked {
         key,
-        end,
-        start,
+        first,
+        second,
         count: choice.count,
     })
+}
+
+/// The id that a word spells as this end of a range.
+fn read_bound(bound: Bound, word: &[u8]) -> Option<Id>
+    ensures found { IfSome result (λ id. (written : IdOf (spelling_of bound)) ×
+        Spells (spelling_of bound) word.now written × (id ≡ id_at bound written)) }
+    ensures none { IfNone result (HasId (spelled (spelling_of bound) word.now) → ⊥) }
+{
+    match bound {
+        Bound::Start => parse_start(word),
+        Bound::End => parse_end(word),
+    }
 }
 
 /// The words of a range, whichever of its ids comes first, and what its options ask for.
