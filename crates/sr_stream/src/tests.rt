@@ -1,7 +1,6 @@
 // What no clause says: that calls succeed while there is memory. The ids and counts are those of the Redis pages, worked by hand.
 use crate::{AddFault, GivenFault, Stream};
 use sr_bytes::{Fields, Name};
-use sr_entries::Entry;
 use sr_ids::{Id, Spec};
 use std::alloc::{AllocError, Global};
 use std::process::Abort;
@@ -28,18 +27,16 @@ fn fields(alloc: Global) -> Result<Fields, AllocError> {
     Ok(Fields::new(pairs))
 }
 
-fn ids_of(alloc: Global, entries: &[Entry]) -> Result<Vec<Id>, AllocError> {
-    let mut ids = Vec::new(alloc);
-    for entry in entries {
-        ids.push(entry.id)?;
-    }
-    Ok(ids)
-}
-
 /// The ids of the entries from this one on.
 fn ids_from(alloc: Global, stream: &Stream, start: Id) -> Result<Vec<Id>, AllocError> {
-    let entries = stream.range(alloc, start, id(LAST, LAST), None)?;
-    ids_of(alloc, entries.as_slice())
+    let mut ids = Vec::new(alloc);
+    let mut entries = stream.range(start, id(LAST, LAST));
+    for _ in 0..entries.len() {
+        if let Some(entry) = entries.next() {
+            ids.push(entry.id())?;
+        }
+    }
+    Ok(ids)
 }
 
 fn all_ids(alloc: Global, stream: &Stream) -> Result<Vec<Id>, AllocError> {
@@ -47,9 +44,9 @@ fn all_ids(alloc: Global, stream: &Stream) -> Result<Vec<Id>, AllocError> {
 }
 
 /// The id of the newest entry.
-fn newest(alloc: Global, stream: &Stream) -> Result<Vec<Id>, AllocError> {
-    let entries = stream.rev_range(alloc, id(0, 0), id(LAST, LAST), Some(1))?;
-    ids_of(alloc, entries.as_slice())
+fn newest(stream: &Stream) -> Option<Id> {
+    let entry = stream.range(id(0, 0), id(LAST, LAST)).next_back()?;
+    Some(entry.id())
 }
 
 /// Adds entries, and tries each again if memory is refused.
@@ -150,7 +147,7 @@ fn trims_and_deletes(rt: HostRuntime) -> Result<(), Fail> {
         ids_from(alloc, &stream, id(4, 2))?.as_slice(),
         [id(5, 1)].as_slice()
     );
-    assert_eq!(rt; newest(alloc, &stream)?.as_slice(), [id(5, 1)].as_slice());
+    assert_eq!(rt; newest(&stream), Some(id(5, 1)));
     assert!(rt; stream.get(id(4, 1)).is_some());
     let copy = stream.copy(alloc)?;
     assert_eq!(rt; stream.delete(&[id(5, 1), id(5, 1), id(9, 9)]), 1);
