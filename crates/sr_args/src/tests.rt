@@ -30,9 +30,20 @@ fn is_text(name: &Name, text: &[u8]) -> bool {
 }
 
 fn are_texts(fields: &Fields, texts: &[(&[u8], &[u8])]) -> bool {
-    fields.as_slice().len() == texts.len()
-        && fields.as_slice().iter().zip(texts).all(|((field, value), text)| is_text(field, text.0)
-            && is_text(value, text.1))
+    let mut pairs = fields.pairs();
+    for text in texts {
+        if !is_pair(pairs.next(), text.0, text.1) {
+            return false;
+        }
+    }
+    pairs.next().is_none()
+}
+
+fn is_pair(found: Option<(&[u8], &[u8])>, field: &[u8], value: &[u8]) -> bool {
+    match found {
+        Some((f, v)) => f == field && v == value,
+        None => false,
+    }
 }
 
 // A refusal takes no memory, so it stays the same when memory runs out: a failed allocation fails this test only while

@@ -1,50 +1,110 @@
-ghost use Rattle.std.specs.Prelude.{◌≡◌, IfOk};
+ghost use Rattle.std.specs.Prelude.{◌≡◌, ◌∷◌, ◌++◌, [], ◌<◌, ◌^◌, List, ℕ, length, min, OnOk, OnErr, IfOk};
+ghost use Rattle.std.specs.Io.{StartsWith};
+ghost use Rattle.sr_bytes.specs.Packed.{IsPacked, IsPacked-prop, packed_string, packed_pair};
 
-use crate::Name;
+use crate::Pairs;
 use std::alloc::{AllocError, Global};
 use std::marker::Model;
 
 /// The fields of an entry, each with its value, in the order in which they were written.
 ///
+/// They are kept in one run of bytes: each string behind its length, which takes one byte, or nine if it is 255 or more.
+///
 /// Source: Redis documentation, "Streams", section "Streams basics".
 #[derive(Drop)]
 pub struct Fields {
-    pairs: Vec<(Name, Name)>,
+    text: Vec<u8>,
+    ghost pairs: { IsPacked text.items } by { IsPacked-prop text.items },
 }
 
 impl Model for Fields {
     ghost use Rattle.std.specs.Prelude.{List, ℕ};
+    ghost use Rattle.sr_bytes.specs.Packed.{pairs_of};
 
     ghost Value = { List (List ℕ × List ℕ) };
 
-    ghost view = { λ f. f.pairs.items };
+    ghost view = { λ f. pairs_of f.text.items f.pairs };
 }
 
 impl Fields {
-    /// Fields made of these pairs. Takes no memory.
-    pub fn new(pairs: Vec<(Name, Name)>) -> Fields
-        ensures { result ≡ pairs.items }
+    /// No fields. Takes no memory.
+    pub fn new(alloc: Global) -> Fields
+        ensures { result ≡ [] }
     {
-        Fields { pairs }
+        Fields {
+            text: Vec::new(alloc),
+        }
     }
 
-    /// The pairs, each a field and its value.
-    pub fn as_slice(&self) -> &[(Name, Name)]
-        ensures { result.now ≡ self.now }
+    /// No fields, with room for this many bytes: those of all strings together, as `room_of` tells them.
+    pub fn with_room(alloc: Global, bytes: usize) -> Result<Fields, AllocError>
+        ensures { IfOk result (λ fields. fields ≡ []) }
     {
-        self.pairs.as_slice()
+        Ok(Fields {
+            text: Vec::with_capacity(alloc, bytes)?,
+        })
+    }
+
+    /// How many bytes a string takes as a field or a value; a number beyond `usize` is its greatest.
+    pub fn room_of(string: &[u8]) -> usize
+        ensures { result ≡ min (length (packed_string string.now)) 0xffff_ffff_ffff_ffff }
+    {
+        let len = string.len();
+        len.saturating_add(if len < 255 { 1 } else { 9 })
+    }
+
+    /// Adds a field with its value at the end. An `Err` leaves the fields as they were.
+    pub fn add(&mut self, field: &[u8], value: &[u8]) -> Result<(), AllocError>
+        ensures ok { OnOk result (self.new ≡ self.old ++ (field.now, value.now) ∷ []) }
+        ensures err { OnErr result (self.new ≡ self.old) }
+    {
+        append_pair(&mut self.text, field, value)?;
+        Ok(())
+    }
+
+    /// The fields and their values, to be looked at in turn.
+    pub fn pairs(&self) -> Pairs<'_>
+        ensures { result ≡ self.now }
+    {
+        Pairs::new(self.text.as_slice())
     }
 
     /// A copy with the same fields and values.
     pub fn copy(&self, alloc: Global) -> Result<Fields, AllocError>
         ensures { IfOk result (λ f. f ≡ self.now) }
     {
-        let mut pairs = Vec::with_capacity(alloc, self.pairs.len())?;
-        for (field, value) in self.as_slice() {
-            let field = field.copy(alloc)?;
-            let value = value.copy(alloc)?;
-            pairs.push((field, value))?;
-        }
-        Ok(Fields { pairs })
+        Ok(Fields {
+            text: Vec::from_slice(alloc, self.text.as_slice())?,
+        })
     }
+}
+
+/// Appends a field and its value. An `Err` leaves the bytes as they were.
+fn append_pair(out: &mut Vec<u8>, field: &[u8], value: &[u8]) -> Result<(), AllocError>
+    ensures ok { OnOk result (out.new.items ≡ out.old.items ++ packed_pair (field.now, value.now)) }
+    ensures err { OnErr result (out.new.items ≡ out.old.items) }
+    ensures short { (length field.now < 2 ^ 64) × (length value.now < 2 ^ 64) }
+{
+    let start = out.len();
+    if append_string(out, field).is_err() || append_string(out, value).is_err() {
+        out.truncate(start);
+        return Err(AllocError);
+    }
+    Ok(())
+}
+
+/// Appends a string behind its length. An `Err` may leave some of it in `out`.
+fn append_string(out: &mut Vec<u8>, bytes: &[u8]) -> Result<(), AllocError>
+    ensures ok { OnOk result (out.new.items ≡ out.old.items ++ packed_string bytes.now) }
+    ensures err { OnErr result (StartsWith out.new.items out.old.items) }
+    ensures short { length bytes.now < 2 ^ 64 }
+{
+    let len = bytes.len();
+    if len < 255 {
+        out.push(len as u8)?;
+    } else {
+        out.push(255)?;
+        out.extend_from_slice(&(len as u64).to_le_bytes())?;
+    }
+    out.extend_from_slice(bytes)
 }

@@ -4,10 +4,12 @@
 mod decimal;
 mod fields;
 mod name;
+mod pairs;
 
 pub use decimal::read_decimal;
 pub use fields::Fields;
 pub use name::Name;
+pub use pairs::Pairs;
 
 #[cfg(test)]
 mod tests;

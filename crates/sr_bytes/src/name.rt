@@ -39,14 +39,6 @@ impl Name {
         self.bytes.as_slice()
     }
 
-    /// Gives its bytes back. Takes no memory.
-    pub fn into_vec(self) -> Vec<u8>
-        ensures { result.items ≡ self }
-    {
-        let Name { bytes } = self;
-        bytes
-    }
-
     /// Its length in bytes.
     pub fn len(&self) -> usize
         ensures { result ≡ length self.now }

@@ -8,22 +8,29 @@ fn name(alloc: Global, text: &str) -> Result<Name, AllocError> {
     Ok(Name::new(Vec::from_slice(alloc, text.as_bytes())?))
 }
 
-fn two_fields(alloc: Global) -> Result<Fields, AllocError> {
-    let mut pairs = Vec::new(alloc);
-    pairs.push((name(alloc, "a")?, name(alloc, "b")?))?;
-    pairs.push((name(alloc, "")?, name(alloc, "\r\n")?))?;
-    Ok(Fields::new(pairs))
+/// Three fields, one of them with an empty name and one with a long value.
+fn three_fields(alloc: Global, long: &[u8]) -> Result<Fields, AllocError> {
+    let mut fields = Fields::new(alloc);
+    fields.add(b"a", b"b")?;
+    fields.add(b"", b"\r\n")?;
+    fields.add(b"long", long)?;
+    Ok(fields)
 }
 
-fn is(name: &Name, text: &str) -> bool {
-    name.as_slice() == text.as_bytes()
-}
-
-fn are_two_fields(fields: &Fields) -> bool {
-    match fields.as_slice() {
-        [(a, b), (c, d)] => is(a, "a") && is(b, "b") && is(c, "") && is(d, "\r\n"),
-        _ => false,
+fn is_pair(found: Option<(&[u8], &[u8])>, field: &[u8], value: &[u8]) -> bool {
+    match found {
+        Some((f, v)) => f == field && v == value,
+        None => false,
     }
+}
+
+fn are_three_fields(fields: &Fields, long: &[u8]) -> bool {
+    let mut pairs = fields.pairs();
+    pairs.len() == 3
+        && is_pair(pairs.next(), b"a", b"b")
+        && is_pair(pairs.next(), b"", b"\r\n")
+        && is_pair(pairs.next(), b"long", long)
+        && pairs.next().is_none()
 }
 
 #[test]
@@ -50,12 +57,11 @@ fn decimal_digits_are_read(rt: HostRuntime) {
 }
 
 #[test]
-fn names_give_their_bytes_back(rt: HostRuntime) -> Result<(), Fail> {
+fn names_show_their_bytes(rt: HostRuntime) -> Result<(), Fail> {
     let bytes = [0, 13, 10, 255];
     let name = Name::new(Vec::from_slice(rt.alloc(), bytes.as_slice())?);
     assert_eq!(rt; name.len(), 4);
     assert_eq!(rt; name.as_slice(), bytes.as_slice());
-    assert_eq!(rt; name.into_vec().as_slice(), bytes.as_slice());
     Ok(())
 }
 
@@ -72,14 +78,22 @@ fn names_are_keys(rt: HostRuntime) -> Result<(), Fail> {
     Ok(())
 }
 
-// With N from 5 to 8, `rt try --test --fail-alloc N` refuses each allocation of the copy in turn. Then the test fails
-// only by that refusal, since it checks the fields first.
+// `rt try --test --fail-alloc N` refuses each allocation in turn. Then the test fails only by that refusal.
 #[test]
 fn copies_hold_the_same(rt: HostRuntime) -> Result<(), Fail> {
     let alloc = rt.alloc();
-    let fields = two_fields(alloc)?;
-    let copied = fields.copy(alloc);
-    assert!(rt; are_two_fields(&fields), "the fields stay");
-    assert!(rt; are_two_fields(&copied?), "the copy has the same");
+    for len in [254, 255, 256, 70_000] {
+        let long = Vec::from_elem(alloc, b'x', len)?;
+        let fields = three_fields(alloc, long.as_slice())?;
+        let copied = fields.copy(alloc);
+        assert!(rt;
+            are_three_fields(&fields, long.as_slice()),
+            "the fields stay, at {len}"
+        );
+        assert!(rt;
+            are_three_fields(&copied?, long.as_slice()),
+            "the copy has the same, at {len}"
+        );
+    }
     Ok(())
 }

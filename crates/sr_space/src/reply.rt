@@ -24,9 +24,10 @@ fn entry_reply(alloc: Global, entry: EntryRef<'_>) -> Result<Reply, AllocError>
     ensures { IfOk result (λ reply. reply ≡ entry_answer entry.entry) }
 {
     let mut fields = Reply::empty_array(alloc);
-    for (field, value) in entry.fields().as_slice() {
-        fields.push(Reply::bulk(alloc, field.copy(alloc)?))?;
-        fields.push(Reply::bulk(alloc, value.copy(alloc)?))?;
+    let mut pairs = entry.fields().pairs();
+    while let Some((field, value)) = pairs.next() {
+        fields.push(bulk_reply(alloc, field)?)?;
+        fields.push(bulk_reply(alloc, value)?)?;
     }
     let mut reply = Reply::empty_array(alloc);
     reply.push(id_reply(alloc, entry.id())?)?;

@@ -32,14 +32,14 @@ fn xadd(
     id: Spec,
     value: &str,
 ) -> Result<Call, AllocError> {
-    let mut pairs = Vec::new(alloc);
-    pairs.push((name(alloc, "f")?, name(alloc, value)?))?;
+    let mut fields = Fields::new(alloc);
+    fields.add(b"f", value.as_bytes())?;
     Ok(Call::Xadd {
         key: name(alloc, key)?,
         make,
         trim,
         id,
-        fields: Fields::new(pairs),
+        fields,
     })
 }
 

@@ -22,9 +22,9 @@ fn name(alloc: Global, text: &str) -> Result<Name, AllocError> {
 
 /// The field `f` with the value `v`.
 fn fields(alloc: Global) -> Result<Fields, AllocError> {
-    let mut pairs = Vec::new(alloc);
-    pairs.push((name(alloc, "f")?, name(alloc, "v")?))?;
-    Ok(Fields::new(pairs))
+    let mut fields = Fields::new(alloc);
+    fields.add(b"f", b"v")?;
+    Ok(fields)
 }
 
 /// The ids of the entries from this one on.

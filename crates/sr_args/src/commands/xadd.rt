@@ -67,18 +67,25 @@ fn xadd_words(mut words: Words<'_>) -> Option<XaddWords<'_>>
     })
 }
 
-/// A copy of fields with their values.
+/// A copy of fields with their values, in one block.
 fn copy_fields(alloc: Global, mut words: Words<'_>) -> Result<Fields, AllocError>
     ensures { IfOk result (λ fields. fields ≡ pairs_of words.entry) }
 {
-    let mut fields = Vec::with_capacity(alloc, words.len() / 2)?;
+    let mut fields = Fields::with_room(alloc, room_for(words.again()))?;
     while let Some(field) = words.next() {
         let Some(value) = words.next() else {
             break;
         };
-        let field = copy_word(alloc, field)?;
-        let value = copy_word(alloc, value)?;
-        fields.push((field, value))?;
+        fields.add(field, value)?;
     }
-    Ok(Fields::new(fields))
+    Ok(fields)
+}
+
+/// How many bytes the words take as fields and values. More or fewer would only cost memory.
+fn room_for(mut words: Words<'_>) -> usize {
+    let mut bytes = 0_usize;
+    while let Some(word) = words.next() {
+        bytes = bytes.saturating_add(Fields::room_of(word));
+    }
+    bytes
 }
