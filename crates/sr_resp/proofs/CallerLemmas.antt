@@ -2,9 +2,10 @@
 use Rattle.std.proofs.Common.{◌≡◌, List, [], ◌∷◌, ◌++◌, length, refl, ap, ◌∙◌}
 use Rattle.std.proofs.lemmas.List.Concat.{flat_map-append}
 use Rattle.std.specs.List.{flat_map}
-use Rattle.sr_resp.specs.declared.reply.Part.TheVariants.{Array}
+use Rattle.sr_resp.specs.Reply.{Array}
 use Rattle.sr_resp.specs.Reply.{Answer, array_of, part_text, reply_text}
-pub use Rattle.sr_resp.proofs.EqualityLemmas.{reply_eq-Decides}
+pub use Rattle.sr_resp.specs.Equality.{same_reply-Decides}
+pub use Rattle.sr_resp.proofs.ReplyLemmas.{IsReply-array_of, IsReply-array_of_map}
 
 -- replies that follow one another are spelled one after another
 pub reply_text-flat_map : (items : List Answer) → reply_text (flat_map (λ item. item) items) ≡ flat_map reply_text items

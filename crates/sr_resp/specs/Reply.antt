@@ -6,9 +6,17 @@ use Rattle.std.specs.Fmt.{signed_decimal}
 use Rattle.std.specs.List.{flat_map}
 use Rattle.sr_resp.specs.declared.code.Word.{Word}
 use Rattle.sr_resp.specs.declared.code.ErrCode.{ErrCode}
-use Rattle.sr_resp.specs.declared.reply.Part.{Part}
-use Rattle.sr_resp.specs.declared.reply.Part.TheVariants.{Simple, Error, Int, Bulk, NullBulk, NullArray, Array}
 use Rattle.sr_resp.specs.Code.{word_text, error_text}
+
+-- one part of a reply, as it is sent; an array is a header followed by its items
+pub data Part : Type 0 where
+  Simple : Word → Part
+  Error : ErrCode → Part
+  Int : ℤ → Part
+  Bulk : List ℕ → Part
+  NullBulk : Part
+  NullArray : Part
+  Array : ℕ → Part
 
 -- what a reply says: its parts in the order in which they are sent
 abbrev pub Answer : Type 0
@@ -46,6 +54,10 @@ null_string = NullBulk ∷ []
 
 abbrev pub null_array : Answer
 null_array = NullArray ∷ []
+
+-- the header of an array with this many items
+abbrev pub array_header : ℕ → List Part
+array_header items = Array items ∷ []
 
 -- the array of these replies
 abbrev pub array_of : List Answer → Answer

@@ -1,8 +1,12 @@
 ghost use Rattle.std.specs.Prelude.{◌≡◌, ◌∷◌, ◌++◌, IfOk, OnOk, OnErr};
 ghost use Rattle.std.specs.Io.{StartsWith};
 ghost use Rattle.sr_resp.specs.Reply.{line_end, part_text, reply_text};
+ghost use Rattle.sr_resp.specs.Spelled.{IsSpellable};
+ghost use Rattle.sr_resp.specs.steps.Pieces.{part_of, first_part};
 
-use crate::{Part, Reply};
+use crate::Reply;
+use crate::first::First;
+use crate::piece::Piece;
 use itoa::Buffer;
 use std::alloc::{AllocError, Global};
 
@@ -13,12 +17,7 @@ pub fn append_reply(out: &mut Vec<u8>, reply: &Reply) -> Result<(), AllocError>
     ensures ok { OnOk result (out.new.items ≡ out.old.items ++ reply_text reply.now) }
     ensures err { OnErr result (out.new.items ≡ out.old.items) }
 {
-    let start = out.len();
-    let appended = append_parts(out, reply);
-    if appended.is_err() {
-        out.truncate(start);
-    }
-    appended
+    reply.draft().append_to(out)
 }
 
 /// The spelling of a reply.
@@ -32,36 +31,70 @@ pub fn encode(alloc: Global, reply: &Reply) -> Result<Vec<u8>, AllocError>
     Ok(text)
 }
 
-/// Appends the parts in turn. An `Err` may leave some of the spelling in `out`.
-fn append_parts(out: &mut Vec<u8>, reply: &Reply) -> Result<(), AllocError>
-    ensures ok { OnOk result (out.new.items ≡ out.old.items ++ reply_text reply.now) }
-    ensures err { OnErr result (StartsWith out.new.items out.old.items) }
+/// Appends the spelling of one part. An `Err` leaves `out` as it was.
+pub(crate) fn append_piece(out: &mut Vec<u8>, piece: Piece<'_>) -> Result<(), AllocError>
+    ensures ok { OnOk result (out.new.items ≡ out.old.items ++ part_text (part_of piece.entry)) }
+    ensures err { OnErr result (out.new.items ≡ out.old.items) }
+    ensures fit { IsSpellable (part_of piece.entry) }
 {
-    let (first, others) = reply.parts();
-    append_part(out, first)?;
-    for part in others {
-        append_part(out, part)?;
+    let start = out.len();
+    let appended = begin_piece(out, piece);
+    if appended.is_err() {
+        out.truncate(start);
     }
-    Ok(())
+    appended
+}
+
+/// Appends the spelling of a first part. An `Err` leaves `out` as it was.
+pub(crate) fn append_first(out: &mut Vec<u8>, first: &First) -> Result<(), AllocError>
+    ensures ok { OnOk result (out.new.items ≡ out.old.items ++ part_text (first_part first.now)) }
+    ensures err { OnErr result (out.new.items ≡ out.old.items) }
+    ensures fit { IsSpellable (first_part first.now) }
+{
+    match first {
+        First::Simple(word) => append_piece(out, Piece::Simple(*word)),
+        First::Error(code) => append_piece(out, Piece::Error(*code)),
+        First::Int(n) => append_piece(out, Piece::Int(*n)),
+        First::Bulk(bytes) => append_piece(out, Piece::Bulk(bytes.as_slice())),
+        First::NullBulk => append_piece(out, Piece::NullBulk),
+        First::NullArray => append_piece(out, Piece::NullArray),
+        First::Array(items) => append_piece(out, Piece::Array(*items)),
+    }
+}
+
+/// Appends the spelling of a first part, and then a text. An `Err` leaves `out` as it was.
+pub(crate) fn append_parts(out: &mut Vec<u8>, first: &First, rest: &[u8]) -> Result<(), AllocError>
+    ensures ok { OnOk result (out.new.items ≡ out.old.items ++ part_text (first_part first.now) ++ rest.now) }
+    ensures err { OnErr result (out.new.items ≡ out.old.items) }
+    ensures fit { IsSpellable (first_part first.now) }
+{
+    let start = out.len();
+    append_first(out, first)?;
+    let appended = out.extend_from_slice(rest);
+    if appended.is_err() {
+        out.truncate(start);
+    }
+    appended
 }
 
 /// Appends the spelling of one part. An `Err` may leave some of it in `out`.
-fn append_part(out: &mut Vec<u8>, part: &Part) -> Result<(), AllocError>
-    ensures ok { OnOk result (out.new.items ≡ out.old.items ++ part_text part.now) }
+fn begin_piece(out: &mut Vec<u8>, piece: Piece<'_>) -> Result<(), AllocError>
+    ensures ok { OnOk result (out.new.items ≡ out.old.items ++ part_text (part_of piece.entry)) }
     ensures err { OnErr result (StartsWith out.new.items out.old.items) }
+    ensures fit { IsSpellable (part_of piece.entry) }
 {
     let mut digits = Buffer::new();
-    match part {
-        Part::Simple(word) => append_line(out, b"+", word.text().as_bytes()),
-        Part::Error(code) => append_line(out, b"-", code.text().as_bytes()),
-        Part::Int(n) => append_line(out, b":", digits.format(*n).as_bytes()),
-        Part::Bulk(bytes) => {
+    match piece {
+        Piece::Simple(word) => append_line(out, b"+", word.text().as_bytes()),
+        Piece::Error(code) => append_line(out, b"-", code.text().as_bytes()),
+        Piece::Int(n) => append_line(out, b":", digits.format(n).as_bytes()),
+        Piece::Bulk(bytes) => {
             append_line(out, b"$", digits.format(bytes.len()).as_bytes())?;
-            append_line(out, b"", bytes.as_slice())
+            append_line(out, b"", bytes)
         }
-        Part::NullBulk => append_line(out, b"$", b"-1"),
-        Part::NullArray => append_line(out, b"*", b"-1"),
-        Part::Array(items) => append_line(out, b"*", digits.format(*items).as_bytes()),
+        Piece::NullBulk => append_line(out, b"$", b"-1"),
+        Piece::NullArray => append_line(out, b"*", b"-1"),
+        Piece::Array(items) => append_line(out, b"*", digits.format(items).as_bytes()),
     }
 }
 

@@ -1,9 +1,13 @@
 //! RESP2 both ways: requests read from a stream of bytes, and replies written to one.
 #![tactic(auto)]
 
+mod bytes;
 mod code;
+mod draft;
 mod encoding;
+mod first;
 mod parse;
+mod piece;
 mod reader;
 mod reply;
 #[cfg(test)]
@@ -11,7 +15,8 @@ mod reply_tests;
 mod send;
 
 pub use code::{ErrCode, Word};
+pub use draft::Draft;
 pub use encoding::{append_reply, encode};
 pub use reader::{ReadFault, Reader, one_reading, one_spelling};
-pub use reply::{Part, Reply};
+pub use reply::Reply;
 pub use send::{SendFault, Sink, WriteFailed, WriteTo, send_all};

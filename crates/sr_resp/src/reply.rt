@@ -1,69 +1,45 @@
 ghost use Rattle.std.specs.Prelude.{◌≡◌, ◌↔◌, ◌∷◌, [], ◌++◌, List, IsTrue, IfOk, OnOk, OnErr};
-ghost use Rattle.std.specs.Cmp.Lexicographic.{pointwise, lists_per, lists_equiv};
-ghost use Rattle.sr_resp.specs.contracts.reply.PartPartialEq.TheImpl.Laws as part_partial_eq;
-ghost use Rattle.sr_resp.specs.contracts.reply.PartEq.TheImpl.Laws as part_eq;
+ghost use Rattle.sr_resp.specs.Equality.{same_reply, same_reply-equivalence, same_reply-partial_equivalence};
 
-use crate::{ErrCode, Word};
+use crate::bytes::Bytes;
+use crate::first::First;
+use crate::{Draft, ErrCode, Word};
 use sr_bytes::Name;
 use std::alloc::{AllocError, Global};
 use std::marker::Model;
 
-/// One part of a reply, as it is sent. An array is a header followed by its items.
-///
-/// Source: RESP2 protocol specification, "RESP protocol description".
-#[derive(PartialEq, Eq, Drop)]
-pub enum Part {
-    /// A simple string.
-    Simple(Word),
-    /// An error.
-    Error(ErrCode),
-    /// An integer.
-    Int(i64),
-    /// A bulk string.
-    Bulk(Name),
-    /// The null bulk string.
-    NullBulk,
-    /// The null array.
-    NullArray,
-    /// The header of an array with this many items.
-    Array(usize),
-}
-
 /// A reply: a simple string, an error, an integer, a bulk string, a null, or an array of replies.
 ///
-/// It is kept as its parts in the order in which they are sent, so that an array of a thousand entries is one list.
+/// An array is kept as its header and the text of its items, so that one of a thousand entries is one buffer.
 ///
 /// Source: RESP2 protocol specification, "RESP protocol description".
 #[derive(Drop)]
 pub struct Reply {
-    first: Part,
-    others: Vec<Part>,
+    draft: Draft,
 }
 
 impl Model for Reply {
-    ghost use Rattle.std.specs.Prelude.{List, ◌∷◌};
-    ghost use Rattle.sr_resp.specs.declared.reply.Part as parts;
+    ghost use Rattle.std.specs.Prelude.{List};
+    ghost use Rattle.sr_resp.specs.Reply.{Part, IsReply};
 
-    ghost Value = { List parts.Part };
+    ghost Value = { List Part };
 
-    ghost use Rattle.sr_resp.specs.Reply.{IsReply};
+    ghost view = { λ r. r.draft };
 
-    ghost view = { λ r. r.first ∷ r.others.items };
-
-    ghost invariant = { λ r. IsReply (r.first ∷ r.others.items) };
+    ghost invariant = { λ r. IsReply r.draft };
 }
 
 impl Reply {
-    ghost use Rattle.std.specs.Prelude.{◌≡◌, ◌≤◌, ◌∷◌, [], ◌++◌, List, IfOk, OnOk, OnErr};
+    ghost use Rattle.std.specs.Prelude.{◌≡◌, ◌≤◌, ◌∷◌, [], ◌++◌, List, length, IfOk, OnOk, OnErr};
     ghost use Rattle.sr_resp.specs.Reply.{Answer, IsReply, IsArray, simple_string, error_reply, integer, bulk_string, null_string, null_array, array_of};
+    ghost use Rattle.sr_resp.specs.steps.Pieces.{first_part};
 
     /// A simple string. Takes no memory.
     pub fn simple(alloc: Global, word: Word) -> Reply
         ensures { result ≡ simple_string word }
     {
         Reply {
-            first: Part::Simple(word),
-            others: Vec::new(alloc),
+            draft: Draft::of(alloc, First::Simple(word)),
         }
     }
 
@@ -72,8 +48,7 @@ impl Reply {
         ensures { result ≡ error_reply code }
     {
         Reply {
-            first: Part::Error(code),
-            others: Vec::new(alloc),
+            draft: Draft::of(alloc, First::Error(code)),
         }
     }
 
@@ -82,8 +57,7 @@ impl Reply {
         ensures { result ≡ integer n }
     {
         Reply {
-            first: Part::Int(n),
-            others: Vec::new(alloc),
+            draft: Draft::of(alloc, First::Int(n)),
         }
     }
 
@@ -92,8 +66,17 @@ impl Reply {
         ensures { result ≡ bulk_string bytes }
     {
         Reply {
-            first: Part::Bulk(bytes),
-            others: Vec::new(alloc),
+            draft: Draft::of(alloc, First::Bulk(Bytes::long(bytes))),
+        }
+    }
+
+    /// A bulk string of at most 41 bytes, which the spelling of an entry id has. Takes no memory.
+    pub fn short(alloc: Global, bytes: &[u8]) -> Reply
+        requires { length bytes.now ≤ 41 }
+        ensures { result ≡ bulk_string bytes.now }
+    {
+        Reply {
+            draft: Draft::of(alloc, First::Bulk(Bytes::short(bytes))),
         }
     }
 
@@ -102,8 +85,7 @@ impl Reply {
         ensures { result ≡ null_string }
     {
         Reply {
-            first: Part::NullBulk,
-            others: Vec::new(alloc),
+            draft: Draft::of(alloc, First::NullBulk),
         }
     }
 
@@ -112,8 +94,7 @@ impl Reply {
         ensures { result ≡ null_array }
     {
         Reply {
-            first: Part::NullArray,
-            others: Vec::new(alloc),
+            draft: Draft::of(alloc, First::NullArray),
         }
     }
 
@@ -122,8 +103,7 @@ impl Reply {
         ensures { result ≡ array_of [] }
     {
         Reply {
-            first: Part::Array(0),
-            others: Vec::new(alloc),
+            draft: Draft::array(alloc, 0),
         }
     }
 
@@ -146,66 +126,49 @@ impl Reply {
             → self.new ≡ array_of (items ++ item ∷ [])) }
         ensures err { OnErr result (self.new ≡ self.old) }
     {
-        let Reply { first, mut others } = item;
-        self.others.reserve(others.len() + 1)?;
-        self.others.push(first)?;
-        self.others.append(&mut others)?;
-        if let Part::Array(items) = &mut self.first {
-            *items += 1;
-        }
+        self.draft.append(&item.draft)?;
+        self.draft.count_item();
         Ok(())
-    }
-
-    /// Its first part, and the parts after it.
-    pub(crate) fn parts(&self) -> (&Part, &[Part])
-        ensures { result.0.now ∷ result.1.now ≡ self.now }
-    {
-        (&self.first, self.others.as_slice())
     }
 
     /// A copy of this reply.
     pub fn copy(&self, alloc: Global) -> Result<Reply, AllocError>
         ensures { IfOk result (λ r. r ≡ self.now) }
     {
-        let mut others = Vec::with_capacity(alloc, self.others.len())?;
-        for part in self.others.as_slice() {
-            others.push(copy_part(alloc, part)?)?;
-        }
         Ok(Reply {
-            first: copy_part(alloc, &self.first)?,
-            others,
+            draft: self.draft.copy(alloc)?,
         })
+    }
+
+    /// The reply that a draft has become.
+    pub(crate) fn of(draft: Draft) -> Reply
+        requires { IsReply draft }
+        ensures { result ≡ draft }
+    {
+        Reply { draft }
+    }
+
+    /// The draft that it was.
+    pub(crate) fn draft(&self) -> &Draft
+        ensures { result.now ≡ self.now }
+    {
+        &self.draft
     }
 }
 
 impl PartialEq for Reply {
-    ghost eq = { pointwise ⟦<Part as PartialEq>⟧.eq };
+    ghost eq = { same_reply };
 
-    ghost laws = { lists_per part_partial_eq.laws-law };
+    ghost laws = { same_reply-partial_equivalence };
 
     fn eq(&self, other: &Reply) -> bool
-        ensures value { result ≡ pointwise ⟦<Part as PartialEq>⟧.eq self.now other.now }
+        ensures value { result ≡ same_reply self.now other.now }
         ensures exact { IsTrue result ↔ (self.now ≡ other.now) }
     {
-        self.first == other.first && self.others.as_slice() == other.others.as_slice()
+        self.draft.is_same(&other.draft)
     }
 }
 
 impl Eq for Reply {
-    ghost laws = { lists_equiv part_eq.laws-law };
-}
-
-/// A copy of this part.
-fn copy_part(alloc: Global, part: &Part) -> Result<Part, AllocError>
-    ensures { IfOk result (λ p. p ≡ part.now) }
-{
-    Ok(match part {
-        Part::Simple(word) => Part::Simple(*word),
-        Part::Error(code) => Part::Error(*code),
-        Part::Int(n) => Part::Int(*n),
-        Part::Bulk(bytes) => Part::Bulk(bytes.copy(alloc)?),
-        Part::NullBulk => Part::NullBulk,
-        Part::NullArray => Part::NullArray,
-        Part::Array(items) => Part::Array(*items),
-    })
+    ghost laws = { same_reply-equivalence };
 }

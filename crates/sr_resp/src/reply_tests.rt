@@ -1,5 +1,5 @@
 // What no clause says: the bytes that a client reads, and the bytes that a failing writer was given.
-use crate::{ErrCode, Reply, SendFault, Word, WriteTo, append_reply, encode, send_all};
+use crate::{Draft, ErrCode, Reply, SendFault, Word, WriteTo, append_reply, encode, send_all};
 use sr_bytes::Name;
 use std::alloc::{AllocError, Global};
 use std::io::{self, ErrorKind, Write};
@@ -95,6 +95,31 @@ fn a_copy_is_equal_and_another_reply_is_not(rt: HostRuntime) -> Result<(), Fail>
     let copy = entries.copy(rt.alloc())?;
     assert!(rt; copy == entries);
     assert!(rt; Reply::null_bulk(rt.alloc()) != Reply::no_array(rt.alloc()));
+    Ok(())
+}
+
+#[test]
+fn a_draft_becomes_the_reply_of_its_parts(rt: HostRuntime) -> Result<(), Fail> {
+    let alloc = rt.alloc();
+    let mut draft = Draft::array(alloc, 1);
+    draft.header(2)?;
+    draft.bulk(b"1-1")?;
+    draft.header(2)?;
+    draft.bulk(b"a")?;
+    draft.bulk(b"b")?;
+    assert!(rt; draft.finish() == entries(alloc)?);
+    Ok(())
+}
+
+#[test]
+fn a_short_bulk_string_is_as_any_other(rt: HostRuntime) -> Result<(), Fail> {
+    let alloc = rt.alloc();
+    let longest = b"18446744073709551615-18446744073709551615";
+    let short = Reply::short(alloc, longest);
+    assert!(rt; short == bulk(alloc, longest)?);
+    let text = encode(alloc, &short)?;
+    let spelling = "$41\r\n18446744073709551615-18446744073709551615\r\n";
+    assert_eq!(rt; text.as_slice(), spelling.as_bytes());
     Ok(())
 }
 

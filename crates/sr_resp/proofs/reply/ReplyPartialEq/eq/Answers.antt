@@ -1,10 +1,11 @@
-use Rattle.std.proofs.Common.{◌≡◌, rules}
-use Rattle.std.specs.Cmp.Lexicographic.{pointwise}
-use Rattle.sr_resp.specs.contracts.reply.PartPartialEq.TheImpl.{eq-value}
-use Rattle.sr_resp.proofs.EqualityLemmas.{reply_eq-Decides}
+use Rattle.std.proofs.Common.{◌≡◌, sym, ◌∙◌}
+use Rattle.sr_resp.specs.Equality.{same_reply-Decides}
+use Rattle.sr_resp.proofs.DraftLemmas.{same_answer}
 use Rattle.sr_resp.proofs.reply.ReplyPartialEq.eq.Goals as goal
 
-pub returns-then-eq-clause-exact : goal.returns-then-eq-clause-exact
-returns-then-eq-clause-exact c =
-    let value : c.eq-then-eq.result ≡ pointwise eq-value.it c.args.self.now c.args.other.now = search rules in
-    rw value (reply_eq-Decides c.args.self.now c.args.other.now)
+pub returns-clause-value : goal.returns-clause-value
+returns-clause-value c =
+    let a = c.self.view_is in
+    let b = c.other.view_is in
+    let same = c.is_same.ensures in
+    same_answer c.is_same.result _ (c.args.self.now ≡ c.args.other.now) (λ e. sym a ∙ same.0 e ∙ b, λ e. same.1 (a ∙ e ∙ sym b)) (same_reply-Decides c.args.self.now c.args.other.now)

@@ -1,0 +1,4 @@
+-- What only private clauses and ghost fields cite: how the code holds a reply.
+pub mod Bytes
+pub mod OneSpelling
+pub mod Pieces
