@@ -1,5 +1,5 @@
 -- The fields that a run of bytes is known to pack.
-use Rattle.std.proofs.Common.{◌≡◌, ℕ, ◌<◌, ◌≤◌, ◌^◌, Bool, true, false, ltb, List, [], ◌∷◌, ◌++◌, length, drop, get_or, Result, Ok, Err, refl, sym, ap, subst, ◌∙◌, arith, append_assoc, append-nil, length-append}
+use Rattle.std.proofs.Common.{◌≡◌, ℕ, ◌*◌, ◌<◌, ◌≤◌, ◌^◌, Bool, true, false, ltb, List, [], ◌∷◌, ◌++◌, length, drop, get_or, Result, Ok, Err, refl, sym, ap, subst, ◌∙◌, arith, append_assoc, append-nil, length-append}
 use Rattle.std.specs.Prelude.{OnOk, OnErr}
 use Rattle.std.specs.Int.{w64, from_le_bytes}
 use Rattle.std.proofs.lemmas.Bool.{ltb-true}
@@ -106,10 +106,10 @@ packed_string-some s = by (ltb (length s) 255)
     by true = omega arith
     by false = omega arith
 
-packed-long : (pairs : List Pair) → length pairs ≤ length (packed pairs)
+packed-long : (pairs : List Pair) → 2 * length pairs ≤ length (packed pairs)
 packed-long [] = omega arith
 packed-long (pair ∷ pairs) =
-    omega (arith, packed-long pairs, packed_string-some pair.0, length-append (packed_string pair.0) (packed_string pair.1), length-append (packed_pair pair) (packed pairs))
+    omega (arith, packed-long pairs, packed_string-some pair.0, packed_string-some pair.1, length-append (packed_string pair.0) (packed_string pair.1), length-append (packed_pair pair) (packed pairs))
 
-pub pairs-few : (text : List ℕ) (is : IsPacked text) → length (pairs_of text is) ≤ length text
+pub pairs-few : (text : List ℕ) (is : IsPacked text) → 2 * length (pairs_of text is) ≤ length text
 pairs-few text is = omega (arith, packed-long (pairs_of text is), ap length (text-packed text is))

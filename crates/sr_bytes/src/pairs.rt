@@ -1,4 +1,4 @@
-ghost use Rattle.std.specs.Prelude.{◌≡◌, ◌∷◌, ◌++◌, [], ◌<◌, ◌+◌, ◌^◌, List, ℕ, length, IfSome, IfNone};
+ghost use Rattle.std.specs.Prelude.{◌≡◌, ◌∷◌, ◌++◌, [], ◌<◌, ◌+◌, ◌*◌, ◌^◌, List, ℕ, length, IfSome, IfNone};
 ghost use Rattle.sr_bytes.specs.Packed.{IsPacked, IsPacked-prop, packed_string, pairs_of};
 
 use std::marker::Model;
@@ -47,14 +47,15 @@ impl<'a> Pairs<'a> {
     /// The same pairs, to be looked at a second time.
     pub fn again(&self) -> Pairs<'a>
         ensures same { result ≡ self.now }
-        ensures few { length self.now < 2 ^ 64 }
+        ensures few { 2 * length self.now < 2 ^ 64 }
     {
         Pairs { left: self.left }
     }
 
     /// How many pairs are left. It counts them.
     pub fn len(&self) -> usize
-        ensures { result ≡ length self.now }
+        ensures value { result ≡ length self.now }
+        ensures few { 2 * result < 2 ^ 64 }
     {
         let mut rest = self.again();
         let mut count = 0;

@@ -1,11 +1,12 @@
-use Rattle.std.proofs.Common.{◌≡◌, ◌++◌, List, length, map, reverse}
-use Rattle.sr_resp.specs.Reply.{Answer, array_of}
+use Rattle.std.proofs.Common.{◌≡◌, ◌++◌, length, reverse}
+use Rattle.std.specs.List.{flat_map}
+use Rattle.sr_resp.specs.Reply.{array_header}
 use Rattle.sr_space.specs.EntryReply.{entry_answer}
 use Rattle.sr_space.proofs.reply.newest_first_reply.Given as goal
 
 abbrev pub invariant-loop-entry : goal.invariant-loop-entry
 invariant-loop-entry l =
-    (answers : List Answer) × (l.reply ≡ array_of answers) × (answers ++ map entry_answer (reverse l.entries) ≡ map entry_answer (reverse l.initial.entries))
+    l.draft ++ flat_map entry_answer (reverse l.entries) ≡ array_header (length l.initial.entries) ++ flat_map entry_answer (reverse l.initial.entries)
 
 abbrev pub decreases-loop-entry : goal.decreases-loop-entry
 decreases-loop-entry l = length l.entries
