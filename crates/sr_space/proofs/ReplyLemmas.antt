@@ -1,7 +1,6 @@
 -- The reply for an entry, written part by part.
-use Rattle.std.proofs.Common.{◌≡◌, ℕ, ◌+◌, ◌*◌, List, [], ◌∷◌, ◌++◌, length, map, refl, ap, sym, ◌∙◌, arith, append_assoc, append-nil}
+use Rattle.std.proofs.Common.{◌≡◌, ℕ, ◌*◌, List, [], ◌∷◌, ◌++◌, length, map, refl, ap, sym, ◌∙◌, arith, append_assoc, append-nil}
 use Rattle.std.specs.List.{flat_map, AllByRecursion}
-use Rattle.std.proofs.lemmas.List.Concat.{flat_map-append}
 use Rattle.sr_ids.specs.Spelling.{spelling}
 use Rattle.sr_resp.specs.Reply.{Answer, Part, Bulk, Array, IsReply, array_header, array_of, bulk_string}
 use Rattle.sr_resp.proofs.CallerLemmas.{IsReply-array_of, IsReply-array_of_map}
