@@ -1,7 +1,10 @@
+ghost use Rattle.std.specs.Prelude.{◌≡◌, ◌-◌, ◌/◌, ◌^◌, min};
+ghost use Rattle.std.specs.Duration.{as_nanos};
 ghost use Rattle.sr_server.specs.Fault.{any_moment};
 
 use sr_session::Clock;
 use std::rt;
+use std::time::Duration;
 
 /// The system's clock. It tells 0 if it cannot be read.
 #[derive(Drop)]
@@ -20,8 +23,15 @@ impl<'a, R: rt::Clock> Clock for SystemClock<'a, R> {
 
     fn now(&self) -> u64 {
         match self.rt.since_1970() {
-            Ok(time) => u64::try_from(time.as_millis()).unwrap_or(u64::MAX),
+            Ok(time) => milliseconds(time),
             Err(_) => 0,
         }
     }
+}
+
+/// The whole milliseconds of a time. A number beyond `u64` is its greatest.
+fn milliseconds(time: Duration) -> u64
+    ensures { result ≡ min (as_nanos time / 1_000_000) (2 ^ 64 - 1) }
+{
+    u64::try_from(time.as_millis()).unwrap_or(u64::MAX)
 }
