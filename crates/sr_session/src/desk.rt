@@ -1,4 +1,4 @@
-ghost use Rattle.std.specs.Prelude.{◌≡◌, ℕ, Option, Some, OnOk, OnErr, IfOk};
+ghost use Rattle.std.specs.Prelude.{◌≡◌, ℕ, Option, Some, false, OnOk, OnErr, IfOk};
 ghost use Rattle.sr_resp.specs.Reply.{Answer};
 ghost use Rattle.sr_space.specs.Effect.{executed};
 ghost use Rattle.sr_session.specs.Desk.{Served, StepsAt, moment_after, sent_of, shown};
@@ -24,9 +24,7 @@ pub trait Desk {
     ghost borrows: { Self → ℕ };
 
     /// Whether the call may wait at this desk. A session sends the replies before such a call first.
-    fn may_wait(&self, _: &Call) -> bool {
-        false
-    }
+    fn may_wait(&self, call: &Call) -> bool;
 
     /// Carries out a call. The moment is what a clock told, in milliseconds since 1970.
     fn step(&mut self, alloc: Global, moment: u64, call: &Call) -> Result<Reply, DeskFault>
@@ -56,6 +54,12 @@ impl<'a> Desk for PlainDesk<'a> {
     ghost shows = { λ d. Some (shown d.moment d.space.now) };
 
     ghost borrows = { λ d. d.space.ghost_name };
+
+    fn may_wait(&self, _: &Call) -> bool
+        ensures never { result ≡ false }
+    {
+        false
+    }
 
     fn step(&mut self, alloc: Global, moment: u64, call: &Call) -> Result<Reply, DeskFault> {
         let moment = self.moment.max(moment.min(i64::MAX as u64));
