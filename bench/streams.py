@@ -16,6 +16,7 @@ import time
 MANY, FEW = 1_000_000, 1_000  # entries
 RANGES, COUNT = 50_000, 10
 WIDE, NARROW = 1 << 20, 4096  # bytes that a pipe holds
+LONG = (1, 2, 4, 8, 16)  # mebibytes of one request
 RUNS = 3
 
 
@@ -38,6 +39,12 @@ def ranges(entries):
     places = random.Random(1)
     words = (b"1-%d" % places.randint(1, entries - COUNT + 1) for _ in range(RANGES))
     return b"".join(request(b"XRANGE", b"s", start, b"+", b"COUNT", b"%d" % COUNT) for start in words)
+
+
+def long_add(mebibytes):
+    """One XADD with so many values of a mebibyte, less 16 bytes each, so that 16 of them are within the limit."""
+    value = b"v" * ((1 << 20) - 16)
+    return request(b"XADD", b"s", b"*", *(b"f", value) * mebibytes)
 
 
 class Server:
@@ -110,6 +117,12 @@ def time_adds(program, requests, entries, room=WIDE):
         return [server.ask(requests, MANY, entries)]
 
 
+def time_long(program, add):
+    """The seconds of one long add in reads of few bytes."""
+    with Server(program, NARROW) as server:
+        return [server.ask(add, 1, 1)]
+
+
 def time_ranges(program, adding, requests, entries):
     """The seconds of the ranges over a stream, then of the adds before them, then its bytes: now, and at most."""
     with Server(program) as server:
@@ -146,6 +159,9 @@ def main(program):
         show(f"the same in reads of {NARROW:,} bytes", MANY, lambda: time_adds(program, add, MANY, NARROW)),
         show(f"XADD s MAXLEN {FEW:,} * f v", MANY, lambda: time_adds(program, capped, FEW)),
     ]
+    for mebibytes in LONG:
+        name = f"one XADD of {mebibytes} MiB in reads of {NARROW:,} bytes"
+        rows.append(show(name, 1, lambda: time_long(program, long_add(mebibytes))))
     for entries in (FEW, MANY):
         adding, asking = adds(entries), ranges(entries)
         name = f"XRANGE s 1-N + COUNT {COUNT} of {entries:,}"

@@ -8,6 +8,10 @@ pub mod Parts
 pub mod ReadingSteps
 pub mod ReplyLemmas
 pub mod RequestGrammar
+pub mod ScanLemmas
 pub mod SendLemmas
+pub mod SortLemmas
+pub mod StageLemmas
 pub mod StreamLemmas
+pub mod TakeLemmas
 pub mod WordGrammar

@@ -1,12 +1,11 @@
 -- Streams, read request by request.
-use Rattle.std.proofs.Common.{◌≡◌, ◌⊎◌, inl, inr, ℕ, ◌<◌, Bool, true, false, List, [], ◌∷◌, ◌++◌, length, Option, Some, None, Result, Ok, Err, codes, refl, sym, ap, subst, ◌∙◌, arith}
-use Rattle.std.specs.Prelude.{MatchBool, OnOk}
-use Rattle.std.specs.Result.{is_ok}
+use Rattle.std.proofs.Common.{◌≡◌, ◌⊎◌, inl, inr, ℕ, ◌<◌, Bool, true, false, List, [], ◌∷◌, ◌++◌, length, Option, Some, None, Ok, Err, codes, refl, sym, ap, subst, ◌∙◌, arith}
+use Rattle.std.specs.Prelude.{MatchBool}
 use Rattle.std.proofs.lemmas.Bool.{MatchBool-at_false}
-use Rattle.std.proofs.lemmas.List.{append_assoc, append-nil, append_cancel_left, append_cancel_right, length-append, nil_from_length}
+use Rattle.std.proofs.lemmas.List.{append_assoc, append-nil, append_cancel_left, append_cancel_right}
 use Rattle.sr_resp.specs.Request.{Words, header, Spells}
 use Rattle.sr_resp.specs.Stream.{AreSpelled, requests_in, Splits, IsPartial, IsFault, Progress, Stands, Advances}
-use Rattle.sr_resp.specs.Reading.{More, Bad, item_at, Parses, Sorts}
+use Rattle.sr_resp.specs.Reading.{More, Bad, item_at, Sorts}
 use Rattle.sr_resp.proofs.Exact.{same_read, nil_left}
 use Rattle.sr_resp.proofs.RequestGrammar.{item_exact}
 
@@ -22,13 +21,6 @@ one_spelling a b x y m n p q same =
 some_byte : (item : Option Words) (text : List ℕ) → Spells text item → 0 < length text
 some_byte None text q = let e : length text ≡ length (header (codes "*") q.digits) = ap length q.spelled in omega (arith, e)
 some_byte (Some words) text q = let e : length text ≡ length (header (codes "*") q.digits ++ q.body) = ap length q.spelled in omega (arith, e)
-
--- reading goes on
-pub item_shorter : (bytes : List ℕ) (item : Option Words) (rest : List ℕ) → item_at bytes ≡ Ok (item, rest) → length rest < length bytes
-item_shorter bytes item rest e =
-    let f = item_exact.reads bytes item rest e in
-    let whole : length bytes ≡ length (f.front ++ rest) = ap length f.whole in
-    omega (arith, whole, length-append f.front rest, some_byte item f.front f.is)
 
 pub partial_from_more : (rest : List ℕ) → item_at rest ≡ Err More → IsPartial rest
 partial_from_more rest e = let l = item_exact.waits rest e in record { more = l.more; item = l.value; whole = l.is; lacking = l.lacking }
@@ -96,7 +88,7 @@ end_stands : (failed : Bool) (rest : List ℕ) → MatchBool failed (IsFault res
 end_stands true rest fault = fault
 end_stands false rest partial = (refl, partial)
 
-Sorts-advances : (old new : Progress) (piece : List ℕ) → old.failed ≡ false → Sorts (record old { rest = old.rest ++ piece }) new → Advances old new piece
+pub Sorts-advances : (old new : Progress) (piece : List ℕ) → old.failed ≡ false → Sorts (record old { rest = old.rest ++ piece }) new → Advances old new piece
 Sorts-advances old new piece working s = λ taken given st.
     let end : (old.rest ≡ st.rest) × IsPartial st.rest = MatchBool-at_false (IsFault st.rest) ((old.rest ≡ st.rest) × IsPartial st.rest) working st.end in
     let found : Splits (st.rest ++ piece) s.requests new.rest = subst (λ (t : List ℕ). Splits (t ++ piece) s.requests new.rest) end.0 s.found.stream in
@@ -104,38 +96,9 @@ Sorts-advances old new piece working s = λ taken given st.
     let waiting : (given ++ old.waiting) ++ s.requests ≡ given ++ new.waiting = append_assoc given old.waiting s.requests ∙ ap (λ (ws : List Words). given ++ ws) (sym s.waiting) in
     record { rest = new.rest; stream = subst (λ (ws : List Words). Splits (taken ++ piece) ws new.rest) waiting whole; end = end_stands new.failed new.rest s.found.end }
 
--- the same, told of the reader's fields
-pub fields_advance : (old new : Progress) (waiting : List Words) (rest bytes piece : List ℕ) (failed : Bool) → record { waiting = waiting; rest = rest; failed = failed } ≡ old
-    → failed ≡ false → bytes ≡ rest ++ piece → Sorts (record { waiting = waiting; rest = bytes; failed = failed }) new → Advances old new piece
-fields_advance old new waiting rest bytes piece failed is working whole s =
-    let before : Progress = record { waiting = waiting; rest = rest; failed = failed } in
-    let sorted : Sorts (record before { rest = rest ++ piece }) new = subst (λ (t : List ℕ). Sorts (record { waiting = waiting; rest = t; failed = failed }) new) whole s in
-    subst (λ (o : Progress). Advances o new piece) is (Sorts-advances before new piece working sorted)
-
-pub at_ok : {T E : Type 0} (r : Result T E) (P : Type 0) → is_ok r ≡ true → OnOk r P → P
-at_ok (Ok x) P e p = p
-at_ok (Err x) P e p = absurd cc
-
 pub Stands-nothing : Stands [] [] (record { waiting = []; rest = []; failed = false })
 unfolding item_at
 Stands-nothing = record { rest = []; stream = Splits-nothing []; end = (refl, partial_from_more [] refl) }
-
--- nothing was read of as many bytes as before
-Parses-nothing : (bytes : List ℕ) (requests : List Words) (rest : List ℕ) (failed : Bool) → Parses bytes requests rest failed → length rest ≡ length bytes → Parses bytes [] bytes failed
-Parses-nothing bytes requests rest failed p len =
-    let lengths : length bytes ≡ length (p.stream.spelled ++ rest) = ap length p.stream.whole in
-    let none : p.stream.spelled ≡ [] = nil_from_length p.stream.spelled (omega (arith, lengths, length-append p.stream.spelled rest)) in
-    let same : rest ≡ bytes = sym (p.stream.whole ∙ ap (λ (t : List ℕ). t ++ rest) none) in
-    record { stream = Splits-nothing bytes; end = subst (λ (t : List ℕ). MatchBool failed (IsFault t) (IsPartial t)) same p.end }
-
--- told of the reader's fields: nothing waits that did not before
-pub nothing_sorts : (old : Progress) (waiting requests : List Words) (bytes held rest : List ℕ) (before failed : Bool) → record { waiting = waiting; rest = held; failed = before } ≡ old
-    → bytes ≡ held → Parses bytes requests rest failed → length rest ≡ length bytes → Sorts old (record { waiting = waiting; rest = held; failed = failed })
-nothing_sorts old waiting requests bytes held rest before failed is same p len =
-    let found : Parses held [] held failed = subst (λ (t : List ℕ). Parses t [] t failed) same (Parses-nothing bytes requests rest failed p len) in
-    let after : Progress = record { waiting = waiting; rest = held; failed = failed } in
-    let sorted : Sorts (record { waiting = waiting; rest = held; failed = before }) after = record { requests = []; waiting = sym (append-nil waiting); found = found } in
-    subst (λ (o : Progress). Sorts o after) is sorted
 
 -- ---- one reading
 

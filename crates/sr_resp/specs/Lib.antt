@@ -1,8 +1,11 @@
 pub mod Code
 pub mod Equality
+pub mod Numbers
 pub mod Reading
 pub mod Reply
 pub mod Request
+pub mod Scanning
 pub mod Spelled
+pub mod Stages
 pub mod Stream
 pub mod steps

@@ -1,10 +1,8 @@
--- What the parser's functions read at the front of some bytes: a value and the bytes after it, or why they stop.
--- Only private clauses cite this. The lemmas in proofs/ show that it is exact for the spellings in Request.
+-- What is read at the front of some bytes: a value and the bytes after it, or why reading stops. Only private clauses
+-- cite this. The lemmas in proofs/ show that it is exact for the spellings in Request.
 
 use Rattle.std.specs.Prelude.{◌≡◌, ℕ, zero, suc, ◌+◌, ◌-◌, ◌*◌, List, [], ◌∷◌, ◌++◌, length, take, drop, Option, Some, None, Result, Ok, Err, nat_lt, nat_le, ◌==◌, ◌&&◌, if◌then◌else◌, codes, min, Bool, MatchBool}
 use Rattle.std.specs.Char.{digit_value}
-use Rattle.sr_resp.specs.declared.parse.Stop.{Stop}
-use Rattle.sr_resp.specs.declared.parse.Stop.TheVariants as stops
 use Rattle.sr_resp.specs.Reply.{line_end}
 use Rattle.sr_resp.specs.Request.{Words}
 use Rattle.sr_resp.specs.Stream.{Splits, IsPartial, IsFault, Progress}
@@ -18,16 +16,6 @@ infixl 10 ◌>>=◌
 abbrev pub ◌>>=◌ : {A B : Type 0} → Result A Halt → (A → Result B Halt) → Result B Halt
 (Ok x) >>= f = f x
 (Err e) >>= f = Err e
-
--- what the code returned, as view shows it, is what reading gives, unless an allocation failed
-abbrev pub Stops : {Y : Type 0} → Stop → Result Y Halt → Type 0
-Stops stops.More read = read ≡ Err More
-Stops stops.Bad read = read ≡ Err Bad
-Stops stops.Memory read = Unit {0}
-
-abbrev pub Gives : {X Y : Type 0} → (X → Y) → Result X Stop → Result Y Halt → Type 0
-Gives view (Ok x) read = read ≡ Ok (view x)
-Gives view (Err e) read = Stops e read
 
 -- a text
 abbrev pub literal_at : List ℕ → List ℕ → Result (Unit {0} × List ℕ) Halt

@@ -6,13 +6,15 @@ mod code;
 mod draft;
 mod encoding;
 mod first;
-mod parse;
 mod piece;
 mod reader;
 mod reply;
 #[cfg(test)]
 mod reply_tests;
+mod request;
+mod scan;
 mod send;
+mod stage;
 
 pub use code::{ErrCode, Word};
 pub use draft::Draft;

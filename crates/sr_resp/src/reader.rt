@@ -1,10 +1,12 @@
-ghost use Rattle.std.specs.Prelude.{◌≡◌, ◌<◌, ◌⊎◌, ℕ, ◌∷◌, ◌++◌, [], List, Option, false, true, IfNone, IfOk, IfSome, IsErrOf, OnErr, OnOk, vec_len};
-ghost use Rattle.sr_resp.specs.Reading.{Parses, Sorts};
+ghost use Rattle.std.specs.Prelude.{◌≡◌, ◌<◌, ◌≤◌, ◌⊎◌, ℕ, ◌∷◌, ◌++◌, [], List, Option, false, true, IfNone, IfOk, IfSome, IsErrOf, OnErr, OnOk, vec_len, drop};
+ghost use Rattle.sr_resp.specs.Reading.{Sorts};
 ghost use Rattle.sr_resp.specs.Request.{Words, Spells};
 ghost use Rattle.sr_resp.specs.Stream.{Stands, Advances, Splits, IsPartial, IsFault};
 ghost use Rattle.sr_resp.specs.declared.reader.ReadFault.TheVariants.{Memory};
 
-use crate::parse::{Request, Stop, item};
+use crate::request::Request;
+use crate::scan::sort_out;
+use crate::stage::{Place, Stage};
 use sr_bytes::Name;
 use std::alloc::{AllocError, Global};
 use std::collections::VecDeque;
@@ -35,10 +37,16 @@ impl From<AllocError> for ReadFault {
 pub struct Reader {
     /// The complete requests that are not handed out yet, oldest first.
     waiting: VecDeque<Request>,
-    /// The bytes after them.
+    /// The bytes after them: those of the item under way.
     rest: Vec<u8>,
+    /// How far that item has come.
+    stage: Stage,
+    /// Where its whole words stand in its bytes.
+    places: Vec<Place>,
     /// Whether the stream went wrong.
     failed: bool,
+    /// How many bytes were looked at.
+    looked: u64,
 }
 
 impl Model for Reader {
@@ -47,16 +55,10 @@ impl Model for Reader {
     ghost Value = { Progress };
 
     ghost view = { λ r. record { waiting = r.waiting.items; rest = r.rest.items; failed = r.failed } };
-}
 
-/// The requests at the front of some bytes.
-#[derive(Drop)]
-struct Parsed<'a> {
-    requests: VecDeque<Request>,
-    /// The bytes after them.
-    rest: &'a [u8],
-    /// Whether they are a fault: no request can come, however the bytes go on.
-    fault: bool,
+    ghost use Rattle.sr_resp.specs.Scanning.{IsReaderAt};
+
+    ghost invariant = { λ r. IsReaderAt r.failed r.rest.items r.places.items r.stage };
 }
 
 impl Reader {
@@ -68,7 +70,10 @@ impl Reader {
         Reader {
             waiting: VecDeque::new(alloc),
             rest: Vec::new(alloc),
+            stage: Stage::Start,
+            places: Vec::new(alloc),
             failed: false,
+            looked: 0,
         }
     }
 
@@ -85,12 +90,7 @@ impl Reader {
         if self.failed {
             return Err(ReadFault::Protocol);
         }
-        let before = self.rest.len();
-        self.rest.extend_from_slice(piece)?;
-        if self.sort_out(alloc).is_err() {
-            self.rest.truncate(before);
-            return Err(ReadFault::Memory);
-        }
+        self.take_in(alloc, piece)?;
         if self.failed {
             Err(ReadFault::Protocol)
         } else {
@@ -98,26 +98,42 @@ impl Reader {
         }
     }
 
-    /// Moves the complete requests at the front of the rest to the waiting ones.
-    fn sort_out(&mut self, alloc: Global) -> Result<(), AllocError>
-        ensures ok { OnOk result (Sorts self.old self.new) }
+    /// Appends the piece to the rest, and moves the complete requests to the waiting ones.
+    fn take_in(&mut self, alloc: Global, piece: &[u8]) -> Result<(), AllocError>
+        requires { self.old.failed ≡ false }
+        ensures ok { OnOk result (Sorts (record self.old { rest = self.old.rest ++ piece.now }) self.new) }
         ensures err { OnErr result (self.new ≡ self.old) }
     {
-        let Parsed {
-            mut requests,
-            rest,
-            fault,
-        } = parse_all(alloc, self.rest.as_slice())?;
-        // A long request comes in many pieces. Until it is complete, its bytes are not moved.
-        if rest.len() == self.rest.len() {
-            self.failed = fault;
-            return Ok(());
+        let (bytes, words, requests) = (self.rest.len(), self.places.len(), self.waiting.len());
+        self.rest.extend_from_slice(piece)?;
+        match sort_out(
+            alloc,
+            self.rest.as_slice(),
+            bytes,
+            self.stage,
+            &mut self.places,
+            &mut self.waiting,
+            &mut self.looked,
+        ) {
+            Ok(reached) => {
+                drop_front(&mut self.rest, reached.start);
+                drop_front(&mut self.places, reached.first);
+                self.stage = reached.stage;
+                self.failed = reached.fault;
+                Ok(())
+            }
+            Err(AllocError) => {
+                self.rest.truncate(bytes);
+                self.places.truncate(words);
+                self.waiting.truncate(requests);
+                Err(AllocError)
+            }
         }
-        let rest = Vec::from_slice(alloc, rest)?;
-        self.waiting.append(&mut requests)?;
-        self.rest = rest;
-        self.failed = fault;
-        Ok(())
+    }
+
+    /// How many bytes were looked at so far, or the greatest number if there were more.
+    pub fn looked(&self) -> u64 {
+        self.looked
     }
 
     /// Hands out the oldest waiting request. Takes no memory.
@@ -134,35 +150,15 @@ impl Reader {
     }
 }
 
-/// The complete requests at the front of the bytes, and what follows them.
-fn parse_all(alloc: Global, bytes: &[u8]) -> Result<Parsed<'_>, AllocError>
-    ensures { IfOk result (λ p. Parses bytes.now p.requests.items p.rest.now p.fault) }
+/// Removes this many items from the front. A long rest is not moved while nothing is removed.
+fn drop_front<T: Copy>(items: &mut Vec<T>, count: usize)
+    requires { count ≤ vec_len items.old }
+    ensures { items.new.items ≡ drop count items.old.items }
 {
-    let mut requests = VecDeque::new(alloc);
-    let mut rest = bytes;
-    loop {
-        let (command, after) = match item(alloc, rest) {
-            Ok(read) => read,
-            Err(Stop::More) => {
-                return Ok(Parsed {
-                    requests,
-                    rest,
-                    fault: false,
-                });
-            }
-            Err(Stop::Bad) => {
-                return Ok(Parsed {
-                    requests,
-                    rest,
-                    fault: true,
-                });
-            }
-            Err(Stop::Memory) => return Err(AllocError),
-        };
-        if let Some(request) = command {
-            requests.push_back(request)?;
-        }
-        rest = after;
+    if count > 0 {
+        let len = items.len();
+        items.as_mut_slice().copy_within(count..len, 0);
+        items.truncate(len - count);
     }
 }
 
@@ -260,6 +256,32 @@ mod tests {
             assert!(rt; get[0].as_slice() == b"GET".as_slice());
             assert!(rt; get[1].as_slice() == b"\r\n".as_slice());
         }
+    }
+
+    /// XADD with one field, whose value is the longest word.
+    fn longest_add(alloc: Global) -> Result<Vec<u8>, AllocError> {
+        let mut bytes = Vec::from_slice(
+            alloc,
+            b"*5\r\n$4\r\nXADD\r\n$1\r\ns\r\n$1\r\n*\r\n$1\r\nf\r\n",
+        )?;
+        bytes.extend_from_slice(b"$1048576\r\n")?;
+        bytes.extend_from_slice(Vec::from_elem(alloc, b'v', 1_048_576)?.as_slice())?;
+        bytes.extend_from_slice(b"\r\n")?;
+        Ok(bytes)
+    }
+
+    #[test]
+    fn looks_at_each_byte_once(rt: HostRuntime) {
+        let alloc = rt.alloc();
+        let Ok(bytes) = longest_add(alloc).or_else(|_| longest_add(alloc)) else {
+            panic!(rt; "no memory for the request");
+        };
+        let mut reader = Reader::new(alloc);
+        let fault = place_of_fault(alloc, &mut reader, bytes.as_slice());
+        assert_eq!(rt; fault, None);
+        assert_eq!(rt; reader.looked(), bytes.len() as u64);
+        assert_eq!(rt; count(&mut reader), 1);
+        assert_eq!(rt; reader.looked(), bytes.len() as u64);
     }
 
     /// The beginning of a request: 16 words of 1,048,576 bytes, and the header of one more word.

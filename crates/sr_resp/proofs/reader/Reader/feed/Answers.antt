@@ -1,11 +1,11 @@
 use Rattle.std.proofs.Common.{◌∙◌, sym, ap}
 use Rattle.sr_resp.specs.Stream.{Progress, Advances}
-use Rattle.sr_resp.proofs.StreamLemmas.{fields_advance, at_ok}
+use Rattle.sr_resp.proofs.StreamLemmas.{Sorts-advances}
 use Rattle.sr_resp.proofs.reader.Reader.feed.Goals as goal
 use Rattle.sr_resp.proofs.reader.Reader.feed.Goals.{then-self-2, else-self-2}
 
-advances : (c : goal.Joined-self-2) → Advances c.args.self.now c.sort_out.new.self c.args.piece.now
-advances c = fields_advance _ _ _ _ _ _ _ c.self.view_is c.if-self.false c.in_ok-extend_from_slice.ensures.items (at_ok c.sort_out.result _ c.if-is_err.ensures.negation c.sort_out.ensures.ok)
+advances : (c : goal.Joined-self-2) → Advances c.args.self.now c.take_in.new.self c.args.piece.now
+advances c = Sorts-advances _ _ c.args.piece.now (sym (ap (λ (p : Progress). p.failed) c.self.view_is) ∙ c.if-self.false) c.in_ok-take_in.ensures.ok
 
 pub returns-clause-protocol : goal.returns-clause-protocol
 returns-clause-protocol c = λ is.

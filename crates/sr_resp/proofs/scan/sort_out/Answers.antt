@@ -1,0 +1,65 @@
+use Rattle.std.proofs.Common.{length, arith, take_all}
+use Rattle.std.proofs.lemmas.List.{take_rest}
+use Rattle.sr_resp.proofs.SortLemmas.{Examined-from, tail_examined, kept_more, in_more, found_is, looked_on, some_place, Sorting-nothing, Sorting-request, Sorting-empty, SortsOut-part, SortsOut-fault}
+use Rattle.sr_resp.proofs.scan.sort_out.Goals as goal
+
+pub loop-found-init : goal.loop-found-init
+loop-found-init c = record {
+  sorting = Sorting-nothing c.args.bytes.now c.args.from c.args.entered c.args.places.now.items c.args.waiting.now.items c.requires;
+  kept = take_all (length c.args.places.now.items) c.args.places.now.items (omega arith);
+  looked = omega arith;
+}
+
+pub returns-in-Part-clause-ok : goal.returns-in-Part-clause-ok
+returns-in-Part-clause-ok c =
+    let s = c.loop-found.invariant.sorting in
+    let scans = c.in_ok-found.ensures.ok in
+    let e = Examined-from _ _ _ _ _ _ _ s.first_in s.stands scans in
+    SortsOut-part _ _ _ _ _ _ _ _ _ _ s (in_more _ _ _ _ s.first_in scans.whole) (found_is _ _ _ _ e c.in-Part.is)
+
+pub returns-in-Fault-clause-ok : goal.returns-in-Fault-clause-ok
+returns-in-Fault-clause-ok c =
+    let s = c.loop-found.invariant.sorting in
+    let scans = c.in_ok-found.ensures.ok in
+    let e = Examined-from _ _ _ _ _ _ _ s.first_in s.stands scans in
+    SortsOut-fault _ _ _ _ _ _ _ _ _ _ s (in_more _ _ _ _ s.first_in scans.whole) (found_is _ _ _ _ e c.in-Fault.is)
+
+pub gather-requires-clause-some : goal.gather-requires-clause-some
+gather-requires-clause-some c =
+    let s = c.loop-found.invariant.sorting in
+    let e = Examined-from _ _ _ _ _ _ _ s.first_in s.stands c.in_ok-found.ensures.ok in
+    some_place _ _ _ (tail_examined _ _ c.deref.result.now _ _ _ e c.deref.ensures.value c.in-Request.is)
+
+pub gather-requires-clause-within : goal.gather-requires-clause-within
+gather-requires-clause-within c =
+    let s = c.loop-found.invariant.sorting in
+    let e = Examined-from _ _ _ _ _ _ _ s.first_in s.stands c.in_ok-found.ensures.ok in
+    (tail_examined _ _ c.deref.result.now _ _ _ e c.deref.ensures.value c.in-Request.is).before
+
+pub loop-found-preserved-in-Request : goal.loop-found-preserved-in-Request
+loop-found-preserved-in-Request c =
+    let s = c.loop-found.invariant.sorting in
+    let scans = c.in_ok-found.ensures.ok in
+    let e = Examined-from _ _ _ _ _ _ _ s.first_in s.stands scans in
+    let examined = tail_examined _ _ c.deref.result.now _ _ _ e c.deref.ensures.value c.in-Request.is in
+    let once = rw c.in-Request.is at c.in_ok-found.ensures.once in
+    let tail = take_rest c.loop-found.item.now c.in-Request.end in
+    record {
+      sorting = Sorting-request _ _ _ _ _ _ _ _ _ _ _ _ _ _ _ s examined c.in_ok-request-in-Request.ensures tail (omega (arith, c.len-first.ensures, c.scan.new.places.ok)) c.in_ok-push_back-in-Request.ensures.items;
+      kept = kept_more _ _ _ scans.added c.loop-found.invariant.kept scans.whole;
+      looked = looked_on _ _ _ _ _ _ _ tail once c.loop-found.invariant.looked;
+    }
+
+pub loop-found-preserved : goal.loop-found-preserved
+loop-found-preserved c =
+    let s = c.loop-found.invariant.sorting in
+    let scans = c.in_ok-found.ensures.ok in
+    let e = Examined-from _ _ _ _ _ _ _ s.first_in s.stands scans in
+    let examined = found_is _ _ _ _ e c.in-Empty.is in
+    let once = rw c.in-Empty.is at c.in_ok-found.ensures.once in
+    let tail = take_rest c.loop-found.item.now c.in-Empty.end in
+    record {
+      sorting = Sorting-empty _ _ _ _ _ _ _ _ _ _ _ _ _ s examined tail (omega (arith, c.len-first-in-Empty.ensures, c.scan.new.places.ok));
+      kept = kept_more _ _ _ scans.added c.loop-found.invariant.kept scans.whole;
+      looked = looked_on _ _ _ _ _ _ _ tail once c.loop-found.invariant.looked;
+    }
