@@ -1,5 +1,7 @@
 pub mod Bounds
+pub mod Order
 pub mod Rules
 pub mod File
 pub mod Snapshot
 pub mod Problem
+pub mod Same

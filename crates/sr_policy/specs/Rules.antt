@@ -2,10 +2,11 @@
 -- and at which rate; and the class and the weight of an entry.
 -- Source: docs/POLICY.md.
 
-use Rattle.std.specs.Prelude.{ℕ, zero, ◌+◌, min, max, List, [], ◌∷◌, length, map, codes, Option, Some, None, is_some, nat_eq, option_and_then, unwrap_or, sum_by, if◌then◌else◌}
+use Rattle.std.specs.Prelude.{ℕ, zero, ◌+◌, min, max, List, [], ◌∷◌, length, map, codes, Option, Some, None, is_some, nat_eq, option_and_then, option_map, unwrap_or, sum_by, if◌then◌else◌}
 use Rattle.std.specs.Cmp.Lexicographic.{pointwise}
 use Rattle.std.specs.Map.{lookup}
 use Rattle.sr_policy.specs.Bounds.{most_weight}
+use Rattle.sr_policy.specs.declared.live.Live.{Live}
 
 -- names are byte strings of any content
 abbrev pub Text : Type 0
@@ -33,6 +34,11 @@ consumers_of rules = map (λ limit. limit.0) rules.limits
 -- how many entries the consumer may have pending; None for a consumer that the policy doesn't name
 abbrev pub limit_of : Rules → Text → Option ℕ
 limit_of rules consumer = value_at consumer rules.limits
+
+-- the consumer as a live one, with this many entries pending for it; None for one that the policy doesn't name
+abbrev pub live_of : Rules → Text → ℕ → Option Live
+live_of rules consumer pending =
+    option_map (λ limit. record { name = consumer; limit = limit; pending = pending }) (limit_of rules consumer)
 
 -- the cost of an entry of this class for each unit of its weight; None if the consumer may not take it
 abbrev pub rate_of : Rules → Text → Text → Option ℕ

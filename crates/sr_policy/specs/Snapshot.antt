@@ -2,15 +2,15 @@
 -- Source: docs/RECOVERY.md.
 
 use Rattle.std.specs.Prelude.{◌≡◌, ℕ, ◌+◌, ◌-◌, ◌≤◌, IsTrue, List, length, All, Bool, Option, IfSome, nat_eq}
-use Rattle.std.specs.List.{AllAdjacentBelow, list_any}
-use Rattle.std.specs.Ordering.{is_lt, nat_cmp}
-use Rattle.std.specs.Cmp.Lexicographic.{slice_cmp, pointwise}
+use Rattle.std.specs.List.{list_any}
+use Rattle.std.specs.Cmp.Lexicographic.{pointwise}
 use Rattle.sr_ids.specs.declared.id.Id.{Id}
 use Rattle.sr_ids.specs.Id.{IsBelow}
 use Rattle.sr_policy.specs.declared.stranded.Stranded.{Stranded}
 use Rattle.sr_policy.specs.declared.live.Live.{Live}
 use Rattle.sr_policy.specs.Bounds.{most_consumers, most_classes, most_limit, most_rate, most_weight, most_stranded}
 use Rattle.sr_policy.specs.Rules.{Text}
+pub use Rattle.sr_policy.specs.Order.{comes_before, ComesBefore, AreInOrder}
 
 -- the key and the group; the names of the dead consumers; the entries that are pending for them and still in the stream,
 -- and those that are no longer in the stream, each with its owner; the consumers that could take them; and for each class
@@ -23,17 +23,6 @@ pub record Shown : Type 0 where
   pub gone : List (Id × Text)
   pub live : List Live
   pub rates : List (Text × List (Option ℕ))
-
--- name a comes before name b, in byte order
-abbrev pub comes_before : Text → Text → Bool
-comes_before a b = is_lt (slice_cmp nat_cmp a b)
-
-abbrev pub ComesBefore : Text → Text → Type 0
-ComesBefore a b = IsTrue (comes_before a b)
-
--- each element comes before the next one
-abbrev pub AreInOrder : {X : Type 0} → (X → X → Type 0) → List X → Type 0
-AreInOrder IsBefore xs = AllAdjacentBelow IsBefore xs (length xs)
 
 -- ids rise, so that each is there once
 pub record AreIdsInOrder (shown : Shown) : Type 0 where

@@ -1,5 +1,6 @@
 ghost use Rattle.std.specs.Prelude.{◌≡◌, ◌++◌, ◌*◌, ◌≤◌, ◌^◌, IfOk, OnOk, All, IfSome, None, option_map, map};
 ghost use Rattle.std.specs.List.{flat_map};
+ghost use Rattle.sr_transport.specs.Problem.{IsWithinLimits};
 ghost use Rattle.sr_policy.specs.Snapshot.{IsWeight};
 ghost use Rattle.sr_policy.specs.Problem.{room_at, costs_at, costs_of as costs_in, problem_of};
 
@@ -13,7 +14,8 @@ use std::alloc::{AllocError, Global};
 /// The transportation problem of a snapshot: who could take its stranded entries, and at what cost.
 #[tactic(auto, using(crate::proofs::ProblemLemmas::problem_within))]
 pub fn problem(alloc: Global, snapshot: &Snapshot) -> Result<Problem, AllocError>
-    ensures { IfOk result (λ problem. problem ≡ problem_of snapshot.now) }
+    ensures ok { IfOk result (λ problem. problem ≡ problem_of snapshot.now) }
+    ensures within { IfOk result (λ problem. IsWithinLimits problem.rooms problem.entries problem.costs) }
 {
     snapshot.sound();
     let rooms = rooms_of(alloc, snapshot.live())?;

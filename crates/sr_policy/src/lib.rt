@@ -4,6 +4,7 @@
 
 mod bounds;
 mod costs;
+mod equal;
 mod file;
 mod judge;
 mod live;

@@ -1,5 +1,6 @@
 ghost use Rattle.std.specs.Prelude.{◌≡◌, IfOk, option_map, map};
 ghost use Rattle.toml.specs.View.{table_view};
+ghost use Rattle.sr_policy.specs.Order.{AreInOrder, ComesBefore};
 ghost use Rattle.sr_policy.specs.Rules.{value_at};
 ghost use Rattle.sr_policy.specs.File.{numbers_of as numbers_in};
 
@@ -65,7 +66,8 @@ pub(crate) fn found<'a, V>(pairs: &'a [(Name, V)], name: &Name) -> Option<&'a V>
 
 /// The numbers of a table of a file, by key.
 pub(crate) fn numbers_of(alloc: Global, table: &Table) -> Result<Numbers, AllocError>
-    ensures { IfOk result (λ numbers. numbers ≡ numbers_in (table_view table.now)) }
+    ensures value { IfOk result (λ numbers. numbers ≡ numbers_in (table_view table.now)) }
+    ensures order { IfOk result (λ numbers. AreInOrder ComesBefore (map (λ pair. pair.0) numbers)) }
 {
     let mut pairs = Vec::with_capacity(alloc, table.len())?;
     for (key, value) in table.iter() {

@@ -1,6 +1,7 @@
 ghost use Rattle.std.specs.Prelude.{◌≡◌, IfOk};
 ghost use Rattle.sr_policy.specs.Rules.{other_class as all_others};
 
+use crate::live::Live;
 use crate::numbers::{Numbers, found, names_of};
 use sr_bytes::{Fields, Name};
 use std::alloc::{AllocError, Global};
@@ -21,18 +22,20 @@ pub struct Policy {
 
 impl Model for Policy {
     ghost use Rattle.std.specs.Prelude.{◌≡◌, map};
+    ghost use Rattle.sr_policy.specs.Order.{AreInOrder, ComesBefore};
     ghost use Rattle.sr_policy.specs.Rules.{Rules};
 
     ghost Value = { Rules };
 
     ghost view = { λ p. record { class_field = p.class_field; limits = p.limits; rates = p.rates.items } };
 
-    ghost invariant = { λ p. p.consumers.items ≡ map (λ limit. limit.0) p.limits };
+    ghost invariant = { λ p. (p.consumers.items ≡ map (λ limit. limit.0) p.limits) × AreInOrder ComesBefore p.consumers.items };
 }
 
 impl Policy {
-    ghost use Rattle.std.specs.Prelude.{◌≡◌, IfOk, option_map};
-    ghost use Rattle.sr_policy.specs.Rules.{no_rules, value_at, consumers_of, limit_of, rate_of, classed_by as classed_in, class_of as class_by};
+    ghost use Rattle.std.specs.Prelude.{◌≡◌, IfOk, map, option_map};
+    ghost use Rattle.sr_policy.specs.Order.{AreInOrder, ComesBefore};
+    ghost use Rattle.sr_policy.specs.Rules.{no_rules, value_at, consumers_of, limit_of, live_of, rate_of, classed_by as classed_in, class_of as class_by};
 
     /// The policy without consumers and rates, under which no entry can be given to anybody. It takes no memory.
     pub fn empty(alloc: Global) -> Policy
@@ -53,6 +56,7 @@ impl Policy {
         limits: Numbers,
         rates: Vec<(Name, Numbers)>,
     ) -> Result<Policy, AllocError>
+        requires order { AreInOrder ComesBefore (map (λ limit. limit.0) limits) }
         ensures { IfOk result (λ policy. policy ≡ record { class_field = class_field; limits = limits; rates = rates.items }) }
     {
         let consumers = names_of(alloc, limits.as_slice())?;
@@ -66,7 +70,8 @@ impl Policy {
 
     /// The consumers, in byte order.
     pub fn consumers(&self) -> &[Name]
-        ensures { result.now ≡ consumers_of self.now }
+        ensures value { result.now ≡ consumers_of self.now }
+        ensures order { AreInOrder ComesBefore result.now }
     {
         self.consumers.as_slice()
     }
@@ -76,6 +81,26 @@ impl Policy {
         ensures { result ≡ limit_of self.now consumer.now }
     {
         self.limits.get(consumer)
+    }
+
+    /// A consumer as a live one, with this many entries pending for it, or `None` if the policy doesn't name it.
+    pub fn live(
+        &self,
+        alloc: Global,
+        consumer: &Name,
+        pending: u64,
+    ) -> Result<Option<Live>, AllocError>
+        ensures { IfOk result (λ live. live ≡ live_of self.now consumer.now pending) }
+    {
+        let Some(limit) = self.limit(consumer) else {
+            return Ok(None);
+        };
+        let name = consumer.copy(alloc)?;
+        Ok(Some(Live {
+            name,
+            limit,
+            pending,
+        }))
     }
 
     /// What an entry of a class costs at a consumer for each unit of its weight, or `None` if the consumer may not take

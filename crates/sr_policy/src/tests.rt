@@ -228,6 +228,20 @@ fn more_than_64_consumers_or_1024_classes_are_out_of_range(rt: HostRuntime) -> R
 }
 
 #[test]
+fn a_policy_is_asked(rt: HostRuntime) -> Result<(), Fail> {
+    let alloc = rt.alloc();
+    let policy = Policy::read(alloc, TWO_CLASSES).or(Err(AllocError))?;
+    let class = policy.class_of(alloc, &fields(alloc, &[("c", "y"), ("c", "x")])?)?;
+    assert_eq!(rt; class.as_slice(), b"y");
+    assert_eq!(rt; policy.rate(&class, &name(alloc, "B")?), Some(100));
+    let live = policy
+        .live(alloc, &name(alloc, "A")?, 3)?
+        .expect(&rt, "the policy names A");
+    assert_eq!(rt; live.room(), 0);
+    Ok(())
+}
+
+#[test]
 fn weights_and_rooms(rt: HostRuntime) -> Result<(), Fail> {
     let alloc = rt.alloc();
     assert_eq!(rt; weight_of(&fields(alloc, &[("c", "x")])?), 2);
