@@ -232,7 +232,7 @@ fn a_policy_is_asked(rt: HostRuntime) -> Result<(), Fail> {
     let alloc = rt.alloc();
     let policy = Policy::read(alloc, TWO_CLASSES).or(Err(AllocError))?;
     let class = policy.class_of(alloc, &fields(alloc, &[("c", "y"), ("c", "x")])?)?;
-    assert_eq!(rt; class.as_slice(), b"y");
+    assert!(rt; class == name(alloc, "y")?);
     assert_eq!(rt; policy.rate(&class, &name(alloc, "B")?), Some(100));
     let live = policy
         .live(alloc, &name(alloc, "A")?, 3)?
