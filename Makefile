@@ -7,10 +7,11 @@ run:
 	@cd crates/sr_server && rt run -- --stdio < stdin
 
 # The whole gate: every proof from nothing, the must-fail edits, the tests and the program's stored run. Then the program that
-# was proved replays the sessions of the README and of examples/.
+# was proved replays the sessions of the README and of examples/, and reads policy files.
 test:
 	rt ci
 	@scripts/replay crates/sr_server/out/sr_server README.md examples/*.session
+	@scripts/policies crates/sr_server/out/sr_server examples/policies/*.toml
 
 # The sessions alone.
 replay:

@@ -1,1 +1,2 @@
 pub mod OptionsLemmas
+pub mod ServeLemmas

@@ -1,6 +1,6 @@
--- What the program makes of the end of its session: a line of text, if anything went wrong, and a status.
+-- What the program makes of its policy and of the end of its session: a line of text, if anything went wrong, and a status.
 
-use Rattle.std.specs.Prelude.{◌≡◌, ℕ, Bool, List, [], ◌⊎◌, Option, Some, Result, Ok, Err, true}
+use Rattle.std.specs.Prelude.{◌≡◌, ℕ, Bool, List, [], ◌⊎◌, Option, Some, Result, Ok, Err, true, false}
 use Rattle.sr_session.specs.Answered.{Answers}
 use Rattle.sr_session.specs.Desk.{Served, shown}
 use Rattle.sr_session.specs.Session.{EndsAs}
@@ -8,6 +8,8 @@ use Rattle.sr_session.specs.declared.run.End.{End}
 use Rattle.sr_session.specs.declared.run.End.TheVariants as ends
 use Rattle.sr_server.specs.declared.fault.Fault.{Fault}
 use Rattle.sr_server.specs.declared.fault.Fault.TheVariants as faults
+use Rattle.sr_server.specs.Policy.{Loads}
+use Rattle.sr_policy.specs.Rules.{Rules}
 
 -- what went wrong in a session that ended so, if anything
 abbrev pub outcome_of : End → Result (Unit {0}) Fault
@@ -34,10 +36,30 @@ pub record Serves (may_tell : ℕ → Bool) (taken written : List ℕ) (outcome 
   pub session : EndsAs (Answers may_tell) without_keys taken written now end
   pub told : outcome ≡ outcome_of end
 
--- the program serves a session with this outcome; or it does not come to one, and takes and writes nothing
-pub data Runs (may_tell : ℕ → Bool) (taken written : List ℕ) (outcome : Result (Unit {0}) Fault) : Type 0 where
-  serves : Serves may_tell taken written outcome → Runs may_tell taken written outcome
-  starts_not : taken ≡ [] → written ≡ [] → (outcome ≡ Err faults.StartMemory) ⊎ (outcome ≡ Err faults.NoRandomSource) → Runs may_tell taken written outcome
+-- the program loads rules and serves a session with this outcome; or it does not come to one, and takes and writes nothing
+pub data Runs (may_tell : ℕ → Bool) (may_hold : List ℕ → Option (List ℕ) → Bool) (policy : Option (List ℕ))
+    (taken written : List ℕ) (outcome : Result (Unit {0}) Fault) : Type 0 where
+  serves : (rules : Rules) → Loads may_hold policy (Ok rules) → Serves may_tell taken written outcome
+      → Runs may_tell may_hold policy taken written outcome
+  loads_not : (fault : Fault) → taken ≡ [] → written ≡ [] → Loads may_hold policy (Err fault) → outcome ≡ Err fault
+      → Runs may_tell may_hold policy taken written outcome
+  starts_not : taken ≡ [] → written ≡ [] → (outcome ≡ Err faults.StartMemory) ⊎ (outcome ≡ Err faults.NoRandomSource)
+      → Runs may_tell may_hold policy taken written outcome
+
+-- a fault of the session, and not one that comes before it
+abbrev pub is_of_session : Fault → Bool
+is_of_session faults.StartMemory = false
+is_of_session faults.NoRandomSource = false
+is_of_session faults.PolicyUnreadable = false
+is_of_session faults.PolicyNotToml = false
+is_of_session faults.PolicyShape = false
+is_of_session faults.PolicyRange = false
+is_of_session faults.PolicyMemory = false
+is_of_session faults.Protocol = true
+is_of_session faults.Read = true
+is_of_session faults.Write = true
+is_of_session faults.Turns = true
+is_of_session faults.SessionMemory = true
 
 -- the system's clock may tell any moment
 abbrev pub any_moment : ℕ → Bool

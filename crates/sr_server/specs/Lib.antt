@@ -1,1 +1,3 @@
 pub mod Fault
+pub mod Options
+pub mod Policy

@@ -1,6 +1,8 @@
-ghost use Rattle.std.specs.Prelude.{◌≡◌};
-ghost use Rattle.sr_server.specs.Fault.{outcome_of};
+ghost use Rattle.std.specs.Prelude.{◌≡◌, true, IfErr};
+ghost use Rattle.sr_server.specs.Fault.{outcome_of, is_of_session};
+ghost use Rattle.sr_server.specs.Policy.{fault_of};
 
+use sr_policy::PolicyFault;
 use sr_session::End;
 use thiserror::Error;
 
@@ -11,6 +13,16 @@ pub(crate) enum Fault {
     StartMemory,
     #[error("start: no random source")]
     NoRandomSource,
+    #[error("policy: cannot read")]
+    PolicyUnreadable,
+    #[error("policy: not TOML")]
+    PolicyNotToml,
+    #[error("policy: wrong shape")]
+    PolicyShape,
+    #[error("policy: value out of range")]
+    PolicyRange,
+    #[error("policy: out of memory")]
+    PolicyMemory,
     #[error("session: protocol error")]
     Protocol,
     #[error("session: read fault")]
@@ -23,9 +35,22 @@ pub(crate) enum Fault {
     SessionMemory,
 }
 
+/// What went wrong with a text that is not a policy.
+pub(crate) fn policy_fault(fault: PolicyFault) -> Fault
+    ensures { result ≡ fault_of fault }
+{
+    match fault {
+        PolicyFault::Toml => Fault::PolicyNotToml,
+        PolicyFault::Shape => Fault::PolicyShape,
+        PolicyFault::Range => Fault::PolicyRange,
+        PolicyFault::Memory => Fault::PolicyMemory,
+    }
+}
+
 /// What went wrong in a session that ended so, if anything.
 pub(crate) fn outcome(end: End) -> Result<(), Fault>
-    ensures { result ≡ outcome_of end }
+    ensures value { result ≡ outcome_of end }
+    ensures session { IfErr result (λ fault. is_of_session fault ≡ true) }
 {
     match end {
         End::Closed => Ok(()),

@@ -9,22 +9,33 @@ mod command_line;
 mod fault;
 mod options;
 mod report;
+mod server;
 mod start;
 #[cfg(test)]
 mod tests;
+mod text_files;
 
 use crate::command_line::{refuse_words, words};
 use crate::start::start;
+use crate::text_files::SystemFiles;
 use sr_resp::WriteTo;
 use sr_session::ReadFrom;
 use std::process::ExitCode;
 
 fn main(rt: HostRuntime) -> ExitCode {
+    let mut files = SystemFiles::new(&rt);
     let mut reader = ReadFrom::new(rt.stdin());
     let mut writer = WriteTo::new(rt.stdout());
     let mut err = rt.stderr();
     let status = match words(&rt) {
-        Ok(words) => start(&rt, words.as_slice(), &mut reader, &mut writer, &mut err),
+        Ok(words) => start(
+            &rt,
+            words.as_slice(),
+            &mut files,
+            &mut reader,
+            &mut writer,
+            &mut err,
+        ),
         Err(error) => refuse_words(&mut err, error),
     };
     ExitCode::from(status)

@@ -1,14 +1,16 @@
-ghost use Rattle.std.specs.Prelude.{◌≡◌, ◌≤◌, ℕ, List, [], ◌∷◌, map, codes, true, false, Result, OnOk, IsErrOf};
+ghost use Rattle.std.specs.Prelude.{◌≡◌, ◌≤◌, ℕ, List, [], ◌∷◌, map, true, false, Option, option_map, Result, OnOk, IfErr, IsErrOf};
 ghost use Rattle.std.specs.Io.KnownBytes.{Appends, Consumes};
-ghost use Rattle.sr_server.specs.Fault.{Serves, Runs, any_moment, status_of};
+ghost use Rattle.sr_server.specs.Fault.{Serves, Runs, any_moment, is_of_session, status_of};
+ghost use Rattle.sr_server.specs.Options.{AsksFor};
 
 use crate::clock::SystemClock;
 use crate::fault::{Fault, outcome};
 use crate::options::read_options;
 use crate::report::{refuse, report};
+use crate::server::{Server, load_policy};
+use crate::text_files::TextFiles;
 use sr_resp::Sink;
 use sr_session::{Clock, PlainDesk, Source, run_session};
-use sr_space::Space;
 use std::alloc::Global;
 use std::convert::AsStr;
 use std::hash::RandomState;
@@ -19,12 +21,14 @@ use std::rt;
 /// The number of reads after which a session ends.
 const TURNS: u64 = 1 << 40;
 
-/// Runs the program: reads the command line, whose first word is the program's name, and serves one connection.
+/// Runs the program: reads the command line, whose first word is the program's name, and the policy file that it names, and
+/// serves one connection.
 ///
 /// Answers the status that it ends with. What is said besides the replies goes to `err`.
-pub(crate) fn start<R, S, I, O, E>(
+pub(crate) fn start<R, S, F, I, O, E>(
     rt: &R,
     words: &[S],
+    files: &mut F,
     reader: &mut I,
     writer: &mut O,
     err: &mut E,
@@ -32,35 +36,48 @@ pub(crate) fn start<R, S, I, O, E>(
 where
     R: AllocGlobal + rt::Clock + RandomSource,
     S: AsStr,
+    F: TextFiles,
     I: Source,
     O: Sink,
     E: Write,
     requires unread { (I.ended reader.old ≡ false) × (I.failed reader.old ≡ false) }
     requires unwritten { O.failed writer.old ≡ false }
 
-    // --stdio: what was taken from the reader and written to the writer, and the status for it
-    ensures served { (name : List ℕ) → map S.text words.now ≡ name ∷ codes "--stdio" ∷ []
+    // --stdio, with or without a policy: what was taken from the reader and written to the writer, and the status for it
+    ensures served { (name : List ℕ) (asked : List (List ℕ)) (policy : Option (List ℕ)) → map S.text words.now ≡ name ∷ asked
+        → AsksFor asked policy
         → (taken written : List ℕ)
         × Consumes (I.remaining reader.old) (I.remaining reader.new) taken
         × Appends (O.contents writer.old) (O.contents writer.new) written
-        × (outcome : Result (Unit {0}) Fault) × Runs any_moment taken written outcome × (result ≡ status_of outcome) }
-    ensures ok { (name : List ℕ) → map S.text words.now ≡ name ∷ codes "--stdio" ∷ [] → result ≡ 0
-        → I.ended reader.new ≡ true }
+        × (outcome : Result (Unit {0}) Fault)
+        × Runs any_moment (F.may_hold files.old) policy taken written outcome
+        × (result ≡ status_of outcome)
+        × (IfErr outcome (λ fault. is_of_session fault ≡ false → (reader.new ≡ reader.old) × (writer.new ≡ writer.old)))
+        × (IsErrOf outcome Fault.NoRandomSource → files.new ≡ files.old) }
+    ensures ok { (name : List ℕ) (asked : List (List ℕ)) (policy : Option (List ℕ)) → map S.text words.now ≡ name ∷ asked
+        → AsksFor asked policy → result ≡ 0 → I.ended reader.new ≡ true }
 
     // no option: nothing is read or written
     ensures missing { (name : List ℕ) → map S.text words.now ≡ name ∷ []
-        → (1 ≤ result) × (reader.new ≡ reader.old) × (writer.new ≡ writer.old) }
+        → (1 ≤ result) × (files.new ≡ files.old) × (reader.new ≡ reader.old) × (writer.new ≡ writer.old) }
 {
     match read_options(rt.alloc(), words) {
-        Ok(()) => report(err, connect(rt, reader, writer)),
+        Ok(options) => report(err, connect(rt, files, options.policy, reader, writer)),
         Err(error) => refuse(err, &error),
     }
 }
 
-/// Serves the connection of a reader and a writer, with the system's clock.
-fn connect<R, I, O>(rt: &R, reader: &mut I, writer: &mut O) -> Result<(), Fault>
+/// Loads the policy, and serves the connection of a reader and a writer, with the system's clock.
+fn connect<R, F, I, O>(
+    rt: &R,
+    files: &mut F,
+    policy: Option<&str>,
+    reader: &mut I,
+    writer: &mut O,
+) -> Result<(), Fault>
 where
     R: AllocGlobal + rt::Clock + RandomSource,
+    F: TextFiles,
     I: Source,
     O: Sink,
     requires unread { (I.ended reader.old ≡ false) × (I.failed reader.old ≡ false) }
@@ -68,26 +85,35 @@ where
     ensures served { (taken written : List ℕ)
         × Consumes (I.remaining reader.old) (I.remaining reader.new) taken
         × Appends (O.contents writer.old) (O.contents writer.new) written
-        × Runs any_moment taken written result }
+        × Runs any_moment (F.may_hold files.old) (option_map (λ path. path.now) policy.entry) taken written result }
     ensures ok { OnOk result (I.ended reader.new ≡ true) }
+    ensures refused { IfErr result (λ fault. is_of_session fault ≡ false → (reader.new ≡ reader.old) × (writer.new ≡ writer.old)) }
+    ensures random { IsErrOf result Fault.NoRandomSource → files.new ≡ files.old }
 {
     let Ok(hasher) = RandomState::new(rt) else {
         return Err(Fault::NoRandomSource);
     };
-    let clock = SystemClock::new(rt);
-    serve(rt.alloc(), hasher, &clock, reader, writer)
+    match load_policy(rt.alloc(), files, policy) {
+        Ok(policy) => {
+            let mut server = Server::new(rt.alloc(), hasher, policy);
+            let clock = SystemClock::new(rt);
+            serve(rt.alloc(), &mut server, &clock, reader, writer)
+        }
+        Err(fault) => Err(fault),
+    }
 }
 
-/// Serves one connection to its end, starting without keys.
+/// Serves one connection to its end.
 fn serve<C: Clock, I: Source, O: Sink>(
     alloc: Global,
-    hasher: RandomState,
+    server: &mut Server,
     clock: &C,
     reader: &mut I,
     writer: &mut O,
 ) -> Result<(), Fault>
     requires unread { (I.ended reader.old ≡ false) × (I.failed reader.old ≡ false) }
     requires unwritten { O.failed writer.old ≡ false }
+    requires keys { server.old.space ≡ [] }
 
     // what was taken from the reader, and written to the writer
     ensures served { (taken written : List ℕ)
@@ -99,9 +125,9 @@ fn serve<C: Clock, I: Source, O: Sink>(
     ensures ok { OnOk result (I.ended reader.new ≡ true) }
     ensures read { IsErrOf result Fault.Read → I.failed reader.new ≡ true }
     ensures write { IsErrOf result Fault.Write → O.failed writer.new ≡ true }
+    ensures session { IfErr result (λ fault. is_of_session fault ≡ true) }
 {
-    let mut space = Space::new(alloc, hasher);
-    let mut desk = PlainDesk::new(&mut space);
+    let mut desk = PlainDesk::new(&mut server.space);
     let end = run_session(alloc, reader, writer, &mut desk, clock, TURNS);
     outcome(end)
 }

@@ -1,8 +1,11 @@
-//! The program over memory: the words of the command line, input, output, standard error and the status.
+//! The program over memory: the words of the command line, files, input, output, standard error and the status.
+ghost use Rattle.sr_server.specs.Policy.{any_text as any};
+
 use crate::clock::SystemClock;
 use crate::fault::outcome;
 use crate::report::report;
 use crate::start::start;
+use crate::text_files::{SystemFiles, TextFault, TextFiles};
 use sr_resp::WriteTo;
 use sr_session::{End, ReadFrom};
 use std::alloc::Global;
@@ -63,6 +66,21 @@ impl RandomSource for StillSystem {
     }
 }
 
+/// Files that all hold the same text, or none that can be read.
+#[derive(Drop)]
+struct SameFiles {
+    alloc: Global,
+    text: Result<&'static str, TextFault>,
+}
+
+impl TextFiles for SameFiles {
+    ghost may_hold = { λ _. any };
+
+    fn read_text(&mut self, _: &str) -> Result<String, TextFault> {
+        String::from_str(self.alloc, self.text?).or(Err(TextFault::Memory))
+    }
+}
+
 /// How the program ended, and what it wrote.
 #[derive(Drop)]
 struct Ended {
@@ -80,31 +98,60 @@ impl Ended {
 }
 
 /// Starts the program as `main` does.
-fn start_over<R, I, O, E>(rt: &R, words: &[&str], reader: I, writer: O, err: &mut E) -> u8
+fn start_over<R, F, I, O, E>(
+    rt: &R,
+    words: &[&str],
+    files: &mut F,
+    reader: I,
+    writer: O,
+    err: &mut E,
+) -> u8
 where
     R: AllocGlobal + Clock + RandomSource,
+    F: TextFiles,
     I: Read + Drop,
     O: Write + Drop,
     E: Write,
 {
     let mut reader = ReadFrom::new(reader);
     let mut writer = WriteTo::new(writer);
-    start(rt, words, &mut reader, &mut writer, err)
+    start(rt, words, files, &mut reader, &mut writer, err)
 }
 
-/// Runs the program with these words, over this input.
+/// Runs the program with these words, over this input and files that cannot be read.
 fn run<R, I>(rt: &R, words: &[&str], reader: I) -> Ended
 where
     R: AllocGlobal + Clock + RandomSource,
     I: Read + Drop,
 {
+    run_with(
+        rt,
+        words,
+        &mut files_of(rt.alloc(), Err(TextFault::Unreadable)),
+        reader,
+    )
+}
+
+/// Runs the program with these words, over this input and these files.
+fn run_with<R, F, I>(rt: &R, words: &[&str], files: &mut F, reader: I) -> Ended
+where
+    R: AllocGlobal + Clock + RandomSource,
+    F: TextFiles,
+    I: Read + Drop,
+{
     let mut out = Vec::new(rt.alloc());
     let mut err = Vec::new(rt.alloc());
-    let status = start_over(rt, words, reader, &mut out, &mut err);
+    let status = start_over(rt, words, files, reader, &mut out, &mut err);
     Ended { status, out, err }
 }
 
+fn files_of(alloc: Global, text: Result<&'static str, TextFault>) -> SameFiles {
+    SameFiles { alloc, text }
+}
+
 const STDIO: [&str; 2] = ["sr_server", "--stdio"];
+
+const POLICY: [&str; 4] = ["sr_server", "--stdio", "--policy", "missing.toml"];
 
 const PING: &str = "*1\r\n$4\r\nPING\r\n";
 
@@ -124,6 +171,11 @@ fn command_lines_are_refused(rt: HostRuntime) -> Result<(), Fail> {
         "sr_server word",
         "sr_server --stdio word",
         "sr_server --stdio --stdio",
+        "sr_server --stdio --listen 127.0.0.1:6379",
+        "sr_server --stdio --policy",
+        "sr_server --stdio --policy -x",
+        "sr_server --policy p.toml",
+        "sr_server --stdio --policy p.toml --policy q.toml",
     ];
     for row in rows {
         let words: Vec<&str> = row.split(' ').collect(rt.alloc())?;
@@ -174,7 +226,15 @@ fn failing_reader_ends_the_program(rt: HostRuntime) {
 #[test]
 fn failing_writer_ends_the_program(rt: HostRuntime) {
     let mut err = Vec::new(rt.alloc());
-    let status = start_over(&rt, STDIO.as_slice(), XLEN.as_bytes(), Broken, &mut err);
+    let mut files = SystemFiles::new(&rt);
+    let status = start_over(
+        &rt,
+        STDIO.as_slice(),
+        &mut files,
+        XLEN.as_bytes(),
+        Broken,
+        &mut err,
+    );
     assert_eq!(rt; status, 1);
     assert_eq!(rt; err.as_slice(), "session: write fault\n".as_bytes());
 }
@@ -183,9 +243,11 @@ fn failing_writer_ends_the_program(rt: HostRuntime) {
 fn full_writer_ends_the_program(rt: HostRuntime) {
     let mut room = [0; 3];
     let mut err = Vec::new(rt.alloc());
+    let mut files = SystemFiles::new(&rt);
     let status = start_over(
         &rt,
         STDIO.as_slice(),
+        &mut files,
         XLEN.as_bytes(),
         &mut room[..],
         &mut err,
@@ -198,10 +260,12 @@ fn full_writer_ends_the_program(rt: HostRuntime) {
 #[test]
 fn failing_standard_error_keeps_the_status(rt: HostRuntime) {
     let mut out = Vec::new(rt.alloc());
+    let mut files = SystemFiles::new(&rt);
     assert_eq!(rt;
         start_over(
             &rt,
             STDIO.as_slice(),
+            &mut files,
             "$1\r\n".as_bytes(),
             &mut out,
             &mut Broken
@@ -209,7 +273,14 @@ fn failing_standard_error_keeps_the_status(rt: HostRuntime) {
         1
     );
     assert_eq!(rt;
-        start_over(&rt, &STDIO[..1], PING.as_bytes(), &mut out, &mut Broken),
+        start_over(
+            &rt,
+            &STDIO[..1],
+            &mut files,
+            PING.as_bytes(),
+            &mut out,
+            &mut Broken
+        ),
         2
     );
 }
@@ -220,8 +291,41 @@ fn random_source_is_needed(rt: HostRuntime) {
         alloc: rt.alloc(),
         time: None,
     };
-    let ended = run(&system, STDIO.as_slice(), PING.as_bytes());
+    let ended = run(&system, POLICY.as_slice(), PING.as_bytes());
     assert!(rt; ended.is(1, "", "start: no random source\n"));
+}
+
+#[test]
+fn missing_policy_ends_the_program(rt: HostRuntime) {
+    let mut files = SystemFiles::new(&rt);
+    let ended = run_with(&rt, POLICY.as_slice(), &mut files, PING.as_bytes());
+    assert!(rt; ended.is(1, "", "policy: cannot read\n"));
+}
+
+#[test]
+fn wrong_policies_end_the_program(rt: HostRuntime) {
+    let rows = [
+        (Err(TextFault::Unreadable), "policy: cannot read\n"),
+        (Ok("[limits"), "policy: not TOML\n"),
+        (Ok("limits = 3"), "policy: wrong shape\n"),
+        (Ok("version = 2"), "policy: value out of range\n"),
+        (Err(TextFault::Memory), "policy: out of memory\n"),
+    ];
+    for (text, line) in rows {
+        let mut files = files_of(rt.alloc(), text);
+        let ended = run_with(&rt, POLICY.as_slice(), &mut files, PING.as_bytes());
+        assert!(rt; ended.is(1, "", line), "at {line}");
+    }
+}
+
+#[test]
+fn session_runs_under_a_policy(rt: HostRuntime) {
+    let one_word = ["sr_server", "--policy=-p.toml", "--stdio"];
+    for words in [POLICY.as_slice(), one_word.as_slice()] {
+        let mut files = files_of(rt.alloc(), Ok("[limits]\nA = 1\n"));
+        let ended = run_with(&rt, words, &mut files, PING.as_bytes());
+        assert!(rt; ended.is(0, "+PONG\r\n", ""));
+    }
 }
 
 #[test]
