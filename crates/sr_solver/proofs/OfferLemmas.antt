@@ -1,5 +1,7 @@
 -- One consumer more is asked whether an entry of the closed one comes nearer.
-use Rattle.std.proofs.Common.{◌≡◌, ℕ, ◌+◌, ◌*◌, ◌^◌, ◌<◌, ◌≤◌, ◌⊎◌, true, false, List, length, get_or, Option, Some, None, refl, sym, ap, ◌∙◌, inl, inr, arith}
+use Rattle.std.proofs.Common.{◌≡◌, ℕ, ◌+◌, ◌*◌, ◌<◌, ◌≤◌, ◌⊎◌, true, false, List, length, get_or, Option, Some, None, refl, sym, ap, ◌∙◌, inl, inr, arith}
+use Rattle.sr_transport.specs.Limits.{greatest_price, most_consumers}
+use Rattle.sr_solver.specs.Limits.{greatest_way}
 use Rattle.std.proofs.lemmas.Bool.{cases_eq, cases_lt, false≢true}
 use Rattle.sr_transport.specs.Problem.{Transport, consumers, cost_at, cost_of, IsAllowed}
 use Rattle.sr_transport.specs.Certificate.{IsLeast}
@@ -280,18 +282,18 @@ closed_ask p k xs prices old before after t b placed ltt closed asked =
 
 -- prices and ways stay small
 pub price_small : (p : Transport) (k : ℕ) (xs prices : List ℕ) → IsPlaced p k xs prices → k ≤ p.entries
-    → (c : ℕ) → c < consumers p → get_or prices c 0 ≤ 2 ^ 58
+    → (c : ℕ) → c < consumers p → get_or prices c 0 ≤ greatest_price
 price_small p k xs prices placed le c lt = omega (arith, placed.low c lt, placed.limits.few_entries)
 
 pub hops_small : (p : Transport) (k : ℕ) (xs prices : List ℕ) (labels : List Label) (t upto : ℕ)
     → IsPlaced p k xs prices → IsSearch p k xs prices labels t upto
-    → (c : ℕ) → c < consumers p → (label_at labels c).closed ≡ true → (label_at labels c).hops ≤ 64
+    → (c : ℕ) → c < consumers p → (label_at labels c).closed ≡ true → (label_at labels c).hops ≤ most_consumers
 hops_small p k xs prices labels t upto placed search c lt closed =
     omega (arith, search.few_closed c lt closed, placed.limits.consumers)
 
 pub dist_small : (p : Transport) (k : ℕ) (xs prices : List ℕ) (labels : List Label) (t upto : ℕ)
     → IsPlaced p k xs prices → k ≤ p.entries → IsSearch p k xs prices labels t upto
-    → (c : ℕ) → c < consumers p → (label_at labels c).closed ≡ true → (label_at labels c).dist ≤ 2 ^ 60
+    → (c : ℕ) → c < consumers p → (label_at labels c).closed ≡ true → (label_at labels c).dist ≤ greatest_way
 dist_small p k xs prices labels t upto placed le search c lt closed =
     omega (
       arith,

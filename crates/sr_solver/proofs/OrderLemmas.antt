@@ -1,5 +1,6 @@
 -- An answer of a problem whose entries stand in another order is one of the problem.
-use Rattle.std.proofs.Common.{◌≡◌, ℕ, zero, suc, ◌+◌, ◌*◌, ◌^◌, ◌<◌, ◌≤◌, ◌==◌, ◌≢◌, cond, List, [], ◌∷◌, ◌++◌, length, length-append, get_or, Bool, refl, sym, ap, ◌∙◌, inl, inr, arith, eq-eqb, Option, None}
+use Rattle.std.proofs.Common.{◌≡◌, ℕ, zero, suc, ◌+◌, ◌*◌, ◌<◌, ◌≤◌, ◌==◌, ◌≢◌, cond, List, [], ◌∷◌, ◌++◌, length, length-append, get_or, Bool, refl, sym, ap, ◌∙◌, inl, inr, arith, eq-eqb, Option, None}
+use Rattle.sr_transport.specs.Limits.{greatest_cost}
 use Rattle.std.specs.Prelude.{unwrap_or, IfSome}
 use Rattle.std.specs.List.{All, sum_by}
 use Rattle.std.proofs.lemmas.List.{get_or_append_left, get_or_at, get_or-append-add, get_or-set_same, get_or-set_other}
@@ -236,18 +237,18 @@ renamed_total p q order ys xs is re every renamed assigned =
 
 -- the reordered problem is within the limits
 row_small : (p : Transport) → IsWithinLimits p.rooms p.entries p.costs → (i n : ℕ) → i < p.entries → n ≤ consumers p
-    → All (λ cost. IfSome cost (λ c. c ≤ 2 ^ 40)) (row_below p i n)
-row_small p limits i zero lt le = All-nil (λ cost. IfSome cost (λ c. c ≤ 2 ^ 40))
+    → All (λ cost. IfSome cost (λ c. c ≤ greatest_cost)) (row_below p i n)
+row_small p limits i zero lt le = All-nil (λ cost. IfSome cost (λ c. c ≤ greatest_cost))
 row_small p limits i (suc n) lt le =
-    All-push (λ cost. IfSome cost (λ c. c ≤ 2 ^ 40)) (row_below p i n) (cost_at p i n) (row_small p limits i n lt (omega arith))
-    (All-get_or (λ cost. IfSome cost (λ c. c ≤ 2 ^ 40)) p.costs (i * consumers p + n) None
+    All-push (λ cost. IfSome cost (λ c. c ≤ greatest_cost)) (row_below p i n) (cost_at p i n) (row_small p limits i n lt (omega arith))
+    (All-get_or (λ cost. IfSome cost (λ c. c ≤ greatest_cost)) p.costs (i * consumers p + n) None
     (omega (arith, limits.pairs, mul-add-lt i (consumers p) n p.entries lt (omega arith), mul_comm (consumers p) p.entries)) limits.small_costs)
 
 rows_small : (p : Transport) → IsWithinLimits p.rooms p.entries p.costs → (order : List ℕ) → IsOrder p.entries order → (n : ℕ) → n ≤ p.entries
-    → All (λ cost. IfSome cost (λ c. c ≤ 2 ^ 40)) (rows_below p order n)
-rows_small p limits order is zero le = All-nil (λ cost. IfSome cost (λ c. c ≤ 2 ^ 40))
+    → All (λ cost. IfSome cost (λ c. c ≤ greatest_cost)) (rows_below p order n)
+rows_small p limits order is zero le = All-nil (λ cost. IfSome cost (λ c. c ≤ greatest_cost))
 rows_small p limits order is (suc n) le =
-    All-append (λ cost. IfSome cost (λ c. c ≤ 2 ^ 40)) (rows_below p order n) (row_below p (get_or order n 0) (consumers p))
+    All-append (λ cost. IfSome cost (λ c. c ≤ greatest_cost)) (rows_below p order n) (row_below p (get_or order n 0) (consumers p))
     (rows_small p limits order is n (omega arith))
     (row_small p limits (get_or order n 0) (consumers p)
     (All-get_or (λ i. i < p.entries) order n 0 (omega (arith, order_length p.entries order is)) (order_below p.entries order is)) (omega arith))

@@ -1,5 +1,6 @@
 -- At the start no entry stands anywhere. Then one more is placed: the prices rise, and the entries move along the path.
-use Rattle.std.proofs.Common.{◌≡◌, ℕ, ◌+◌, ◌*◌, ◌^◌, ◌<◌, ◌≤◌, ◌⊎◌, Bool, true, false, List, length, get_or, refl, sym, ap, ◌∙◌, subst, inl, inr, arith}
+use Rattle.std.proofs.Common.{◌≡◌, ℕ, ◌+◌, ◌*◌, ◌<◌, ◌≤◌, ◌⊎◌, Bool, true, false, List, length, get_or, refl, sym, ap, ◌∙◌, subst, inl, inr, arith}
+use Rattle.sr_transport.specs.Limits.{greatest_rise, most_consumers}
 use Rattle.std.proofs.lemmas.Bool.{cases_eq, cases_lt, false≢true}
 use Rattle.std.proofs.Math.ListN.{set, length-set, replicate}
 use Rattle.std.proofs.lemmas.List.{get_or_past, get_or-set_same, get_or-set_other, get_or-replicate, length-replicate}
@@ -81,7 +82,7 @@ cases_bool false = inr refl
 
 -- where the path ends the price is 0, so that the path is short
 pub end_near : (p : Transport) (k : ℕ) (xs prices : List ℕ) (labels : List Label) (end : ℕ)
-    → IsPlaced p k xs prices → IsEnd p k xs prices labels end → (label_at labels end).dist ≤ 2 ^ 46
+    → IsPlaced p k xs prices → IsEnd p k xs prices labels end → (label_at labels end).dist ≤ greatest_rise
 end_near p k xs prices labels end placed found =
     let lt = found.nearest.consumer in
     let no_price : get_or prices end 0 ≤ 0 =
@@ -91,7 +92,7 @@ end_near p k xs prices labels end placed found =
     ] in
     let some_open : 0 < open_count labels =
     open_count-above labels end (omega (arith, lt, found.search.one_each)) found.nearest.not_closed in
-    let hops : (label_at labels end).hops ≤ 64 =
+    let hops : (label_at labels end).hops ≤ most_consumers =
     omega (arith, found.search.few end lt found.nearest.reached, some_open, placed.limits.consumers) in
     omega (arith, found.search.long end lt found.nearest.reached, no_price, hops)
 

@@ -1,5 +1,6 @@
 -- Where every entry is placed, the problem is solved.
-use Rattle.std.proofs.Common.{◌≡◌, ℕ, ◌^◌, ◌≤◌, List, Option, Some, arith}
+use Rattle.std.proofs.Common.{◌≡◌, ℕ, ◌≤◌, List, Option, Some, arith}
+use Rattle.sr_transport.specs.Limits.{greatest_price, greatest_total}
 use Rattle.std.specs.Prelude.{IfSome}
 use Rattle.std.specs.List.{All}
 use Rattle.std.proofs.lemmas.List.Elements.{All-from_get_or}
@@ -25,14 +26,14 @@ placed_shows p xs prices placed = record {
 }
 
 -- none of which is too great
-placed_prices : (p : Transport) (xs prices : List ℕ) → IsPlaced p p.entries xs prices → All (λ price. price ≤ 2 ^ 58) prices
+placed_prices : (p : Transport) (xs prices : List ℕ) → IsPlaced p p.entries xs prices → All (λ price. price ≤ greatest_price) prices
 placed_prices p xs prices placed =
-    All-from_get_or (λ price. price ≤ 2 ^ 58) prices 0
+    All-from_get_or (λ price. price ≤ greatest_price) prices 0
     (λ c lt. omega (arith, placed.low c (omega (arith, lt, placed.one_each)), placed.limits.few_entries))
 
 -- so the answer is right, with the total that was found
 pub placed_best : (p : Transport) (xs prices : List ℕ) (found : Option ℕ) (total : ℕ) → IsPlaced p p.entries xs prices
-    → found ≡ Some total → IfSome found (λ t. t ≡ total_of p xs) → IfSome found (λ t. t ≤ 2 ^ 52) → IsBest p xs prices total
+    → found ≡ Some total → IfSome found (λ t. t ≡ total_of p xs) → IfSome found (λ t. t ≤ greatest_total) → IsBest p xs prices total
 placed_best p xs prices found total placed is same small = record {
   assignment = placed_assignment p xs prices placed;
   shown = placed_shows p xs prices placed;

@@ -1,3 +1,4 @@
+pub mod Limits
 pub mod Labels
 pub mod Offers
 pub mod Placed

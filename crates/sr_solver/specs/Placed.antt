@@ -1,6 +1,7 @@
 -- The state between two placements.
 
-use Rattle.std.specs.Prelude.{◌≡◌, ℕ, ◌*◌, ◌^◌, ◌<◌, ◌≤◌, List, length, slice_index}
+use Rattle.std.specs.Prelude.{◌≡◌, ℕ, ◌*◌, ◌<◌, ◌≤◌, List, length, slice_index}
+use Rattle.sr_transport.specs.Limits.{greatest_rise}
 use Rattle.sr_transport.specs.Problem.{Transport, IsWithinLimits, consumers, room_of, IsAllowed}
 use Rattle.sr_transport.specs.Assignment.{load}
 use Rattle.sr_transport.specs.Certificate.{IsLeast}
@@ -18,7 +19,7 @@ pub record IsPlaced (p : Transport) (k : ℕ) (xs prices : List ℕ) : Type 0 wh
   pub in_room : (c : ℕ) → c < consumers p → load xs c ≤ room_of p c
   pub least : (i : ℕ) → i < k → IsLeast p prices i (slice_index xs i)
   pub filled : (c : ℕ) → c < consumers p → 0 < slice_index prices c → load xs c ≡ room_of p c
-  pub low : (c : ℕ) → c < consumers p → slice_index prices c ≤ k * 2 ^ 46
+  pub low : (c : ℕ) → c < consumers p → slice_index prices c ≤ k * greatest_rise
 
 -- the loads are those of the assignment
 pub record AreLoads (p : Transport) (xs loads : List ℕ) : Type 0 where

@@ -1,7 +1,8 @@
 -- The state of the search of a path that makes place for entry k, where the entries xs are placed.
 -- Source: the invariants of Dijkstra's search over reduced costs.
 
-use Rattle.std.specs.Prelude.{◌≡◌, ℕ, ◌+◌, ◌*◌, ◌^◌, ◌<◌, ◌≤◌, List, length, slice_index, ◌⊎◌, Bool, true, false, Option, Some, None}
+use Rattle.std.specs.Prelude.{◌≡◌, ℕ, ◌+◌, ◌*◌, ◌<◌, ◌≤◌, List, length, slice_index, ◌⊎◌, Bool, true, false, Option, Some, None}
+use Rattle.sr_transport.specs.Limits.{greatest_cost}
 use Rattle.sr_transport.specs.Problem.{Transport, consumers, room_of, cost_at, cost_of, IsAllowed}
 use Rattle.sr_transport.specs.Assignment.{load}
 use Rattle.sr_solver.specs.declared.label.Label.{Label}
@@ -39,7 +40,7 @@ pub record IsSearch (p : Transport) (k : ℕ) (xs prices : List ℕ) (labels : L
   pub one_each : length labels ≡ consumers p
   pub way : (c : ℕ) → c < consumers p → 0 < (label_at labels c).hops → IsWay p k xs prices labels c
   pub long : (c : ℕ) → c < consumers p → 0 < (label_at labels c).hops
-      → (label_at labels c).dist ≤ slice_index prices c + (label_at labels c).hops * 2 ^ 40
+      → (label_at labels c).dist ≤ slice_index prices c + (label_at labels c).hops * greatest_cost
   pub few : (c : ℕ) → c < consumers p → 0 < (label_at labels c).hops
       → (label_at labels c).hops + open_count labels ≤ consumers p + 1
   pub few_closed : (c : ℕ) → c < consumers p → (label_at labels c).closed ≡ true

@@ -1,7 +1,9 @@
 -- The table of bounds: for each ordered pair of consumers, what the entries that stand at the one cost more at the other.
--- Sums are compared, never differences: a bound is greater by 2 ^ 40 than what it bounds.
+-- Sums are compared, never differences: a bound is greater by the greatest cost than what it bounds.
 
 use Rattle.std.specs.Prelude.{◌≡◌, ℕ, ◌+◌, ◌*◌, ◌^◌, ◌<◌, ◌≤◌, List, length, slice_index, slice_index_or, ◌⊎◌, Option, Some, None, IsSomeAnd, IfSome, true}
+use Rattle.sr_transport.specs.Limits.{greatest_cost}
+use Rattle.sr_solver.specs.Limits.{greatest_bound}
 use Rattle.sr_transport.specs.Problem.{Transport, consumers, cost_of, IsAllowed}
 use Rattle.sr_solver.specs.declared.label.Label.{Label}
 use Rattle.sr_solver.specs.declared.table.Bound.{Bound}
@@ -14,12 +16,12 @@ IsAt xs n a i = (i < n) × (slice_index xs i ≡ a)
 pub record IsTight (p : Transport) (at : ℕ → Type 0) (a b low k : ℕ) : Type 0 where
   pub stands : at k
   pub allowed : IsAllowed p k b
-  pub tight : low + cost_of p k a ≡ cost_of p k b + 2 ^ 40
+  pub tight : low + cost_of p k a ≡ cost_of p k b + greatest_cost
 
 -- no entry at a costs less than `low` more at b, and the best, where it is known, costs exactly this
 pub record IsBound (p : Transport) (at : ℕ → Type 0) (a b low : ℕ) (known : Option ℕ) : Type 0 where
-  pub small : low ≤ 2 ^ 41
-  pub below : (i : ℕ) → at i → IsAllowed p i b → low + cost_of p i a ≤ cost_of p i b + 2 ^ 40
+  pub small : low ≤ greatest_bound
+  pub below : (i : ℕ) → at i → IsAllowed p i b → low + cost_of p i a ≤ cost_of p i b + greatest_cost
   pub best : (k : ℕ) → known ≡ Some k → IsTight p at a b low k
 
 -- what is known of the entries at a that may go to b: that there is none, or a bound
@@ -50,12 +52,12 @@ IsWithout entry (Some old) new =
 -- what was known is a bound for an entry that comes, too
 pub record IsStill (here there : ℕ) (old new : Option Bound) : Type 0 where
   pub same : new ≡ old
-  pub below : IsSomeAnd old (λ bound. bound.low + here ≤ there + 2 ^ 40)
+  pub below : IsSomeAnd old (λ bound. bound.low + here ≤ there + greatest_cost)
 
 -- or it is the new best
 pub record IsBest (entry here there : ℕ) (old new : Option Bound) : Type 0 where
-  pub tight : IsSomeAnd new (λ bound. (bound.best ≡ Some entry) × (bound.low + here ≡ there + 2 ^ 40))
-  pub lower : IfSome old (λ bound. there + 2 ^ 40 ≤ bound.low + here)
+  pub tight : IsSomeAnd new (λ bound. (bound.best ≡ Some entry) × (bound.low + here ≡ there + greatest_cost))
+  pub lower : IfSome old (λ bound. there + greatest_cost ≤ bound.low + here)
 
 -- what is known once an entry has come that costs `here` where it stands, and `there` at the other consumer
 abbrev pub IsLowered : ℕ → ℕ → Option ℕ → Option Bound → Option Bound → Type 0
@@ -84,4 +86,4 @@ IsMover p at a b (Some k) = IsLeastMore p at a b k
 abbrev pub IsNoNearer : Option Bound → Label → ℕ → Label → ℕ → Type 0
 IsNoNearer None from here label there = Unit {0}
 IsNoNearer (Some bound) from here label there =
-    (label.closed ≡ true) ⊎ ((0 < label.hops) × (label.dist + (2 ^ 40 + here) ≤ from.dist + (bound.low + there)))
+    (label.closed ≡ true) ⊎ ((0 < label.hops) × (label.dist + (greatest_cost + here) ≤ from.dist + (bound.low + there)))

@@ -1,4 +1,6 @@
-ghost use Rattle.std.specs.Prelude.{◌≡◌, ◌+◌, ◌^◌, ◌≤◌, ◌&&◌, not, nat_lt, IfSome};
+ghost use Rattle.std.specs.Prelude.{◌≡◌, ◌+◌, ◌≤◌, ◌&&◌, not, nat_lt, IfSome};
+ghost use Rattle.sr_transport.specs.Limits.{greatest_cost};
+ghost use Rattle.sr_solver.specs.Limits.{greatest_way};
 ghost use Rattle.sr_solver.specs.Labels.{no_label};
 ghost use Rattle.sr_solver.specs.Offers.{IsOffered};
 
@@ -50,9 +52,9 @@ pub struct Offer {
 
 /// The label of a consumer after the offer of an entry that costs `cost` there.
 pub fn offered(cost: Option<u64>, price: u64, offer: Offer, label: Label) -> Label
-    requires dist { offer.dist ≤ 2 ^ 60 }
-    requires price { price ≤ 2 ^ 60 }
-    requires cost { IfSome cost (λ c. c ≤ 2 ^ 40) }
+    requires dist { offer.dist ≤ greatest_way }
+    requires price { price ≤ greatest_way }
+    requires cost { IfSome cost (λ c. c ≤ greatest_cost) }
     requires above { IfSome cost (λ c. offer.base ≤ offer.dist + (c + price)) }
     ensures { IsOffered cost price offer label result }
 {

@@ -1,4 +1,5 @@
 ghost use Rattle.std.specs.Prelude.{◌≡◌, ◌<◌, ◌≤◌, ◌++◌, length, All, IfOk};
+ghost use Rattle.sr_transport.specs.Limits.{most_entries};
 ghost use Rattle.sr_transport.specs.Problem.{consumers, IsWithinLimits};
 ghost use Rattle.sr_solver.specs.Order.{numbers_below, IsOrder, IsReordered, IsRenamed, AreEntriesAt, row_below, rows_below};
 
@@ -93,7 +94,7 @@ pub fn rows(
 pub fn rename(order: &[usize], assign: &[usize], renamed: &mut [usize])
     requires order { IsOrder (length assign.now) order.now }
     requires every { length renamed.old ≡ length assign.now }
-    requires few { length assign.now ≤ 4096 }
+    requires few { length assign.now ≤ most_entries }
     ensures every { length renamed.new ≡ length assign.now }
     ensures renamed { IsRenamed order.now assign.now renamed.new (length assign.now) }
 {

@@ -1,4 +1,6 @@
-ghost use Rattle.std.specs.Prelude.{◌≡◌, ℕ, ◌^◌, ◌<◌, ◌≤◌, length, slice_index, true};
+ghost use Rattle.std.specs.Prelude.{◌≡◌, ℕ, ◌<◌, ◌≤◌, length, slice_index, true};
+ghost use Rattle.sr_transport.specs.Limits.{most_consumers};
+ghost use Rattle.sr_solver.specs.Limits.{greatest_way};
 ghost use Rattle.sr_solver.specs.Labels.{label_at};
 ghost use Rattle.sr_transport.specs.Problem.{IsWithinLimits, consumers, IsAllowed};
 ghost use Rattle.sr_solver.specs.Table.{IsTable};
@@ -13,9 +15,9 @@ use sr_transport::Problem;
 /// Raises the price of each closed consumer by as much as the path to it is shorter than `dist`.
 pub fn raise(prices: &mut [u64], labels: &[Label], dist: u64)
     requires one_each { length labels.now ≡ length prices.old }
-    requires few { length prices.old ≤ 64 }
-    requires dist { dist ≤ 2 ^ 60 }
-    requires low { (c : ℕ) → c < length prices.old → slice_index prices.old c ≤ 2 ^ 60 }
+    requires few { length prices.old ≤ most_consumers }
+    requires dist { dist ≤ greatest_way }
+    requires low { (c : ℕ) → c < length prices.old → slice_index prices.old c ≤ greatest_way }
     requires near { (c : ℕ) → c < length prices.old → (label_at labels.now c).closed ≡ true → (label_at labels.now c).dist ≤ dist }
     ensures { AreRaised dist labels.now prices.old prices.new }
 {

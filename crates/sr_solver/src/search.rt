@@ -1,4 +1,6 @@
-ghost use Rattle.std.specs.Prelude.{◌≡◌, ℕ, ◌^◌, ◌<◌, ◌≤◌, length, slice_index, IfSome, IfNone, true};
+ghost use Rattle.std.specs.Prelude.{◌≡◌, ℕ, ◌<◌, ◌≤◌, length, slice_index, IfSome, IfNone, true};
+ghost use Rattle.sr_transport.specs.Limits.{most_consumers};
+ghost use Rattle.sr_solver.specs.Limits.{greatest_way};
 ghost use Rattle.sr_transport.specs.Problem.{IsWithinLimits, consumers, room_of, IsAllowed};
 ghost use Rattle.sr_transport.specs.Assignment.{load};
 ghost use Rattle.sr_transport.specs.Certificate.{IsLeast};
@@ -49,7 +51,7 @@ fn start(problem: &Problem, entry: usize, prices: &[u64], labels: &mut [Label])
     requires entry { entry < problem.now.entries }
     requires prices_each { length prices.now ≡ consumers problem.now }
     requires labels_each { length labels.old ≡ consumers problem.now }
-    requires low { (c : ℕ) → c < consumers problem.now → slice_index prices.now c ≤ 2 ^ 60 }
+    requires low { (c : ℕ) → c < consumers problem.now → slice_index prices.now c ≤ greatest_way }
     ensures { IsStarted problem.now entry prices.now labels.new }
 {
     let offer = Offer {
@@ -181,9 +183,9 @@ fn offer(
     requires least { IsLeast problem.now prices.now mover near }
     requires prices_each { length prices.now ≡ consumers problem.now }
     requires labels_each { length labels.old ≡ consumers problem.now }
-    requires low { (c : ℕ) → c < consumers problem.now → slice_index prices.now c ≤ 2 ^ 60 }
-    requires dist { (label_at labels.old near).dist ≤ 2 ^ 60 }
-    requires hops { (label_at labels.old near).hops ≤ 64 }
+    requires low { (c : ℕ) → c < consumers problem.now → slice_index prices.now c ≤ greatest_way }
+    requires dist { (label_at labels.old near).dist ≤ greatest_way }
+    requires hops { (label_at labels.old near).hops ≤ most_consumers }
     ensures { IsOfferedAt problem.now prices.now (offer_of problem.now prices.now labels.old near mover) other labels.old labels.new }
 {
     let label = labels[near];

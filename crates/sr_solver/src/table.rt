@@ -1,4 +1,6 @@
-ghost use Rattle.std.specs.Prelude.{◌≡◌, ℕ, ◌+◌, ◌*◌, ◌^◌, ◌<◌, ◌≤◌, length, slice_index, slice_set, IfSome, IsSome, true, false};
+ghost use Rattle.std.specs.Prelude.{◌≡◌, ℕ, ◌+◌, ◌*◌, ◌<◌, ◌≤◌, length, slice_index, slice_set, IfSome, IsSome, true, false};
+ghost use Rattle.sr_transport.specs.Limits.{greatest_cost};
+ghost use Rattle.sr_solver.specs.Limits.{greatest_bound, greatest_way};
 ghost use Rattle.sr_transport.specs.Problem.{IsWithinLimits, consumers, cost_at, cost_of, IsAllowed};
 ghost use Rattle.sr_transport.specs.Assignment.{load};
 ghost use Rattle.sr_solver.specs.Members.{AreMembersOf, AreMembers};
@@ -7,10 +9,10 @@ ghost use Rattle.sr_solver.specs.Table.{IsAt, IsApart, IsKnown, IsTableOf, IsTab
 use crate::label::Label;
 use crate::members::{add, remove};
 use crate::placement::Placement;
-use sr_transport::Problem;
+use sr_transport::{MAX_COST, Problem};
 
-/// What is added to a difference of two costs, so that it is not below 0: the greatest cost.
-const ABOVE: u64 = 1 << 40;
+/// What is added to a difference of two costs, so that it is not below 0.
+const ABOVE: u64 = MAX_COST;
 
 /// What is known of the entries that stand at one consumer and may go to another.
 #[derive(Clone, Copy)]
@@ -24,11 +26,11 @@ pub struct Bound {
 /// Whether an entry of which this is known may come nearer to a consumer with the label `label`, from one with the label
 /// `from`; `here` and `there` are the prices of the two.
 pub fn may_be_nearer(known: Option<Bound>, from: Label, here: u64, label: Label, there: u64) -> bool
-    requires dist { from.dist ≤ 2 ^ 60 }
-    requires here { here ≤ 2 ^ 60 }
-    requires there { there ≤ 2 ^ 60 }
-    requires label { 0 < label.hops → label.dist ≤ 2 ^ 60 }
-    requires low { IfSome known (λ bound. bound.low ≤ 2 ^ 41) }
+    requires dist { from.dist ≤ greatest_way }
+    requires here { here ≤ greatest_way }
+    requires there { there ≤ greatest_way }
+    requires label { 0 < label.hops → label.dist ≤ greatest_way }
+    requires low { IfSome known (λ bound. bound.low ≤ greatest_bound) }
     ensures no { result ≡ false → IsNoNearer known from here label there }
     ensures yes { result ≡ true → IsNoNearer known from here label there → ⊥ }
 {
@@ -99,8 +101,8 @@ fn find(problem: &Problem, from: usize, to: usize, placement: &Placement) -> Opt
 
 /// What is known once an entry has come that costs `here` where it stands, and `there` at the other consumer.
 fn lowered(known: Option<Bound>, entry: usize, here: u64, there: Option<u64>) -> Option<Bound>
-    requires here { here ≤ 2 ^ 40 }
-    requires there { IfSome there (λ c. c ≤ 2 ^ 40) }
+    requires here { here ≤ greatest_cost }
+    requires there { IfSome there (λ c. c ≤ greatest_cost) }
     ensures lowered { IsLowered entry here there known result }
     ensures best { IfSome known (λ bound. IsSome bound.best) → IfSome result (λ bound. IsSome bound.best) }
 {

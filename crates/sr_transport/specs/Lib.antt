@@ -1,4 +1,5 @@
 pub mod Sum
+pub mod Limits
 pub mod Problem
 pub mod Assignment
 pub mod Certificate

@@ -1,7 +1,8 @@
 -- The transportation problem: rooms, entries, costs.
 -- Source: F. L. Hitchcock, "The distribution of a product from several sources to numerous localities", 1941.
 
-use Rattle.std.specs.Prelude.{◌≡◌, ℕ, ◌+◌, ◌*◌, ◌^◌, ◌<◌, ◌≤◌, List, length, slice_index, slice_index_or, All, Option, None, IsSome, IfSome, unwrap_or}
+use Rattle.std.specs.Prelude.{◌≡◌, ℕ, ◌+◌, ◌*◌, ◌<◌, ◌≤◌, List, length, slice_index, slice_index_or, All, Option, None, IsSome, IfSome, unwrap_or}
+use Rattle.sr_transport.specs.Limits.{most_consumers, most_entries, greatest_room, greatest_cost}
 
 -- a problem: how many entries each consumer has room for, how many entries there are, and what each pair costs, row by
 -- entry, None where the pair is not allowed
@@ -10,13 +11,13 @@ pub record Transport : Type 0 where
   pub entries : ℕ
   pub costs : List (Option ℕ)
 
--- at most 64 consumers and 4,096 entries, a place for each pair, rooms up to 1,000,000,000 and costs up to 2 ^ 40
+-- not too many consumers and entries, a place for each pair, and no room or cost above the greatest
 pub record IsWithinLimits (rooms : List ℕ) (entries : ℕ) (costs : List (Option ℕ)) : Type 0 where
-  pub consumers : length rooms ≤ 64
-  pub few_entries : entries ≤ 4096
+  pub consumers : length rooms ≤ most_consumers
+  pub few_entries : entries ≤ most_entries
   pub pairs : length costs ≡ entries * length rooms
-  pub small_rooms : All (λ room. room ≤ 1000000000) rooms
-  pub small_costs : All (λ cost. IfSome cost (λ c. c ≤ 2 ^ 40)) costs
+  pub small_rooms : All (λ room. room ≤ greatest_room) rooms
+  pub small_costs : All (λ cost. IfSome cost (λ c. c ≤ greatest_cost)) costs
 
 abbrev pub consumers : Transport → ℕ
 consumers p = length p.rooms

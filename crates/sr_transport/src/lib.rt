@@ -7,7 +7,7 @@ mod problem;
 mod solved;
 
 pub use certificate::{check_prices, check_shortage};
-pub use problem::Problem;
+pub use problem::{MAX_COST, Problem};
 pub use solved::{Solved, check, total};
 
 #[cfg(test)]

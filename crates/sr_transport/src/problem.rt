@@ -3,16 +3,16 @@ ghost use Rattle.sr_transport.specs.Problem.{IsWithinLimits};
 
 use std::marker::Model;
 
-/// How many consumers a problem has at most.
+/// How many consumers a problem has at most: `most_consumers` of `specs/Limits.antt`.
 pub const MAX_CONSUMERS: usize = 64;
 
-/// How many entries a problem has at most.
+/// How many entries a problem has at most: `most_entries`.
 pub const MAX_ENTRIES: usize = 4096;
 
-/// The greatest cost of a pair.
+/// The greatest cost of a pair: `greatest_cost`.
 pub const MAX_COST: u64 = 1 << 40;
 
-/// The greatest room of a consumer.
+/// The greatest room of a consumer: `greatest_room`.
 pub const MAX_ROOM: u64 = 1_000_000_000;
 
 /// A transportation problem: how many entries each consumer has room for, and what each allowed pair of an entry and a

@@ -1,12 +1,13 @@
-ghost use Rattle.std.specs.Prelude.{◌≡◌, ◌^◌, ◌≤◌, ◌↔◌, IsTrue, IsSome, IfSome};
+ghost use Rattle.std.specs.Prelude.{◌≡◌, ◌≤◌, ◌↔◌, IsTrue, IsSome, IfSome};
+ghost use Rattle.sr_transport.specs.Limits.{greatest_total};
 ghost use Rattle.sr_transport.specs.Assignment.{IsAssignment, total_of};
 ghost use Rattle.sr_transport.specs.Solved.{IsBest, IsSolution, IsOptimal};
 
 use crate::certificate::{check_prices, check_shortage, is_assignment};
-use crate::problem::Problem;
+use crate::problem::{MAX_CONSUMERS, MAX_COST, MAX_ENTRIES, Problem};
 
-/// The greatest price in a solution.
-pub const MAX_PRICE: u64 = 1 << 58;
+/// The greatest price in a solution: `greatest_price` of `specs/Limits.antt`.
+pub const MAX_PRICE: u64 = MAX_ENTRIES as u64 * MAX_CONSUMERS as u64 * MAX_COST;
 
 /// An answer to a problem, with what shows it right.
 #[derive(Drop)]
@@ -43,7 +44,7 @@ pub fn check(problem: &Problem, solved: &Solved) -> bool
 pub fn total(problem: &Problem, assign: &[usize]) -> Option<u64>
     ensures found { IsSome result ↔ IsAssignment problem.now assign.now }
     ensures total { IfSome result (λ total. total ≡ total_of problem.now assign.now) }
-    ensures small { IfSome result (λ total. total ≤ 2 ^ 52) }
+    ensures small { IfSome result (λ total. total ≤ greatest_total) }
 {
     if !is_assignment(problem, assign) {
         return None;
@@ -64,7 +65,7 @@ fn is_best(problem: &Problem, assign: &[usize], prices: &[u64], claimed: u64) ->
 fn sum_of_costs(problem: &Problem, assign: &[usize]) -> u64
     requires { IsAssignment problem.now assign.now }
     ensures total { result ≡ total_of problem.now assign.now }
-    ensures small { result ≤ 2 ^ 52 }
+    ensures small { result ≤ greatest_total }
 {
     let mut total = 0;
     for (entry, consumer) in assign.iter().enumerate() {
