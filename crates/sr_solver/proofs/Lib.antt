@@ -6,6 +6,7 @@ pub mod MembersLemmas
 pub mod CloseLemmas
 pub mod OfferLemmas
 pub mod PlaceLemmas
+pub mod TakerLemmas
 pub mod ShortageLemmas
 pub mod SolvedLemmas
 pub mod OrderLemmas

@@ -6,11 +6,11 @@ use Rattle.std.proofs.Math.Nat.{mul-le-mul_left}
 use Rattle.std.proofs.lemmas.Nat.{mul-add-lt}
 use Rattle.std.proofs.lemmas.List.{get_or-set_same, get_or-set_other}
 use Rattle.std.proofs.lemmas.List.Sums.{count_by-le-length}
-use Rattle.sr_transport.specs.Problem.{Transport, IsWithinLimits, consumers, cost_at, cost_of}
+use Rattle.sr_transport.specs.Problem.{Transport, IsWithinLimits, consumers, room_of, cost_at, cost_of}
 use Rattle.sr_transport.specs.Assignment.{load}
 use Rattle.sr_solver.specs.declared.table.Bound.{Bound}
 use Rattle.sr_solver.specs.Table.{IsAt, IsApart, IsKnown, IsLowered}
-use Rattle.sr_solver.specs.Members.{IsListed, AreApart, IsSeen, AreMembersOf, AreMembers, IsRemoved}
+use Rattle.sr_solver.specs.Members.{IsListed, AreApart, IsSeen, AreWide, AreMembersOf, AreMembers, IsRemoved}
 use Rattle.sr_solver.proofs.PathLemmas.{one_at_same, one_at_other, load-set}
 use Rattle.sr_solver.proofs.TableLemmas.{rows_apart, HasCome, known_lowered, known_same}
 
@@ -139,30 +139,35 @@ pub removed_at : (row entry : ℕ) (old mid : List ℕ) (last place : ℕ) → m
 removed_at row entry old mid last place is room count apart early found =
     place_removed row entry old mid last place (rw is (fallen row old last (omega arith) count)) room apart early found
 
+-- a row ends within the list
+row_fits : (p : Transport) (w c row long : ℕ) → c < consumers p → row ≡ c * w → long ≡ consumers p * w → row + w ≤ long
+row_fits p w c row long lt is are =
+    let up : c + 1 ≤ consumers p = omega arith in
+    omega (arith, is, are, mul-le-mul_left w up)
+
 -- what the row of a consumer with n entries is
-pub record IsRow (p : Transport) (members : List ℕ) (row n : ℕ) : Type 0 where
+pub record IsRow (members : List ℕ) (row w n : ℕ) : Type 0 where
   pub short : length members ≤ 2 ^ 32
   pub count : get_or members row 0 ≡ n
-  pub fits : n ≤ p.entries
-  pub room : row + p.entries < length members
+  pub fits : n < w
+  pub room : row + w ≤ length members
 
-pub row_of : (p : Transport) (count : ℕ → ℕ) (at : ℕ → ℕ → Type 0) (members : List ℕ) (c row : ℕ)
-    → IsWithinLimits p.rooms p.entries p.costs → AreMembersOf p count at members → c < consumers p → row ≡ c * (p.entries + 1)
-    → IsRow p members row (count c)
-row_of p count at members c row limits are lt is = record {
-  short = omega (arith, are.one_each, mul-le-mul_left (p.entries + 1) limits.consumers, limits.few_entries);
+pub row_of : (p : Transport) (w : ℕ) (count : ℕ → ℕ) (at : ℕ → ℕ → Type 0) (members : List ℕ) (c row : ℕ)
+    → IsWithinLimits p.rooms p.entries p.costs → AreMembersOf p w count at members → c < consumers p → row ≡ c * w
+    → IsRow members row w (count c)
+row_of p w count at members c row limits are lt is = record {
+  short = omega (arith, are.one_each, mul-le-mul_left w limits.consumers, are.short, limits.few_entries);
   count = rw is (are.counted c lt);
   fits = are.fits c lt;
-  room = omega (arith, is, are.one_each, mul-add-lt c (p.entries + 1) p.entries (consumers p) lt (omega arith));
+  room = row_fits p w c row (length members) lt is are.one_each;
 }
 
 -- the members while entry i stands nowhere, where it stood at a consumer
-pub members_left : (p : Transport) (xs : List ℕ) (i : ℕ) (old new : List ℕ)
+pub members_left : (p : Transport) (w : ℕ) (xs : List ℕ) (i : ℕ) (old new : List ℕ)
     → length xs ≡ p.entries → i < p.entries → get_or xs i 0 < consumers p
-    → AreMembers p xs old → IsRemoved (get_or xs i 0 * (p.entries + 1)) i old new
-    → AreMembersOf p (load (set xs i (consumers p))) (IsApart (IsAt xs p.entries) i) new
-members_left p xs i old new every lti within members removed =
-    let w : ℕ = p.entries + 1 in
+    → AreMembers p w xs old → IsRemoved (get_or xs i 0 * w) i old new
+    → AreMembersOf p w (load (set xs i (consumers p))) (IsApart (IsAt xs p.entries) i) new
+members_left p w xs i old new every lti within members removed =
     let from : ℕ = get_or xs i 0 in
     let nowhere : List ℕ = set xs i (consumers p) in
     let loads : (c : ℕ) → c < consumers p → load nowhere c + cond (from == c) 1 0 ≡ load xs c =
@@ -179,6 +184,7 @@ members_left p xs i old new every lti within members removed =
     λ c lt ne. omega (arith, loads c lt, one_at_other from c (λ e. ne (sym e))) in
     record {
       one_each = removed.one_each ∙ members.one_each;
+      short = members.short;
       counted = λ c lt. elim (cases_eq c from) [
         | inl e ↦ rw e now
         | inr ne ↦
@@ -226,10 +232,10 @@ members_left p xs i old new every lti within members removed =
     }
 
 -- the same, where it stood nowhere
-pub members_waiting : (p : Transport) (xs : List ℕ) (i : ℕ) (old : List ℕ)
-    → length xs ≡ p.entries → i < p.entries → consumers p ≤ get_or xs i 0 → AreMembers p xs old
-    → AreMembersOf p (load (set xs i (consumers p))) (IsApart (IsAt xs p.entries) i) old
-members_waiting p xs i old every lti nowhere members =
+pub members_waiting : (p : Transport) (w : ℕ) (xs : List ℕ) (i : ℕ) (old : List ℕ)
+    → length xs ≡ p.entries → i < p.entries → consumers p ≤ get_or xs i 0 → AreMembers p w xs old
+    → AreMembersOf p w (load (set xs i (consumers p))) (IsApart (IsAt xs p.entries) i) old
+members_waiting p w xs i old every lti nowhere members =
     let loads : (c : ℕ) → c < consumers p → load (set xs i (consumers p)) c ≡ load xs c =
     λ c lt. omega (
       arith,
@@ -239,10 +245,11 @@ members_waiting p xs i old every lti nowhere members =
     ) in
     record {
       one_each = members.one_each;
+      short = members.short;
       counted = λ c lt. members.counted c lt ∙ sym (loads c lt);
       fits = λ c lt. omega (arith, loads c lt, members.fits c lt);
       stands = λ c j lt ltj.
-          let stood : IsAt xs p.entries c (get_or old (c * (p.entries + 1) + 1 + j) 0) = members.stands c j lt (omega (arith, loads c lt, ltj)) in
+          let stood : IsAt xs p.entries c (get_or old (c * w + 1 + j) 0) = members.stands c j lt (omega (arith, loads c lt, ltj)) in
           (stood, λ is. omega (arith, stood.1, ap (λ k. get_or xs k 0) is, lt, nowhere));
       apart = λ c lt j k ltk below. members.apart c lt j k ltk (omega (arith, loads c lt, below));
       each = λ c k lt at.
@@ -251,11 +258,10 @@ members_waiting p xs i old every lti nowhere members =
     }
 
 -- a row has room for one more
-pub room_for_one : (p : Transport) (xs : List ℕ) (i c : ℕ) (members : List ℕ)
-    → length xs ≡ p.entries → i < p.entries → c < consumers p
-    → AreMembersOf p (load (set xs i (consumers p))) (IsApart (IsAt xs p.entries) i) members
-    → (load (set xs i (consumers p)) c + 1 ≡ load (set xs i c) c) × (load (set xs i (consumers p)) c < p.entries)
-room_for_one p xs i c members every lti lt are =
+pub room_for_one : (p : Transport) (w : ℕ) (xs : List ℕ) (i c : ℕ)
+    → length xs ≡ p.entries → i < p.entries → c < consumers p → AreWide p w → load (set xs i c) c ≤ room_of p c
+    → (load (set xs i (consumers p)) c + 1 ≡ load (set xs i c) c) × (load (set xs i c) c < w)
+room_for_one p w xs i c every lti lt wide room =
     let more : load (set xs i (consumers p)) c + 1 ≡ load (set xs i c) c =
     omega (
       arith,
@@ -264,35 +270,33 @@ room_for_one p xs i c members every lti lt are =
       one_at_other (consumers p) c (λ e. omega (arith, e, lt)),
       one_at_same c c refl,
     ) in
-    (more, omega (arith, more, load_fits (set xs i c) c, length-set xs i c, every))
+    (more, wide.enough c (load (set xs i c) c) lt room (omega (arith, load_fits (set xs i c) c, length-set xs i c, every)))
 
 -- the members once entry i has come to consumer c
-pub members_come : (p : Transport) (xs : List ℕ) (i c row count : ℕ) (old : List ℕ)
-    → length xs ≡ p.entries → i < p.entries → c < consumers p
-    → AreMembersOf p (load (set xs i (consumers p))) (IsApart (IsAt xs p.entries) i) old
-    → row ≡ c * (p.entries + 1) → count ≡ get_or old row 0
-    → AreMembers p (set xs i c) (set (set old (row + 1 + count) i) row (count + 1))
-members_come p xs i c row count old every lti ltc members is_row is_count =
-    let w : ℕ = p.entries + 1 in
+pub members_come : (p : Transport) (w : ℕ) (xs : List ℕ) (i c row count : ℕ) (old : List ℕ)
+    → length xs ≡ p.entries → i < p.entries → c < consumers p → AreWide p w → load (set xs i c) c ≤ room_of p c
+    → AreMembersOf p w (load (set xs i (consumers p))) (IsApart (IsAt xs p.entries) i) old
+    → row ≡ c * w → count ≡ get_or old row 0
+    → AreMembers p w (set xs i c) (set (set old (row + 1 + count) i) row (count + 1))
+members_come p w xs i c row count old every lti ltc wide room members is_row is_count =
     let nowhere : List ℕ = set xs i (consumers p) in
-    let one = room_for_one p xs i c old every lti ltc members in
+    let one = room_for_one p w xs i c every lti ltc wide room in
     let is_load : count ≡ load nowhere c = is_count ∙ ap (λ q. get_or old q 0) is_row ∙ members.counted c ltc in
-    let row_fits : row + w ≤ length old =
-    omega (arith, mul-add-lt c (p.entries + 1) p.entries (consumers p) ltc (omega arith), members.one_each, is_row) in
+    let row_within : row + w ≤ length old = row_fits p w c row (length old) ltc is_row members.one_each in
     let mid : List ℕ = set old (row + 1 + count) i in
     let new : List ℕ = set mid row (count + 1) in
     let length_mid : length mid ≡ length old = length-set old (row + 1 + count) i in
-    let head : get_or new row 0 ≡ count + 1 = get_or-set_same mid row (count + 1) 0 (omega (arith, length_mid, row_fits)) in
+    let head : get_or new row 0 ≡ count + 1 = get_or-set_same mid row (count + 1) 0 (omega (arith, length_mid, row_within, one.1)) in
     let at_end : get_or new (row + 1 + count) 0 ≡ i =
     get_or-set_other mid row (row + 1 + count) (count + 1) 0 (λ e. omega arith)
-    ∙ get_or-set_same old (row + 1 + count) i 0 (omega (arith, row_fits, is_load, one.1)) in
+    ∙ get_or-set_same old (row + 1 + count) i 0 (omega (arith, row_within, is_load, one.0, one.1)) in
     let same : (q : ℕ) → (q ≡ row → ⊥) → (q ≡ row + 1 + count → ⊥) → get_or new q 0 ≡ get_or old q 0 =
     λ q ne far. get_or-set_other mid row q (count + 1) 0 ne ∙ get_or-set_other old (row + 1 + count) q i 0 far in
     let elsewhere : (d b : ℕ) → b < w → (d ≡ c → ⊥) → get_or new (d * w + b) 0 ≡ get_or old (d * w + b) 0 =
     λ d b ltb ne.
     let apart : (d * w + b < row) ⊎ (row + w ≤ d * w + b) = rw is_row (rows_apart w d c b ltb ne) in
     same (d * w + b) (λ e. elim apart [ inl low ↦ omega arith | inr high ↦ omega arith ])
-    (λ e. elim apart [ inl low ↦ omega arith | inr high ↦ omega (arith, is_load, one.1) ]) in
+    (λ e. elim apart [ inl low ↦ omega arith | inr high ↦ omega (arith, is_load, one.0, one.1) ]) in
     let other : (d : ℕ) → d < consumers p → (d ≡ c → ⊥) → load (set xs i c) d ≡ load nowhere d =
     λ d lt ne. omega (
       arith,
@@ -311,6 +315,7 @@ members_come p xs i c row count old every lti ltc members is_row is_count =
     λ d k at. (at.0.0, get_or-set_other xs i k c 0 at.1 ∙ at.0.1) in
     record {
       one_each = length-set mid row (count + 1) ∙ length_mid ∙ members.one_each;
+      short = members.short;
       counted = λ d lt. elim (cases_eq d c) [
         | inl e ↦ rw e (rw (← is_row) (head ∙ sym loads))
         | inr ne ↦
@@ -318,7 +323,7 @@ members_come p xs i c row count old every lti ltc members is_row is_count =
             let plain : d * w + 0 ≡ d * w = omega arith in
             (rw plain at zero_more) ∙ members.counted d lt ∙ sym (other d lt ne)
       ];
-      fits = λ d lt. omega (arith, load_fits (set xs i c) d, length-set xs i c, every);
+      fits = λ d lt. elim (cases_eq d c) [ inl e ↦ rw e one.1 | inr ne ↦ omega (arith, other d lt ne, members.fits d lt) ];
       stands = λ d j lt ltj. elim (cases_eq d c) [
         | inl e ↦
             let below : j < count + 1 = omega (arith, ltj, ap (λ x. load (set xs i c) x) e, loads) in
@@ -401,12 +406,24 @@ seen_more p xs members row n i a b old new limits ltb lti stands is known lowere
     known_lowered p (IsSeen p xs members row n a) (IsSeen p xs members row (n + 1) a) a b i old new limits come ltb known lowered
 
 -- all members were looked at
-pub seen_all : (p : Transport) (xs members : List ℕ) (row n a b : ℕ) (known : Option Bound) → a < consumers p
-    → AreMembers p xs members → row ≡ a * (p.entries + 1) → n ≡ get_or members row 0
+pub seen_all : (p : Transport) (w : ℕ) (xs members : List ℕ) (row n a b : ℕ) (known : Option Bound) → a < consumers p
+    → AreMembers p w xs members → row ≡ a * w → n ≡ get_or members row 0
     → IsKnown p (IsSeen p xs members row n a) a b known → IsKnown p (IsAt xs p.entries a) a b known
-seen_all p xs members row n a b known lta are is_row is_count =
+seen_all p w xs members row n a b known lta are is_row is_count =
     let all : n ≡ load xs a = is_count ∙ ap (λ q. get_or members q 0) is_row ∙ are.counted a lta in
     known_same p (IsSeen p xs members row n a) (IsAt xs p.entries a) a b known (λ j seen. seen.0)
     (λ j at.
     let listed = are.each a j lta at in
     (at, (listed.0, omega (arith, listed.1, all), rw is_row listed.2)))
+
+-- one consumer more fits
+pub wide_more : (p : Transport) (k room old new : ℕ) → room ≡ room_of p k
+    → ((c n : ℕ) → c < k → n ≤ room_of p c → n ≤ p.entries → n ≤ old)
+    → old ≤ new → (room ≤ new) ⊎ (p.entries ≤ new)
+    → (c n : ℕ) → c < k + 1 → n ≤ room_of p c → n ≤ p.entries → n ≤ new
+wide_more p k room old new is before kept enough c n lt in_room few = elim (cases_eq c k) [
+  | inl e ↦
+      let here : n ≤ room_of p k = rw (← e) in_room in
+      elim enough [ inl r ↦ omega (arith, here, is, r) | inr all ↦ omega (arith, few, all) ]
+  | inr ne ↦ omega (arith, before c n (omega (arith, lt, ne)) in_room few, kept)
+]

@@ -19,11 +19,11 @@ use Rattle.sr_transport.specs.Solved.{IsBest}
 use Rattle.sr_transport.proofs.SumLemmas.{sum_below-same, sum_by_below}
 use Rattle.sr_solver.specs.Order.{numbers_below, IsOrder, IsReordered, IsRenamed, row_below, rows_below}
 
-length-numbers_below : (n : ℕ) → length (numbers_below n) ≡ n
+pub length-numbers_below : (n : ℕ) → length (numbers_below n) ≡ n
 length-numbers_below zero = refl
 length-numbers_below (suc n) = omega (arith, length-append (numbers_below n) (n ∷ []), length-numbers_below n)
 
-numbers_at : (n i d : ℕ) → i < n → get_or (numbers_below n) i d ≡ i
+pub numbers_at : (n i d : ℕ) → i < n → get_or (numbers_below n) i d ≡ i
 numbers_at zero i d lt = absurd (omega arith)
 numbers_at (suc n) i d lt =
     elim (cases_lt i n) [
@@ -37,7 +37,7 @@ numbers_at (suc n) i d lt =
 pub order_length : (n : ℕ) (order : List ℕ) → IsOrder n order → length order ≡ n
 order_length n order is = length_permutation (numbers_below n) order is ∙ length-numbers_below n
 
-range_all : (P : ℕ → Type 0) (n : ℕ) → ((i : ℕ) → i < n → P i) → All P (numbers_below n)
+pub range_all : (P : ℕ → Type 0) (n : ℕ) → ((i : ℕ) → i < n → P i) → All P (numbers_below n)
 range_all P n each = All-from_get_or P (numbers_below n) 0
     (λ i lt. let below : i < n = omega (arith, lt, length-numbers_below n) in
     rw (numbers_at n i 0 below) (each i below))

@@ -1,5 +1,5 @@
 -- A move of the entries along a path.
-use Rattle.std.proofs.Common.{◌≡◌, ℕ, ◌+◌, ◌<◌, ◌==◌, ◌⊎◌, Bool, false, cond, List, length, get_or, refl, ap, ◌∙◌, inl, inr, arith, eq-eqb}
+use Rattle.std.proofs.Common.{◌≡◌, ℕ, ◌+◌, ◌<◌, ◌≤◌, ◌==◌, ◌⊎◌, Bool, false, cond, List, length, get_or, refl, ap, ◌∙◌, inl, inr, arith, eq-eqb}
 use Rattle.std.proofs.Math.ListN.{set, length-set}
 use Rattle.std.proofs.lemmas.Bool.{cases_eq, ne_eqb}
 use Rattle.std.proofs.lemmas.List.{get_or-set_same, get_or-set_other}
@@ -139,3 +139,13 @@ mover_falls labels k end old new place paths shifting =
     let still = mover_still labels k end old new place paths shifting in
     let here = ap (λ x. (label_at labels x).hops) still in
     omega (arith, step.fewer, here)
+
+-- the next consumer of the path has room for the entry that moves there
+pub put_in_room : (labels : List Label) (k end : ℕ) (old new : List ℕ) (place room : ℕ)
+    → ArePaths labels k old → IsShifting labels k end old new place
+    → load old place + cond (end == place) 1 0 ≤ room
+    → load (set new (label_at labels place).mover place) place ≤ room
+put_in_room labels k end old new place room paths shifting fits =
+    let mover : ℕ = (label_at labels place).mover in
+    let lt : mover < length new = omega (arith, paths.entry place shifting.consumer shifting.reached, shifting.every) in
+    omega (arith, load-set new mover place place lt, shifting.loads place shifting.consumer, fits)

@@ -13,7 +13,7 @@ use Rattle.sr_solver.specs.declared.label.Label.{Label}
 use Rattle.sr_solver.specs.Labels.{no_label, label_at, open_count, priced}
 use Rattle.sr_solver.specs.declared.placement.Placement.{Placement}
 use Rattle.sr_solver.specs.Placed.{IsPlaced, AreLoads, IsStanding}
-use Rattle.sr_solver.specs.Members.{AreMembers}
+use Rattle.sr_solver.specs.Members.{AreWide, AreMembers}
 use Rattle.sr_solver.specs.Search.{IsWay, IsWithin, IsRound, IsEnd}
 use Rattle.sr_solver.specs.Path.{IsRaised, AreRaised, IsStep, ArePaths, AreShifted}
 use Rattle.sr_solver.proofs.PathLemmas.{one_at, one_at_same, one_at_other}
@@ -48,17 +48,18 @@ none_loads p = record {
   each = λ c lt. get_or-replicate {A = ℕ} (consumers p) c 0 0 lt ∙ sym (load_nowhere p.entries (consumers p) c lt);
 }
 
-none_members : (p : Transport) → AreMembers p (replicate p.entries (consumers p)) (replicate (consumers p * (p.entries + 1)) 0)
-none_members p =
+none_members : (p : Transport) (w : ℕ) → AreWide p w → AreMembers p w (replicate p.entries (consumers p)) (replicate (consumers p * w) 0)
+none_members p w wide =
     let none : (c : ℕ) → c < consumers p → load (replicate p.entries (consumers p)) c ≡ 0 =
     λ c lt. load_nowhere p.entries (consumers p) c lt in
     record {
-      one_each = length-replicate {A = ℕ} (consumers p * (p.entries + 1)) 0;
+      one_each = length-replicate {A = ℕ} (consumers p * w) 0;
+      short = wide.short;
       counted = λ c lt.
-          get_or-replicate {A = ℕ} (consumers p * (p.entries + 1)) (c * (p.entries + 1)) 0 0
-          (omega (arith, mul-add-lt c (p.entries + 1) 0 (consumers p) lt (omega arith)))
+          get_or-replicate {A = ℕ} (consumers p * w) (c * w) 0 0
+          (omega (arith, mul-add-lt c w 0 (consumers p) lt wide.some))
           ∙ sym (none c lt);
-      fits = λ c lt. omega (arith, none c lt);
+      fits = λ c lt. omega (arith, none c lt, wide.some);
       stands = λ c j lt ltj. absurd (omega (arith, ltj, none c lt));
       apart = λ c lt j k ltk below. absurd (omega (arith, below, none c lt));
       each = λ c i lt at. absurd (none_at p i c at.0 lt at.1);
@@ -68,12 +69,13 @@ none_members p =
 pub none_stands : (p : Transport) (placement : Placement) → IsWithinLimits p.rooms p.entries p.costs
     → placement.assign.items ≡ replicate p.entries (consumers p) → placement.prices.items ≡ replicate (consumers p) 0
     → placement.loads.items ≡ replicate (consumers p) 0
-    → placement.members.items ≡ replicate (consumers p * (p.entries + 1)) 0
+    → placement.members.items ≡ replicate (consumers p * placement.width) 0 → AreWide p placement.width
     → IsStanding p 0 placement
-none_stands p placement limits assign prices loads members = record {
+none_stands p placement limits assign prices loads members wide = record {
   placed = rw assign (rw prices (none_placed p limits));
   loads = rw assign (rw loads (none_loads p));
-  members = rw assign (rw members (none_members p));
+  wide = wide;
+  members = rw assign (rw members (none_members p placement.width wide));
 }
 
 cases_bool : (b : Bool) → (b ≡ true) ⊎ (b ≡ false)
@@ -347,3 +349,15 @@ loads_more p k xs prices loads labels end new counted found shifted =
                 omega (arith, here, counted.each c lt, load_at, one_at_other end c other)
           ];
     }
+
+-- one more entry is within each room
+pub end_in_room : (p : Transport) (k : ℕ) (xs prices : List ℕ) (labels : List Label) (end : ℕ)
+    → IsPlaced p k xs prices → IsEnd p k xs prices labels end
+    → (c : ℕ) → c < length labels → load xs c + one_at end c ≤ room_of p c
+end_in_room p k xs prices labels end placed found c lt =
+    elim (cases_eq end c) [
+      | inl e ↦
+          let room : load xs c < room_of p c = rw (← e) found.room in
+          omega (arith, one_at_same end c e, room)
+      | inr ne ↦ omega (arith, one_at_other end c ne, placed.in_room c (omega (arith, lt, found.search.one_each)))
+    ]

@@ -8,10 +8,14 @@ use Rattle.std.proofs.lemmas.List.{get_or_past, get_or_append_left, get_or_push}
 use Rattle.std.proofs.lemmas.List.Elements.{All-nil, All-append, All-push, All-weaker, All-get_or, All-from_get_or}
 use Rattle.std.proofs.lemmas.List.Folds.{Any-from_list_any}
 use Rattle.sr_transport.specs.Sum.{sum_below}
-use Rattle.sr_transport.specs.Problem.{Transport, consumers, room_of, cost_at, IsAllowed}
+use Rattle.sr_transport.specs.Limits.{greatest_room}
+use Rattle.sr_transport.specs.Problem.{Transport, IsWithinLimits, consumers, room_of, cost_at, IsAllowed}
 use Rattle.sr_transport.specs.Assignment.{load}
 use Rattle.sr_transport.specs.Certificate.{is_reached, places_of, IsShortage}
-use Rattle.sr_transport.proofs.SumLemmas.{sum_below-le, sum_by_below, sum_by-loads}
+use Rattle.sr_transport.proofs.SumLemmas.{sum_below-le, sum_below-le_most, sum_by_below, sum_by-loads}
+use Rattle.sr_transport.proofs.LimitLemmas.{room_small}
+use Rattle.sr_solver.specs.Order.{numbers_below}
+use Rattle.sr_solver.proofs.OrderLemmas.{length-numbers_below, numbers_at, range_all}
 use Rattle.sr_solver.specs.declared.label.Label.{Label}
 use Rattle.sr_solver.specs.Labels.{no_label, label_at}
 use Rattle.sr_solver.specs.Search.{IsStuck}
@@ -170,3 +174,35 @@ pub stuck_short_is : (p : Transport) (k : ℕ) (xs prices : List ℕ) (labels : 
     → IsStuck p k xs prices labels → ys ≡ xs → others ≡ labels → set ≡ stranded_below others ys k ++ k ∷ [] → IsShortage p set
 stuck_short_is p k xs prices labels ys others set stuck same_xs same_labels is_set =
     rw is_set (rw same_xs (rw same_labels (stuck_short p k xs prices labels stuck)))
+
+-- the places of the first consumers are few
+pub rooms_small : (p : Transport) (n : ℕ) → IsWithinLimits p.rooms p.entries p.costs → n ≤ consumers p
+    → sum_below (room_of p) n ≤ n * greatest_room
+rooms_small p n limits le =
+    sum_below-le_most (room_of p) greatest_room n (λ c lt. room_small p c limits (omega arith))
+
+-- a set of consumers has no more places than all
+reached_room : (b : Bool) (room : ℕ) → cond b room 0 ≤ room
+reached_room true room = omega arith
+reached_room false room = omega arith
+
+-- if there are more entries than places, all entries are a shortage
+pub all_are_short : (p : Transport) (set : List ℕ) → sum_below (room_of p) (consumers p) < p.entries
+    → set ≡ numbers_below p.entries → IsShortage p set
+all_are_short p set few is =
+    rw is (
+    record {
+      rising = λ k lt.
+          let within : k + 1 < p.entries = omega (arith, lt, length-numbers_below p.entries) in
+          omega (arith, numbers_at p.entries k 0 (omega arith), numbers_at p.entries (k + 1) 0 within);
+      entries = range_all (λ i. i < p.entries) p.entries (λ i lt. lt);
+      too_few =
+          omega (
+            arith,
+            few,
+            length-numbers_below p.entries,
+            sum_below-le (λ c. cond (is_reached p (numbers_below p.entries) c) (room_of p c) 0) (room_of p) (consumers p)
+                (λ c lt. reached_room (is_reached p (numbers_below p.entries) c) (room_of p c)),
+          );
+    }
+    )

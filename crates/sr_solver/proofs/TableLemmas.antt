@@ -10,7 +10,7 @@ use Rattle.std.proofs.lemmas.Bool.{cases_eq, cases_lt, false≢true}
 use Rattle.std.proofs.lemmas.List.{get_or-set_same, get_or-set_other}
 use Rattle.sr_transport.specs.Problem.{Transport, IsWithinLimits, consumers, cost_at, cost_of, IsAllowed}
 use Rattle.sr_solver.specs.declared.table.Bound.{Bound}
-use Rattle.sr_solver.specs.Table.{IsAt, IsTight, IsKnown, IsTableOf, IsTable, IsWithout, IsBest, IsLowered, IsRowChanged, IsApart, IsLeastMore}
+use Rattle.sr_solver.specs.Table.{unknown, IsUnknown, IsAt, IsTight, IsKnown, IsTableOf, IsTable, IsWithout, IsBest, IsLowered, IsRowChanged, IsApart, IsLeastMore}
 use Rattle.sr_solver.proofs.SearchLemmas.{cost_small}
 
 -- the rows of two consumers are apart
@@ -73,6 +73,33 @@ lowered_is i here here' there there' old new is_here is_there lowered = rw is_he
 pub lowered_not : (i here : ℕ) (there : Option ℕ) (known : Option Bound) → is_some there ≡ false → IsLowered i here there known known
 lowered_not i here None known not_allowed = refl
 lowered_not i here (Some cost) known not_allowed = absurd (false≢true (sym not_allowed))
+
+-- a table of nothing but bounds that hold for any entries
+unknown_holds : (p : Transport) (at : ℕ → Type 0) (a b : ℕ) → IsWithinLimits p.rooms p.entries p.costs → IsKnown p at a b (Some unknown)
+unknown_holds p at a b limits = record {
+  small = omega arith;
+  below = λ i here allowed. omega (arith, cost_small p limits i a);
+  best = λ k is. absurd (cc is);
+}
+
+pub unknown_table : (p : Transport) (xs : List ℕ) (n : ℕ) (table : List (Option Bound)) → IsWithinLimits p.rooms p.entries p.costs
+    → n ≡ consumers p * consumers p → length table ≡ n → IsUnknown n table → IsTable p xs table
+unknown_table p xs n table limits is long blank = record {
+  each_pair = long ∙ is;
+  each = λ a b lta ltb.
+      let within : a * consumers p + b < n = omega (arith, is, mul-add-lt a (consumers p) b (consumers p) lta ltb) in
+      rw (blank.each (a * consumers p + b) within) (unknown_holds p (IsAt xs p.entries a) a b limits);
+}
+
+-- one place more
+pub unknown_more : (n : ℕ) (table : List (Option Bound)) (x : Bound) → n < length table → x ≡ unknown
+    → IsUnknown n table → IsUnknown (n + 1) (set table n (Some x))
+unknown_more n table x lt is before = record {
+  each = λ q ltq. elim (cases_eq q n) [
+    | inl e ↦ rw e (get_or-set_same table n (Some x) None lt ∙ ap (λ b. Some b) is)
+    | inr ne ↦ get_or-set_other table n q (Some x) None ne ∙ before.each q (omega (arith, ltq, ne))
+  ];
+}
 
 -- the same entries
 pub known_same : (p : Transport) (at at' : ℕ → Type 0) (a b : ℕ) (known : Option Bound)

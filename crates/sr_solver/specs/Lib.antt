@@ -4,7 +4,9 @@ pub mod Offers
 pub mod Placed
 pub mod Table
 pub mod Members
+pub mod Taker
 pub mod Search
 pub mod Path
 pub mod Shortage
 pub mod Order
+pub mod Progress

@@ -1,8 +1,8 @@
--- The members of each consumer: the entries that stand there, in one list with a row for each consumer. A row begins with
--- how many members follow, and has a place for each entry.
+-- The members of each consumer: the entries that stand there, in one list with a row for each consumer. Rows are of one width. A
+-- row begins with how many members follow.
 
 use Rattle.std.specs.Prelude.{◌≡◌, ℕ, ◌+◌, ◌*◌, ◌<◌, ◌≤◌, List, length, slice_index, ◌⊎◌}
-use Rattle.sr_transport.specs.Problem.{Transport, consumers}
+use Rattle.sr_transport.specs.Problem.{Transport, consumers, room_of}
 use Rattle.sr_transport.specs.Assignment.{load}
 use Rattle.sr_solver.specs.Table.{IsAt}
 
@@ -18,18 +18,25 @@ AreApart members row n = (j k : ℕ) → j < k → k < n → slice_index members
 abbrev pub IsSeen : Transport → List ℕ → List ℕ → ℕ → ℕ → ℕ → ℕ → Type 0
 IsSeen p xs members row n a i = IsAt xs p.entries a i × IsListed members row n i
 
--- the members, where `at c` says which entries stand at consumer c, and `count c` how many
-pub record AreMembersOf (p : Transport) (count : ℕ → ℕ) (at : ℕ → ℕ → Type 0) (members : List ℕ) : Type 0 where
-  pub one_each : length members ≡ consumers p * (p.entries + 1)
-  pub counted : (c : ℕ) → c < consumers p → slice_index members (c * (p.entries + 1)) ≡ count c
-  pub fits : (c : ℕ) → c < consumers p → count c ≤ p.entries
-  pub stands : (c j : ℕ) → c < consumers p → j < count c → at c (slice_index members (c * (p.entries + 1) + 1 + j))
-  pub apart : (c : ℕ) → c < consumers p → AreApart members (c * (p.entries + 1)) (count c)
-  pub each : (c i : ℕ) → c < consumers p → at c i → IsListed members (c * (p.entries + 1)) (count c) i
+-- rows of w numbers are wide enough for the members that any consumer can have, and no wider than for all entries
+pub record AreWide (p : Transport) (w : ℕ) : Type 0 where
+  pub some : 0 < w
+  pub enough : (c n : ℕ) → c < consumers p → n ≤ room_of p c → n ≤ p.entries → n < w
+  pub short : w ≤ p.entries + 1
+
+-- the members in rows of w numbers, where `at c` says which entries stand at consumer c, and `count c` how many
+pub record AreMembersOf (p : Transport) (w : ℕ) (count : ℕ → ℕ) (at : ℕ → ℕ → Type 0) (members : List ℕ) : Type 0 where
+  pub one_each : length members ≡ consumers p * w
+  pub short : w ≤ p.entries + 1
+  pub counted : (c : ℕ) → c < consumers p → slice_index members (c * w) ≡ count c
+  pub fits : (c : ℕ) → c < consumers p → count c < w
+  pub stands : (c j : ℕ) → c < consumers p → j < count c → at c (slice_index members (c * w + 1 + j))
+  pub apart : (c : ℕ) → c < consumers p → AreApart members (c * w) (count c)
+  pub each : (c i : ℕ) → c < consumers p → at c i → IsListed members (c * w) (count c) i
 
 -- the same, where entry i stands at consumer xs[i]
-abbrev pub AreMembers : Transport → List ℕ → List ℕ → Type 0
-AreMembers p xs members = AreMembersOf p (load xs) (IsAt xs p.entries) members
+abbrev pub AreMembers : Transport → ℕ → List ℕ → List ℕ → Type 0
+AreMembers p w xs members = AreMembersOf p w (load xs) (IsAt xs p.entries) members
 
 -- a member was taken out of the row that begins at `row`
 pub record IsRemoved (row entry : ℕ) (old new : List ℕ) : Type 0 where

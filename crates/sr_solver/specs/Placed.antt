@@ -6,7 +6,7 @@ use Rattle.sr_transport.specs.Problem.{Transport, IsWithinLimits, consumers, roo
 use Rattle.sr_transport.specs.Assignment.{load}
 use Rattle.sr_transport.specs.Certificate.{IsLeast}
 use Rattle.sr_solver.specs.declared.placement.Placement.{Placement}
-use Rattle.sr_solver.specs.Members.{AreMembers}
+use Rattle.sr_solver.specs.Members.{AreWide, AreMembers}
 
 -- the first k entries are placed, and the prices show that none can be placed for less; the others stand past the last
 -- consumer
@@ -30,4 +30,5 @@ pub record AreLoads (p : Transport) (xs loads : List ℕ) : Type 0 where
 pub record IsStanding (p : Transport) (k : ℕ) (placement : Placement) : Type 0 where
   pub placed : IsPlaced p k placement.assign.items placement.prices.items
   pub loads : AreLoads p placement.assign.items placement.loads.items
-  pub members : AreMembers p placement.assign.items placement.members.items
+  pub wide : AreWide p placement.width
+  pub members : AreMembers p placement.width placement.assign.items placement.members.items

@@ -8,6 +8,14 @@ use Rattle.sr_transport.specs.Problem.{Transport, consumers, cost_of, IsAllowed}
 use Rattle.sr_solver.specs.declared.label.Label.{Label}
 use Rattle.sr_solver.specs.declared.table.Bound.{Bound}
 
+-- a bound that holds for any entries: none costs less than the greatest cost less
+abbrev pub unknown : Bound
+unknown = record { low = 0; best = None }
+
+-- the first n places of a table are bounds that hold for any entries
+pub record IsUnknown (n : ℕ) (table : List (Option Bound)) : Type 0 where
+  pub each : (q : ℕ) → q < n → slice_index_or table q None ≡ Some unknown
+
 -- of the first n entries, entry i stands at consumer a
 abbrev pub IsAt : List ℕ → ℕ → ℕ → ℕ → Type 0
 IsAt xs n a i = (i < n) × (slice_index xs i ≡ a)

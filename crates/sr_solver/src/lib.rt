@@ -8,11 +8,13 @@ mod members;
 mod order;
 mod path;
 mod placement;
+mod placing;
 mod sample;
 mod search;
 mod shortage;
 mod solution;
 mod table;
+mod taker;
 #[cfg(test)]
 mod tests;
 mod wanted;

@@ -17,7 +17,7 @@ pub fn by_range(alloc: Global, problem: &Problem) -> Result<Vec<usize>, AllocErr
 }
 
 /// The numbers below n, rising.
-fn numbers(alloc: Global, n: usize) -> Result<Vec<usize>, AllocError>
+pub fn numbers(alloc: Global, n: usize) -> Result<Vec<usize>, AllocError>
     ensures { IfOk result (λ numbers. numbers.items ≡ numbers_below n) }
 {
     let mut numbers = Vec::new(alloc);

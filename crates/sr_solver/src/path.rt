@@ -1,10 +1,11 @@
-ghost use Rattle.std.specs.Prelude.{◌≡◌, ℕ, ◌<◌, ◌≤◌, length, slice_index, true};
+ghost use Rattle.std.specs.Prelude.{◌≡◌, ℕ, ◌+◌, ◌<◌, ◌≤◌, ◌==◌, cond, length, slice_index, true};
 ghost use Rattle.sr_transport.specs.Limits.{most_consumers};
 ghost use Rattle.sr_solver.specs.Limits.{greatest_way};
 ghost use Rattle.sr_solver.specs.Labels.{label_at};
-ghost use Rattle.sr_transport.specs.Problem.{IsWithinLimits, consumers, IsAllowed};
+ghost use Rattle.sr_transport.specs.Problem.{IsWithinLimits, consumers, room_of, IsAllowed};
+ghost use Rattle.sr_transport.specs.Assignment.{load};
 ghost use Rattle.sr_solver.specs.Table.{IsTable};
-ghost use Rattle.sr_solver.specs.Members.{AreMembers};
+ghost use Rattle.sr_solver.specs.Members.{AreWide, AreMembers};
 ghost use Rattle.sr_solver.specs.Path.{AreRaised, ArePaths, AreShifted};
 
 use crate::label::Label;
@@ -47,12 +48,16 @@ pub fn shift(
         → IsAllowed problem.now (label_at labels.now c).mover c }
     requires end { end < length labels.now }
     requires reached { 0 < (label_at labels.now end).hops }
-    requires members { AreMembers problem.now placement.old.assign.items placement.old.members.items }
+    requires wide { AreWide problem.now placement.old.width }
+    requires in_room { (c : ℕ) → c < length labels.now
+        → load placement.old.assign.items c + cond (end == c) 1 0 ≤ room_of problem.now c }
+    requires members { AreMembers problem.now placement.old.width placement.old.assign.items placement.old.members.items }
     requires table { IsTable problem.now placement.old.assign.items table.old }
     ensures assign { AreShifted labels.now entry end placement.old.assign.items placement.new.assign.items }
     ensures prices { placement.new.prices ≡ placement.old.prices }
     ensures loads { placement.new.loads ≡ placement.old.loads }
-    ensures members { AreMembers problem.now placement.new.assign.items placement.new.members.items }
+    ensures width { placement.new.width ≡ placement.old.width }
+    ensures members { AreMembers problem.now placement.new.width placement.new.assign.items placement.new.members.items }
     ensures table { IsTable problem.now placement.new.assign.items table.new }
 {
     let mut place = end;

@@ -1,3 +1,10 @@
+ghost use Rattle.std.specs.Prelude.{◌≤◌, ◌⊎◌, IfOk};
+ghost use Rattle.sr_solver.specs.Members.{AreWide};
+ghost use Rattle.sr_solver.specs.Placed.{IsStanding};
+
+use sr_transport::Problem;
+use std::alloc::{AllocError, Global};
+
 /// Where the entries stand, and the prices that show it cheapest.
 #[derive(Drop)]
 pub struct Placement {
@@ -7,6 +14,52 @@ pub struct Placement {
     pub prices: Vec<u64>,
     /// How many entries stand at each consumer.
     pub loads: Vec<u64>,
+    /// How many numbers a row of members has.
+    pub width: usize,
     /// The entries that stand at each consumer: a row for each, which begins with how many follow.
     pub members: Vec<usize>,
+}
+
+/// No entry stands anywhere yet.
+pub fn nowhere(alloc: Global, problem: &Problem) -> Result<Placement, AllocError>
+    ensures { IfOk result (IsStanding problem.now 0) }
+{
+    let consumers = problem.consumers();
+    let width = row_width(problem);
+    let assign = vec![in alloc; consumers; problem.entries()]?;
+    let prices = vec![in alloc; 0u64; consumers]?;
+    let loads = vec![in alloc; 0u64; consumers]?;
+    let members = vec![in alloc; 0usize; consumers * width]?;
+    Ok(Placement {
+        assign,
+        prices,
+        loads,
+        width,
+        members,
+    })
+}
+
+/// How many numbers a row of members needs: one more than the greatest room, but no more than for all entries.
+fn row_width(problem: &Problem) -> usize
+    ensures { AreWide problem.now result }
+{
+    let mut most = 0;
+    for consumer in 0..problem.consumers() {
+        most = greater(most, problem.room(consumer), problem.entries());
+    }
+    most + 1
+}
+
+/// The greater of `most` and a room, of which no more than all entries count.
+fn greater(most: usize, room: u64, entries: usize) -> usize
+    requires { most ≤ entries }
+    ensures kept { most ≤ result }
+    ensures enough { (room ≤ result) ⊎ (entries ≤ result) }
+    ensures few { result ≤ entries }
+{
+    if entries as u64 <= room {
+        return entries;
+    }
+    let room = room as usize;
+    if most < room { room } else { most }
 }

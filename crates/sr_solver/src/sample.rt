@@ -1,4 +1,4 @@
-ghost use Rattle.std.specs.Prelude.{◌≡◌, ℕ, ◌<◌, length, All, IfOk, IfSome};
+ghost use Rattle.std.specs.Prelude.{◌≡◌, ℕ, ◌+◌, ◌*◌, ◌^◌, ◌<◌, length, All, IfOk, IfSome};
 ghost use Rattle.std.specs.List.Sorted.{IsPermutation};
 ghost use Rattle.sr_transport.specs.Problem.{consumers};
 ghost use Rattle.sr_solver.specs.Order.{IsOrder};
@@ -40,15 +40,16 @@ pub fn placing_order(alloc: Global, problem: &Problem) -> Result<Vec<usize>, All
     Ok(order)
 }
 
-/// Whether the entries are allowed so few consumers that a sample costs more time than it saves.
-fn is_sparse(problem: &Problem) -> bool {
+/// Whether the entries are allowed so few consumers that a sample costs more time than it saves. One of each `STEP` entries in a row
+/// is looked at.
+pub fn is_sparse(problem: &Problem) -> bool {
     let mut pairs = 0usize;
-    for entry in 0..problem.entries() {
-        for cost in problem.costs(entry) {
+    for block in 0..problem.entries() / STEP {
+        for cost in problem.costs(place_in(block)) {
             pairs = pairs.saturating_add(usize::from(cost.is_some()));
         }
     }
-    pairs <= problem.entries().saturating_mul(SPARSE)
+    pairs <= problem.entries() / STEP * SPARSE
 }
 
 /// One of each `STEP` entries in a row. Which one follows no period.
@@ -57,10 +58,17 @@ fn sample(alloc: Global, order: &[usize]) -> Result<Vec<usize>, AllocError>
 {
     let mut sample = Vec::with_capacity(alloc, order.len() / STEP)?;
     for block in 0..order.len() / STEP {
-        let place = block * STEP + mixed(block as u64) as usize % STEP;
-        sample.push(order[place])?;
+        sample.push(order[place_in(block)])?;
     }
     Ok(sample)
+}
+
+/// The place that is picked in a block of `STEP` places.
+fn place_in(block: usize) -> usize
+    requires { block * 8 + 8 < 2 ^ 64 }
+    ensures { result < block * 8 + 8 }
+{
+    block * STEP + mixed(block as u64) as usize % STEP
 }
 
 /// A number in which those that follow one another differ without a pattern.

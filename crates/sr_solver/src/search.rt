@@ -116,7 +116,7 @@ fn close(
 )
     requires entry { entry < problem.now.entries }
     requires placed { IsPlaced problem.now entry placement.now.assign.items placement.now.prices.items }
-    requires members { AreMembers problem.now placement.now.assign.items placement.now.members.items }
+    requires members { AreMembers problem.now placement.now.width placement.now.assign.items placement.now.members.items }
     requires table { IsTable problem.now placement.now.assign.items table.old }
     requires round { IsRound problem.now entry placement.now.assign.items placement.now.prices.items labels.old }
     requires nearest { IsNearest problem.now labels.old near }
@@ -149,7 +149,7 @@ fn ask(
     requires near { near < consumers problem.now }
     requires other { other < consumers problem.now }
     requires placed { IsPlaced problem.now entry placement.now.assign.items placement.now.prices.items }
-    requires members { AreMembers problem.now placement.now.assign.items placement.now.members.items }
+    requires members { AreMembers problem.now placement.now.width placement.now.assign.items placement.now.members.items }
     requires table { IsTable problem.now placement.now.assign.items table.old }
     requires search { IsSearch problem.now entry placement.now.assign.items placement.now.prices.items labels.old near other }
     requires closed { (label_at labels.old near).closed ≡ true }

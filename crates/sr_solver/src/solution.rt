@@ -1,29 +1,51 @@
-ghost use Rattle.std.specs.Prelude.{◌≡◌, ◌+◌, ◌<◌, length, IfOk, IfSome, IfNone, true, false};
-ghost use Rattle.sr_transport.specs.Problem.{consumers};
-ghost use Rattle.sr_solver.specs.Placed.{IsPlaced, IsStanding};
-ghost use Rattle.sr_solver.specs.Table.{IsTable};
-ghost use Rattle.sr_solver.specs.Search.{IsStuck};
+ghost use Rattle.std.specs.Prelude.{◌≡◌, ◌<◌, IfOk, IfSome, IsSome, true};
+ghost use Rattle.sr_transport.specs.Sum.{sum_below};
+ghost use Rattle.sr_transport.specs.Problem.{consumers, room_of};
 ghost use Rattle.sr_transport.specs.Solved.{IsSolution, IsOptimal};
+ghost use Rattle.sr_solver.specs.Placed.{IsPlaced, IsStanding};
 
 use crate::label::Label;
-use crate::order::{entries_at, rename, reordered};
-use crate::path::{raise, shift};
-use crate::placement::Placement;
-use crate::sample::placing_order;
-use crate::search::search;
-use crate::shortage::stranded;
-use crate::table::Bound;
+use crate::order::{entries_at, numbers, rename, reordered};
+use crate::placement::{Placement, nowhere};
+use crate::placing::{Progress, place_all, take_all};
+use crate::sample::{is_sparse, placing_order};
+use crate::shortage::{places, stranded};
+use crate::table::{Bound, forget};
 use sr_transport::{Problem, Solved, total};
 use std::alloc::{AllocError, Global};
 
 /// Solves a transportation problem: gives a cheapest assignment with prices that show it, or entries for which there
 /// are too few places.
 ///
-/// The entries are placed one after another, each along a shortest path that makes place for it. They come in an order of their
-/// own, on which the time depends, and not the worth of the answer.
+/// The entries are placed one after another, each along a shortest path that makes place for it. They come in the order they have
+/// if that is quick, and else in an order of their own, on which the time depends, and not the worth of the answer.
 ///
 /// Source: the method of successive shortest paths (J. Edmonds, R. M. Karp, 1972).
 pub fn solve(alloc: Global, problem: &Problem) -> Result<Solved, AllocError>
+    ensures solution { IfOk result (IsSolution problem.now) }
+    ensures optimal { IfOk result (IsOptimal problem.now) }
+{
+    if places(problem) < problem.entries() as u64 {
+        return all_short(alloc, problem);
+    }
+    if let Some(solved) = answer(alloc, problem, false)? {
+        return Ok(solved);
+    }
+    solve_reordered(alloc, problem)
+}
+
+/// The answer to a problem with more entries than places: all entries.
+fn all_short(alloc: Global, problem: &Problem) -> Result<Solved, AllocError>
+    requires { sum_below (room_of problem.now) (consumers problem.now) < problem.now.entries }
+    ensures solution { IfOk result (IsSolution problem.now) }
+    ensures optimal { IfOk result (IsOptimal problem.now) }
+{
+    let set = numbers(alloc, problem.entries())?;
+    Ok(Solved::Short { set })
+}
+
+/// Solves a problem, placing its entries in an order of their own.
+fn solve_reordered(alloc: Global, problem: &Problem) -> Result<Solved, AllocError>
     ensures solution { IfOk result (IsSolution problem.now) }
     ensures optimal { IfOk result (IsOptimal problem.now) }
 {
@@ -55,25 +77,61 @@ pub(crate) fn solve_in_order(alloc: Global, problem: &Problem) -> Result<Solved,
     ensures solution { IfOk result (IsSolution problem.now) }
     ensures optimal { IfOk result (IsOptimal problem.now) }
 {
+    let found = answer(alloc, problem, true)?;
+    Ok(found.unwrap())
+}
+
+/// The answer to a problem, found by placing its entries in the order they have. If that seems to take long, the patient go on;
+/// others get `None`.
+fn answer(alloc: Global, problem: &Problem, is_patient: bool) -> Result<Option<Solved>, AllocError>
+    ensures solution { IfOk result (λ found. IfSome found (IsSolution problem.now)) }
+    ensures optimal { IfOk result (λ found. IfSome found (IsOptimal problem.now)) }
+    ensures patient { is_patient ≡ true → IfOk result (λ found. IsSome found) }
+{
+    let mut placement = nowhere(alloc, problem)?;
+    let taken = take_all(problem, &mut placement);
+    if taken == problem.entries() {
+        return Ok(Some(best(problem, placement.assign, placement.prices)));
+    }
+    if !is_patient && !is_sparse(problem) {
+        return Ok(None);
+    }
+    finish(alloc, problem, taken, is_patient, placement)
+}
+
+/// The answer, once the entries before `first` are placed.
+fn finish(
+    alloc: Global,
+    problem: &Problem,
+    first: usize,
+    is_patient: bool,
+    placement: Placement,
+) -> Result<Option<Solved>, AllocError>
+    requires first { first < problem.now.entries }
+    requires standing { IsStanding problem.now first placement }
+    ensures solution { IfOk result (λ found. IfSome found (IsSolution problem.now)) }
+    ensures optimal { IfOk result (λ found. IfSome found (IsOptimal problem.now)) }
+    ensures patient { is_patient ≡ true → IfOk result (λ found. IsSome found) }
+{
     let consumers = problem.consumers();
-    let assign = vec![in alloc; consumers; problem.entries()]?;
-    let prices = vec![in alloc; 0u64; consumers]?;
-    let loads = vec![in alloc; 0u64; consumers]?;
-    let members = vec![in alloc; 0usize; consumers * (problem.entries() + 1)]?;
-    let mut placement = Placement {
-        assign,
-        prices,
-        loads,
-        members,
-    };
-    let mut table = vec![in alloc; None; consumers * consumers]?;
+    let mut placement = placement;
+    let mut table: Vec<Option<Bound>> = vec![in alloc; None; consumers * consumers]?;
+    forget(&mut table);
     let mut labels = vec![in alloc; Label::none(); consumers]?;
-    match place_all(problem, &mut placement, &mut table, &mut labels) {
-        None => Ok(best(problem, placement.assign, placement.prices)),
-        Some(entry) => {
+    match place_all(
+        problem,
+        first,
+        is_patient,
+        &mut placement,
+        &mut table,
+        &mut labels,
+    ) {
+        Progress::Placed => Ok(Some(best(problem, placement.assign, placement.prices))),
+        Progress::Stuck { entry } => {
             let set = stranded(alloc, &placement.assign, &labels, entry)?;
-            Ok(Solved::Short { set })
+            Ok(Some(Solved::Short { set }))
         }
+        Progress::Slow => Ok(None),
     }
 }
 
@@ -89,50 +147,4 @@ fn best(problem: &Problem, assign: Vec<usize>, prices: Vec<u64>) -> Solved
         prices,
         total,
     }
-}
-
-/// Places entry after entry, and gives the first for which there is no place.
-fn place_all(
-    problem: &Problem,
-    placement: &mut Placement,
-    table: &mut [Option<Bound>],
-    labels: &mut [Label],
-) -> Option<usize>
-    requires standing { IsStanding problem.now 0 placement.old }
-    requires table { IsTable problem.now placement.old.assign.items table.old }
-    requires labels { length labels.old ≡ consumers problem.now }
-    ensures standing { IfNone result (IsStanding problem.now problem.now.entries placement.new) }
-    ensures stuck { IfSome result (λ entry. IsStuck problem.now entry placement.new.assign.items placement.new.prices.items labels.new) }
-{
-    for entry in 0..problem.entries() {
-        if !place(problem, entry, placement, table, labels) {
-            return Some(entry);
-        }
-    }
-    None
-}
-
-/// Places one entry, where there is a place for it.
-fn place(
-    problem: &Problem,
-    entry: usize,
-    placement: &mut Placement,
-    table: &mut [Option<Bound>],
-    labels: &mut [Label],
-) -> bool
-    requires entry { entry < problem.now.entries }
-    requires standing { IsStanding problem.now entry placement.old }
-    requires table { IsTable problem.now placement.old.assign.items table.old }
-    requires labels { length labels.old ≡ consumers problem.now }
-    ensures standing { result ≡ true → IsStanding problem.now (entry + 1) placement.new }
-    ensures table { result ≡ true → IsTable problem.now placement.new.assign.items table.new }
-    ensures stuck { result ≡ false → IsStuck problem.now entry placement.new.assign.items placement.new.prices.items labels.new }
-{
-    let Some(end) = search(problem, entry, placement, table, labels) else {
-        return false;
-    };
-    raise(&mut placement.prices, labels, labels[end].dist);
-    shift(problem, entry, end, labels, placement, table);
-    placement.loads[end] += 1;
-    true
 }

@@ -1,10 +1,10 @@
 ghost use Rattle.std.specs.Prelude.{◌≡◌, ℕ, ◌+◌, ◌*◌, ◌<◌, ◌≤◌, length, slice_index, slice_set, IfSome, IsSome, true, false};
 ghost use Rattle.sr_transport.specs.Limits.{greatest_cost};
 ghost use Rattle.sr_solver.specs.Limits.{greatest_bound, greatest_way};
-ghost use Rattle.sr_transport.specs.Problem.{IsWithinLimits, consumers, cost_at, cost_of, IsAllowed};
+ghost use Rattle.sr_transport.specs.Problem.{IsWithinLimits, consumers, room_of, cost_at, cost_of, IsAllowed};
 ghost use Rattle.sr_transport.specs.Assignment.{load};
-ghost use Rattle.sr_solver.specs.Members.{AreMembersOf, AreMembers};
-ghost use Rattle.sr_solver.specs.Table.{IsAt, IsApart, IsKnown, IsTableOf, IsTable, IsWithout, IsLowered, IsRowChanged, IsMover, IsNoNearer};
+ghost use Rattle.sr_solver.specs.Members.{AreWide, AreMembersOf, AreMembers};
+ghost use Rattle.sr_solver.specs.Table.{IsUnknown, IsAt, IsApart, IsKnown, IsTableOf, IsTable, IsWithout, IsLowered, IsRowChanged, IsMover, IsNoNearer};
 
 use crate::label::Label;
 use crate::members::{add, remove};
@@ -21,6 +21,28 @@ pub struct Bound {
     pub low: u64,
     /// An entry that costs exactly this more, where one is known.
     pub best: Option<usize>,
+}
+
+impl Bound {
+    ghost use Rattle.std.specs.Prelude.{◌≡◌};
+    ghost use Rattle.sr_solver.specs.Table.{unknown};
+
+    /// What is known of entries that were never looked at.
+    pub fn unknown() -> Bound
+        ensures { result ≡ unknown }
+    {
+        Bound { low: 0, best: None }
+    }
+}
+
+/// Makes each bound of a table one that holds for any entries.
+pub fn forget(table: &mut [Option<Bound>])
+    ensures length { length table.new ≡ length table.old }
+    ensures unknown { IsUnknown (length table.old) table.new }
+{
+    for pair in 0..table.len() {
+        table[pair] = Some(Bound::unknown());
+    }
 }
 
 /// Whether an entry of which this is known may come nearer to a consumer with the label `label`, from one with the label
@@ -57,7 +79,7 @@ pub fn least_mover(
     requires from { from < consumers problem.now }
     requires to { to < consumers problem.now }
     requires placed { (i : ℕ) → IsAt placement.now.assign.items problem.now.entries from i → IsAllowed problem.now i from }
-    requires members { AreMembers problem.now placement.now.assign.items placement.now.members.items }
+    requires members { AreMembers problem.now placement.now.width placement.now.assign.items placement.now.members.items }
     requires table { IsTable problem.now placement.now.assign.items table.old }
     ensures mover { IsMover problem.now (IsAt placement.now.assign.items problem.now.entries from) from to result }
     ensures table { IsTable problem.now placement.now.assign.items table.new }
@@ -83,12 +105,12 @@ fn find(problem: &Problem, from: usize, to: usize, placement: &Placement) -> Opt
     requires from { from < consumers problem.now }
     requires to { to < consumers problem.now }
     requires placed { (i : ℕ) → IsAt placement.now.assign.items problem.now.entries from i → IsAllowed problem.now i from }
-    requires members { AreMembers problem.now placement.now.assign.items placement.now.members.items }
+    requires members { AreMembers problem.now placement.now.width placement.now.assign.items placement.now.members.items }
     ensures known { IsKnown problem.now (IsAt placement.now.assign.items problem.now.entries from) from to result }
     ensures best { IfSome result (λ bound. IsSome bound.best) }
 {
     let members = placement.members.as_slice();
-    let row = from * (problem.entries() + 1);
+    let row = from * placement.width;
     let mut found = None;
     for place in 0..members[row] {
         let other = members[row + 1 + place];
@@ -133,18 +155,22 @@ pub fn put(
     requires entry { entry < problem.now.entries }
     requires every { length placement.old.assign.items ≡ problem.now.entries }
     requires allowed { IsAllowed problem.now entry to }
-    requires members { AreMembers problem.now placement.old.assign.items placement.old.members.items }
+    requires wide { AreWide problem.now placement.old.width }
+    requires room { load (slice_set placement.old.assign.items entry to) to ≤ room_of problem.now to }
+    requires members { AreMembers problem.now placement.old.width placement.old.assign.items placement.old.members.items }
     requires table { IsTable problem.now placement.old.assign.items table.old }
     ensures assign { placement.new.assign.items ≡ slice_set placement.old.assign.items entry to }
     ensures prices { placement.new.prices ≡ placement.old.prices }
     ensures loads { placement.new.loads ≡ placement.old.loads }
-    ensures members { AreMembers problem.now placement.new.assign.items placement.new.members.items }
+    ensures width { placement.new.width ≡ placement.old.width }
+    ensures members { AreMembers problem.now placement.new.width placement.new.assign.items placement.new.members.items }
     ensures table { IsTable problem.now placement.new.assign.items table.new }
 {
     take_out(
         problem,
         entry,
         &placement.assign,
+        placement.width,
         &mut placement.members,
         table,
     );
@@ -153,6 +179,7 @@ pub fn put(
         entry,
         to,
         &placement.assign,
+        placement.width,
         &mut placement.members,
         table,
     );
@@ -164,15 +191,16 @@ fn take_out(
     problem: &Problem,
     entry: usize,
     assign: &[usize],
+    width: usize,
     members: &mut [usize],
     table: &mut [Option<Bound>],
 )
     requires limits { IsWithinLimits problem.now.rooms problem.now.entries problem.now.costs }
     requires entry { entry < problem.now.entries }
     requires every { length assign.now ≡ problem.now.entries }
-    requires members { AreMembers problem.now assign.now members.old }
+    requires members { AreMembers problem.now width assign.now members.old }
     requires table { IsTable problem.now assign.now table.old }
-    ensures members { AreMembersOf problem.now (load (slice_set assign.now entry (consumers problem.now)))
+    ensures members { AreMembersOf problem.now width (load (slice_set assign.now entry (consumers problem.now)))
         (IsApart (IsAt assign.now problem.now.entries) entry) members.new }
     ensures table { IsTableOf problem.now (IsApart (IsAt assign.now problem.now.entries) entry) table.new }
 {
@@ -180,7 +208,7 @@ fn take_out(
     if problem.consumers() <= from {
         return;
     }
-    remove(members, from * (problem.entries() + 1), entry);
+    remove(members, from * width, entry);
     leave(problem, entry, from, table);
 }
 
@@ -190,6 +218,7 @@ fn bring_in(
     entry: usize,
     to: usize,
     assign: &[usize],
+    width: usize,
     members: &mut [usize],
     table: &mut [Option<Bound>],
 )
@@ -197,13 +226,15 @@ fn bring_in(
     requires entry { entry < problem.now.entries }
     requires every { length assign.now ≡ problem.now.entries }
     requires allowed { IsAllowed problem.now entry to }
-    requires members { AreMembersOf problem.now (load (slice_set assign.now entry (consumers problem.now)))
+    requires wide { AreWide problem.now width }
+    requires room { load (slice_set assign.now entry to) to ≤ room_of problem.now to }
+    requires members { AreMembersOf problem.now width (load (slice_set assign.now entry (consumers problem.now)))
         (IsApart (IsAt assign.now problem.now.entries) entry) members.old }
     requires table { IsTableOf problem.now (IsApart (IsAt assign.now problem.now.entries) entry) table.old }
-    ensures members { AreMembers problem.now (slice_set assign.now entry to) members.new }
+    ensures members { AreMembers problem.now width (slice_set assign.now entry to) members.new }
     ensures table { IsTable problem.now (slice_set assign.now entry to) table.new }
 {
-    add(members, to * (problem.entries() + 1), entry);
+    add(members, to * width, entry);
     arrive(problem, entry, to, table);
 }
 

@@ -1,7 +1,8 @@
 use Rattle.std.proofs.Common.{◌≡◌, ℕ, ◌<◌, length, get_or, ◌∙◌, arith}
 use Rattle.std.proofs.lemmas.List.{get_or_default}
+use Rattle.sr_transport.specs.Problem.{room_of}
 use Rattle.sr_solver.specs.Labels.{label_at}
-use Rattle.sr_solver.proofs.PathLemmas.{shifting_more, shifted_last}
+use Rattle.sr_solver.proofs.PathLemmas.{shifting_more, shifted_last, put_in_room}
 use Rattle.sr_solver.proofs.path.shift.Goals as goal
 
 pub returns-then-mover-entry-clause-assign : goal.returns-then-mover-entry-clause-assign
@@ -26,6 +27,13 @@ path-preserved c =
           ));
       prices = c.put.ensures.prices ∙ c.path.invariant.prices;
       loads = c.put.ensures.loads ∙ c.path.invariant.loads;
+      width = c.put.ensures.width ∙ c.path.invariant.width;
       members = c.put.ensures.members;
       table = c.put.ensures.table;
     }
+
+pub put-requires-clause-room : goal.put-requires-clause-room
+put-requires-clause-room c =
+    let shifting = c.path.invariant.shifting in
+    put_in_room c.args.labels.now c.args.entry c.args.end c.args.placement.now.assign.items c.path.placement.assign.items c.path.place
+    (room_of c.args.problem.now c.path.place) c.requires.paths shifting (c.requires.in_room c.path.place shifting.consumer)

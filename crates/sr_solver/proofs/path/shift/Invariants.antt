@@ -10,7 +10,8 @@ invariant-path l = record {
   shifting : IsShifting l.labels l.entry l.end l.fn.placement.assign.items l.placement.assign.items l.place;
   prices : l.placement.prices ≡ l.fn.placement.prices;
   loads : l.placement.loads ≡ l.fn.placement.loads;
-  members : AreMembers l.problem l.placement.assign.items l.placement.members.items;
+  width : l.placement.width ≡ l.fn.placement.width;
+  members : AreMembers l.problem l.placement.width l.placement.assign.items l.placement.members.items;
   table : IsTable l.problem l.placement.assign.items l.table;
 }
 

@@ -4,26 +4,22 @@ use Rattle.sr_transport.specs.Problem.{cost_of}
 use Rattle.sr_solver.specs.Members.{AreMembers}
 use Rattle.sr_solver.specs.Table.{IsAt}
 use Rattle.sr_solver.proofs.TableLemmas.{lowered_is}
-use Rattle.sr_solver.proofs.MembersLemmas.{seen_more, seen_all}
+use Rattle.sr_solver.proofs.MembersLemmas.{row_of, seen_more, seen_all}
 use Rattle.sr_solver.proofs.table.find.Goals as goal
 
 pub loop-place-preserved : goal.loop-place-preserved
 loop-place-preserved c =
-    let row : ℕ = c.args.from * (c.entries.result + 1) in
-    let is_row : row ≡ c.args.from * (c.args.problem.now.entries + 1) = ap (λ n. c.args.from * (n + 1)) c.entries.ensures in
+    let row : ℕ = c.args.from * c.args.placement.now.width in
     let xs : List ℕ = c.args.placement.now.assign.items in
     let members : List ℕ = c.as_slice-members.result.now in
-    let are_members : AreMembers c.args.problem.now xs members = rw c.as_slice-members.ensures.value c.requires.members in
+    let are_members : AreMembers c.args.problem.now c.args.placement.now.width xs members = rw c.as_slice-members.ensures.value c.requires.members in
     let other : ℕ = get_or members (row + 1 + c.loop-place.place) 0 in
     let cost : Option ℕ → ℕ = λ o. unwrap_or o 0 in
     let same : cost_of c.args.problem.now other c.args.from ≡ c.unwrap-here.result = ap cost (sym c.cost.ensures ∙ c.unwrap-here.ensures) in
-    let placed : c.loop-place.place < get_or members (c.args.from * (c.args.problem.now.entries + 1)) 0 =
-    rw (← is_row) c.loop-place-test.true in
+    let placed : c.loop-place.place < get_or members row 0 = c.loop-place-test.true in
     let stands : IsAt xs c.args.problem.now.entries c.args.from other =
-    rw is_row (
     are_members.stands c.args.from c.loop-place.place c.requires.from
-    (omega (arith, placed, are_members.counted c.args.from c.requires.from))
-    ) in
+    (omega (arith, placed, are_members.counted c.args.from c.requires.from)) in
     record {
       known =
           seen_more c.args.problem.now xs members row c.loop-place.place other c.args.from c.args.to c.loop-place.found
@@ -35,8 +31,25 @@ loop-place-preserved c =
 pub returns-clause-known : goal.returns-clause-known
 returns-clause-known c =
     let members : List ℕ = c.as_slice-members.result.now in
-    let are_members : AreMembers c.args.problem.now c.args.placement.now.assign.items members =
+    let are_members : AreMembers c.args.problem.now c.args.placement.now.width c.args.placement.now.assign.items members =
     rw c.as_slice-members.ensures.value c.requires.members in
-    seen_all c.args.problem.now c.args.placement.now.assign.items members (c.args.from * (c.entries.result + 1)) c.loop-place.place
-    c.args.from c.args.to c.loop-place.found c.requires.from are_members (ap (λ n. c.args.from * (n + 1)) c.entries.ensures) (omega arith)
+    seen_all c.args.problem.now c.args.placement.now.width c.args.placement.now.assign.items members (c.args.from * c.args.placement.now.width) c.loop-place.place
+    c.args.from c.args.to c.loop-place.found c.requires.from are_members refl (omega arith)
     c.loop-place.invariant.known
+
+pub bounds-members-row : goal.bounds-members-row
+bounds-members-row c =
+    let w : ℕ = c.args.placement.now.width in
+    let members : List ℕ = c.as_slice-members.result.now in
+    let are : AreMembers c.args.problem.now w c.args.placement.now.assign.items members = rw c.as_slice-members.ensures.value c.requires.members in
+    let row = row_of c.args.problem.now w _ _ members c.args.from (c.args.from * w) c.requires.limits are c.requires.from refl in
+    omega (arith, row.room, row.fits)
+
+pub bounds-members-row-in-loop-place : goal.bounds-members-row-in-loop-place
+bounds-members-row-in-loop-place c =
+    let w : ℕ = c.args.placement.now.width in
+    let members : List ℕ = c.as_slice-members.result.now in
+    let are : AreMembers c.args.problem.now w c.args.placement.now.assign.items members = rw c.as_slice-members.ensures.value c.requires.members in
+    let row = row_of c.args.problem.now w _ _ members c.args.from (c.args.from * w) c.requires.limits are c.requires.from refl in
+    let placed : c.loop-place.place < get_or members (c.args.from * w) 0 = c.loop-place-test.true in
+    omega (arith, row.room, row.fits, row.count, placed)

@@ -2,7 +2,7 @@ use Rattle.std.proofs.Common.{◌≡◌, length}
 use Rattle.sr_transport.specs.Problem.{consumers}
 use Rattle.sr_solver.specs.Placed.{IsStanding}
 use Rattle.sr_solver.specs.Table.{IsTable}
-use Rattle.sr_solver.proofs.solution.place_all.Given as goal
+use Rattle.sr_solver.proofs.placing.place_all.Given as goal
 
 abbrev pub invariant-loop-entry : goal.invariant-loop-entry
 invariant-loop-entry l = record {

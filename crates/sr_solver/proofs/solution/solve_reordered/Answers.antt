@@ -3,7 +3,7 @@ use Rattle.std.proofs.lemmas.List.{take_at}
 use Rattle.sr_transport.proofs.CallerLemmas.{prices_show_cheapest, shortage_excludes}
 use Rattle.sr_solver.proofs.OrderLemmas.{renamed_solution}
 use Rattle.sr_solver.proofs.RenamedShortageLemmas.{renamed_shortage_is, shortage_places}
-use Rattle.sr_solver.proofs.solution.solve.Goals as goal
+use Rattle.sr_solver.proofs.solution.solve_reordered.Goals as goal
 
 pub returns-in-Best-clause-solution : goal.returns-in-Best-clause-solution
 returns-in-Best-clause-solution c =

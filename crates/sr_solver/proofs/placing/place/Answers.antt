@@ -1,7 +1,7 @@
 use Rattle.std.proofs.Common.{◌≡◌, ℕ, ◌<◌, length, get_or, ap, ◌∙◌, arith}
 use Rattle.std.proofs.lemmas.List.{get_or_default, with_items_is}
-use Rattle.sr_solver.proofs.PlaceLemmas.{are_paths, placed_more, loads_more}
-use Rattle.sr_solver.proofs.solution.place.Goals as goal
+use Rattle.sr_solver.proofs.PlaceLemmas.{are_paths, end_in_room, placed_more, loads_more}
+use Rattle.sr_solver.proofs.placing.place.Goals as goal
 
 pub shift-requires-clause-paths : goal.shift-requires-clause-paths
 shift-requires-clause-paths c =
@@ -30,5 +30,11 @@ returns-clause-standing c =
           loads_more c.args.problem.now c.args.entry before.assign.items before.prices.items before.loads.items c.search.new.labels end
           c.shift.new.placement.assign.items c.requires.standing.loads found c.shift.ensures.assign
           ));
+      wide = rw c.shift.ensures.width c.requires.standing.wide;
       members = c.shift.ensures.members;
     }
+
+pub shift-requires-clause-in_room : goal.shift-requires-clause-in_room
+shift-requires-clause-in_room c =
+    end_in_room c.args.problem.now c.args.entry c.args.placement.now.assign.items c.args.placement.now.prices.items c.search.new.labels
+    c.in-Some.end c.requires.standing.placed c.in-Some.ensures.end

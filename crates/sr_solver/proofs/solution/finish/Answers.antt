@@ -1,0 +1,32 @@
+use Rattle.std.proofs.Common.{◌≡◌, ℕ, ◌*◌, length, ◌∙◌, ap, arith}
+use Rattle.std.proofs.lemmas.List.{take_at}
+use Rattle.sr_transport.specs.Problem.{consumers}
+use Rattle.sr_transport.proofs.CallerLemmas.{shortage_excludes}
+use Rattle.sr_solver.proofs.ShortageLemmas.{stuck_short_is}
+use Rattle.sr_solver.proofs.TableLemmas.{unknown_table}
+use Rattle.sr_solver.proofs.solution.finish.Goals as goal
+
+pub place_all-requires-clause-table : goal.place_all-requires-clause-table
+place_all-requires-clause-table c =
+    let p = c.args.problem.now in
+    let same : c.deref_mut-2.result.now ≡ c.forget.new.table =
+    c.deref_mut-2.ensures.value
+    ∙ take_at c.forget.new.table _ c.in_ok-table.table.len (omega (arith, c.forget.ensures.length, c.deref_mut.ensures.len)) in
+    let pairs : length c.deref_mut.result.now ≡ consumers p * consumers p =
+    omega (arith, c.deref_mut.ensures.len, c.in_ok-table.ensures.len) ∙ ap (λ n. n * n) c.consumers-consumers.ensures.count in
+    rw same (
+    unknown_table p _ (length c.deref_mut.result.now) c.forget.new.table c.consumers-consumers.ensures.limits pairs c.forget.ensures.length
+    c.forget.ensures.unknown
+    )
+
+pub returns-in_ok-set-in-Stuck-clause-solution : goal.returns-in_ok-set-in-Stuck-clause-solution
+returns-in_ok-set-in-Stuck-clause-solution c =
+    stuck_short_is c.args.problem.now c.in-Stuck.entry c.place_all.new.placement.assign.items c.place_all.new.placement.prices.items
+    c.place_all.new.labels c.deref.result.now c.deref-in-Stuck.result.now c.in_ok-set-in-Stuck.set.items c.in-Stuck.ensures
+    c.deref.ensures.value
+    (c.deref-in-Stuck.ensures.value ∙ take_at c.place_all.new.labels _ c.in_ok-labels.labels.len (omega arith))
+    c.in_ok-set-in-Stuck.ensures
+
+pub returns-in_ok-set-in-Stuck-clause-optimal : goal.returns-in_ok-set-in-Stuck-clause-optimal
+returns-in_ok-set-in-Stuck-clause-optimal c =
+    shortage_excludes c.args.problem.now c.in_ok-set-in-Stuck.set.items (returns-in_ok-set-in-Stuck-clause-solution c)

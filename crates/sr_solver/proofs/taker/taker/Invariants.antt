@@ -1,0 +1,5 @@
+use Rattle.sr_solver.specs.Taker.{IsCheapest}
+use Rattle.sr_solver.proofs.taker.taker.Given as goal
+
+abbrev pub invariant-loop-consumer : goal.invariant-loop-consumer
+invariant-loop-consumer l = IsCheapest l.problem l.prices l.loads l.entry l.consumer l.cheapest

@@ -1,0 +1,35 @@
+-- A consumer that takes an entry at once, so that no other entry has to move.
+
+use Rattle.std.specs.Prelude.{◌≡◌, ℕ, ◌+◌, ◌<◌, ◌≤◌, List, slice_index, ◌⊎◌, Bool, true, Option, Some, None, IfSome}
+use Rattle.sr_transport.specs.Problem.{Transport, room_of, IsAllowed}
+use Rattle.sr_transport.specs.Certificate.{IsLeast}
+use Rattle.sr_solver.specs.declared.taker.Cheapest.{Cheapest}
+use Rattle.sr_solver.specs.Labels.{priced}
+
+-- consumer c is where cost and price are least for entry k, and the loads leave room there
+pub record IsTaker (p : Transport) (prices loads : List ℕ) (k c : ℕ) : Type 0 where
+  pub allowed : IsAllowed p k c
+  pub least : IsLeast p prices k c
+  pub room : slice_index loads c < room_of p c
+
+-- consumer c has room for entry k, at this sum of cost and price
+pub record IsFree (p : Transport) (prices loads : List ℕ) (k sum c : ℕ) : Type 0 where
+  pub allowed : IsAllowed p k c
+  pub same : priced p prices k c ≡ sum
+  pub room : slice_index loads c < room_of p c
+
+-- what is known of the first n consumers
+pub record IsCheapest (p : Transport) (prices loads : List ℕ) (k n : ℕ) (cheapest : Cheapest) : Type 0 where
+  pub least : (c : ℕ) → c < n → IsAllowed p k c → cheapest.sum ≤ priced p prices k c
+  pub free : IfSome cheapest.free (IsFree p prices loads k cheapest.sum)
+
+-- the consumer that is free is c, which has this sum, or the one from before, if the sum stays
+abbrev pub IsFreeAfter : ℕ → ℕ → Bool → Cheapest → ℕ → ℕ → Type 0
+IsFreeAfter c sum has_room old new_sum f =
+    ((f ≡ c) × (new_sum ≡ sum) × (has_room ≡ true)) ⊎ ((old.free ≡ Some f) × (new_sum ≡ old.sum))
+
+-- what is known after consumer c, where the entry has this cost and this price
+abbrev pub IsCompared : ℕ → Option ℕ → ℕ → Bool → Cheapest → Cheapest → Type 0
+IsCompared c None price has_room old new = new ≡ old
+IsCompared c (Some cost) price has_room old new =
+    (new.sum ≤ cost + price) × (new.sum ≤ old.sum) × IfSome new.free (IsFreeAfter c (cost + price) has_room old new.sum)

@@ -1,0 +1,137 @@
+ghost use Rattle.std.specs.Prelude.{◌≡◌, ◌+◌, ◌<◌, ◌≤◌, length, true, false};
+ghost use Rattle.sr_transport.specs.Problem.{consumers};
+ghost use Rattle.sr_solver.specs.Placed.{IsStanding};
+ghost use Rattle.sr_solver.specs.Table.{IsTable};
+ghost use Rattle.sr_solver.specs.Taker.{IsTaker};
+ghost use Rattle.sr_solver.specs.Search.{IsStuck};
+ghost use Rattle.sr_solver.specs.Progress.{IsEndOf};
+
+use crate::label::Label;
+use crate::members::add;
+use crate::path::{raise, shift};
+use crate::placement::Placement;
+use crate::search::search;
+use crate::table::{Bound, put};
+use crate::taker::taker;
+use sr_transport::Problem;
+
+/// How the placement of all entries ends.
+pub enum Progress {
+    /// All are placed.
+    Placed,
+    /// There is no place for this entry.
+    Stuck { entry: usize },
+    /// Many entries needed a search, and the others are left.
+    Slow,
+}
+
+/// So many searches are never too many.
+const FEW_SEARCHES: usize = 16;
+
+/// More than one search for this many entries is too many.
+const SEARCH_STEP: usize = 8;
+
+/// Places the first entries, as long as each has a consumer that takes it, and gives how many these are.
+pub fn take_all(problem: &Problem, placement: &mut Placement) -> usize
+    requires standing { IsStanding problem.now 0 placement.old }
+    ensures few { result ≤ problem.now.entries }
+    ensures standing { IsStanding problem.now result placement.new }
+{
+    for entry in 0..problem.entries() {
+        let Some(consumer) = taker(problem, entry, &placement.prices, &placement.loads) else {
+            return entry;
+        };
+        join(problem, entry, consumer, placement);
+    }
+    problem.entries()
+}
+
+/// Places an entry at a consumer that takes it.
+fn join(problem: &Problem, entry: usize, consumer: usize, placement: &mut Placement)
+    requires entry { entry < problem.now.entries }
+    requires standing { IsStanding problem.now entry placement.old }
+    requires taker { IsTaker problem.now placement.old.prices.items placement.old.loads.items entry consumer }
+    ensures { IsStanding problem.now (entry + 1) placement.new }
+{
+    add(&mut placement.members, consumer * placement.width, entry);
+    placement.assign[entry] = consumer;
+    placement.loads[consumer] += 1;
+}
+
+/// Places entry after entry from `first` on, where those before it are placed.
+pub fn place_all(
+    problem: &Problem,
+    first: usize,
+    is_patient: bool,
+    placement: &mut Placement,
+    table: &mut [Option<Bound>],
+    labels: &mut [Label],
+) -> Progress
+    requires first { first ≤ problem.now.entries }
+    requires standing { IsStanding problem.now first placement.old }
+    requires table { IsTable problem.now placement.old.assign.items table.old }
+    requires labels { length labels.old ≡ consumers problem.now }
+    ensures { IsEndOf problem.now is_patient placement.new labels.new result }
+{
+    let mut searches = 0usize;
+    for entry in first..problem.entries() {
+        if take(problem, entry, placement, table) {
+            continue;
+        }
+        searches = searches.saturating_add(1);
+        if !is_patient && FEW_SEARCHES + entry / SEARCH_STEP < searches {
+            return Progress::Slow;
+        }
+        if !place(problem, entry, placement, table, labels) {
+            return Progress::Stuck { entry };
+        }
+    }
+    Progress::Placed
+}
+
+/// Places an entry at a consumer that takes it, if there is one.
+fn take(
+    problem: &Problem,
+    entry: usize,
+    placement: &mut Placement,
+    table: &mut [Option<Bound>],
+) -> bool
+    requires entry { entry < problem.now.entries }
+    requires standing { IsStanding problem.now entry placement.old }
+    requires table { IsTable problem.now placement.old.assign.items table.old }
+    ensures taken { result ≡ true → IsStanding problem.now (entry + 1) placement.new }
+    ensures left { result ≡ false → IsStanding problem.now entry placement.new }
+    ensures table { IsTable problem.now placement.new.assign.items table.new }
+{
+    let Some(consumer) = taker(problem, entry, &placement.prices, &placement.loads) else {
+        return false;
+    };
+    put(problem, entry, consumer, placement, table);
+    placement.loads[consumer] += 1;
+    true
+}
+
+/// Places an entry at the end of a shortest path, where there is a place for it.
+fn place(
+    problem: &Problem,
+    entry: usize,
+    placement: &mut Placement,
+    table: &mut [Option<Bound>],
+    labels: &mut [Label],
+) -> bool
+    requires entry { entry < problem.now.entries }
+    requires standing { IsStanding problem.now entry placement.old }
+    requires table { IsTable problem.now placement.old.assign.items table.old }
+    requires labels { length labels.old ≡ consumers problem.now }
+    ensures standing { result ≡ true → IsStanding problem.now (entry + 1) placement.new }
+    ensures table { result ≡ true → IsTable problem.now placement.new.assign.items table.new }
+    ensures stuck { result ≡ false → IsStuck problem.now entry placement.new.assign.items placement.new.prices.items labels.new }
+{
+    let Some(end) = search(problem, entry, placement, table, labels) else {
+        return false;
+    };
+    raise(&mut placement.prices, labels, labels[end].dist);
+    shift(problem, entry, end, labels, placement, table);
+    placement.loads[end] += 1;
+    true
+}
