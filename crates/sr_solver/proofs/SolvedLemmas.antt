@@ -1,7 +1,6 @@
 -- Where every entry is placed, the problem is solved.
-use Rattle.std.proofs.Common.{◌≡◌, ℕ, ◌≤◌, List, Option, Some, arith}
+use Rattle.std.proofs.Common.{◌≡◌, ℕ, ◌≤◌, List, arith}
 use Rattle.sr_transport.specs.Limits.{greatest_price, greatest_total}
-use Rattle.std.specs.Prelude.{IfSome}
 use Rattle.std.specs.List.{All}
 use Rattle.std.proofs.lemmas.List.Elements.{All-from_get_or}
 use Rattle.sr_transport.specs.Problem.{Transport}
@@ -32,12 +31,12 @@ placed_prices p xs prices placed =
     (λ c lt. omega (arith, placed.low c (omega (arith, lt, placed.one_each)), placed.limits.few_entries))
 
 -- so the answer is right, with the total that was found
-pub placed_best : (p : Transport) (xs prices : List ℕ) (found : Option ℕ) (total : ℕ) → IsPlaced p p.entries xs prices
-    → found ≡ Some total → IfSome found (λ t. t ≡ total_of p xs) → IfSome found (λ t. t ≤ greatest_total) → IsBest p xs prices total
-placed_best p xs prices found total placed is same small = record {
+pub placed_best : (p : Transport) (xs prices : List ℕ) (total : ℕ) → IsPlaced p p.entries xs prices
+    → total ≡ total_of p xs → total ≤ greatest_total → IsBest p xs prices total
+placed_best p xs prices total placed same small = record {
   assignment = placed_assignment p xs prices placed;
   shown = placed_shows p xs prices placed;
-  sum = rw is at same;
-  small_total = rw is at small;
+  sum = same;
+  small_total = small;
   small_prices = placed_prices p xs prices placed;
 }

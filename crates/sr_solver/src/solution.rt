@@ -1,6 +1,8 @@
-ghost use Rattle.std.specs.Prelude.{◌≡◌, ◌<◌, IfOk, IfSome, IsSome, true};
+ghost use Rattle.std.specs.Prelude.{◌≡◌, ◌<◌, ◌≤◌, IfOk, IfSome, IsSome, true};
 ghost use Rattle.sr_transport.specs.Sum.{sum_below};
+ghost use Rattle.sr_transport.specs.Limits.{greatest_total};
 ghost use Rattle.sr_transport.specs.Problem.{consumers, room_of};
+ghost use Rattle.sr_transport.specs.Assignment.{IsAssignment, total_of};
 ghost use Rattle.sr_transport.specs.Solved.{IsSolution, IsOptimal};
 ghost use Rattle.sr_solver.specs.Placed.{IsPlaced, IsStanding};
 
@@ -11,7 +13,7 @@ use crate::placing::{Progress, place_all, take_all};
 use crate::sample::{is_sparse, placing_order};
 use crate::shortage::{places, stranded};
 use crate::table::{Bound, forget};
-use sr_transport::{Problem, Solved, total};
+use sr_transport::{Problem, Solved};
 use std::alloc::{AllocError, Global};
 
 /// Solves a transportation problem: gives a cheapest assignment with prices that show it, or entries for which there
@@ -141,10 +143,23 @@ fn best(problem: &Problem, assign: Vec<usize>, prices: Vec<u64>) -> Solved
     ensures solution { IsSolution problem.now result }
     ensures optimal { IsOptimal problem.now result }
 {
-    let total = total(problem, &assign).unwrap();
+    let total = sum_of_costs(problem, &assign);
     Solved::Best {
         assign,
         prices,
         total,
     }
+}
+
+/// The sum of the costs of an assignment. Unlike `total` of sr_transport it need not see that it is one.
+fn sum_of_costs(problem: &Problem, assign: &[usize]) -> u64
+    requires { IsAssignment problem.now assign.now }
+    ensures total { result ≡ total_of problem.now assign.now }
+    ensures small { result ≤ greatest_total }
+{
+    let mut total = 0;
+    for (entry, consumer) in assign.iter().enumerate() {
+        total += problem.costs(entry)[*consumer].unwrap();
+    }
+    total
 }

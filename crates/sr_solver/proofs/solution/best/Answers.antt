@@ -3,14 +3,14 @@ use Rattle.sr_transport.proofs.CallerLemmas.{prices_show_cheapest}
 use Rattle.sr_solver.proofs.SolvedLemmas.{placed_assignment, placed_best}
 use Rattle.sr_solver.proofs.solution.best.Goals as goal
 
-pub unwrap-total-requires : goal.unwrap-total-requires
-unwrap-total-requires c =
-    c.total.ensures.found.1 (rw c.deref.ensures.value (placed_assignment c.args.problem.now c.args.assign.items c.args.prices.items c.requires))
+pub sum_of_costs-total-requires : goal.sum_of_costs-total-requires
+sum_of_costs-total-requires c =
+    rw c.deref.ensures.value (placed_assignment c.args.problem.now c.args.assign.items c.args.prices.items c.requires)
 
 pub returns-clause-solution : goal.returns-clause-solution
 returns-clause-solution c =
-    placed_best c.args.problem.now c.args.assign.items c.args.prices.items c.total.result c.unwrap-total.result c.requires c.unwrap-total.ensures
-    (rw c.deref.ensures.value at c.total.ensures.total) c.total.ensures.small
+    placed_best c.args.problem.now c.args.assign.items c.args.prices.items c.sum_of_costs-total.result c.requires
+    (rw c.deref.ensures.value at c.sum_of_costs-total.ensures.total) c.sum_of_costs-total.ensures.small
 
 pub returns-clause-optimal : goal.returns-clause-optimal
 returns-clause-optimal c =
