@@ -118,9 +118,10 @@ def time_adds(program, requests, entries, room=WIDE):
 
 
 def time_long(program, add):
-    """The seconds of one long add in reads of few bytes."""
+    """The seconds of one long add in reads of few bytes. Processor time is counted in ticks, and is at least one."""
     with Server(program, NARROW) as server:
-        return [server.ask(add, 1, 1)]
+        wall, processor = server.ask(add, 1, 1)
+        return [(wall, max(processor, 1 / os.sysconf("SC_CLK_TCK")))]
 
 
 def time_ranges(program, adding, requests, entries):

@@ -150,6 +150,9 @@ impl Reader {
     }
 }
 
+/// The greatest capacity that a buffer keeps once a request is whole.
+const MAX_KEPT: usize = 65_536;
+
 /// Removes this many items from the front. A long rest is not moved while nothing is removed.
 fn drop_front<T: Copy>(items: &mut Vec<T>, count: usize)
     requires { count ≤ vec_len items.old }
@@ -159,6 +162,7 @@ fn drop_front<T: Copy>(items: &mut Vec<T>, count: usize)
         let len = items.len();
         items.as_mut_slice().copy_within(count..len, 0);
         items.truncate(len - count);
+        items.shrink_to(MAX_KEPT);
     }
 }
 
