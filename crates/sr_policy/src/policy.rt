@@ -1,9 +1,9 @@
-ghost use Rattle.std.specs.Prelude.{◌≡◌, IfOk};
-ghost use Rattle.sr_policy.specs.Rules.{other_class as all_others};
+ghost use Rattle.std.specs.Prelude.{◌≡◌, IfOk, option_map};
+ghost use Rattle.sr_policy.specs.Rules.{other_class as all_others, value_at};
 
 use crate::live::Live;
 use crate::numbers::{Numbers, found, names_of};
-use sr_bytes::{Fields, Name};
+use sr_bytes::{Fields, Name, Pairs};
 use std::alloc::{AllocError, Global};
 use std::marker::Model;
 
@@ -118,9 +118,14 @@ impl Policy {
     pub fn class_of(&self, alloc: Global, fields: &Fields) -> Result<Name, AllocError>
         ensures { IfOk result (λ class. class ≡ class_by self.now fields.now) }
     {
-        match self.classed_by(fields) {
-            Some(value) if self.rates_for(value).is_some() => value.copy(alloc),
-            _ => other_class(alloc),
+        let Some(value) = self.classed_by(fields) else {
+            return other_class(alloc);
+        };
+        let class = Name::new(Vec::from_slice(alloc, value)?);
+        if self.rates_for(&class).is_some() {
+            Ok(class)
+        } else {
+            other_class(alloc)
         }
     }
 
@@ -132,14 +137,26 @@ impl Policy {
     }
 
     /// The value of the first field with the name of the class field.
-    fn classed_by<'a>(&self, fields: &'a Fields) -> Option<&'a Name>
+    fn classed_by<'a>(&self, fields: &'a Fields) -> Option<&'a [u8]>
         ensures { option_map (λ value. value.now) result ≡ classed_in self.now fields.now }
     {
         match &self.class_field {
-            Some(field) => found(fields.as_slice(), field),
+            Some(field) => first_value(fields.pairs(), field),
             None => None,
         }
     }
+}
+
+/// The value of the first pair with this field.
+fn first_value<'a>(mut pairs: Pairs<'a>, field: &Name) -> Option<&'a [u8]>
+    ensures { option_map (λ value. value.now) result ≡ value_at field.now pairs.entry }
+{
+    while let Some((name, value)) = pairs.next() {
+        if field.as_slice() == name {
+            return Some(value);
+        }
+    }
+    None
 }
 
 /// The class of all entries that no other class takes.

@@ -87,11 +87,11 @@ fn fault_of(alloc: Global, text: &str) -> Result<Option<PolicyFault>, AllocError
 
 /// These fields, each with its value.
 fn fields(alloc: Global, pairs: &[(&str, &str)]) -> Result<Fields, AllocError> {
-    let mut list = Vec::new(alloc);
+    let mut fields = Fields::new(alloc);
     for (field, value) in pairs {
-        list.push((name(alloc, field)?, name(alloc, value)?))?;
+        fields.add(field.as_bytes(), value.as_bytes())?;
     }
-    Ok(Fields::new(list))
+    Ok(fields)
 }
 
 #[test]
@@ -248,9 +248,9 @@ fn weights_and_rooms(rt: HostRuntime) -> Result<(), Fail> {
     assert_eq!(rt; weight_of(&fields(alloc, &[("c", "y"), ("c", "x")])?), 4);
     assert_eq!(rt; weight_of(&fields(alloc, &[("", "")])?), 1);
     let long = vec![in alloc; 97; 1048577]?;
-    let mut pairs = Vec::new(alloc);
-    pairs.push((name(alloc, "f")?, Name::new(long)))?;
-    assert_eq!(rt; weight_of(&Fields::new(pairs)), 1048576);
+    let mut large = Fields::new(alloc);
+    large.add(b"f", long.as_slice())?;
+    assert_eq!(rt; weight_of(&large), 1048576);
     assert_eq!(rt; room_of(3, 1), 2);
     assert_eq!(rt; room_of(1, 3), 0);
     Ok(())

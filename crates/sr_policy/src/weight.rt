@@ -9,9 +9,9 @@ use sr_bytes::Fields;
 pub fn weight_of(fields: &Fields) -> u64
     ensures { result ≡ weight fields.now }
 {
-    let pairs = fields.as_slice();
+    let mut pairs = fields.pairs();
     let mut size: u64 = 0;
-    for (field, value) in pairs {
+    while let Some((field, value)) = pairs.next() {
         let more = (field.len() as u64).saturating_add(value.len() as u64);
         size = size.saturating_add(more).min(MAX_WEIGHT);
     }
