@@ -99,7 +99,7 @@ long-string text s behind len other from short e =
 
 -- ---- how many pairs there are
 
-packed_string-some : (s : List ℕ) → 0 < length (packed_string s)
+pub packed_string-some : (s : List ℕ) → 0 < length (packed_string s)
 packed_string-some s = by (ltb (length s) 255)
   where
     by : (b : Bool) → 0 < length (length_bytes b (length s) ++ s)

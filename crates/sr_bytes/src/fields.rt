@@ -1,8 +1,8 @@
-ghost use Rattle.std.specs.Prelude.{◌≡◌, ◌∷◌, ◌++◌, [], ◌<◌, ◌^◌, List, ℕ, length, min, OnOk, OnErr, IfOk};
-ghost use Rattle.std.specs.Io.{StartsWith};
-ghost use Rattle.sr_bytes.specs.Packed.{IsPacked, IsPacked-prop, packed_string, packed_pair};
+ghost use Rattle.std.specs.Prelude.{◌≡◌, ◌∷◌, ◌++◌, [], ◌<◌, ◌^◌, List, ℕ, length, OnOk, OnErr, IfOk};
+ghost use Rattle.sr_bytes.specs.Packed.{IsPacked, IsPacked-prop, packed_pair};
 
 use crate::Pairs;
+use crate::packed::append_string;
 use std::alloc::{AllocError, Global};
 use std::marker::Model;
 
@@ -45,14 +45,6 @@ impl Fields {
         })
     }
 
-    /// How many bytes a string takes as a field or a value; a number beyond `usize` is its greatest.
-    pub fn room_of(string: &[u8]) -> usize
-        ensures { result ≡ min (length (packed_string string.now)) 0xffff_ffff_ffff_ffff }
-    {
-        let len = string.len();
-        len.saturating_add(if len < 255 { 1 } else { 9 })
-    }
-
     /// Adds a field with its value at the end. An `Err` leaves the fields as they were.
     pub fn add(&mut self, field: &[u8], value: &[u8]) -> Result<(), AllocError>
         ensures ok { OnOk result (self.new ≡ self.old ++ (field.now, value.now) ∷ []) }
@@ -91,20 +83,4 @@ fn append_pair(out: &mut Vec<u8>, field: &[u8], value: &[u8]) -> Result<(), Allo
         return Err(AllocError);
     }
     Ok(())
-}
-
-/// Appends a string behind its length. An `Err` may leave some of it in `out`.
-fn append_string(out: &mut Vec<u8>, bytes: &[u8]) -> Result<(), AllocError>
-    ensures ok { OnOk result (out.new.items ≡ out.old.items ++ packed_string bytes.now) }
-    ensures err { OnErr result (StartsWith out.new.items out.old.items) }
-    ensures short { length bytes.now < 2 ^ 64 }
-{
-    let len = bytes.len();
-    if len < 255 {
-        out.push(len as u8)?;
-    } else {
-        out.push(255)?;
-        out.extend_from_slice(&(len as u64).to_le_bytes())?;
-    }
-    out.extend_from_slice(bytes)
 }

@@ -1,6 +1,7 @@
-ghost use Rattle.std.specs.Prelude.{◌≡◌, ◌∷◌, ◌++◌, [], ◌<◌, ◌+◌, ◌*◌, ◌^◌, List, ℕ, length, IfSome, IfNone};
-ghost use Rattle.sr_bytes.specs.Packed.{IsPacked, IsPacked-prop, packed_string, pairs_of};
+ghost use Rattle.std.specs.Prelude.{◌≡◌, ◌∷◌, [], ◌<◌, ◌+◌, ◌*◌, ◌^◌, length, IfSome, IfNone};
+ghost use Rattle.sr_bytes.specs.Packed.{IsPacked, IsPacked-prop, pairs_of};
 
+use crate::packed::first_string;
 use std::marker::Model;
 
 /// Fields with their values where they lie, to be looked at in turn.
@@ -63,21 +64,5 @@ impl<'a> Pairs<'a> {
             count += 1;
         }
         count
-    }
-}
-
-/// The string at the front, and the bytes behind it.
-fn first_string(text: &[u8]) -> (&[u8], &[u8])
-    requires { (string : List ℕ) × (behind : List ℕ) × (length string < 2 ^ 64) × (text.now ≡ packed_string string ++ behind) }
-    ensures { (string behind : List ℕ) → length string < 2 ^ 64 → text.now ≡ packed_string string ++ behind
-        → (result.0.now ≡ string) × (result.1.now ≡ behind) }
-{
-    if text[0] < 255 {
-        text[1..].split_at(text[0] as usize)
-    } else {
-        let len = u64::from_le_bytes([
-            text[1], text[2], text[3], text[4], text[5], text[6], text[7], text[8],
-        ]);
-        text[9..].split_at(len as usize)
     }
 }

@@ -1,5 +1,5 @@
-//! What no clause says: which digits write which numbers, and that names and fields can be made and copied.
-use crate::{Fields, Name, read_decimal};
+//! What no clause says: which digits write which numbers, and that names, fields and words can be made and copied.
+use crate::{Fields, Name, Words, read_decimal};
 use std::alloc::{AllocError, Global};
 use std::collections::HashMap;
 use std::test::Fail;
@@ -95,5 +95,32 @@ fn copies_hold_the_same(rt: HostRuntime) -> Result<(), Fail> {
             "the copy has the same, at {len}"
         );
     }
+    Ok(())
+}
+
+#[test]
+fn words_come_back_in_order(rt: HostRuntime) -> Result<(), Fail> {
+    let alloc = rt.alloc();
+    let rows = [
+        (6, b'a', 0),
+        (5, b'b', 1),
+        (4, b'c', 254),
+        (3, b'd', 255),
+        (2, b'e', 256),
+        (1, b'f', 70_000),
+    ];
+    let mut words = Words::new(alloc);
+    for (_, byte, len) in rows {
+        words.add(Vec::from_elem(alloc, byte, len)?.as_slice())?;
+    }
+    assert_eq!(rt; words.len(), 6);
+    let mut unread = words.unread();
+    for (left, byte, len) in rows {
+        let word = Vec::from_elem(alloc, byte, len)?;
+        assert_eq!(rt; unread.len(), left, "at {len}");
+        assert!(rt; unread.peek() == Some(word.as_slice()), "at {len}");
+        assert!(rt; unread.next() == Some(word.as_slice()), "at {len}");
+    }
+    assert!(rt; unread.next().is_none());
     Ok(())
 }

@@ -10,7 +10,7 @@ use crate::options::{Choice, OptionSet, ValueFault, read_options};
 use crate::value::copy_word;
 use crate::words::Words;
 use crate::{Call, CallFault};
-use sr_bytes::Fields;
+use sr_bytes::{Fields, room_of};
 use sr_ids::parse_spec;
 use std::alloc::{AllocError, Global};
 
@@ -85,7 +85,7 @@ fn copy_fields(alloc: Global, mut words: Words<'_>) -> Result<Fields, AllocError
 fn room_for(mut words: Words<'_>) -> usize {
     let mut bytes = 0_usize;
     while let Some(word) = words.next() {
-        bytes = bytes.saturating_add(Fields::room_of(word));
+        bytes = bytes.saturating_add(room_of(word));
     }
     bytes
 }

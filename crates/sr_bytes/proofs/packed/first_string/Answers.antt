@@ -1,7 +1,7 @@
 use Rattle.std.proofs.Common.{◌≡◌, ℕ, List, ◌++◌, length, take, drop, ap, refl, ◌∙◌}
 use Rattle.std.proofs.lemmas.List.{take_at, drop_at, take_rest}
 use Rattle.sr_bytes.proofs.PackedLemmas.{long-string}
-use Rattle.sr_bytes.proofs.pairs.first_string.Goals as goal
+use Rattle.sr_bytes.proofs.packed.first_string.Goals as goal
 
 halves : (front back rest text s behind : List ℕ) (len : ℕ) → len ≡ length s → text ≡ s ++ behind → rest ≡ text → front ≡ take len rest → back ≡ drop len rest
     → (front ≡ s) × (back ≡ behind)
