@@ -12,7 +12,6 @@ mod table;
 #[cfg(test)]
 mod tests;
 mod value;
-mod words;
 
 pub use call::{Call, Command, Trim, TrimBy};
 pub use fault::CallFault;

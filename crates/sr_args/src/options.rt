@@ -12,8 +12,8 @@ ghost use Rattle.sr_args.specs.steps.Options.{signed_places, trim_operands, trim
 
 use crate::name::{option_named, sign_named};
 use crate::number::{read_int, read_nat};
-use crate::words::Words;
 use crate::{CallFault, Measure, OptionName, Sign, Trim, TrimBy};
+use sr_bytes::Unread;
 use sr_ids::parse_strict;
 
 /// The options that stand in one place of a command's form, in any order and each once at most.
@@ -88,7 +88,7 @@ impl From<ValueFault> for CallFault {
 /// that is no number comes before one that is no id, and both come after every fault of the form.
 pub(crate) fn read_options(
     set: OptionSet,
-    words: &mut Words<'_>,
+    words: &mut Unread<'_>,
 ) -> Option<Result<Choice, ValueFault>>
     ensures found { IfSome result (λ judged. (written : List Written) ×
         EndsOptions set words.old written words.new × AreJudged written judged) }
@@ -109,7 +109,7 @@ pub(crate) fn read_options(
 }
 
 /// The name of an option of the set, if it is the next word, which is then read.
-fn next_name(set: OptionSet, words: &mut Words<'_>) -> Option<OptionName>
+fn next_name(set: OptionSet, words: &mut Unread<'_>) -> Option<OptionName>
     ensures of_set { IfSome result (λ name. is_of set name ≡ true) }
     ensures found { IfSome result (λ name. (word : Word) ×
         (words.old ≡ word ∷ words.new) × IsSameName word (option_text name)) }
@@ -145,7 +145,7 @@ fn has_option(set: OptionSet, name: OptionName) -> bool
 }
 
 /// The words that follow the name of an option.
-fn operand_words<'a>(name: OptionName, words: &mut Words<'a>) -> Option<OptionWords<'a>>
+fn operand_words<'a>(name: OptionName, words: &mut Unread<'a>) -> Option<OptionWords<'a>>
     ensures found { IfSome result (λ read.
         Begins operand_places (IsOptionNamed name) IsOptionEnd words.old (written_of read) words.new) }
     ensures none { IfNone result (BeginsNone operand_places (IsOptionNamed name) IsOptionEnd words.old) }
@@ -161,7 +161,7 @@ fn operand_words<'a>(name: OptionName, words: &mut Words<'a>) -> Option<OptionWo
 }
 
 /// The words of a trim that follow the name of its measure: `[=|~] bound [LIMIT number]`
-pub(crate) fn trim_words<'a>(by: Measure, words: &mut Words<'a>) -> Option<TrimWords<'a>>
+pub(crate) fn trim_words<'a>(by: Measure, words: &mut Unread<'a>) -> Option<TrimWords<'a>>
     ensures found { IfSome result (λ read.
         Begins trim_operands (IsTrimBy by) IsTrimEnd words.old (trim_reading read) words.new) }
     ensures none { IfNone result (BeginsNone trim_operands (IsTrimBy by) IsTrimEnd words.old) }
@@ -178,7 +178,7 @@ pub(crate) fn trim_words<'a>(by: Measure, words: &mut Words<'a>) -> Option<TrimW
 }
 
 /// `[=|~] bound`
-fn signed_word<'a>(by: Measure, words: &mut Words<'a>) -> Option<(Option<Sign>, &'a [u8])>
+fn signed_word<'a>(by: Measure, words: &mut Unread<'a>) -> Option<(Option<Sign>, &'a [u8])>
     ensures found { IfSome result (λ read.
         Begins (signed_places by) IsSigned IsAny words.old (read.0, read.1.now) words.new) }
     ensures none { IfNone result (BeginsNone (signed_places by) IsSigned IsAny words.old) }
@@ -193,7 +193,7 @@ fn signed_word<'a>(by: Measure, words: &mut Words<'a>) -> Option<(Option<Sign>, 
 }
 
 /// `[LIMIT number]`, which goes with `~` alone
-fn limit_word<'a>(sign: Option<Sign>, words: &mut Words<'a>) -> Option<Option<&'a [u8]>>
+fn limit_word<'a>(sign: Option<Sign>, words: &mut Unread<'a>) -> Option<Option<&'a [u8]>>
     ensures found { IfSome result (λ read.
         Begins written.limit_places (IsLimitOf sign) IsUnlimitedAfter words.old (option_copied read) words.new) }
     ensures none { IfNone result (BeginsNone written.limit_places (IsLimitOf sign) IsUnlimitedAfter words.old) }

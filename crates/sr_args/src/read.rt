@@ -11,9 +11,8 @@ use crate::commands::xlen::read_xlen;
 use crate::commands::xrange::{read_xrange, read_xrevrange};
 use crate::commands::xtrim::read_xtrim;
 use crate::table::{Found, find_command, is_counted};
-use crate::words::Words;
 use crate::{Call, CallFault, Command, CommandName};
-use sr_bytes::Name;
+use sr_bytes::{Unread, Words};
 use std::alloc::Global;
 
 /// The command that the words of a request write.
@@ -21,7 +20,7 @@ use std::alloc::Global;
 /// The first words name the command. Of several faults the first is answered, in the order of `CallFault`.
 ///
 /// Source: Redis documentation, the page of each command.
-pub fn read_call(alloc: Global, words: &[Name]) -> Result<Command, CallFault>
+pub fn read_call(alloc: Global, words: &Words) -> Result<Command, CallFault>
     requires { 0 < length words.now }
     ensures ok { IfOk result (λ command. IsCommand words.now command) }
     ensures err { IfErr result (Refuses words.now) }
@@ -29,7 +28,7 @@ pub fn read_call(alloc: Global, words: &[Name]) -> Result<Command, CallFault>
     ensures only { (answer : Result declared.Command faults.CallFault) → answer ≢ Err CallFault.Memory →
         Answers words.now answer → (result ≡ answer) ⊎ (result ≡ Err CallFault.Memory) }
 {
-    match find_command(&Words::new(words)) {
+    match find_command(&words.unread()) {
         Found::Unknown => Err(CallFault::Unknown),
         Found::HalfNamed => Err(CallFault::Arity),
         Found::Command(command, operands) => {
@@ -46,7 +45,7 @@ pub fn read_call(alloc: Global, words: &[Name]) -> Result<Command, CallFault>
 fn read_operands(
     alloc: Global,
     command: CommandName,
-    operands: Words<'_>,
+    operands: Unread<'_>,
 ) -> Result<Call, CallFault>
     ensures { Gives (form_of command) (call_of command) operands.entry result }
 {

@@ -3,7 +3,7 @@ ghost use Rattle.std.specs.Option.{option_copied};
 ghost use Rattle.sr_args.specs.Table.{IsCounted, row_of};
 ghost use Rattle.sr_args.specs.steps.Names.{shown, IsMatch, IsFound, IsFoundAmong};
 
-use crate::words::Words;
+use sr_bytes::Unread;
 
 /// The commands, by name. Names ignore ASCII case.
 ///
@@ -47,7 +47,7 @@ pub(crate) struct Row {
 #[derive(Drop)]
 pub(crate) enum NameMatch<'a> {
     /// They begin with it, and these words follow.
-    Named(Words<'a>),
+    Named(Unread<'a>),
     /// They are its first word alone, and it has two.
     Cut,
     /// They do not begin with it.
@@ -58,7 +58,7 @@ pub(crate) enum NameMatch<'a> {
 #[derive(Drop)]
 pub(crate) enum Found<'a> {
     /// This one, and these words follow its name.
-    Command(CommandName, Words<'a>),
+    Command(CommandName, Unread<'a>),
     /// The first word of a command's name, and nothing more.
     HalfNamed,
     /// No command.
@@ -100,7 +100,7 @@ fn table_row(
 }
 
 /// How words meet the name of a row.
-pub(crate) fn name_match<'a>(row: &Row, mut words: Words<'a>) -> NameMatch<'a>
+pub(crate) fn name_match<'a>(row: &Row, mut words: Unread<'a>) -> NameMatch<'a>
     ensures { IsMatch (shown row.now).name words.entry result }
 {
     let Some(word) = words.next() else {
@@ -122,14 +122,14 @@ pub(crate) fn name_match<'a>(row: &Row, mut words: Words<'a>) -> NameMatch<'a>
 }
 
 /// Which command words name, and the words after its name.
-pub(crate) fn find_command<'a>(words: &Words<'a>) -> Found<'a>
+pub(crate) fn find_command<'a>(words: &Unread<'a>) -> Found<'a>
     ensures { IsFound words.now result }
 {
     find_among(&COMMANDS, words)
 }
 
 /// Which of these commands words name.
-fn find_among<'a>(commands: &[CommandName], words: &Words<'a>) -> Found<'a>
+fn find_among<'a>(commands: &[CommandName], words: &Unread<'a>) -> Found<'a>
     ensures { IsFoundAmong commands.now words.now result }
 {
     for command in commands {

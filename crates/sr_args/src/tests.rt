@@ -1,18 +1,17 @@
 use crate::number::read_int;
 use crate::table::{NameMatch, Row, name_match};
-use crate::words::Words;
 use crate::{Call, CallFault, Command, Trim, TrimBy, read_call};
-use sr_bytes::{Fields, Name};
+use sr_bytes::{Fields, Name, Words};
 use sr_ids::{Id, Spec};
 use std::alloc::{AllocError, Global};
 use std::process::Abort;
 use std::test::Fail;
 
 /// The words of a line, which stand between single spaces.
-fn words_of(alloc: Global, line: &str) -> Result<Vec<Name>, AllocError> {
-    let mut words = Vec::new(alloc);
+fn words_of(alloc: Global, line: &str) -> Result<Words, AllocError> {
+    let mut words = Words::new(alloc);
     for word in line.split(' ') {
-        words.push(Name::new(Vec::from_slice(alloc, word.as_bytes())?))?;
+        words.add(word.as_bytes())?;
     }
     Ok(words)
 }
@@ -20,8 +19,8 @@ fn words_of(alloc: Global, line: &str) -> Result<Vec<Name>, AllocError> {
 /// The call that a line is. A refusal fails the test, and so does memory that runs out.
 fn call(rt: &(impl AllocGlobal + Abort), line: &str) -> Result<Call, CallFault> {
     let words = words_of(rt.alloc(), line)?;
-    assert!(rt; !words.is_empty());
-    let Command::Call(call) = read_call(rt.alloc(), words.as_slice())?;
+    assert!(rt; words.len() > 0);
+    let Command::Call(call) = read_call(rt.alloc(), &words)?;
     Ok(call)
 }
 
@@ -109,8 +108,8 @@ fn first_fault_is_answered(rt: HostRuntime) -> Result<(), Fail> {
         ("XREVRANGE s (- +", CallFault::BadId),
     ] {
         let words = words_of(rt.alloc(), line)?;
-        assert!(rt; !words.is_empty());
-        match read_call(rt.alloc(), words.as_slice()) {
+        assert!(rt; words.len() > 0);
+        match read_call(rt.alloc(), &words) {
             Ok(_) => assert!(rt; false, "{line}"),
             Err(fault) => assert_eq!(rt; fault, want, "{line}"),
         }
@@ -298,25 +297,17 @@ fn names_of_two_words_are_read(rt: HostRuntime) -> Result<(), Fail> {
     };
     for (line, want) in [("XGROUP CREATE s g", Some(2)), ("xgroup Create", Some(0))] {
         let words = words_of(rt.alloc(), line)?;
-        match name_match(&row, Words::new(words.as_slice())) {
+        match name_match(&row, words.unread()) {
             NameMatch::Named(operands) => assert_eq!(rt; Some(operands.len()), want, "{line}"),
             NameMatch::Cut | NameMatch::Other => assert!(rt; false, "{line}"),
         }
     }
     let words = words_of(rt.alloc(), "xGROUP")?;
-    assert!(rt;
-        matches!(
-            name_match(&row, Words::new(words.as_slice())),
-            NameMatch::Cut
-        )
-    );
+    assert!(rt; matches!(name_match(&row, words.unread()), NameMatch::Cut));
     for line in ["XGROUP FOO", "XGROUPS CREATE", "CREATE XGROUP", "XLEN s"] {
         let words = words_of(rt.alloc(), line)?;
         assert!(rt;
-            matches!(
-                name_match(&row, Words::new(words.as_slice())),
-                NameMatch::Other
-            ),
+            matches!(name_match(&row, words.unread()), NameMatch::Other),
             "{line}"
         );
     }

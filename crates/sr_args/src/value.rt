@@ -2,8 +2,7 @@ ghost use Rattle.std.specs.Prelude.{◌≡◌, ◌↔◌, map, IsTrue, IfOk};
 ghost use Rattle.sr_args.specs.Place.{strict_id, spelled, HasIds};
 ghost use Rattle.sr_args.specs.Form.{AreIds};
 
-use crate::words::Words;
-use sr_bytes::Name;
+use sr_bytes::{Name, Unread};
 use sr_ids::{Ids, parse_strict};
 use std::alloc::{AllocError, Global};
 
@@ -15,7 +14,7 @@ pub(crate) fn copy_word(alloc: Global, word: &[u8]) -> Result<Name, AllocError>
 }
 
 /// Whether each word spells an id.
-pub(crate) fn are_ids(mut words: Words<'_>) -> bool
+pub(crate) fn are_ids(mut words: Unread<'_>) -> bool
     ensures { IsTrue result ↔ HasIds (map (spelled strict_id) words.entry) }
 {
     while let Some(word) = words.next() {
@@ -27,7 +26,7 @@ pub(crate) fn are_ids(mut words: Words<'_>) -> bool
 }
 
 /// The ids that words spell, each of which spells one.
-pub(crate) fn copy_ids(alloc: Global, mut words: Words<'_>) -> Result<Ids, AllocError>
+pub(crate) fn copy_ids(alloc: Global, mut words: Unread<'_>) -> Result<Ids, AllocError>
     requires { HasIds (map (spelled strict_id) words) }
     ensures { IfOk result (AreIds strict_id words.entry) }
 {

@@ -1,4 +1,4 @@
-ghost use Rattle.std.specs.Prelude.{◌≡◌, ◌<◌, ◌≤◌, ◌⊎◌, ℕ, ◌∷◌, ◌++◌, [], List, Option, false, true, IfNone, IfOk, IfSome, IsErrOf, OnErr, OnOk, vec_len, drop};
+ghost use Rattle.std.specs.Prelude.{◌≡◌, ◌<◌, ◌≤◌, ◌⊎◌, ℕ, ◌∷◌, ◌++◌, [], List, Option, false, true, IfNone, IfOk, IfSome, IsErrOf, OnErr, OnOk, length, vec_len, drop};
 ghost use Rattle.sr_resp.specs.Reading.{Sorts};
 ghost use Rattle.sr_resp.specs.Request.{Words, Spells};
 ghost use Rattle.sr_resp.specs.Stream.{Stands, Advances, Splits, IsPartial, IsFault};
@@ -7,7 +7,7 @@ ghost use Rattle.sr_resp.specs.declared.reader.ReadFault.TheVariants.{Memory};
 use crate::request::Request;
 use crate::scan::sort_out;
 use crate::stage::{Place, Stage};
-use sr_bytes::Name;
+use sr_bytes::Words;
 use std::alloc::{AllocError, Global};
 use std::collections::VecDeque;
 use std::marker::Model;
@@ -137,12 +137,12 @@ impl Reader {
     }
 
     /// Hands out the oldest waiting request. Takes no memory.
-    pub fn next_request(&mut self) -> Option<Vec<Name>>
+    pub fn next_request(&mut self) -> Option<Words>
         ensures some { IfSome result (λ words.
-            self.old ≡ record self.new { waiting = words.items ∷ self.new.waiting }) }
-        ensures words { IfSome result (λ words. 0 < vec_len words) }
+            self.old ≡ record self.new { waiting = words ∷ self.new.waiting }) }
+        ensures words { IfSome result (λ words. 0 < length words) }
         ensures given { IfSome result (λ words. (taken : List ℕ) (given : List Words)
-            → Stands taken given self.old → Stands taken (given ++ words.items ∷ []) self.new) }
+            → Stands taken given self.old → Stands taken (given ++ words ∷ []) self.new) }
         ensures none { IfNone result ((self.old.waiting ≡ []) × (self.new ≡ self.old)) }
     {
         let request = self.waiting.pop_front()?;
@@ -241,6 +241,11 @@ mod tests {
         }
     }
 
+    fn are_texts(words: &Words, texts: &[&[u8]]) -> bool {
+        let mut words = words.unread();
+        words.len() == texts.len() && texts.iter().all(|text| words.next() == Some(*text))
+    }
+
     #[test]
     fn reads_the_same_however_it_is_cut(rt: HostRuntime) {
         let alloc = rt.alloc();
@@ -254,11 +259,8 @@ mod tests {
                 panic!(rt; "fewer than two requests, cut at {cut}");
             };
             assert!(rt; reader.next_request().is_none());
-            assert_eq!(rt; ping.len(), 1);
-            assert!(rt; ping[0].as_slice() == b"ping".as_slice());
-            assert_eq!(rt; get.len(), 2);
-            assert!(rt; get[0].as_slice() == b"GET".as_slice());
-            assert!(rt; get[1].as_slice() == b"\r\n".as_slice());
+            assert!(rt; are_texts(&ping, &[b"ping"]), "cut at {cut}");
+            assert!(rt; are_texts(&get, &[b"GET", b"\r\n"]), "cut at {cut}");
         }
     }
 

@@ -1,15 +1,15 @@
-ghost use Rattle.std.specs.Prelude.{◌≡◌, ◌<◌, length, vec_len, All, IfOk};
+ghost use Rattle.std.specs.Prelude.{◌≡◌, ◌<◌, length, All, IfOk};
 ghost use Rattle.sr_resp.specs.Stages.{words_in, IsBefore};
 
 use crate::stage::Place;
-use sr_bytes::Name;
+use sr_bytes::{Words, room_of};
 use std::alloc::{AllocError, Global};
 use std::marker::Model;
 
 /// The words of a request, at least one.
 #[derive(Drop)]
 pub struct Request {
-    words: Vec<Name>,
+    words: Words,
 }
 
 impl Model for Request {
@@ -17,9 +17,9 @@ impl Model for Request {
 
     ghost Value = { List (List ℕ) };
 
-    ghost view = { λ r. r.words.items };
+    ghost view = { λ r. r.words };
 
-    ghost invariant = { λ r. 0 < length r.words.items };
+    ghost invariant = { λ r. 0 < length r.words };
 }
 
 impl Request {
@@ -29,20 +29,30 @@ impl Request {
         requires within { All (IsBefore (length bytes.now)) places.now }
         ensures { IfOk result (λ request. request ≡ words_in bytes.now places.now) }
     {
-        let mut words = Vec::with_capacity(alloc, places.len())?;
+        let mut words = Words::with_room(alloc, room_for(bytes, places))?;
         for place in places {
-            let word = Vec::from_slice(alloc, &bytes[place.start..place.end])?;
-            words.push(Name::new(word))?;
+            words.add(&bytes[place.start..place.end])?;
         }
         Ok(Request { words })
     }
 
     /// Gives its words out. Takes no memory.
-    pub fn into_words(self) -> Vec<Name>
-        ensures words { result.items ≡ self }
-        ensures some { 0 < vec_len result }
+    pub fn into_words(self) -> Words
+        ensures words { result ≡ self }
+        ensures some { 0 < length result }
     {
         let Request { words } = self;
         words
     }
+}
+
+/// How many bytes the words at these places take. More or fewer would only cost memory.
+fn room_for(bytes: &[u8], places: &[Place]) -> usize
+    requires { All (IsBefore (length bytes.now)) places.now }
+{
+    let mut room = 0_usize;
+    for place in places {
+        room = room.saturating_add(room_of(&bytes[place.start..place.end]));
+    }
+    room
 }

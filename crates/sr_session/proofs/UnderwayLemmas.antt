@@ -70,20 +70,19 @@ module _ {S : Type 0} (Answers : S → Words → List ℕ → S → Type 0) wher
       IsAnswering-moved found taken written gathered [] gathered sent sent progress now a (stay refl refl refl)
 
   -- one request more is answered
-  pub IsAnswering-next : (found : S) (taken written gathered gets new : List ℕ) (sent total : ℕ) (old next : Progress) (before after : S) (words said : Words)
+  pub IsAnswering-next : (found : S) (taken written gathered gets new : List ℕ) (sent total : ℕ) (old next : Progress) (before after : S) (words : Words)
       → ((taken : List ℕ) (given : List Words) → Stands taken given old → Stands taken (given ++ words ∷ []) next)
-      → said ≡ words → Gathers Answers gathered sent before said gets new total after
+      → Gathers Answers gathered sent before words gets new total after
       → IsAnswering Answers found taken written gathered sent old before → IsAnswering Answers found taken (written ++ gets) new total next after
-  IsAnswering-next found taken written gathered gets new sent total old next before after words said hands_out same one a =
+  IsAnswering-next found taken written gathered gets new sent total old next before after words hands_out one a =
       let m = IsAnswering-moved found taken written gathered gets one.left sent total old before a one.moves in
-      let answers = subst (λ (w : Words). Answers before w one.text after) same one.answers in
       record {
         told = m.told;
         held = m.held ++ words ∷ [];
         between = m.between;
         stands = subst (λ (r : List Words). Stands taken r next) (append_assoc m.told m.held (words ∷ [])) (hands_out taken (m.told ++ m.held) m.stands);
         answered = m.answered;
-        kept = subst (λ (x : List ℕ). AreAnswered Answers m.between (m.held ++ words ∷ []) x after) (sym one.appended) (AreAnswered-push Answers m.between m.held one.left before words one.text after m.kept answers);
+        kept = subst (λ (x : List ℕ). AreAnswered Answers m.between (m.held ++ words ∷ []) x after) (sym one.appended) (AreAnswered-push Answers m.between m.held one.left before words one.text after m.kept one.answers);
         count = m.count;
       }
 
@@ -128,31 +127,31 @@ module _ {S : Type 0} (Answers : S → Words → List ℕ → S → Type 0) wher
   }
 
   -- the session ends at a request
-  pub EndsAs-stopped : (found : S) (taken written gathered gets : List ℕ) (sent : ℕ) (old next : Progress) (before after : S) (words said : Words) (end : End)
+  pub EndsAs-stopped : (found : S) (taken written gathered gets : List ℕ) (sent : ℕ) (old next : Progress) (before after : S) (words : Words) (end : End)
       → ((taken : List ℕ) (given : List Words) → Stands taken given old → Stands taken (given ++ words ∷ []) next)
-      → said ≡ words → Stops Answers gathered sent before said gets end after
+      → Stops Answers gathered sent before words gets end after
       → IsAnswering Answers found taken written gathered sent old before → EndsAs Answers found taken (written ++ gets) after end
-  EndsAs-stopped found taken written gathered gets sent old next before after words said end hands_out same (silent left total text moves answers is_memory) a =
-      let one : Gathers Answers gathered sent before said gets (left ++ text) total after = record { left = left; text = text; moves = moves; answers = answers; appended = refl } in
-      let now = IsAnswering-next found taken written gathered gets (left ++ text) sent total old next before after words said hands_out same one a in
+  EndsAs-stopped found taken written gathered gets sent old next before after words end hands_out (silent left total text moves answers is_memory) a =
+      let one : Gathers Answers gathered sent before words gets (left ++ text) total after = record { left = left; text = text; moves = moves; answers = answers; appended = refl } in
+      let now = IsAnswering-next found taken written gathered gets (left ++ text) sent total old next before after words hands_out one a in
       subst (EndsAs Answers found taken (written ++ gets) after) (sym is_memory) (IsCutOff-from_answering found taken (written ++ gets) (left ++ text) total next after now)
-  EndsAs-stopped found taken written gathered gets sent old next before after words said end hands_out same (breaks b unchanged) a =
+  EndsAs-stopped found taken written gathered gets sent old next before after words end hands_out (breaks b unchanged) a =
       subst (λ (s : S). EndsAs Answers found taken (written ++ gets) s end) (sym unchanged) (EndsAs-broken_off found taken written gathered gets sent before end (inl (IsStopped-from_answering found taken written gathered sent old before a)) a.count b)
 
   -- the same after others, whose answers went out as far as these bytes
-  pub IsAnswering-more : (found : S) (taken written so_far gathered gets new : List ℕ) (sent total : ℕ) (old next : Progress) (before after : S) (words said : Words)
+  pub IsAnswering-more : (found : S) (taken written so_far gathered gets new : List ℕ) (sent total : ℕ) (old next : Progress) (before after : S) (words : Words)
       → ((taken : List ℕ) (given : List Words) → Stands taken given old → Stands taken (given ++ words ∷ []) next)
-      → said ≡ words → Gathers Answers gathered sent before said gets new total after
+      → Gathers Answers gathered sent before words gets new total after
       → IsAnswering Answers found taken (written ++ so_far) gathered sent old before → IsAnswering Answers found taken (written ++ (so_far ++ gets)) new total next after
-  IsAnswering-more found taken written so_far gathered gets new sent total old next before after words said hands_out same one a =
-      subst (λ (w : List ℕ). IsAnswering Answers found taken w new total next after) (append_assoc written so_far gets) (IsAnswering-next found taken (written ++ so_far) gathered gets new sent total old next before after words said hands_out same one a)
+  IsAnswering-more found taken written so_far gathered gets new sent total old next before after words hands_out one a =
+      subst (λ (w : List ℕ). IsAnswering Answers found taken w new total next after) (append_assoc written so_far gets) (IsAnswering-next found taken (written ++ so_far) gathered gets new sent total old next before after words hands_out one a)
 
-  pub EndsAs-more : (found : S) (taken written so_far gathered gets : List ℕ) (sent : ℕ) (old next : Progress) (before after : S) (words said : Words) (end : End)
+  pub EndsAs-more : (found : S) (taken written so_far gathered gets : List ℕ) (sent : ℕ) (old next : Progress) (before after : S) (words : Words) (end : End)
       → ((taken : List ℕ) (given : List Words) → Stands taken given old → Stands taken (given ++ words ∷ []) next)
-      → said ≡ words → Stops Answers gathered sent before said gets end after
+      → Stops Answers gathered sent before words gets end after
       → IsAnswering Answers found taken (written ++ so_far) gathered sent old before → EndsAs Answers found taken (written ++ (so_far ++ gets)) after end
-  EndsAs-more found taken written so_far gathered gets sent old next before after words said end hands_out same stop a =
-      subst (λ (w : List ℕ). EndsAs Answers found taken w after end) (append_assoc written so_far gets) (EndsAs-stopped found taken (written ++ so_far) gathered gets sent old next before after words said end hands_out same stop a)
+  EndsAs-more found taken written so_far gathered gets sent old next before after words end hands_out stop a =
+      subst (λ (w : List ℕ). EndsAs Answers found taken w after end) (append_assoc written so_far gets) (EndsAs-stopped found taken (written ++ so_far) gathered gets sent old next before after words end hands_out stop a)
 
   pub IsPieceEnd-from_stops : (gathered gets : List ℕ) (sent : ℕ) (before after : S) (words : Words) (end : End) → Stops Answers gathered sent before words gets end after → IsPieceEnd end
   IsPieceEnd-from_stops gathered gets sent before after words end (silent left total text moves answers is_memory) = subst IsPieceEnd (sym is_memory) tt

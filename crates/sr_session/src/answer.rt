@@ -9,7 +9,7 @@ ghost use Rattle.sr_session.specs.steps.Gathered.{Moves, BreaksOff, Gathers, Sto
 use crate::replies::Replies;
 use crate::{Clock, Desk, DeskFault, End};
 use sr_args::{Call, CallFault, Command, read_call};
-use sr_bytes::Name;
+use sr_bytes::Words;
 use sr_resp::{ErrCode, Reply, Sink};
 use std::alloc::Global;
 
@@ -45,7 +45,7 @@ pub(crate) fn answer_request<W: Sink, D: Desk, C: Clock>(
     writer: &mut W,
     desk: &mut D,
     clock: &C,
-    words: &[Name],
+    words: &Words,
     replies: &mut Replies,
 ) -> Result<(), End>
     requires words { 0 < length words.now }

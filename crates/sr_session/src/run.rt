@@ -168,7 +168,7 @@ fn answer_waiting<W: Sink, D: Desk, C: Clock>(
     ensures same { D.borrows desk.new ≡ D.borrows desk.old }
 {
     while let Some(words) = requests.next_request() {
-        answer_request(alloc, writer, desk, clock, words.as_slice(), replies)?;
+        answer_request(alloc, writer, desk, clock, &words, replies)?;
     }
     Ok(())
 }

@@ -2,12 +2,12 @@ ghost use Rattle.sr_args.specs.commands.Ping as ping_form;
 ghost use Rattle.sr_args.specs.steps.Gives.{Gives};
 
 use crate::value::copy_word;
-use crate::words::Words;
 use crate::{Call, CallFault};
+use sr_bytes::Unread;
 use std::alloc::Global;
 
 /// `PING [message]`
-pub(crate) fn read_ping(alloc: Global, mut words: Words<'_>) -> Result<Call, CallFault>
+pub(crate) fn read_ping(alloc: Global, mut words: Unread<'_>) -> Result<Call, CallFault>
     ensures { Gives ping_form.form ping_form.call words.entry result }
 {
     let Some(message) = words.next() else {

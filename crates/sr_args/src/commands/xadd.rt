@@ -8,9 +8,8 @@ ghost use Rattle.sr_args.specs.steps.Pairs.{pairs_of};
 
 use crate::options::{Choice, OptionSet, ValueFault, read_options};
 use crate::value::copy_word;
-use crate::words::Words;
 use crate::{Call, CallFault};
-use sr_bytes::{Fields, room_of};
+use sr_bytes::{Fields, Unread, room_of};
 use sr_ids::parse_spec;
 use std::alloc::{AllocError, Global};
 
@@ -21,11 +20,11 @@ struct XaddWords<'a> {
     judged: Result<Choice, ValueFault>,
     id: &'a [u8],
     /// Each field with its value, at least one.
-    fields: Words<'a>,
+    fields: Unread<'a>,
 }
 
 /// `XADD key [NOMKSTREAM] [MAXLEN|MINID [=|~] bound [LIMIT number]] id field value [field value ..]`
-pub(crate) fn read_xadd(alloc: Global, words: Words<'_>) -> Result<Call, CallFault>
+pub(crate) fn read_xadd(alloc: Global, words: Unread<'_>) -> Result<Call, CallFault>
     ensures { Gives xadd_form.form xadd_form.call words.entry result }
 {
     let Some(read) = xadd_words(words) else {
@@ -47,7 +46,7 @@ pub(crate) fn read_xadd(alloc: Global, words: Words<'_>) -> Result<Call, CallFau
 }
 
 /// The words of XADD: the key, options in any order, the id, and fields with their values.
-fn xadd_words(mut words: Words<'_>) -> Option<XaddWords<'_>>
+fn xadd_words(mut words: Unread<'_>) -> Option<XaddWords<'_>>
     ensures found { IfSome result (λ read. (written : List Written) × AreJudged written read.judged
         × Reads xadd_form.form words.entry (read.key.now, (written, (read.id.now, pairs_of read.fields)))) }
     ensures none { IfNone result ((reading : Reading xadd_form.form) →
@@ -68,7 +67,7 @@ fn xadd_words(mut words: Words<'_>) -> Option<XaddWords<'_>>
 }
 
 /// A copy of fields with their values, in one block.
-fn copy_fields(alloc: Global, mut words: Words<'_>) -> Result<Fields, AllocError>
+fn copy_fields(alloc: Global, mut words: Unread<'_>) -> Result<Fields, AllocError>
     ensures { IfOk result (λ fields. fields ≡ pairs_of words.entry) }
 {
     let mut fields = Fields::with_room(alloc, room_for(words.again()))?;
@@ -82,7 +81,7 @@ fn copy_fields(alloc: Global, mut words: Words<'_>) -> Result<Fields, AllocError
 }
 
 /// How many bytes the words take as fields and values. More or fewer would only cost memory.
-fn room_for(mut words: Words<'_>) -> usize {
+fn room_for(mut words: Unread<'_>) -> usize {
     let mut bytes = 0_usize;
     while let Some(word) = words.next() {
         bytes = bytes.saturating_add(room_of(word));

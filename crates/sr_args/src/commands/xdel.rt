@@ -2,12 +2,12 @@ ghost use Rattle.sr_args.specs.commands.Xdel as xdel_form;
 ghost use Rattle.sr_args.specs.steps.Gives.{Gives};
 
 use crate::value::{are_ids, copy_ids, copy_word};
-use crate::words::Words;
 use crate::{Call, CallFault};
+use sr_bytes::Unread;
 use std::alloc::Global;
 
 /// `XDEL key id [id ..]`
-pub(crate) fn read_xdel(alloc: Global, mut words: Words<'_>) -> Result<Call, CallFault>
+pub(crate) fn read_xdel(alloc: Global, mut words: Unread<'_>) -> Result<Call, CallFault>
     ensures { Gives xdel_form.form xdel_form.call words.entry result }
 {
     let Some(key) = words.next() else {

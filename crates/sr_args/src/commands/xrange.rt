@@ -10,9 +10,8 @@ ghost use Rattle.sr_args.specs.steps.Ranges.{range_form, range_reading, spelling
 
 use crate::options::{Choice, OptionSet, ValueFault, read_options};
 use crate::value::copy_word;
-use crate::words::Words;
 use crate::{Call, CallFault};
-use sr_bytes::Name;
+use sr_bytes::{Name, Unread};
 use sr_ids::{Id, parse_end, parse_start};
 use std::alloc::Global;
 
@@ -43,7 +42,7 @@ pub(crate) struct Asked {
 }
 
 /// `XRANGE key start end [COUNT int]`
-pub(crate) fn read_xrange(alloc: Global, words: Words<'_>) -> Result<Call, CallFault>
+pub(crate) fn read_xrange(alloc: Global, words: Unread<'_>) -> Result<Call, CallFault>
     ensures { Gives xrange_form.form xrange_form.call words.entry result }
 {
     let asked = read_range(alloc, words, Bound::Start, Bound::End)?;
@@ -56,7 +55,7 @@ pub(crate) fn read_xrange(alloc: Global, words: Words<'_>) -> Result<Call, CallF
 }
 
 /// `XREVRANGE key end start [COUNT int]`
-pub(crate) fn read_xrevrange(alloc: Global, words: Words<'_>) -> Result<Call, CallFault>
+pub(crate) fn read_xrevrange(alloc: Global, words: Unread<'_>) -> Result<Call, CallFault>
     ensures { Gives xrevrange_form.form xrevrange_form.call words.entry result }
 {
     let asked = read_range(alloc, words, Bound::End, Bound::Start)?;
@@ -71,7 +70,7 @@ pub(crate) fn read_xrevrange(alloc: Global, words: Words<'_>) -> Result<Call, Ca
 /// `key id id [COUNT int]`, where the ids are these ends of a range.
 fn read_range(
     alloc: Global,
-    words: Words<'_>,
+    words: Unread<'_>,
     first: Bound,
     second: Bound,
 ) -> Result<Asked, CallFault>
@@ -109,7 +108,7 @@ fn read_bound(bound: Bound, word: &[u8]) -> Option<Id>
 }
 
 /// The words of a range, whichever of its ids comes first, and what its options ask for.
-fn range_words(mut words: Words<'_>) -> Option<RangeWords<'_>>
+fn range_words(mut words: Unread<'_>) -> Option<RangeWords<'_>>
     ensures found { IfSome result (λ read. (written : List Written) ×
         ((first second : IdForm) → Reads (range_form first second) words.entry
         (range_reading read.key.now read.first.now read.second.now written first second)) ×

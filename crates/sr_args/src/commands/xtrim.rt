@@ -9,8 +9,8 @@ ghost use Rattle.sr_args.specs.steps.Options.{trim_reading};
 use crate::name::option_named;
 use crate::options::{TrimWords, read_trim, trim_words};
 use crate::value::copy_word;
-use crate::words::Words;
 use crate::{Call, CallFault, Measure, OptionName};
+use sr_bytes::Unread;
 use std::alloc::Global;
 
 /// The words of XTRIM, in their places.
@@ -21,7 +21,7 @@ struct XtrimWords<'a> {
 }
 
 /// `XTRIM key MAXLEN|MINID [=|~] bound [LIMIT number]`
-pub(crate) fn read_xtrim(alloc: Global, words: Words<'_>) -> Result<Call, CallFault>
+pub(crate) fn read_xtrim(alloc: Global, words: Unread<'_>) -> Result<Call, CallFault>
     ensures { Gives xtrim_form.form xtrim_form.call words.entry result }
 {
     let Some(read) = xtrim_words(words) else {
@@ -33,7 +33,7 @@ pub(crate) fn read_xtrim(alloc: Global, words: Words<'_>) -> Result<Call, CallFa
 }
 
 /// The words of XTRIM: the key, and a trim.
-fn xtrim_words(mut words: Words<'_>) -> Option<XtrimWords<'_>>
+fn xtrim_words(mut words: Unread<'_>) -> Option<XtrimWords<'_>>
     ensures found { IfSome result (λ read. Reads xtrim_form.form words.entry (read.key.now, trim_reading read.trim)) }
     ensures none { IfNone result ((reading : Reading xtrim_form.form) →
         Reads xtrim_form.form words.entry reading → ⊥) }

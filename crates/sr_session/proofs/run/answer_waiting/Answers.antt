@@ -18,7 +18,7 @@ loop-words-preserved g c =
     let i = c.loop-words.invariant in
     let one = c.in_ok-answer_request.ensures.ok in
     record {
-      so_far = (i.so_far.0 ++ one.0, Appends-trans _ _ _ i.so_far.0 one.0 i.so_far.1 one.1, λ found taken written start. IsAnswering-more _ found taken written i.so_far.0 _ one.0 _ _ _ _ _ _ _ _ _ c.in-Some.ensures.given c.as_slice.ensures.value one.2 (i.so_far.2 found taken written start));
+      so_far = (i.so_far.0 ++ one.0, Appends-trans _ _ _ i.so_far.0 one.0 i.so_far.1 one.1, λ found taken written start. IsAnswering-more _ found taken written i.so_far.0 _ one.0 _ _ _ _ _ _ _ _ c.in-Some.ensures.given one.2 (i.so_far.2 found taken written start));
       failed = sym (ap (λ (p : Progress). p.failed) c.in-Some.ensures.some) ∙ i.failed;
       noted = c.in_ok-answer_request.ensures.noted ∙ i.noted;
       same = c.answer_request.ensures.same ∙ i.same;
@@ -29,7 +29,7 @@ returns-in_err-answer_request-clause-err g c =
     let i = c.loop-words.invariant in
     let one = c.in_err-answer_request.ensures.err in
     let p = err_from_is_err_and c.from_residual.result c.from_residual.ensures.1 in
-    rw (p.1, p.2) (i.so_far.0 ++ one.0, Appends-trans _ _ _ i.so_far.0 one.0 i.so_far.1 one.1, λ found taken written start. EndsAs-more _ found taken written i.so_far.0 _ one.0 _ _ _ _ _ _ _ _ c.in-Some.ensures.given c.as_slice.ensures.value one.2 (i.so_far.2 found taken written start))
+    rw (p.1, p.2) (i.so_far.0 ++ one.0, Appends-trans _ _ _ i.so_far.0 one.0 i.so_far.1 one.1, λ found taken written start. EndsAs-more _ found taken written i.so_far.0 _ one.0 _ _ _ _ _ _ _ c.in-Some.ensures.given one.2 (i.so_far.2 found taken written start))
 
 pub returns-in_err-answer_request-clause-end : goal.returns-in_err-answer_request-clause-end
 returns-in_err-answer_request-clause-end g c =
