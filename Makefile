@@ -39,10 +39,11 @@ compare:
 	@cd crates/sr_server && rt run -- --stdio < /dev/null
 	@python3 bench/compare.py crates/sr_server/out/sr_server
 
-# Builds the server and times it on streams of requests over a pipe, as docs/BENCH.md describes.
+# Builds the server, times it on streams of requests over a pipe, and tells what memory a client can claim, as docs/BENCH.md describes.
 bench:
 	@cd crates/sr_server && rt run -- --stdio < /dev/null
 	@python3 bench/streams.py crates/sr_server/out/sr_server
+	@python3 bench/claims.py crates/sr_server/out/sr_server
 
 # Times the solver on the families of problems of docs/BENCH.md, by turns with LEMON's network simplex on the same problems if its
 # headers are installed (Debian: liblemon-dev), and alone if not.
