@@ -1,187 +1,149 @@
-// What no clause says: that commands succeed while there is memory. What they reply to requests that were worked by hand is
-// tested from bytes to bytes, in sr_session.
+// What no clause says: that commands succeed while there is memory, and that one that memory was refused to succeeds at the
+// second try. What they reply to requests that were worked by hand is tested from bytes to bytes, in sr_session.
 use crate::{Outcome, Space};
-use sr_args::{Call, Trim, TrimBy};
-use sr_bytes::{Fields, Name};
-use sr_ids::{Id, Ids, Spec};
-use sr_resp::Reply;
+use sr_args::{Call, CallFault, Command, read_call};
+use sr_bytes::Name;
+use sr_resp::append_reply;
 use std::alloc::{AllocError, Global};
 use std::hash::RandomState;
 use std::process::Abort;
 use std::test::Fail;
 
-const LAST: u64 = 18446744073709551615;
-
 /// When each command is carried out.
 const MOMENT: u64 = 7;
 
-fn name(alloc: Global, text: &str) -> Result<Name, AllocError> {
-    Ok(Name::new(Vec::from_slice(alloc, text.as_bytes())?))
-}
-
-fn bulk(alloc: Global, text: &str) -> Result<Reply, AllocError> {
-    Ok(Reply::bulk(alloc, name(alloc, text)?))
-}
-
-/// XADD of the field `f` with this value.
-fn xadd(
-    alloc: Global,
-    key: &str,
-    make: bool,
-    trim: Option<Trim>,
-    id: Spec,
-    value: &str,
-) -> Result<Call, AllocError> {
-    let mut fields = Fields::new(alloc);
-    fields.add(b"f", value.as_bytes())?;
-    Ok(Call::Xadd {
-        key: name(alloc, key)?,
-        make,
-        trim,
-        id,
-        fields,
-    })
-}
-
-/// MAXLEN without a LIMIT.
-fn max_len(keep: u64) -> Trim {
-    Trim {
-        by: TrimBy::MaxLen(keep),
-        limit: 0,
-    }
-}
-
-/// The id with this millisecond and the sequence number 0.
-fn at(ms: u64) -> Id {
-    Id { ms, seq: 0 }
-}
-
-fn xtrim(alloc: Global, key: &str, keep: u64) -> Result<Call, AllocError> {
-    Ok(Call::Xtrim {
-        key: name(alloc, key)?,
-        trim: max_len(keep),
-    })
-}
-
-fn xdel(alloc: Global, key: &str, id: Id) -> Result<Call, AllocError> {
-    let mut ids = Vec::new(alloc);
-    ids.push(id)?;
-    Ok(Call::Xdel {
-        key: name(alloc, key)?,
-        ids: Ids::new(ids),
-    })
-}
-
-fn xlen(alloc: Global, key: &str) -> Result<Call, AllocError> {
-    Ok(Call::Xlen {
-        key: name(alloc, key)?,
-    })
-}
-
-/// XRANGE of the whole stream.
-fn xrange(alloc: Global, key: &str) -> Result<Call, AllocError> {
-    Ok(Call::Xrange {
-        key: name(alloc, key)?,
-        start: at(0),
-        end: Id {
-            ms: LAST,
-            seq: LAST,
-        },
-        count: None,
-    })
-}
-
-/// XREVRANGE of the whole stream.
-fn xrevrange(alloc: Global, key: &str) -> Result<Call, AllocError> {
-    Ok(Call::Xrevrange {
-        key: name(alloc, key)?,
-        end: Id {
-            ms: LAST,
-            seq: LAST,
-        },
-        start: at(0),
-        count: None,
-    })
-}
-
-/// What is sent in reply to a command.
-fn sent(space: &mut Space, alloc: Global, call: &Call) -> Result<Reply, AllocError> {
-    let Outcome::Reply { send, .. } = space.exec(alloc, MOMENT, call)?;
-    Ok(send)
-}
-
-/// The array of these replies.
-fn array(alloc: Global, items: Vec<Reply>) -> Result<Reply, AllocError> {
-    let mut reply = Reply::empty_array(alloc);
-    for item in items {
-        reply.push(item)?;
-    }
-    Ok(reply)
-}
-
-/// `[[id, [f, value]], ..]`
-fn listed(alloc: Global, entries: &[(&str, &str)]) -> Result<Reply, AllocError> {
-    let mut list = Vec::new(alloc);
-    for (id, value) in entries {
-        let fields = vec![in alloc; bulk(alloc, "f")?, bulk(alloc, value)?]?;
-        let entry = vec![in alloc; bulk(alloc, id)?, array(alloc, fields)?]?;
-        list.push(array(alloc, entry)?)?;
-    }
-    array(alloc, list)
-}
-
-/// What XLEN and XRANGE reply at the keys `s`, `t` and `u`.
-fn seen(space: &mut Space, alloc: Global) -> Result<Reply, AllocError> {
-    let mut replies = Vec::new(alloc);
-    for key in ["s", "t", "u"] {
-        replies.push(sent(space, alloc, &xlen(alloc, key)?)?)?;
-        replies.push(sent(space, alloc, &xrange(alloc, key)?)?)?;
-    }
-    array(alloc, replies)
-}
-
 /// Commands of each kind that acts on keys.
-fn commands(alloc: Global) -> Result<Vec<Call>, AllocError> {
-    let newest = Some(max_len(1));
-    Ok(vec![in alloc;
-        xadd(alloc, "s", true, None, Spec::Written(at(1)), "a")?,
-        xadd(alloc, "s", true, None, Spec::Written(at(2)), "b")?,
-        xadd(alloc, "t", true, None, Spec::Written(at(1)), "c")?,
-        xadd(alloc, "t", true, newest, Spec::Auto, "d")?,
-        xadd(alloc, "s", true, None, Spec::Ms(5), "e")?,
-        xadd(alloc, "u", false, None, Spec::Auto, "nowhere")?,
-        xadd(alloc, "s", true, newest, Spec::Written(at(1)), "refused")?,
-        xtrim(alloc, "s", 2)?,
-        xdel(alloc, "s", at(2))?,
-        xrange(alloc, "s")?,
-        xrevrange(alloc, "s")?,
-        xlen(alloc, "t")?,
-    ]?)
+const COMMANDS: [&str; 12] = [
+    "XADD s 1-0 f a",
+    "XADD s 2-0 f b",
+    "XADD t 1-0 f c",
+    "XADD t MAXLEN 1 * f d",
+    "XADD s 5-* f e",
+    "XADD u NOMKSTREAM * f nowhere",
+    "XADD s MAXLEN 1 1-0 f refused",
+    "XTRIM s MAXLEN 2",
+    "XDEL s 2-0",
+    "XRANGE s - +",
+    "XREVRANGE s + -",
+    "XLEN t",
+];
+
+/// Commands that show what the keys hold, each with its reply at the end.
+const LOOKS: [(&str, &str); 6] = [
+    ("XLEN s", ":1\r\n"),
+    (
+        "XRANGE s - +",
+        "*1\r\n*2\r\n$3\r\n5-0\r\n*2\r\n$1\r\nf\r\n$1\r\ne\r\n",
+    ),
+    ("XLEN t", ":1\r\n"),
+    (
+        "XRANGE t - +",
+        "*1\r\n*2\r\n$3\r\n7-0\r\n*2\r\n$1\r\nf\r\n$1\r\nd\r\n",
+    ),
+    ("XLEN u", ":0\r\n"),
+    ("XRANGE u - +", "*0\r\n"),
+];
+
+/// The words of a line, which stand between single spaces.
+fn words_of(alloc: Global, line: &str) -> Result<Vec<Name>, AllocError> {
+    let mut words = Vec::new(alloc);
+    for word in line.split(' ') {
+        words.push(Name::new(Vec::from_slice(alloc, word.as_bytes())?))?;
+    }
+    Ok(words)
 }
 
-/// Carries out commands, and tries each again if memory is refused.
-fn carry_out(rt: &impl Abort, space: &mut Space, alloc: Global) -> Result<(), AllocError> {
-    for call in commands(alloc)?.iter() {
-        let before = seen(space, alloc)?;
-        if sent(space, alloc, call).is_err() {
-            assert!(rt; seen(space, alloc)? == before);
-            let _again = sent(space, alloc, call)?;
+/// The call that a line is. Any refusal but that of memory fails the test.
+fn call_of(rt: &(impl AllocGlobal + Abort), line: &str) -> Result<Call, AllocError> {
+    let words = words_of(rt.alloc(), line)?;
+    assert!(rt; !words.is_empty());
+    match read_call(rt.alloc(), words.as_slice()) {
+        Ok(Command::Call(call)) => Ok(call),
+        Err(fault) => {
+            assert_eq!(rt; fault, CallFault::Memory, "{line}");
+            Err(AllocError)
         }
     }
-    let first = sent(space, alloc, &xrange(alloc, "s")?)?;
-    assert!(rt; first == listed(alloc, &[("5-0", "e")])?);
-    let second = sent(space, alloc, &xrange(alloc, "t")?)?;
-    assert!(rt; second == listed(alloc, &[("7-0", "d")])?);
-    let third = sent(space, alloc, &xrange(alloc, "u")?)?;
-    assert!(rt; third == Reply::empty_array(alloc));
+}
+
+/// Appends what is sent in reply to a call.
+fn append_sent(
+    alloc: Global,
+    space: &mut Space,
+    call: &Call,
+    out: &mut Vec<u8>,
+) -> Result<(), AllocError> {
+    let Outcome::Reply { send, .. } = space.exec(alloc, MOMENT, call)?;
+    append_reply(out, &send)
+}
+
+/// Appends the reply to a command that shows what the keys hold.
+fn look(
+    rt: &(impl AllocGlobal + Abort),
+    space: &mut Space,
+    line: &str,
+    out: &mut Vec<u8>,
+) -> Result<(), AllocError> {
+    let call = call_of(rt, line)?;
+    append_sent(rt.alloc(), space, &call, out)
+}
+
+/// What the keys hold, as the replies that show it.
+fn seen(rt: &(impl AllocGlobal + Abort), space: &mut Space) -> Result<Vec<u8>, AllocError> {
+    let mut replies = Vec::new(rt.alloc());
+    for (line, _) in LOOKS {
+        look(rt, space, line, &mut replies)?;
+    }
+    Ok(replies)
+}
+
+/// Carries out a call. If memory is refused, the keys hold what they held, and it is tried again.
+fn try_twice(
+    rt: &(impl AllocGlobal + Abort),
+    space: &mut Space,
+    call: &Call,
+) -> Result<(), AllocError> {
+    let before = seen(rt, space)?;
+    if space.exec(rt.alloc(), MOMENT, call).is_err() {
+        let after = seen(rt, space)?;
+        assert!(rt; after.as_slice() == before.as_slice());
+        let _again = space.exec(rt.alloc(), MOMENT, call)?;
+    }
     Ok(())
 }
 
-/// It shows the most if each of its allocations fails in turn.
+/// Carries out the command of a line in this way.
+fn carry_out(
+    rt: &(impl AllocGlobal + Abort),
+    space: &mut Space,
+    line: &str,
+) -> Result<(), AllocError> {
+    let call = call_of(rt, line)?;
+    try_twice(rt, space, &call)
+}
+
+/// Looks at the keys once more. It fails if the reply is another one.
+fn look_for(
+    rt: &(impl AllocGlobal + Abort),
+    space: &mut Space,
+    line: &str,
+    reply: &str,
+) -> Result<(), AllocError> {
+    let mut sent = Vec::new(rt.alloc());
+    look(rt, space, line, &mut sent)?;
+    assert_eq!(rt; sent.as_slice(), reply.as_bytes(), "{line}");
+    Ok(())
+}
+
+/// It shows the most if each of its allocations fails in turn. It ends early if one fails between the commands.
 #[test]
 fn refused_memory_leaves_the_keys(rt: HostRuntime) -> Result<(), Fail> {
     let mut space = Space::new(rt.alloc(), RandomState::new(&rt)?);
-    // It ends early if a refusal comes between the commands.
-    let _ended = carry_out(&rt, &mut space, rt.alloc());
+    for line in COMMANDS {
+        carry_out(&rt, &mut space, line)?;
+    }
+    for (line, reply) in LOOKS {
+        look_for(&rt, &mut space, line, reply)?;
+    }
     Ok(())
 }
