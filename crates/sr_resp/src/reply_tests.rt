@@ -61,21 +61,21 @@ fn each_error_is_spelled_as_its_page_says(rt: HostRuntime) -> Result<(), Fail> {
 
 #[test]
 fn each_kind_of_reply_is_spelled_as_resp_says(rt: HostRuntime) -> Result<(), Fail> {
-    let alloc = rt.alloc();
     let rows = [
-        (Reply::simple(alloc, Word::Ok), "+OK\r\n"),
-        (Reply::simple(alloc, Word::Pong), "+PONG\r\n"),
-        (Reply::int(alloc, 0), ":0\r\n"),
-        (Reply::int(alloc, i64::MIN), ":-9223372036854775808\r\n"),
-        (bulk(alloc, b"")?, "$0\r\n\r\n"),
-        (bulk(alloc, b"\r\n")?, "$2\r\n\r\n\r\n"),
-        (Reply::null_bulk(alloc), "$-1\r\n"),
-        (Reply::no_array(alloc), "*-1\r\n"),
-        (Reply::empty_array(alloc), "*0\r\n"),
+        (Kind::Simple(Word::Ok), "+OK\r\n"),
+        (Kind::Simple(Word::Pong), "+PONG\r\n"),
+        (Kind::Int(0), ":0\r\n"),
+        (Kind::Int(i64::MIN), ":-9223372036854775808\r\n"),
+        (Kind::Bulk(""), "$0\r\n\r\n"),
+        (Kind::Bulk("\r\n"), "$2\r\n\r\n\r\n"),
+        (Kind::NullBulk, "$-1\r\n"),
+        (Kind::NoArray, "*-1\r\n"),
+        (Kind::EmptyArray, "*0\r\n"),
     ];
-    for (reply, spelling) in rows.iter() {
-        let text = encode(alloc, reply)?;
-        assert_eq!(rt; text.as_slice(), spelling.as_bytes());
+    for (kind, spelling) in rows {
+        let reply = reply_of(rt.alloc(), kind)?;
+        let text = encode(rt.alloc(), &reply)?;
+        assert_eq!(rt; text.as_slice(), spelling.as_bytes(), "at {spelling}");
     }
     Ok(())
 }
@@ -174,6 +174,28 @@ fn an_interrupted_write_is_tried_again(rt: HostRuntime) {
 fn no_bytes_need_no_write(rt: HostRuntime) {
     let mut writer = Scripted::new(rt.alloc(), &[]);
     assert_eq!(rt; send_all(&mut WriteTo::new(&mut writer), b""), Ok(()));
+}
+
+/// The kinds of replies, but for errors and arrays with items.
+#[derive(Clone, Copy)]
+enum Kind {
+    Simple(Word),
+    Int(i64),
+    Bulk(&'static str),
+    NullBulk,
+    NoArray,
+    EmptyArray,
+}
+
+fn reply_of(alloc: Global, kind: Kind) -> Result<Reply, AllocError> {
+    match kind {
+        Kind::Simple(word) => Ok(Reply::simple(alloc, word)),
+        Kind::Int(n) => Ok(Reply::int(alloc, n)),
+        Kind::Bulk(text) => bulk(alloc, text.as_bytes()),
+        Kind::NullBulk => Ok(Reply::null_bulk(alloc)),
+        Kind::NoArray => Ok(Reply::no_array(alloc)),
+        Kind::EmptyArray => Ok(Reply::empty_array(alloc)),
+    }
 }
 
 /// The reply to XRANGE for a stream with one entry, 1-1, whose field a has the value b.
