@@ -22,17 +22,11 @@ replay:
 check:
 	cd crates/$(C) && rt check
 
-# Runs the tests of a crate N times, with its first allocation refused, then its second and so on, and prints each test that
-# then fails for any other reason: make memory C=sr_solver N=60
+# Builds the tests of a crate once, and runs each with its first allocation refused, then its second and so on. Prints each test
+# that then fails for any other reason: make memory C=sr_policy, or with at most 500 runs of each test make memory C=sr_solver N=500
 memory:
-	@cd crates/$(C) && for n in $$(seq $(N)); do \
-	    rt try --test --fail-alloc $$n 2>&1 | awk -v n=$$n ' \
-	        test && !/error: (AllocError|AllocFailed|Memory)/ { print "allocation " n ": " test ": " $$0; bad = 1 } \
-	        { test = "" } \
-	        /^test .* FAILED$$/ { test = $$2 } \
-	        /^test result: / { ended = 1 } \
-	        END { exit bad || !ended }' || exit 1; \
-	done
+	@cd crates/$(C) && rt test
+	@scripts/memory crates/$(C)/out/$(C)_tests $(N)
 
 # Builds the server, sends it and a Redis server (Debian: redis-server) the same random commands, and prints replies that differ.
 compare:
