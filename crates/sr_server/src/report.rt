@@ -1,4 +1,4 @@
-ghost use Rattle.std.specs.Prelude.{◌≡◌, ◌≢◌};
+ghost use Rattle.std.specs.Prelude.{◌≡◌, ◌≢◌, ◌⊎◌};
 ghost use Rattle.clap.specs.Words.{kind_of};
 ghost use Rattle.sr_server.specs.Fault.{status_of};
 
@@ -25,6 +25,7 @@ pub(crate) fn report<E: Write>(err: &mut E, ended: Result<(), Fault>) -> u8
 
 /// Says why the command line is refused, and answers the status.
 pub(crate) fn refuse<E: Write>(err: &mut E, error: &Error) -> u8
+    ensures status { (result ≡ 1) ⊎ (result ≡ 2) }
     ensures memory { kind_of error.now ≡ ErrorKind.OutOfMemory → result ≡ 1 }
     ensures refused { kind_of error.now ≢ ErrorKind.OutOfMemory → result ≡ 2 }
 {

@@ -1,4 +1,4 @@
-ghost use Rattle.std.specs.Prelude.{◌≡◌, ◌≤◌, ℕ, List, [], ◌∷◌, map, true, false, Option, option_map, Result, OnOk, IfErr, IsErrOf};
+ghost use Rattle.std.specs.Prelude.{◌≡◌, ◌≤◌, ◌↔◌, ◌⊎◌, ℕ, List, [], ◌∷◌, map, true, false, Option, option_map, Result, IsOk, IfErr, IsErrOf};
 ghost use Rattle.std.specs.Io.KnownBytes.{Appends, Consumes};
 ghost use Rattle.sr_server.specs.Fault.{Serves, Runs, any_moment, is_of_session, status_of};
 ghost use Rattle.sr_server.specs.Options.{AsksFor};
@@ -54,10 +54,13 @@ where
         × (result ≡ status_of outcome)
         × (IfErr outcome (λ fault. is_of_session fault ≡ false → (reader.new ≡ reader.old) × (writer.new ≡ writer.old)))
         × (IsErrOf outcome Fault.NoRandomSource → files.new ≡ files.old) }
-    ensures ok { (name : List ℕ) (asked : List (List ℕ)) (policy : Option (List ℕ)) → map S.text words.now ≡ name ∷ asked
-        → AsksFor asked policy → result ≡ 0 → I.ended reader.new ≡ true }
 
-    // no option: nothing is read or written
+    // whatever the command line: status 0 exactly if the reader came to its end, and 1 if a read or a write failed
+    ensures ok { (result ≡ 0) ↔ (I.ended reader.new ≡ true) }
+    ensures failed { (I.failed reader.new ≡ true) ⊎ (O.failed writer.new ≡ true) → result ≡ 1 }
+
+    // status 2, or no option: no file is read, and nothing is read or written
+    ensures refused { result ≡ 2 → (files.new ≡ files.old) × (reader.new ≡ reader.old) × (writer.new ≡ writer.old) }
     ensures missing { (name : List ℕ) → map S.text words.now ≡ name ∷ []
         → (1 ≤ result) × (files.new ≡ files.old) × (reader.new ≡ reader.old) × (writer.new ≡ writer.old) }
 {
@@ -86,7 +89,9 @@ where
         × Consumes (I.remaining reader.old) (I.remaining reader.new) taken
         × Appends (O.contents writer.old) (O.contents writer.new) written
         × Runs any_moment (F.may_hold files.old) (option_map (λ path. path.now) policy.entry) taken written result }
-    ensures ok { OnOk result (I.ended reader.new ≡ true) }
+    ensures ok { IsOk result ↔ (I.ended reader.new ≡ true) }
+    ensures read { IsErrOf result Fault.Read ↔ (I.failed reader.new ≡ true) }
+    ensures write { IsErrOf result Fault.Write ↔ (O.failed writer.new ≡ true) }
     ensures refused { IfErr result (λ fault. is_of_session fault ≡ false → (reader.new ≡ reader.old) × (writer.new ≡ writer.old)) }
     ensures random { IsErrOf result Fault.NoRandomSource → files.new ≡ files.old }
 {
@@ -121,10 +126,10 @@ fn serve<C: Clock, I: Source, O: Sink>(
         × Appends (O.contents writer.old) (O.contents writer.new) written
         × Serves (C.may_tell clock.now) taken written result }
 
-    // each outcome has its cause
-    ensures ok { OnOk result (I.ended reader.new ≡ true) }
-    ensures read { IsErrOf result Fault.Read → I.failed reader.new ≡ true }
-    ensures write { IsErrOf result Fault.Write → O.failed writer.new ≡ true }
+    // each outcome has its cause, and no cause is passed over
+    ensures ok { IsOk result ↔ (I.ended reader.new ≡ true) }
+    ensures read { IsErrOf result Fault.Read ↔ (I.failed reader.new ≡ true) }
+    ensures write { IsErrOf result Fault.Write ↔ (O.failed writer.new ≡ true) }
     ensures session { IfErr result (λ fault. is_of_session fault ≡ true) }
 {
     let mut desk = PlainDesk::new(&mut server.space);

@@ -1,4 +1,4 @@
-use Rattle.std.proofs.Common.{[], Err, refl, inl, subst, sym, ◌∙◌, ◌≡◌, arith}
+use Rattle.std.proofs.Common.{[], Err, refl, inl, subst}
 use Rattle.std.proofs.KnownBytes.{Consumes-nil, Appends-nil}
 use Rattle.sr_server.specs.declared.fault.Fault.TheVariants.{StartMemory}
 use Rattle.sr_server.specs.Fault.{Runs, any_moment, starts_not}
@@ -15,9 +15,3 @@ pub returns-in-Err-clause-served : goal.returns-in-Err-clause-served
 returns-in-Err-clause-served g c = λ name asked policy words_are asks.
     let is_1 = c.refuse.ensures.memory (c.in-Err.ensures.err name asked policy words_are asks) in
     ([], [], Consumes-nil _, Appends-nil _, Err StartMemory, starts_not refl refl (inl refl), is_1, (λ e. (refl, refl)), (λ e. refl))
-
-pub returns-in-Err-clause-ok : goal.returns-in-Err-clause-ok
-returns-in-Err-clause-ok g c = λ name asked policy words_are asks is_0.
-    let is_1 : c.refuse.result ≡ 1 = c.refuse.ensures.memory (c.in-Err.ensures.err name asked policy words_are asks) in
-    let bad : 1 ≡ 0 = sym is_1 ∙ is_0 in
-    absurd (omega arith)
