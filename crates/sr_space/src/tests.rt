@@ -2,7 +2,7 @@
 // second try. What they reply to requests that were worked by hand is tested from bytes to bytes, in sr_session.
 use crate::{Outcome, Space};
 use sr_args::{Call, CallFault, Command, read_call};
-use sr_bytes::Name;
+use sr_bytes::Words;
 use sr_resp::append_reply;
 use std::alloc::{AllocError, Global};
 use std::hash::RandomState;
@@ -45,10 +45,10 @@ const LOOKS: [(&str, &str); 6] = [
 ];
 
 /// The words of a line, which stand between single spaces.
-fn words_of(alloc: Global, line: &str) -> Result<Vec<Name>, AllocError> {
-    let mut words = Vec::new(alloc);
+fn words_of(alloc: Global, line: &str) -> Result<Words, AllocError> {
+    let mut words = Words::new(alloc);
     for word in line.split(' ') {
-        words.push(Name::new(Vec::from_slice(alloc, word.as_bytes())?))?;
+        words.add(word.as_bytes())?;
     }
     Ok(words)
 }
@@ -56,8 +56,8 @@ fn words_of(alloc: Global, line: &str) -> Result<Vec<Name>, AllocError> {
 /// The call that a line is. Any refusal but that of memory fails the test.
 fn call_of(rt: &(impl AllocGlobal + Abort), line: &str) -> Result<Call, AllocError> {
     let words = words_of(rt.alloc(), line)?;
-    assert!(rt; !words.is_empty());
-    match read_call(rt.alloc(), words.as_slice()) {
+    assert!(rt; words.len() > 0);
+    match read_call(rt.alloc(), &words) {
         Ok(Command::Call(call)) => Ok(call),
         Err(fault) => {
             assert_eq!(rt; fault, CallFault::Memory, "{line}");
