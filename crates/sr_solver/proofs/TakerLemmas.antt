@@ -1,16 +1,15 @@
 -- A consumer that takes an entry: how it is found, and what is known once the entry is there.
-use Rattle.std.proofs.Common.{◌≡◌, ℕ, ◌+◌, ◌*◌, ◌^◌, ◌<◌, ◌≤◌, ◌⊎◌, Bool, true, List, length, get_or, Option, Some, None, refl, sym, ap, ◌∙◌, inl, inr, arith}
-use Rattle.std.specs.Prelude.{IfSome, nat_lt, IsSome}
+use Rattle.std.proofs.Common.{◌≡◌, ℕ, ◌+◌, ◌*◌, ◌^◌, ◌<◌, ◌≤◌, Bool, true, List, length, get_or, Option, Some, None, refl, sym, ◌∙◌, inl, inr, arith}
+use Rattle.std.specs.Prelude.{IfSome, IfNone, IsSome, ◌-◌}
 use Rattle.std.proofs.Math.ListN.{set, length-set}
 use Rattle.std.proofs.lemmas.Bool.{cases_eq, false≢true}
 use Rattle.std.proofs.lemmas.List.{get_or-set_same, get_or-set_other}
 use Rattle.sr_transport.specs.Problem.{Transport, consumers, room_of, cost_at, cost_of, IsAllowed}
 use Rattle.sr_transport.specs.Assignment.{load}
-use Rattle.sr_transport.specs.Certificate.{IsLeast}
 use Rattle.sr_solver.specs.declared.taker.Cheapest.{Cheapest}
 use Rattle.sr_solver.specs.Labels.{priced}
 use Rattle.sr_solver.specs.Placed.{IsPlaced, AreLoads}
-use Rattle.sr_solver.specs.Taker.{IsTaker, IsFree, IsCheapest, IsFreeAfter, IsCompared}
+use Rattle.sr_solver.specs.Taker.{IsTaker, IsFree, IsCheapest, IsFreeAfter, IsNoneAfter, IsCompared}
 use Rattle.sr_solver.specs.Members.{AreWide, AreMembers}
 use Rattle.sr_solver.proofs.MembersLemmas.{row_of, members_waiting, room_for_one, members_come}
 use Rattle.sr_solver.proofs.PathLemmas.{one_at, one_at_same, one_at_other, load-set}
@@ -88,11 +87,13 @@ loads_taken p k c xs prices loads placed counted ltk taken =
     }
 
 -- nothing is known before the first consumer
-pub none_compared : (p : Transport) (prices loads : List ℕ) (k sum : ℕ)
+pub none_compared : (p : Transport) (prices loads : List ℕ) (k sum : ℕ) → sum ≡ 2 ^ 64 - 1
     → IsCheapest p prices loads k 0 (record { sum = sum; free = None })
-none_compared p prices loads k sum = record {
+none_compared p prices loads k sum is = record {
   least = λ c lt. absurd (omega (arith, lt));
   free = tt;
+  attained = λ below. absurd (omega (arith, below, is));
+  none = λ c lt. absurd (omega (arith, lt));
 }
 
 -- the consumer that is free after one more
@@ -111,12 +112,43 @@ free_after p prices loads k n cost sum has_room old (Some f) allowed is_cost roo
           record { allowed = was.allowed; same = omega (arith, was.same, kept.1); room = was.room }
     ]
 
+-- nor after one that is not
+none_past : (p : Transport) (prices loads : List ℕ) (k n sum : ℕ) (free : Option ℕ)
+    → (IsFree p prices loads k sum n → ⊥) → IfNone free ((c : ℕ) → c < n → IsFree p prices loads k sum c → ⊥)
+    → IfNone free ((c : ℕ) → c < n + 1 → IsFree p prices loads k sum c → ⊥)
+none_past p prices loads k n sum (Some f) not before = tt
+none_past p prices loads k n sum None not before = λ c lt is. elim (cases_eq c n) [
+  | inl e ↦ not (rw (← e) is)
+  | inr ne ↦ before c (omega (arith, lt, ne)) is
+]
+
+-- no consumer is free after one more
+none_after : (p : Transport) (prices loads : List ℕ) (k n cost sum : ℕ) (has_room : Bool) (old : Cheapest) (free : Option ℕ)
+    → cost_of p k n ≡ cost → (get_or loads n 0 < room_of p n → has_room ≡ true) → sum ≤ old.sum
+    → ((c : ℕ) → c < n → IsAllowed p k c → old.sum ≤ priced p prices k c)
+    → IfNone old.free ((c : ℕ) → c < n → IsFree p prices loads k old.sum c → ⊥)
+    → IfNone free (IsNoneAfter (cost + get_or prices n 0) has_room old sum)
+    → IfNone free ((c : ℕ) → c < n + 1 → IsFree p prices loads k sum c → ⊥)
+none_after p prices loads k n cost sum has_room old (Some f) is_cost room less least before after = tt
+none_after p prices loads k n cost sum has_room old None is_cost room less least before after = λ c lt is.
+    elim (cases_eq c n) [
+      | inl e ↦
+          let here : IsFree p prices loads k sum n = rw (← e) is in
+          false≢true (sym (after.0 (omega (arith, here.same, is_cost))) ∙ room here.room)
+      | inr ne ↦
+          let ltn : c < n = omega (arith, lt, ne) in
+          let stays : sum ≡ old.sum = omega (arith, least c ltn is.allowed, is.same, less) in
+          let none : old.free ≡ None = after.1 stays in
+          (rw none at before) c ltn (rw (← stays) is)
+    ]
+
 -- one more consumer was looked at
 compared_more : (p : Transport) (prices loads : List ℕ) (k n : ℕ) (cost : Option ℕ) (has_room : Bool) (old new : Cheapest)
     → n < consumers p → cost_at p k n ≡ cost → (has_room ≡ true → get_or loads n 0 < room_of p n)
+    → (get_or loads n 0 < room_of p n → has_room ≡ true)
     → IsCheapest p prices loads k n old → IsCompared n cost (get_or prices n 0) has_room old new
     → IsCheapest p prices loads k (n + 1) new
-compared_more p prices loads k n None has_room old new ltn is room before compared =
+compared_more p prices loads k n None has_room old new ltn is room no_room before compared =
     rw compared (
     record {
       least = λ c lt allowed. elim (cases_eq c n) [
@@ -124,9 +156,12 @@ compared_more p prices loads k n None has_room old new ltn is room before compar
         | inr ne ↦ before.least c (omega (arith, lt, ne)) allowed
       ];
       free = before.free;
+      attained = before.attained;
+      none = none_past p prices loads k n old.sum old.free
+          (λ is_free. false≢true (let some : IsSome (cost_at p k n) = is_free.allowed.1 in rw is at some)) before.none;
     }
     )
-compared_more p prices loads k n (Some cost) has_room old new ltn is room before compared =
+compared_more p prices loads k n (Some cost) has_room old new ltn is room no_room before compared =
     let allowed : IsAllowed p k n = (ltn, rw is refl) in
     let is_cost : cost_of p k n ≡ cost = rw is refl in
     record {
@@ -134,17 +169,24 @@ compared_more p prices loads k n (Some cost) has_room old new ltn is room before
         | inl e ↦ rw e (omega (arith, compared.0, is_cost))
         | inr ne ↦ omega (arith, before.least c (omega (arith, lt, ne)) ok, compared.1)
       ];
-      free = free_after p prices loads k n cost new.sum has_room old new.free allowed is_cost room before.free compared.2;
+      free = free_after p prices loads k n cost new.sum has_room old new.free allowed is_cost room before.free compared.3;
+      attained = λ below. elim compared.2 [
+        | inl here ↦ (n, allowed, omega (arith, here, is_cost))
+        | inr stays ↦
+            let was = before.attained (omega (arith, stays, below)) in
+            (was.0, was.1, omega (arith, was.2, stays))
+      ];
+      none = none_after p prices loads k n cost new.sum has_room old new.free is_cost no_room compared.1 before.least before.none compared.4;
     }
 
 -- the same for what a loop holds
 pub compared_next : (p : Transport) (prices loads : List ℕ) (k n price : ℕ) (cost : Option ℕ) (has_room : Bool) (old new : Cheapest)
     → n < consumers p → cost_at p k n ≡ cost → price ≡ get_or prices n 0
-    → (has_room ≡ true → get_or loads n 0 < room_of p n)
+    → (has_room ≡ true → get_or loads n 0 < room_of p n) → (get_or loads n 0 < room_of p n → has_room ≡ true)
     → IsCheapest p prices loads k n old → IsCompared n cost price has_room old new
     → IsCheapest p prices loads k (n + 1) new
-compared_next p prices loads k n price cost has_room old new ltn is is_price room before compared =
-    compared_more p prices loads k n cost has_room old new ltn is room before (rw is_price at compared)
+compared_next p prices loads k n price cost has_room old new ltn is is_price room no_room before compared =
+    compared_more p prices loads k n cost has_room old new ltn is room no_room before (rw is_price at compared)
 
 -- an entry that may not go there
 pub compared_not : (p : Transport) (prices loads : List ℕ) (k n : ℕ) (old : Cheapest)
@@ -155,6 +197,8 @@ compared_not p prices loads k n old ltn not before = record {
     | inr ne ↦ before.least c (omega (arith, lt, ne)) allowed
   ];
   free = before.free;
+  attained = before.attained;
+  none = none_past p prices loads k n old.sum old.free (λ is_free. not is_free.allowed.1) before.none;
 }
 
 -- the consumer that is free after the last one takes the entry
@@ -167,6 +211,21 @@ free_takes p prices loads k sum (Some c) least is = record {
   least = λ d allowed. omega (arith, least d allowed.0 allowed, is.same);
   room = is.room;
 }
+
+-- and if none is free after the last one, none takes it
+pub none_takes : (p : Transport) (prices loads : List ℕ) (k n sum : ℕ) (free : Option ℕ) → n ≡ consumers p
+    → ((c : ℕ) → c < n → IsAllowed p k c → sum ≤ priced p prices k c)
+    → ((c : ℕ) → c < n → IsAllowed p k c → priced p prices k c < 2 ^ 64 - 1)
+    → (sum < 2 ^ 64 - 1 → (c : ℕ) × IsAllowed p k c × (priced p prices k c ≡ sum))
+    → IfNone free ((c : ℕ) → c < n → IsFree p prices loads k sum c → ⊥)
+    → IfNone free ((c : ℕ) → IsTaker p prices loads k c → ⊥)
+none_takes p prices loads k n sum (Some f) all least small attained none = tt
+none_takes p prices loads k n sum None all least small attained none = λ c taker.
+    let ltn : c < n = omega (arith, taker.allowed.0, all) in
+    let at_least = least c ltn taker.allowed in
+    let some = attained (omega (arith, at_least, small c ltn taker.allowed)) in
+    let at_most = taker.least some.0 some.1 in
+    none c ltn (record { allowed = taker.allowed; same = omega (arith, at_least, at_most, some.2); room = taker.room })
 
 -- the consumer has room for the entry
 pub taken_in_room : (p : Transport) (k c : ℕ) (xs prices loads : List ℕ)

@@ -1,6 +1,7 @@
 -- A consumer that takes an entry at once, so that no other entry has to move.
 
-use Rattle.std.specs.Prelude.{◌≡◌, ℕ, ◌+◌, ◌<◌, ◌≤◌, List, slice_index, ◌⊎◌, Bool, true, Option, Some, None, IfSome}
+use Rattle.std.specs.Prelude.{◌≡◌, ℕ, ◌+◌, ◌-◌, ◌^◌, ◌<◌, ◌≤◌, List, slice_index, ◌⊎◌, Bool, true, false}
+use Rattle.std.specs.Prelude.{Option, Some, None, IfSome, IfNone}
 use Rattle.sr_transport.specs.Problem.{Transport, room_of, IsAllowed}
 use Rattle.sr_transport.specs.Certificate.{IsLeast}
 use Rattle.sr_solver.specs.declared.taker.Cheapest.{Cheapest}
@@ -22,14 +23,22 @@ pub record IsFree (p : Transport) (prices loads : List ℕ) (k sum c : ℕ) : Ty
 pub record IsCheapest (p : Transport) (prices loads : List ℕ) (k n : ℕ) (cheapest : Cheapest) : Type 0 where
   pub least : (c : ℕ) → c < n → IsAllowed p k c → cheapest.sum ≤ priced p prices k c
   pub free : IfSome cheapest.free (IsFree p prices loads k cheapest.sum)
+  pub attained : cheapest.sum < 2 ^ 64 - 1 → (c : ℕ) × IsAllowed p k c × (priced p prices k c ≡ cheapest.sum)
+  pub none : IfNone cheapest.free ((c : ℕ) → c < n → IsFree p prices loads k cheapest.sum c → ⊥)
 
 -- the consumer that is free is c, which has this sum, or the one from before, if the sum stays
 abbrev pub IsFreeAfter : ℕ → ℕ → Bool → Cheapest → ℕ → ℕ → Type 0
 IsFreeAfter c sum has_room old new_sum f =
     ((f ≡ c) × (new_sum ≡ sum) × (has_room ≡ true)) ⊎ ((old.free ≡ Some f) × (new_sum ≡ old.sum))
 
+-- no consumer is free: not the one with this sum, and none from before, if the sum stays
+abbrev pub IsNoneAfter : ℕ → Bool → Cheapest → ℕ → Type 0
+IsNoneAfter sum has_room old new_sum = (new_sum ≡ sum → has_room ≡ false) × (new_sum ≡ old.sum → old.free ≡ None)
+
 -- what is known after consumer c, where the entry has this cost and this price
 abbrev pub IsCompared : ℕ → Option ℕ → ℕ → Bool → Cheapest → Cheapest → Type 0
 IsCompared c None price has_room old new = new ≡ old
 IsCompared c (Some cost) price has_room old new =
-    (new.sum ≤ cost + price) × (new.sum ≤ old.sum) × IfSome new.free (IsFreeAfter c (cost + price) has_room old new.sum)
+    (new.sum ≤ cost + price) × (new.sum ≤ old.sum) × ((new.sum ≡ cost + price) ⊎ (new.sum ≡ old.sum))
+    × IfSome new.free (IsFreeAfter c (cost + price) has_room old new.sum)
+    × IfNone new.free (IsNoneAfter (cost + price) has_room old new.sum)

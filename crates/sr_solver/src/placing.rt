@@ -1,4 +1,4 @@
-ghost use Rattle.std.specs.Prelude.{◌≡◌, ◌+◌, ◌<◌, ◌≤◌, length, true, false};
+ghost use Rattle.std.specs.Prelude.{◌≡◌, ◌+◌, ◌<◌, ◌≤◌, ℕ, length, true, false};
 ghost use Rattle.sr_transport.specs.Problem.{consumers};
 ghost use Rattle.sr_solver.specs.Placed.{IsStanding};
 ghost use Rattle.sr_solver.specs.Table.{IsTable};
@@ -36,6 +36,8 @@ pub fn take_all(problem: &Problem, placement: &mut Placement) -> usize
     requires standing { IsStanding problem.now 0 placement.old }
     ensures few { result ≤ problem.now.entries }
     ensures standing { IsStanding problem.now result placement.new }
+    ensures stopped { result < problem.now.entries
+        → (c : ℕ) → IsTaker problem.now placement.new.prices.items placement.new.loads.items result c → ⊥ }
 {
     for entry in 0..problem.entries() {
         let Some(consumer) = taker(problem, entry, &placement.prices, &placement.loads) else {

@@ -1,4 +1,4 @@
-ghost use Rattle.std.specs.Prelude.{◌≡◌, ℕ, ◌<◌, ◌≤◌, length, slice_index, nat_lt, IfSome};
+ghost use Rattle.std.specs.Prelude.{◌≡◌, ℕ, ◌<◌, ◌≤◌, length, slice_index, nat_lt, IfSome, IfNone};
 ghost use Rattle.sr_transport.specs.Limits.{greatest_cost};
 ghost use Rattle.sr_transport.specs.Problem.{consumers};
 ghost use Rattle.sr_solver.specs.Limits.{greatest_way};
@@ -22,7 +22,8 @@ pub fn taker(problem: &Problem, entry: usize, prices: &[u64], loads: &[u64]) -> 
     requires prices_each { length prices.now ≡ consumers problem.now }
     requires loads_each { length loads.now ≡ consumers problem.now }
     requires low { (c : ℕ) → c < consumers problem.now → slice_index prices.now c ≤ greatest_way }
-    ensures { IfSome result (IsTaker problem.now prices.now loads.now entry) }
+    ensures some { IfSome result (IsTaker problem.now prices.now loads.now entry) }
+    ensures none { IfNone result ((c : ℕ) → IsTaker problem.now prices.now loads.now entry c → ⊥) }
 {
     let mut cheapest = Cheapest {
         sum: u64::MAX,
