@@ -1,5 +1,6 @@
 -- One step of the reader's automaton, stage by stage, on lists alone.
-use Rattle.std.proofs.Common.{◌≡◌, ℕ, suc, ◌+◌, ◌-◌, ◌<◌, ◌≤◌, min, inl, inr, cond, eqb, List, [], ◌∷◌, ◌++◌, length, get_or, take, drop, Option, Some, None, Result, Ok, Err, codes, refl, sym, ap, subst, ◌∙◌, arith}
+use Rattle.std.proofs.Common.{◌≡◌, ℕ, suc, ◌+◌, ◌-◌, ◌*◌, ◌<◌, ◌≤◌, min, inl, inr, cond, eqb, List, [], ◌∷◌, ◌++◌, length, get_or, take, drop, Option, Some, None, Result, Ok, Err, codes, refl, sym, ap, subst, ◌∙◌, arith}
+use Rattle.std.specs.Char.{digit_value}
 use Rattle.std.specs.List.{slice_range}
 use Rattle.std.proofs.lemmas.Bool.{cases_eq, cases_lt, eq-eqb, ne_eqb, lt-ltb, le-ltb}
 use Rattle.std.proofs.lemmas.List.{append_assoc, append-nil, drop_more, length-append, length-take-le, length-drop, drop-drop}
@@ -13,8 +14,8 @@ use Rattle.sr_resp.specs.Reply.{line_end}
 use Rattle.sr_resp.specs.Request.{Words}
 use Rattle.sr_resp.specs.Reading.{Halt, More, Bad, ◌>>=◌, literal_at, digits_at, bytes_at, word_at, words_at, counted_at, array_at, item_at}
 use Rattle.sr_resp.specs.Numbers.{NumberGoesOn, CountGoesOn, LengthGoesOn}
-use Rattle.sr_resp.specs.Stages.{behind, others_at, body_at, goes_on, leads_to, IsStageAt, IsStepAt, StepsTo}
-use Rattle.sr_resp.proofs.ReadingSteps.{IsAt, at_place}
+use Rattle.sr_resp.specs.Stages.{behind, others_at, body_at, goes_on, leads_to, IsStageAt, IsStepAt, StepsTo, HasLineEnd, HasShortHeader}
+use Rattle.sr_resp.proofs.ReadingSteps.{IsAt, at_place, step_digit, step_return}
 
 -- ---- a byte
 
@@ -244,6 +245,87 @@ body_run item at others room start missing run within some few order small =
           body_more others room missing (missing - run) (slice_range item start at) (slice_range item at (at + run)) more (omega (arith, len))
           ∙ ap (λ (part : List ℕ). body_at others room part (missing - run) more) (range_more item start at (at + run) order (omega arith));
       sound = (small, omega arith);
+    }
+
+-- ---- a short header, and the rest of a word with its line end
+
+next_byte : (item : List ℕ) (at next byte : ℕ) → at < length item → get_or item at 0 ≡ byte → next ≡ at + 1 → drop at item ≡ byte ∷ drop next item
+next_byte item at next byte there is behind =
+    at_place item at byte (record { within = there; is = sym is }) ∙ ap (λ (n : ℕ). byte ∷ drop n item) (sym behind)
+
+line_end_range : (item : List ℕ) (at next : ℕ) → HasLineEnd item at → next ≡ at + 2 → slice_range item at next ≡ 13 ∷ 10 ∷ []
+line_end_range item at next end is =
+    let two : next - at ≡ 2 = omega arith in
+    let whole = end.whole in
+    let first = next_byte item at (at + 1) 13 (omega arith) end.carriage_return refl in
+    let second = next_byte item (at + 1) (at + 2) 10 (omega arith) end.line_feed (omega arith) in
+    rw (two, first, second) refl
+
+header_range : (item : List ℕ) (at room len : ℕ) → HasShortHeader item at room len → slice_range item at (at + 4) ≡ 36 ∷ get_or item (at + 1) 0 ∷ 13 ∷ 10 ∷ []
+header_range item at room len header =
+    let two : at + 2 - at ≡ 2 = omega arith in
+    let whole = header.end.whole in
+    let first = next_byte item at (at + 1) 36 (omega arith) header.mark refl in
+    let second = next_byte item (at + 1) (at + 2) (get_or item (at + 1) 0) (omega arith) refl (omega arith) in
+    let front : slice_range item at (at + 2) ≡ 36 ∷ get_or item (at + 1) 0 ∷ [] = rw (two, first, second) refl in
+    let last = line_end_range item (at + 2) (at + 4) header.end (omega arith) in
+    sym (range_more item at (at + 2) (at + 4) (omega arith) (omega arith)) ∙ rw (front, last) refl
+
+header_digits : (most byte len : ℕ) (more : List ℕ) → digit_value byte ≡ len → len < 10 → len ≤ most → digits_at most 0 0 (byte ∷ 13 ∷ 10 ∷ more) ≡ Ok (len, more)
+header_digits most byte len more is short fits =
+    let digit : digit_value byte < 10 = omega (arith, is) in
+    let small : 0 * 10 + digit_value byte ≤ most = omega (arith, is) in
+    let value : 0 * 10 + digit_value byte ≡ len = omega (arith, is) in
+    step_digit most 0 0 byte (13 ∷ 10 ∷ more) digit (omega arith) small
+    ∙ ap (λ (v : ℕ). digits_at most 1 v (13 ∷ 10 ∷ more)) value
+    ∙ step_return most 1 len 13 (10 ∷ more) (omega arith) refl (omega arith)
+
+pub header_step : (item : List ℕ) (at others room len : ℕ) → HasShortHeader item at room len → room ≤ 16777216
+    → StepsTo item at (stages.Word others room) (at + 4) (steps.On (stages.Body others (room - len) (at + 4) len))
+unfolding goes_on leads_to
+header_step item at others room len header small =
+    let byte = get_or item (at + 1) 0 in
+    let whole = header.end.whole in
+    let short = header.short in
+    let fits = header.fits in
+    let none : at + 4 - (at + 4) ≡ 0 = omega arith in
+    record {
+      forward = omega arith;
+      within = omega arith;
+      reads = λ more.
+          ap (λ (b : List ℕ). goes_on item at (stages.Word others room) (b ++ more)) (header_range item at room len header)
+          ∙ word_good item at (at + 1) others room (byte ∷ 13 ∷ 10 ∷ more)
+          ∙ ap (λ (read : Result (ℕ × List ℕ) Halt). read >>= λ x. body_at others (room - x.0) [] x.0 x.1) (header_digits (min room 1048576) byte len more header.digit short (omega arith))
+          ∙ rw none refl;
+      sound = (omega arith, omega arith);
+    }
+
+pub word_step : (item : List ℕ) (at others room start missing : ℕ) → HasLineEnd item (at + missing) → (others ≡ 0 → ⊥) → start ≤ at → room ≤ 16777216
+    → StepsTo item at (stages.Body others room start missing) (at + missing + 2) (steps.Word (record { start = start; end = at + missing }) (stages.Word (others - 1) room))
+unfolding goes_on leads_to
+word_step item at others room start missing line some order small =
+    let whole = line.whole in
+    let end = at + missing in
+    let run = slice_range item at (at + missing) in
+    let part = slice_range item start at in
+    let word = slice_range item start (at + missing) in
+    let count : at + missing - at ≡ missing = omega arith in
+    let len : length run ≡ missing = rw count (length-take-le missing (drop at item) (omega (arith, length-drop at item))) in
+    let last = line_end_range item (at + missing) (at + missing + 2) line refl in
+    let split : slice_range item at (at + missing + 2) ≡ run ++ 13 ∷ 10 ∷ [] =
+    sym (range_more item at (at + missing) (at + missing + 2) (omega arith) (omega arith)) ∙ ap (λ (b : List ℕ). run ++ b) last in
+    let k : suc (others - 1) ≡ others = omega arith in
+    record {
+      forward = omega arith;
+      within = whole;
+      reads = λ more.
+          ap (λ (b : List ℕ). body_at others room part missing (b ++ more)) split
+          ∙ ap (λ (b : List ℕ). body_at others room part missing b) (append_assoc run (13 ∷ 10 ∷ []) more)
+          ∙ body_more others room missing 0 part run (13 ∷ 10 ∷ more) (omega (arith, len))
+          ∙ ap (λ (p : List ℕ). body_at others room p 0 (13 ∷ 10 ∷ more)) (range_more item start at (at + missing) order (omega arith))
+          ∙ body_line others room word (13 ∷ 10 ∷ more)
+          ∙ ap (λ (n : ℕ). behind (word ∷ []) (others_at n room more)) (sym k);
+      sound = (record { order = omega arith; within = omega arith }, small);
     }
 
 -- ---- the bytes end

@@ -1,7 +1,8 @@
 -- What is still read of an item from the bytes to come, once some of its bytes have been examined: what Reading reads
 -- there, seen from the middle. Only private clauses cite this.
 
-use Rattle.std.specs.Prelude.{◌≡◌, ℕ, suc, ◌-◌, ◌<◌, ◌≤◌, List, [], ◌∷◌, ◌++◌, length, map, drop, Option, Some, None, Result, Ok, Err, codes, min}
+use Rattle.std.specs.Prelude.{◌≡◌, ℕ, suc, ◌+◌, ◌-◌, ◌<◌, ◌≤◌, List, [], ◌∷◌, ◌++◌, length, map, drop, Option, Some, None, Result, Ok, Err, codes, min, slice_index}
+use Rattle.std.specs.Char.{digit_value}
 use Rattle.std.specs.List.{slice_range}
 use Rattle.sr_resp.specs.declared.stage.Place.{Place}
 use Rattle.sr_resp.specs.declared.stage.Stage.{Stage}
@@ -95,3 +96,17 @@ pub record StepsTo (item : List ℕ) (at : ℕ) (stage : Stage) (next : ℕ) (st
   pub within : next ≤ length item
   pub reads : (more : List ℕ) → goes_on item at stage (slice_range item at next ++ more) ≡ leads_to item next step more
   pub sound : IsStepAt next step
+
+-- a line end at a place of an item
+pub record HasLineEnd (item : List ℕ) (at : ℕ) : Type 0 where
+  pub whole : at + 2 ≤ length item
+  pub carriage_return : slice_index item at ≡ 13
+  pub line_feed : slice_index item (at + 1) ≡ 10
+
+-- the header of a word at a place of an item, with one digit: the number of its bytes, within the room
+pub record HasShortHeader (item : List ℕ) (at room len : ℕ) : Type 0 where
+  pub mark : slice_index item at ≡ 36
+  pub digit : digit_value (slice_index item (at + 1)) ≡ len
+  pub short : len < 10
+  pub fits : len ≤ room
+  pub end : HasLineEnd item (at + 2)

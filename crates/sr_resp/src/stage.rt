@@ -1,7 +1,7 @@
 //! How far the item under way has come: an automaton that examines each byte once.
-ghost use Rattle.std.specs.Prelude.{◌≡◌, ◌<◌, ◌≤◌, if◌then◌else◌, ◌==◌, length, min};
+ghost use Rattle.std.specs.Prelude.{◌≡◌, ◌<◌, ◌≤◌, if◌then◌else◌, ◌==◌, ◌-◌, length, min, IsTrue, IfSome};
 ghost use Rattle.sr_resp.specs.Numbers.{NumberGoesOn, CountGoesOn, LengthGoesOn};
-ghost use Rattle.sr_resp.specs.Stages.{IsStageAt, StepsTo};
+ghost use Rattle.sr_resp.specs.Stages.{IsStageAt, StepsTo, HasShortHeader, HasLineEnd};
 
 /// The most digits that the number in a header may have.
 const MAX_DIGITS: usize = 10;
@@ -171,9 +171,104 @@ fn in_length(others: usize, room: usize, digits: usize, value: usize, byte: u8) 
     }
 }
 
+/// The step to the bytes of a word, which begin at `start`.
+fn to_body(others: usize, room: usize, start: usize, len: usize) -> Step
+    requires { len ≤ room }
+    ensures { result ≡ Step.On (Stage.Body others (room - len) start len) }
+{
+    Step::On(Stage::Body {
+        others,
+        room: room - len,
+        start,
+        missing: len,
+    })
+}
+
+/// Whether a line ends here.
+fn is_line_end(item: &[u8], at: usize) -> bool
+    requires { at ≤ length item.now }
+    ensures { IsTrue result → HasLineEnd item.now at }
+{
+    item.len() - at >= 2 && item[at] == b'\r' && item[at + 1] == b'\n'
+}
+
+/// The number in the header of a word, if the header has one digit and is there to its end, and the number is within
+/// the room.
+fn short_header(item: &[u8], at: usize, room: usize) -> Option<usize>
+    requires { at < length item.now }
+    ensures { IfSome result (λ len. HasShortHeader item.now at room len) }
+{
+    if item.len() - at < 4 || item[at] != b'$' || !is_line_end(item, at + 2) {
+        return None;
+    }
+    let len = char::from(item[at + 1]).to_digit(10)? as usize;
+    if len <= room { Some(len) } else { None }
+}
+
+/// The step before the mark of a word: over its whole header if that is short, and otherwise over the mark.
+fn at_word(item: &[u8], at: usize, others: usize, room: usize) -> (Step, usize)
+    requires there { at < length item.now }
+    requires room { room ≤ 16777216 }
+    ensures { StepsTo item.now at (Stage.Word others room) result.1 result.0 }
+{
+    match short_header(item, at, room) {
+        Some(len) => {
+            let start = at + 4;
+            (to_body(others, room, start, len), start)
+        }
+        None => {
+            let step = Step::On(Stage::Length {
+                others,
+                room,
+                digits: 0,
+                value: 0,
+            });
+            (expect(b'$', item[at], step), at + 1)
+        }
+    }
+}
+
+/// The step in the bytes of a word: over the rest of them and the line end after them if all that is there and another
+/// word follows, and otherwise over as many of them as are there, or over the carriage return after the last of them.
+fn in_body(
+    item: &[u8],
+    at: usize,
+    others: usize,
+    room: usize,
+    start: usize,
+    missing: usize,
+) -> (Step, usize)
+    requires there { at < length item.now }
+    requires room { room ≤ 16777216 }
+    requires order { start ≤ at }
+    ensures { StepsTo item.now at (Stage.Body others room start missing) result.1 result.0 }
+{
+    if others > 0 && missing <= item.len() - at && is_line_end(item, at + missing) {
+        let end = at + missing;
+        let following = Stage::Word {
+            others: others - 1,
+            room,
+        };
+        (Step::Word(Place { start, end }, following), end + 2)
+    } else if missing > 0 {
+        let run = missing.min(item.len() - at);
+        let step = Step::On(Stage::Body {
+            others,
+            room,
+            start,
+            missing: missing - run,
+        });
+        (step, at + run)
+    } else {
+        let word = Place { start, end: at };
+        let step = Step::Word(word, Stage::BodyEnd { others, room });
+        (expect(b'\r', item[at], step), at + 1)
+    }
+}
+
 impl Stage {
-    /// Examines the next byte of the item, or as many bytes of a word as are there. Returns the step and the place
-    /// after them.
+    /// Examines the next byte of the item, or more of them where they are there: the short header of a word, or the
+    /// bytes of a word. Returns the step and the place after them.
     pub fn advance(self, item: &[u8], at: usize) -> (Step, usize)
         requires there { at < length item.now }
         requires sound { IsStageAt at self }
@@ -210,15 +305,7 @@ impl Stage {
                 };
                 (expect(b'\n', byte, step), next)
             }
-            Stage::Word { others, room } => {
-                let step = Step::On(Stage::Length {
-                    others,
-                    room,
-                    digits: 0,
-                    value: 0,
-                });
-                (expect(b'$', byte, step), next)
-            }
+            Stage::Word { others, room } => at_word(item, at, others, room),
             Stage::Length {
                 others,
                 room,
@@ -226,12 +313,7 @@ impl Stage {
                 value,
             } => (in_length(others, room, digits, value, byte), next),
             Stage::LengthEnd { others, room, len } => {
-                let step = Step::On(Stage::Body {
-                    others,
-                    room: room - len,
-                    start: next,
-                    missing: len,
-                });
+                let step = to_body(others, room, next, len);
                 (expect(b'\n', byte, step), next)
             }
             Stage::Body {
@@ -239,22 +321,7 @@ impl Stage {
                 room,
                 start,
                 missing,
-            } => {
-                if missing > 0 {
-                    let run = missing.min(item.len() - at);
-                    let step = Step::On(Stage::Body {
-                        others,
-                        room,
-                        start,
-                        missing: missing - run,
-                    });
-                    (step, at + run)
-                } else {
-                    let word = Place { start, end: at };
-                    let step = Step::Word(word, Stage::BodyEnd { others, room });
-                    (expect(b'\r', byte, step), next)
-                }
-            }
+            } => in_body(item, at, others, room, start, missing),
             Stage::BodyEnd { others, room } => {
                 let step = if others == 0 {
                     Step::Whole

@@ -1,7 +1,7 @@
-use Rattle.std.proofs.Common.{◌≡◌, ◌≤◌, ◌<◌, ◌+◌, ◌-◌, ◌∙◌, arith, get_or, codes}
+use Rattle.std.proofs.Common.{◌≤◌, ◌<◌, ◌+◌, ◌-◌, ◌∙◌, arith, get_or, codes}
 use Rattle.sr_resp.specs.declared.stage.Stage.TheVariants as stages
 use Rattle.sr_resp.specs.declared.stage.Step.TheVariants as steps
-use Rattle.sr_resp.proofs.StageLemmas.{byte_at, byte_step, expected_step, start_good, start_bad, kind_null, kind_count, null_bad, null_on, null_ends, count_end_empty, count_end_word, count_end_bad, word_good, word_bad, length_end_good, length_end_bad, body_end_whole, body_end_word, body_end_bad, body_good, body_bad, body_run}
+use Rattle.sr_resp.proofs.StageLemmas.{byte_at, byte_step, expected_step, start_good, start_bad, kind_null, kind_count, null_bad, null_on, null_ends, count_end_empty, count_end_word, count_end_bad, length_end_good, length_end_bad, body_end_whole, body_end_word, body_end_bad}
 use Rattle.sr_resp.proofs.stage.Stage.advance.Goals as goal
 use Rattle.sr_resp.proofs.stage.Stage.advance.Goals.{then-read-lt3, else-read-lt3, then-count-eq0, else-count-eq0, then-others-eq0, else-others-eq0}
 
@@ -14,8 +14,8 @@ in_length-requires-clause-room c = (rw c.in-Length.is at c.requires.sound).0
 pub in_length-requires-clause-value : goal.in_length-requires-clause-value
 in_length-requires-clause-value c = (rw c.in-Length.is at c.requires.sound).1
 
-pub overflow_sub-step-in-LengthEnd : goal.overflow_sub-step-in-LengthEnd
-overflow_sub-step-in-LengthEnd c = (rw c.in-LengthEnd.is at c.requires.sound).1
+pub to_body-step-requires : goal.to_body-step-requires
+to_body-step-requires c = (rw c.in-LengthEnd.is at c.requires.sound).1
 
 pub returns-in-Start : goal.returns-in-Start
 returns-in-Start c =
@@ -71,15 +71,6 @@ returns-after-count-eq0 c =
           rw c.in-CountEnd.is (expected_step item at 10 (stages.CountEnd count) (steps.On (stages.Word (count - 1) 16777216)) c.expect-in-CountEnd.result c.requires.there chosen (λ more. count_end_word item at (at + 1) count more w.if-count-eq0.false) (count_end_bad item at count (byte_at item at)) (omega arith))
     ]
 
-pub returns-in-Word : goal.returns-in-Word
-returns-in-Word c =
-    let item = c.args.item.now in
-    let at = c.args.at in
-    let others = c.in-Word.others in
-    let room = c.in-Word.room in
-    let small : room ≤ 16777216 = rw c.in-Word.is at c.requires.sound in
-    rw c.in-Word.is (expected_step item at 36 (stages.Word others room) (steps.On (stages.Length others room 0 0)) c.expect-in-Word.result c.requires.there c.expect-in-Word.ensures (word_good item at (at + 1) others room) (word_bad item at others room (byte_at item at)) (small, omega arith))
-
 pub returns-in-Length : goal.returns-in-Length
 returns-in-Length c =
     let item = c.args.item.now in
@@ -94,26 +85,8 @@ returns-in-LengthEnd c =
     let room = c.in-LengthEnd.room in
     let len = c.in-LengthEnd.len in
     let small : room ≤ 16777216 = (rw c.in-LengthEnd.is at c.requires.sound).0 in
-    rw c.in-LengthEnd.is (expected_step item at 10 (stages.LengthEnd others room len) (steps.On (stages.Body others (room - len) (at + 1) len)) c.expect-in-LengthEnd.result c.requires.there c.expect-in-LengthEnd.ensures (length_end_good item at (at + 1) others room len) (length_end_bad item at others room len (byte_at item at)) (omega arith, omega arith))
-
-pub returns-then-missing-gt0 : goal.returns-then-missing-gt0
-returns-then-missing-gt0 c =
-    let item = c.args.item.now in
-    let at = c.args.at in
-    let sound = rw c.in-Body.is at c.requires.sound in
-    rw c.in-Body.is (body_run item at c.in-Body.others c.in-Body.room c.in-Body.start c.in-Body.missing c.min-run.result (omega (arith, c.min-run.ensures, c.requires.there)) (omega (arith, c.min-run.ensures, c.requires.there, c.if-missing-gt0.true)) (omega (arith, c.min-run.ensures)) sound.1 sound.0)
-
-pub returns-else-missing-gt0 : goal.returns-else-missing-gt0
-returns-else-missing-gt0 c =
-    let item = c.args.item.now in
-    let at = c.args.at in
-    let others = c.in-Body.others in
-    let room = c.in-Body.room in
-    let start = c.in-Body.start in
-    let missing = c.in-Body.missing in
-    let none : missing ≡ 0 = omega (arith, c.if-missing-gt0.false) in
-    let sound = rw c.in-Body.is at c.requires.sound in
-    rw c.in-Body.is (expected_step item at 13 (stages.Body others room start missing) (steps.Word (record { start = start; end = at }) (stages.BodyEnd others room)) c.expect-else-missing-gt0.result c.requires.there c.expect-else-missing-gt0.ensures (λ more. body_good item at (at + 1) others room start missing more none) (λ more. body_bad item at others room start missing (byte_at item at) more none) (record { order = sound.1; within = omega arith }, sound.0))
+    let chosen = rw c.to_body-step.ensures at c.expect-in-LengthEnd.ensures in
+    rw c.in-LengthEnd.is (expected_step item at 10 (stages.LengthEnd others room len) (steps.On (stages.Body others (room - len) (at + 1) len)) c.expect-in-LengthEnd.result c.requires.there chosen (length_end_good item at (at + 1) others room len) (length_end_bad item at others room len (byte_at item at)) (omega arith, omega arith))
 
 pub returns-after-others-eq0 : goal.returns-after-others-eq0
 returns-after-others-eq0 c =
