@@ -305,7 +305,6 @@ pub word_step : (item : List ℕ) (at others room start missing : ℕ) → HasLi
 unfolding goes_on leads_to
 word_step item at others room start missing line some order small =
     let whole = line.whole in
-    let end = at + missing in
     let run = slice_range item at (at + missing) in
     let part = slice_range item start at in
     let word = slice_range item start (at + missing) in
