@@ -3,6 +3,7 @@ ghost use Rattle.std.specs.Hash as fed;
 ghost use Rattle.std.specs.Cmp.Rules.{comparing, hashing};
 ghost use Rattle.std.specs.Cmp.Lexicographic.{pointwise};
 ghost use Rattle.std.proofs.Common.{rules};
+ghost use Rattle.sr_bytes.specs.Order as order;
 
 use std::alloc::{AllocError, Global};
 use std::hash::{Hash, Hasher};
@@ -44,6 +45,13 @@ impl Name {
         ensures { result ≡ length self.now }
     {
         self.bytes.len()
+    }
+
+    /// Whether it comes before another in byte order, in which a name comes before those that it begins.
+    pub fn comes_before(&self, other: &Name) -> bool
+        ensures { result ≡ order.comes_before self.now other.now }
+    {
+        self.as_slice().cmp(&other.as_slice()).is_lt()
     }
 
     /// A copy with the same bytes.

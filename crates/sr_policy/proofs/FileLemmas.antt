@@ -8,7 +8,7 @@ use Rattle.std.specs.String.{string_cmp}
 use Rattle.toml.specs.View.{members_view}
 use Rattle.toml.proofs.Views.{Entry}
 use Rattle.sr_policy.specs.File.{numbers_of, pairs_of}
-use Rattle.sr_policy.specs.Order.{AreInOrder, ComesBefore}
+use Rattle.sr_bytes.specs.Order.{AreInOrder, ComesBefore}
 
 -- a table has as many pairs as its map has entries
 pub length_pairs : (es : List Entry) → length (pairs_of (members_view es)) ≡ length es

@@ -1,5 +1,4 @@
 pub mod Bounds
-pub mod Order
 pub mod Rules
 pub mod File
 pub mod Snapshot

@@ -10,7 +10,7 @@ use Rattle.sr_policy.specs.declared.stranded.Stranded.{Stranded}
 use Rattle.sr_policy.specs.declared.live.Live.{Live}
 use Rattle.sr_policy.specs.Bounds.{most_consumers, most_classes, most_limit, most_rate, most_weight, most_stranded}
 use Rattle.sr_policy.specs.Rules.{Text}
-pub use Rattle.sr_policy.specs.Order.{comes_before, ComesBefore, AreInOrder}
+pub use Rattle.sr_bytes.specs.Order.{comes_before, ComesBefore, AreInOrder}
 
 -- the key and the group; the names of the dead consumers; the entries that are pending for them and still in the stream,
 -- and those that are no longer in the stream, each with its owner; the consumers that could take them; and for each class

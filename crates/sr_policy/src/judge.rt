@@ -37,13 +37,6 @@ fn are_names_in_order(parts: &Parts) -> bool
         && are_classes_rising(parts.rates.as_slice())
 }
 
-/// Whether a name comes before another, in byte order.
-fn comes_before(a: &Name, b: &Name) -> bool
-    ensures { result ≡ spec.comes_before a.now b.now }
-{
-    a.as_slice().cmp(&b.as_slice()).is_lt()
-}
-
 /// Whether an id is below another.
 fn is_below(a: Id, b: Id) -> bool
     ensures { IsTrue result ↔ IsBelow a b }
@@ -56,7 +49,7 @@ fn are_names_rising(names: &[Name]) -> bool
 {
     names
         .windows(2)
-        .all(|pair| comes_before(&pair[0], &pair[1]))
+        .all(|pair| pair[0].comes_before(&pair[1]))
 }
 
 fn are_entries_rising(entries: &[Stranded]) -> bool
@@ -79,7 +72,7 @@ fn are_live_rising(live: &[Live]) -> bool
     ensures { IsTrue result ↔ spec.AreInOrder (λ a b. spec.ComesBefore a.name b.name) live.now }
 {
     live.windows(2)
-        .all(|pair| comes_before(&pair[0].name, &pair[1].name))
+        .all(|pair| pair[0].name.comes_before(&pair[1].name))
 }
 
 fn are_classes_rising(classes: &[(Name, Rates)]) -> bool
@@ -87,7 +80,7 @@ fn are_classes_rising(classes: &[(Name, Rates)]) -> bool
 {
     classes
         .windows(2)
-        .all(|pair| comes_before(&pair[0].0, &pair[1].0))
+        .all(|pair| pair[0].0.comes_before(&pair[1].0))
 }
 
 /// Whether every owner is dead.

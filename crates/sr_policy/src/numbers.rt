@@ -1,6 +1,6 @@
 ghost use Rattle.std.specs.Prelude.{◌≡◌, IfOk, option_map, map};
 ghost use Rattle.toml.specs.View.{table_view};
-ghost use Rattle.sr_policy.specs.Order.{AreInOrder, ComesBefore};
+ghost use Rattle.sr_bytes.specs.Order.{AreInOrder, ComesBefore};
 ghost use Rattle.sr_policy.specs.Rules.{value_at};
 ghost use Rattle.sr_policy.specs.File.{numbers_of as numbers_in};
 

@@ -22,7 +22,7 @@ pub struct Policy {
 
 impl Model for Policy {
     ghost use Rattle.std.specs.Prelude.{◌≡◌, map};
-    ghost use Rattle.sr_policy.specs.Order.{AreInOrder, ComesBefore};
+    ghost use Rattle.sr_bytes.specs.Order.{AreInOrder, ComesBefore};
     ghost use Rattle.sr_policy.specs.Rules.{Rules};
 
     ghost Value = { Rules };
@@ -34,7 +34,7 @@ impl Model for Policy {
 
 impl Policy {
     ghost use Rattle.std.specs.Prelude.{◌≡◌, IfOk, map, option_map};
-    ghost use Rattle.sr_policy.specs.Order.{AreInOrder, ComesBefore};
+    ghost use Rattle.sr_bytes.specs.Order.{AreInOrder, ComesBefore};
     ghost use Rattle.sr_policy.specs.Rules.{no_rules, value_at, consumers_of, limit_of, live_of, rate_of, classed_by as classed_in, class_of as class_by};
 
     /// The policy without consumers and rates, under which no entry can be given to anybody. It takes no memory.

@@ -1,7 +1,7 @@
 use Rattle.std.proofs.Common.{◌≡◌, map, rules, subst, sym}
 use Rattle.toml.specs.View.{table_view}
 use Rattle.sr_policy.specs.File.{numbers_of as numbers_in}
-use Rattle.sr_policy.specs.Order.{AreInOrder, ComesBefore}
+use Rattle.sr_bytes.specs.Order.{AreInOrder, ComesBefore}
 use Rattle.sr_policy.proofs.FileLemmas.{names_in_order}
 use Rattle.sr_policy.proofs.numbers.numbers_of.Goals as goal
 

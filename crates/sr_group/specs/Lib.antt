@@ -1,0 +1,5 @@
+pub mod Group
+pub mod Delivery
+pub mod Claim
+pub mod Shown
+pub mod steps

@@ -1,0 +1,14 @@
+//! A consumer group: what was delivered last, its consumers, and the entries that are pending for them.
+#![tactic(auto)]
+
+mod claim;
+mod consumer;
+mod group;
+mod listing;
+mod shown;
+
+pub use claim::{Claim, ClaimTime};
+pub use consumer::Consumer;
+pub use group::Group;
+pub use listing::{Idle, Summary};
+pub use shown::{Listed, ListedIter, Scan, Shown};
