@@ -96,6 +96,10 @@ is_between start end id = not (is_below id start) && not (is_below end id)
 abbrev pub pending_between : Id → Id → List Nack → List Nack
 pending_between start end nacks = filter (λ nack. is_between start end nack.id) nacks
 
+-- the pending entries above an id
+abbrev pub pending_above : Id → List Nack → List Nack
+pending_above id nacks = filter (λ nack. is_below id nack.id) nacks
+
 -- at most this many from the front; all if no number is given
 abbrev pub first_of : Option ℕ → List Nack → List Nack
 first_of None nacks = nacks

@@ -4,7 +4,7 @@ use crate::nack::copies;
 use crate::nacks::Nacks;
 use crate::owner::{count_owned, keep_others};
 use crate::room::{Room, add_room, in_all, room_for, use_room};
-use crate::search::{count_below, pending_place, place_of, range_of};
+use crate::search::{above, count_below, pending_place, place_of, range_of};
 use sr_bytes::Name;
 use sr_ids::Id;
 use std::alloc::{AllocError, Global};
@@ -37,7 +37,7 @@ impl Pending {
     ghost use Rattle.std.specs.Prelude.{◌≡◌, ◌+◌, ◌^◌, ◌<◌, ◌≤◌, [], true, false, length, OnOk, OnErr, IfOk, IfSome, IfNone};
     ghost use Rattle.std.specs.Option.{option_copied};
     ghost use Rattle.std.specs.List.{All};
-    ghost use Rattle.sr_pending.specs.Pending.{AreRising, IsCountable, KeepsRooms, Reserves, UsesRoom, greatest_pending, has_id, least_pending, moved, nack_with, owned_by, owned_by_named, pending_between, first_of, room_of, touched, with_nack, without, without_owner};
+    ghost use Rattle.sr_pending.specs.Pending.{AreRising, IsCountable, KeepsRooms, Reserves, UsesRoom, greatest_pending, has_id, least_pending, moved, nack_with, owned_by, owned_by_named, pending_above, pending_between, first_of, room_of, touched, with_nack, without, without_owner};
 
     /// No pending entries, and no room. It takes no memory.
     pub fn new(alloc: Global) -> Pending
@@ -202,6 +202,16 @@ impl Pending {
             first_of count (owned_by_named (option_copied owner.entry) (pending_between start end self.now.nacks)) }
     {
         Nacks::new(range_of(self.nacks.as_slice(), start, end), count, owner)
+    }
+
+    /// The entries above the id, at most `count` of them, and of this owner if one is named.
+    ///
+    /// Source: Redis documentation, command XREADGROUP, "any other ID".
+    pub fn above<'a>(&'a self, id: Id, count: Option<u64>, owner: Option<&'a Name>) -> Nacks<'a>
+        ensures { result ≡
+            first_of count (owned_by_named (option_copied owner.entry) (pending_above id self.now.nacks)) }
+    {
+        Nacks::new(above(self.nacks.as_slice(), id), count, owner)
     }
 
     /// The entries of this owner.

@@ -1,5 +1,5 @@
 ghost use Rattle.std.specs.Prelude.{◌≡◌, IfSome, IfNone, false, true};
-ghost use Rattle.sr_pending.specs.Pending.{AreRising, pending_between, has_id};
+ghost use Rattle.sr_pending.specs.Pending.{AreRising, pending_above, pending_between, has_id};
 ghost use Rattle.sr_pending.specs.steps.Search.{IsPlace, below, upto};
 
 use crate::Nack;
@@ -51,4 +51,12 @@ pub(crate) fn range_of(nacks: &[Nack], start: Id, end: Id) -> &[Nack]
     let from = count_below(nacks, start);
     let past = count_upto(nacks, end);
     if from < past { &nacks[from..past] } else { &[] }
+}
+
+/// The entries above the id.
+pub(crate) fn above(nacks: &[Nack], id: Id) -> &[Nack]
+    requires { AreRising nacks.now }
+    ensures { result.now ≡ pending_above id nacks.now }
+{
+    &nacks[count_upto(nacks, id)..]
 }
