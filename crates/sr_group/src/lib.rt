@@ -3,8 +3,11 @@
 
 mod claim;
 mod consumer;
+mod consumers;
+mod deliver;
 mod group;
 mod listing;
+mod show;
 mod shown;
 
 pub use claim::{Claim, ClaimTime};

@@ -1,3 +1,6 @@
+ghost use Rattle.std.specs.Prelude.{◌≡◌, [], ◌∷◌};
+ghost use Rattle.sr_group.specs.Shown.{listed_of};
+
 use sr_bytes::Name;
 use sr_ids::Id;
 use sr_pending::Nack;
@@ -72,6 +75,49 @@ impl<'a> Model for ListedIter<'a> {
     ghost Value = { List Listed };
 
     ghost view = { λ l. listed_of l.rest.now };
+}
+
+impl<'a> ListedIter<'a> {
+    ghost use Rattle.std.specs.Prelude.{◌≡◌, [], ◌∷◌, length, IfSome, IfNone};
+
+    /// How many entries are left.
+    pub fn len(&self) -> usize
+        ensures { result ≡ length self.now }
+    {
+        self.rest.len()
+    }
+
+    /// The next entry. None if there is no other.
+    pub fn next(&mut self) -> Option<Listed>
+        ensures some { IfSome result (λ listed. self.old ≡ listed ∷ self.new) }
+        ensures none { IfNone result (self.old ≡ []) }
+        ensures ended { IfNone result (self.new ≡ []) }
+    {
+        let (act, rest) = self.rest.split_first()?;
+        self.rest = rest;
+        Some(listed_by(act))
+    }
+}
+
+/// What an act lists.
+fn listed_by(act: &Act) -> Listed
+    ensures { listed_of (act.now ∷ []) ≡ result ∷ [] }
+{
+    match act {
+        Act::Give(nack) => Listed {
+            id: nack.id,
+            found: true,
+        },
+        Act::Touch { id, .. } => Listed {
+            id: *id,
+            found: true,
+        },
+        Act::Forget(id) => Listed {
+            id: *id,
+            found: false,
+        },
+        Act::Only(listed) => *listed,
+    }
 }
 
 /// What a scan of pending entries found.
