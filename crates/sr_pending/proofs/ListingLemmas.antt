@@ -1,5 +1,5 @@
 -- The first entry of an owner's, if one is named, and those after it.
-use Rattle.std.proofs.Common.{◌≡◌, ℕ, zero, suc, ◌+◌, Bool, true, false, cond, List, [], ◌∷◌, Option, Some, take, drop, filter, slice_get, ap, arith}
+use Rattle.std.proofs.Common.{◌≡◌, ℕ, zero, suc, ◌+◌, Bool, true, false, cond, List, [], ◌∷◌, Option, None, Some, take, drop, filter, slice_get, refl, ap, arith}
 use Rattle.sr_pending.specs.declared.nack.Nack.{Nack}
 use Rattle.sr_pending.specs.Pending.{is_of, owned_by_named}
 use Rattle.sr_pending.specs.steps.Search.{IsFirstOf}
@@ -25,3 +25,8 @@ IsFirstOf-found owner xs i x here wanted none =
       here = here;
       rest = rw more (filter-first (λ n. is_of owner n) xs i x here wanted none);
     }
+
+-- where no owner is named, all are wanted
+pub owned_by_named-none : (xs : List Nack) → owned_by_named None xs ≡ xs
+owned_by_named-none [] = refl
+owned_by_named-none (x ∷ xs) = ap (λ (l : List Nack). x ∷ l) (owned_by_named-none xs)

@@ -50,6 +50,16 @@ impl<'a> Nacks<'a> {
             }
         }
     }
+
+    /// The same entries, to be looked at a second time.
+    pub fn again(&self) -> Nacks<'a>
+        ensures { result ≡ self.now }
+    {
+        Nacks {
+            owned: self.owned.again(),
+            left: self.left,
+        }
+    }
 }
 
 /// The entries of an owner, if one is named.
@@ -83,6 +93,15 @@ impl<'a> Owned<'a> {
                 self.rest = &self.rest[place + 1..];
                 Some(nack)
             }
+        }
+    }
+
+    fn again(&self) -> Owned<'a>
+        ensures { result ≡ self.now }
+    {
+        Owned {
+            rest: self.rest,
+            owner: self.owner,
         }
     }
 }

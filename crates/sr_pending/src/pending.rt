@@ -34,10 +34,10 @@ impl Model for Pending {
 }
 
 impl Pending {
-    ghost use Rattle.std.specs.Prelude.{◌≡◌, ◌+◌, ◌^◌, ◌<◌, ◌≤◌, [], true, false, length, OnOk, OnErr, IfOk, IfSome, IfNone};
+    ghost use Rattle.std.specs.Prelude.{◌≡◌, ◌+◌, ◌^◌, ◌<◌, ◌≤◌, [], true, false, not, filter, length, OnOk, OnErr, IfOk, IfSome, IfNone};
     ghost use Rattle.std.specs.Option.{option_copied};
     ghost use Rattle.std.specs.List.{All};
-    ghost use Rattle.sr_pending.specs.Pending.{AreRising, IsCountable, KeepsRooms, Reserves, UsesRoom, greatest_pending, has_id, least_pending, moved, nack_with, owned_by, owned_by_named, pending_above, pending_between, first_of, room_of, touched, with_nack, without, without_owner};
+    ghost use Rattle.sr_pending.specs.Pending.{AreRising, IsCountable, KeepsRooms, Reserves, UsesRoom, greatest_pending, has_id, is_below, least_pending, moved, nack_with, owned_by, owned_by_named, pending_above, pending_between, first_of, room_of, touched, with_nack, without, without_owner};
 
     /// No pending entries, and no room. It takes no memory.
     pub fn new(alloc: Global) -> Pending
@@ -212,6 +212,23 @@ impl Pending {
             first_of count (owned_by_named (option_copied owner.entry) (pending_above id self.now.nacks)) }
     {
         Nacks::new(above(self.nacks.as_slice(), id), count, owner)
+    }
+
+    /// All entries.
+    pub fn all(&self) -> Nacks<'_>
+        ensures { result ≡ self.now.nacks }
+    {
+        Nacks::new(self.nacks.as_slice(), None, None)
+    }
+
+    /// The entries from `start` on.
+    ///
+    /// Source: Redis documentation, command XAUTOCLAIM.
+    pub fn from_id(&self, start: Id) -> Nacks<'_>
+        ensures { result ≡ filter (λ nack. not (is_below nack.id start)) self.now.nacks }
+    {
+        let from = count_below(self.nacks.as_slice(), start);
+        Nacks::new(&self.nacks.as_slice()[from..], None, None)
     }
 
     /// The entries of this owner.
