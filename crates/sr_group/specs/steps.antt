@@ -1,2 +1,3 @@
 pub mod Consumers
+pub mod Listing
 pub mod Showing

@@ -1,5 +1,10 @@
+ghost use Rattle.std.specs.Prelude.{◌≡◌, [], ◌∷◌, Some, IfSome, IfNone};
+ghost use Rattle.sr_group.specs.Group.{earlier, idle_for, oldest_of};
+
+use crate::Group;
+use sr_bytes::Name;
 use sr_ids::Id;
-use sr_pending::Nacks;
+use sr_pending::{Nack, Nacks};
 use std::marker::Model;
 
 /// How many entries are pending, in what range of ids, and how many for each consumer.
@@ -31,4 +36,130 @@ impl<'a> Model for Idle<'a> {
     ghost Value = { List Nack };
 
     ghost view = { λ i. take i.left (idle_for i.least_idle i.moment i.rest) };
+}
+
+impl<'a> Idle<'a> {
+    ghost use Rattle.std.specs.Prelude.{◌≡◌, ◌≤◌, ◌^◌, ◌<◌, [], ◌∷◌, length, take, IfSome, IfNone};
+    ghost use Rattle.sr_group.specs.Group.{idle_for};
+
+    /// At most `left` of these entries, of those that were not delivered for at least `least_idle` milliseconds.
+    fn new(rest: Nacks<'a>, least_idle: u64, moment: u64, left: u64) -> Idle<'a>
+        ensures value { result ≡ take left (idle_for least_idle moment rest.entry) }
+        ensures few { length result < 2 ^ 64 }
+    {
+        Idle {
+            rest,
+            least_idle,
+            moment,
+            left,
+        }
+    }
+
+    /// The next entry. None if there is no other.
+    pub fn next(&mut self) -> Option<&'a Nack>
+        ensures some { IfSome result (λ nack. self.old ≡ nack.now ∷ self.new) }
+        ensures none { IfNone result (self.old ≡ []) }
+        ensures ended { IfNone result (self.new ≡ []) }
+    {
+        if self.left == 0 {
+            return None;
+        }
+        match next_idle(&mut self.rest, self.least_idle, self.moment) {
+            None => None,
+            Some(nack) => {
+                self.left -= 1;
+                Some(nack)
+            }
+        }
+    }
+
+    /// The same entries, to be looked at a second time.
+    fn again(&self) -> Idle<'a>
+        ensures same { result ≡ self.now }
+        ensures few { length self.now < 2 ^ 64 }
+    {
+        Idle::new(self.rest.again(), self.least_idle, self.moment, self.left)
+    }
+
+    /// How many entries are left. It counts them.
+    pub fn len(&self) -> usize
+        ensures { result ≡ length self.now }
+    {
+        let mut rest = self.again();
+        let mut count = 0;
+        while let Some(_) = rest.next() {
+            count += 1;
+        }
+        count
+    }
+}
+
+/// The next entry that was not delivered for at least so many milliseconds.
+fn next_idle<'a>(rest: &mut Nacks<'a>, least_idle: u64, moment: u64) -> Option<&'a Nack>
+    ensures some { IfSome result (λ nack.
+        idle_for least_idle moment rest.old ≡ nack.now ∷ idle_for least_idle moment rest.new) }
+    ensures none { IfNone result (idle_for least_idle moment rest.old ≡ []) }
+    ensures ended { IfNone result (idle_for least_idle moment rest.new ≡ []) }
+{
+    while let Some(nack) = rest.next() {
+        if moment.saturating_sub(nack.time) >= least_idle {
+            return Some(nack);
+        }
+    }
+    None
+}
+
+/// The least delivery time of these entries.
+fn least_time(mut nacks: Nacks<'_>) -> Option<u64>
+    ensures { result ≡ oldest_of nacks.entry }
+{
+    let mut least = None;
+    while let Some(nack) = nacks.next() {
+        least = Some(earlier(nack.time, least));
+    }
+    least
+}
+
+/// The earlier of two moments, or the first if there is no other.
+fn earlier(time: u64, other: Option<u64>) -> u64
+    ensures { Some result ≡ earlier time other }
+{
+    match other {
+        Some(other) => time.min(other),
+        None => time,
+    }
+}
+
+impl Group {
+    ghost use Rattle.std.specs.Prelude.{◌≡◌, take};
+    ghost use Rattle.std.specs.Option.{option_copied};
+    ghost use Rattle.sr_pending.specs.Pending.{owned_by, owned_by_named, pending_between};
+    ghost use Rattle.sr_group.specs.Group.{idle_for, oldest_of};
+
+    /// The pending entries from `start` to `end`, both included, that were not delivered for at least `least_idle`
+    /// milliseconds, of this owner if one is named, at most `count` of them. Takes no memory.
+    ///
+    /// Source: Redis documentation, command XPENDING, "Extended form".
+    pub fn listing<'a>(
+        &'a self,
+        start: Id,
+        end: Id,
+        count: u64,
+        least_idle: u64,
+        moment: u64,
+        owner: Option<&'a Name>,
+    ) -> Idle<'a>
+        ensures { result ≡ take count (idle_for least_idle moment
+            (owned_by_named (option_copied owner.entry) (pending_between start end self.now.shown.nacks))) }
+    {
+        let rest = self.pending.range(start, end, None, owner);
+        Idle::new(rest, least_idle, moment, count)
+    }
+
+    /// When the consumer's pending entry that was delivered longest ago was delivered. None if it has none.
+    pub fn oldest(&self, consumer: &Name) -> Option<u64>
+        ensures { result ≡ oldest_of (owned_by consumer.now self.now.shown.nacks) }
+    {
+        least_time(self.pending.of(consumer))
+    }
 }
