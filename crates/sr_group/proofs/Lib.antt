@@ -3,3 +3,6 @@ pub mod ConsumerLemmas
 pub mod DeliveryLemmas
 pub mod GroupLemmas
 pub mod NameLemmas
+pub mod FoundLemmas
+pub mod JudgeLemmas
+pub mod ScanLemmas

@@ -1,3 +1,20 @@
+ghost use Rattle.std.specs.Prelude.{◌≡◌, ◌^◌, ◌<◌, None, Some, [], IfOk, IfSome, OnOk, OnErr, option_map};
+ghost use Rattle.std.specs.List.{All};
+ghost use Rattle.sr_entries.specs.Entries.{has_id};
+ghost use Rattle.sr_pending.specs.Pending.{IsCountable, nack_with};
+ghost use Rattle.sr_group.specs.Delivery.{raised};
+ghost use Rattle.sr_group.specs.Claim.{after_claim, count_given, fate_of, listed_claim, time_given};
+ghost use Rattle.sr_group.specs.Shown.{after_acts, listed_of};
+ghost use Rattle.sr_group.specs.steps.Judging.{IsJudged, Judges, act_with, delivered, delivery_after, delivery_of};
+ghost use Rattle.sr_group.specs.steps.Showing.{IsActOf};
+
+use crate::shown::Act;
+use sr_bytes::Name;
+use sr_entries::Entries;
+use sr_ids::Id;
+use sr_pending::{Nack, Pending};
+use std::alloc::{AllocError, Global};
+
 /// When a claimed entry counts as delivered.
 ///
 /// Source: Redis documentation, command XCLAIM, "IDLE" and "TIME".
@@ -24,4 +41,192 @@ pub struct Claim {
     pub count: Option<u64>,
     /// JUSTID: only ids are asked for, and no entry is delivered once more.
     pub just_ids: bool,
+}
+
+/// A claim as it is called: by whom, when, and what the stream has.
+pub(crate) struct Call<'a> {
+    pub(crate) claim: Claim,
+    pub(crate) claimer: &'a Name,
+    pub(crate) moment: u64,
+    pub(crate) entries: &'a Entries,
+}
+
+/// When a pending entry was delivered last, and how many times it was delivered.
+#[derive(Clone, Copy)]
+struct Delivery {
+    time: u64,
+    count: u64,
+}
+
+/// When a claimed entry counts as delivered, if it is claimed at the moment.
+fn time_given(moment: u64, time: ClaimTime) -> u64
+    requires { moment < 2 ^ 63 }
+    ensures value { result ≡ time_given moment time }
+    ensures bound { result < 2 ^ 63 }
+{
+    match time {
+        ClaimTime::Now => moment,
+        ClaimTime::Idle(idle) => moment.saturating_sub(idle),
+        ClaimTime::At(time) => time.min(moment),
+    }
+}
+
+/// How many times a claimed entry counts as delivered, after `old` times.
+fn count_given(claim: &Claim, old: u64) -> u64
+    requires count { IfSome claim.now.count (λ count. count < 2 ^ 63) }
+    requires old { old < 2 ^ 63 }
+    ensures value { result ≡ count_given claim.now.count claim.now.just_ids old }
+    ensures bound { result < 2 ^ 63 }
+{
+    match claim.count {
+        Some(count) => count,
+        None => { if claim.just_ids { old } else { one_more(old) } }
+    }
+}
+
+/// Whether the stream has the entry with this id.
+pub(crate) fn is_there(entries: &Entries, id: Id) -> bool
+    ensures { result ≡ has_id id entries.now.entries }
+{
+    match entries.get(id) {
+        Some(_entry) => true,
+        None => false,
+    }
+}
+
+/// What the call does to a pending entry that was delivered so: nothing if it was not idle for long enough.
+fn judge(
+    alloc: Global,
+    call: &Call<'_>,
+    id: Id,
+    delivery: Delivery,
+) -> Result<Option<Act>, AllocError>
+    requires moment { call.now.moment < 2 ^ 63 }
+    requires count { IfSome call.now.claim.count (λ count. count < 2 ^ 63) }
+    requires old { delivery.count < 2 ^ 63 }
+    ensures act { IfOk result (λ act. act ≡ act_with (fate_of
+        call.now.claim call.now.claimer.now call.now.moment call.now.entries.now.entries (delivered id delivery)) id) }
+    ensures own { IfOk result (λ act. IfSome act (IsActOf call.now.claimer.now)) }
+{
+    if !is_there(call.entries, id) {
+        return Ok(Some(Act::Forget(id)));
+    }
+    if call.moment.saturating_sub(delivery.time) < call.claim.least_idle {
+        return Ok(None);
+    }
+    let owner = call.claimer.copy(alloc)?;
+    Ok(Some(Act::Give(Nack {
+        id,
+        owner,
+        time: time_given(call.moment, call.claim.time),
+        count: count_given(&call.claim, delivery.count),
+    })))
+}
+
+/// The delivery of the entry with this id after an act, if it was delivered so before and still is pending.
+fn delivery_after(act: &Act, id: Id, before: Option<Delivery>) -> Option<Delivery>
+    ensures { result ≡ delivery_after act.now id before }
+{
+    match act {
+        Act::Give(nack) => {
+            if id == nack.id {
+                return Some(Delivery {
+                    time: nack.time,
+                    count: nack.count,
+                });
+            }
+        }
+        Act::Touch {
+            id: other,
+            time,
+            count,
+        } => {
+            if id == *other && before.is_some() {
+                return Some(Delivery {
+                    time: *time,
+                    count: *count,
+                });
+            }
+        }
+        Act::Forget(other) => {
+            if id == *other {
+                return None;
+            }
+        }
+        Act::Only(_) => {}
+    }
+    before
+}
+
+/// The delivery of the pending entry with this id.
+fn first_delivery(pending: &Pending, id: Id) -> Option<Delivery>
+    ensures { result ≡ option_map delivery_of (nack_with id pending.now.nacks) }
+{
+    let nack = pending.get(id)?;
+    Some(Delivery {
+        time: nack.time,
+        count: nack.count,
+    })
+}
+
+/// The delivery of the entry with this id, if it is pending after the acts.
+fn delivery_now(acts: &[Act], pending: &Pending, id: Id) -> Option<Delivery>
+    ensures { result ≡ option_map delivery_of (nack_with id (after_acts acts.now pending.now.nacks)) }
+{
+    let mut delivery = first_delivery(pending, id);
+    for act in acts {
+        delivery = delivery_after(act, id, delivery);
+    }
+    delivery
+}
+
+/// Judges one more id, as the acts so far leave the pending entries.
+fn judge_next(
+    alloc: Global,
+    call: &Call<'_>,
+    pending: &Pending,
+    acts: &mut Vec<Act>,
+    id: Id,
+) -> Result<(), AllocError>
+    requires moment { call.now.moment < 2 ^ 63 }
+    requires count { IfSome call.now.claim.count (λ count. count < 2 ^ 63) }
+    requires own { All (IsActOf call.now.claimer.now) acts.old.items }
+    ensures { OnOk result (Judges
+        call.now.claim call.now.claimer.now call.now.moment call.now.entries.now.entries pending.now.nacks id acts.old.items acts.new.items) }
+{
+    pending.sound();
+    let Some(delivery) = delivery_now(acts.as_slice(), pending, id) else {
+        return Ok(());
+    };
+    let Some(act) = judge(alloc, call, id, delivery)? else {
+        return Ok(());
+    };
+    acts.push(act)?;
+    Ok(())
+}
+
+/// What a claim of these ids does, which are judged one after the other.
+fn judge_all(
+    alloc: Global,
+    call: &Call<'_>,
+    pending: &Pending,
+    ids: &[Id],
+) -> Result<Vec<Act>, AllocError>
+    requires moment { call.now.moment < 2 ^ 63 }
+    requires count { IfSome call.now.claim.count (λ count. count < 2 ^ 63) }
+    ensures { IfOk result (λ acts. IsJudged
+        call.now.claim call.now.claimer.now call.now.moment call.now.entries.now.entries pending.now.nacks ids.now [] acts.items) }
+{
+    let mut acts = Vec::new(alloc);
+    for id in ids {
+        judge_next(alloc, call, pending, &mut acts, *id)?;
+    }
+    Ok(acts)
+}
+
+/// One more delivery, but never more than the greatest number of 63 bits.
+pub(crate) fn one_more(count: u64) -> u64
+    ensures { result ≡ raised count }
+{
+    count.saturating_add(1).min(0x7fff_ffff_ffff_ffff)
 }

@@ -8,6 +8,7 @@ mod deliver;
 mod group;
 mod listing;
 mod show;
+mod scan;
 mod shown;
 
 pub use claim::{Claim, ClaimTime};
