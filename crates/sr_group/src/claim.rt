@@ -2,13 +2,15 @@ ghost use Rattle.std.specs.Prelude.{◌≡◌, ◌^◌, ◌<◌, None, Some, [],
 ghost use Rattle.std.specs.List.{All};
 ghost use Rattle.sr_entries.specs.Entries.{has_id};
 ghost use Rattle.sr_pending.specs.Pending.{IsCountable, nack_with};
-ghost use Rattle.sr_group.specs.Delivery.{raised};
 ghost use Rattle.sr_group.specs.Claim.{after_claim, count_given, fate_of, listed_claim, time_given};
 ghost use Rattle.sr_group.specs.Shown.{after_acts, listed_of};
 ghost use Rattle.sr_group.specs.steps.Judging.{IsJudged, Judges, act_with, delivered, delivery_after, delivery_of};
 ghost use Rattle.sr_group.specs.steps.Showing.{IsActOf};
 
-use crate::shown::Act;
+use crate::Group;
+use crate::deliver::one_more;
+use crate::scan::{Looked, look};
+use crate::shown::{Act, Scan, Shown};
 use sr_bytes::Name;
 use sr_entries::Entries;
 use sr_ids::Id;
@@ -44,6 +46,7 @@ pub struct Claim {
 }
 
 /// A claim as it is called: by whom, when, and what the stream has.
+#[derive(Drop)]
 pub(crate) struct Call<'a> {
     pub(crate) claim: Claim,
     pub(crate) claimer: &'a Name,
@@ -224,9 +227,81 @@ fn judge_all(
     Ok(acts)
 }
 
-/// One more delivery, but never more than the greatest number of 63 bits.
-pub(crate) fn one_more(count: u64) -> u64
-    ensures { result ≡ raised count }
-{
-    count.saturating_add(1).min(0x7fff_ffff_ffff_ffff)
+impl Group {
+    ghost use Rattle.std.specs.Prelude.{◌≡◌, ◌^◌, ◌<◌, IfOk, IfSome, length, map};
+    ghost use Rattle.sr_group.specs.Claim.{group_after_claim, id_behind, listed_claim, pending_from, scanned};
+    ghost use Rattle.sr_group.specs.Shown.{HasRoomFor, after_showing, listed_of};
+
+    /// The entries with these ids become the claimer's, as `claim` says.
+    ///
+    /// Source: Redis documentation, command XCLAIM.
+    pub fn claim(
+        &mut self,
+        alloc: Global,
+        claimer: &Name,
+        ids: &[Id],
+        claim: Claim,
+        moment: u64,
+        entries: &Entries,
+    ) -> Result<Shown, AllocError>
+        requires moment { moment < 2 ^ 63 }
+        requires count { IfSome claim.count (λ count. count < 2 ^ 63) }
+        ensures shown { self.new.shown ≡ self.old.shown }
+        ensures effect { IfOk result (λ shown. after_showing shown self.old.shown
+            ≡ group_after_claim claim claimer.now moment entries.now.entries ids.now self.old.shown) }
+        ensures listed { IfOk result (λ shown. listed_of shown.acts
+            ≡ listed_claim claim claimer.now moment entries.now.entries ids.now self.old.shown.nacks) }
+        ensures room { IfOk result (λ shown. HasRoomFor shown self.new) }
+    {
+        let call = Call {
+            claim,
+            claimer,
+            moment,
+            entries,
+        };
+        let acts = judge_all(alloc, &call, &self.pending, ids)?;
+        let last = self.last;
+        self.prepare(alloc, claimer, moment, last, acts)
+    }
+
+    /// The pending entries from `start` on become the claimer's, as `claim` says: as many as are looked at until `count` of
+    /// them are given over or dropped, and at most ten times that many.
+    ///
+    /// Source: Redis documentation, command XAUTOCLAIM.
+    pub fn autoclaim(
+        &mut self,
+        alloc: Global,
+        claimer: &Name,
+        start: Id,
+        count: u64,
+        claim: Claim,
+        moment: u64,
+        entries: &Entries,
+    ) -> Result<Scan, AllocError>
+        requires moment { moment < 2 ^ 63 }
+        requires count { IfSome claim.count (λ count. count < 2 ^ 63) }
+        ensures shown { self.new.shown ≡ self.old.shown }
+        ensures effect { IfOk result (λ scan. after_showing scan.shown self.old.shown
+            ≡ group_after_claim claim claimer.now moment entries.now.entries
+                (map (λ nack. nack.id) (scanned claim claimer.now moment entries.now.entries count (pending_from start self.old.shown.nacks)))
+                self.old.shown) }
+        ensures listed { IfOk result (λ scan. listed_of scan.shown.acts
+            ≡ listed_claim claim claimer.now moment entries.now.entries
+                (map (λ nack. nack.id) (scanned claim claimer.now moment entries.now.entries count (pending_from start self.old.shown.nacks)))
+                self.old.shown.nacks) }
+        ensures next { IfOk result (λ scan. scan.next
+            ≡ id_behind (length (scanned claim claimer.now moment entries.now.entries count (pending_from start self.old.shown.nacks)))
+                (pending_from start self.old.shown.nacks)) }
+        ensures room { IfOk result (λ scan. HasRoomFor scan.shown self.new) }
+    {
+        let call = Call {
+            claim,
+            claimer,
+            moment,
+            entries,
+        };
+        let Looked { ids, next } = look(alloc, &call, self.pending.from_id(start), count)?;
+        let shown = self.claim(alloc, claimer, ids.as_slice(), claim, moment, entries)?;
+        Ok(Scan { shown, next })
+    }
 }

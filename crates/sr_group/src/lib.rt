@@ -7,8 +7,8 @@ mod consumers;
 mod deliver;
 mod group;
 mod listing;
-mod show;
 mod scan;
+mod show;
 mod shown;
 
 pub use claim::{Claim, ClaimTime};

@@ -9,6 +9,7 @@ use sr_pending::{Nack, Nacks};
 use std::alloc::{AllocError, Global};
 
 /// The ids that a scan looks at, and the next one behind them.
+#[derive(Drop)]
 pub(crate) struct Looked {
     pub(crate) ids: Vec<Id>,
     pub(crate) next: Id,
