@@ -6,3 +6,4 @@ pub mod GroupLemmas
 pub mod JudgeLemmas
 pub mod NameLemmas
 pub mod ScanLemmas
+pub mod CountLemmas

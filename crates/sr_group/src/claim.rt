@@ -283,15 +283,15 @@ impl Group {
         ensures shown { self.new.shown ≡ self.old.shown }
         ensures effect { IfOk result (λ scan. after_showing scan.shown self.old.shown
             ≡ group_after_claim claim claimer.now moment entries.now.entries
-                (map (λ nack. nack.id) (scanned claim claimer.now moment entries.now.entries count (pending_from start self.old.shown.nacks)))
-                self.old.shown) }
+            (map (λ nack. nack.id) (scanned claim claimer.now moment entries.now.entries count (pending_from start self.old.shown.nacks)))
+            self.old.shown) }
         ensures listed { IfOk result (λ scan. listed_of scan.shown.acts
             ≡ listed_claim claim claimer.now moment entries.now.entries
-                (map (λ nack. nack.id) (scanned claim claimer.now moment entries.now.entries count (pending_from start self.old.shown.nacks)))
-                self.old.shown.nacks) }
+            (map (λ nack. nack.id) (scanned claim claimer.now moment entries.now.entries count (pending_from start self.old.shown.nacks)))
+            self.old.shown.nacks) }
         ensures next { IfOk result (λ scan. scan.next
             ≡ id_behind (length (scanned claim claimer.now moment entries.now.entries count (pending_from start self.old.shown.nacks)))
-                (pending_from start self.old.shown.nacks)) }
+            (pending_from start self.old.shown.nacks)) }
         ensures room { IfOk result (λ scan. HasRoomFor scan.shown self.new) }
     {
         let call = Call {

@@ -1,10 +1,14 @@
-ghost use Rattle.std.specs.Prelude.{◌≡◌, [], ◌∷◌, Some, IfSome, IfNone};
-ghost use Rattle.sr_group.specs.Group.{earlier, idle_for, oldest_of};
+ghost use Rattle.std.specs.Prelude.{◌≡◌, ◌^◌, ◌<◌, [], ◌∷◌, Some, IfOk, IfSome, IfNone, length};
+ghost use Rattle.std.specs.List.{All};
+ghost use Rattle.sr_group.specs.Group.{AreInOrder, counts_of, earlier, idle_for, oldest_of};
+ghost use Rattle.sr_group.specs.steps.Listing.{counted};
 
-use crate::Group;
+use crate::consumers::place_of;
+use crate::{Consumer, Group};
 use sr_bytes::Name;
 use sr_ids::Id;
 use sr_pending::{Nack, Nacks};
+use std::alloc::{AllocError, Global};
 use std::marker::Model;
 
 /// How many entries are pending, in what range of ids, and how many for each consumer.
@@ -109,6 +113,37 @@ fn next_idle<'a>(rest: &mut Nacks<'a>, least_idle: u64, moment: u64) -> Option<&
     None
 }
 
+/// How many of these entries each of the consumers has.
+fn counts_for(
+    alloc: Global,
+    consumers: &[Consumer],
+    nacks: Nacks<'_>,
+) -> Result<Vec<u64>, AllocError>
+    requires order { AreInOrder consumers.now }
+    requires few { length nacks < 2 ^ 63 }
+    ensures { IfOk result (λ counts. counts.items ≡ counts_of consumers.now nacks.entry) }
+{
+    let mut rest = nacks;
+    let mut counts = vec![in alloc; 0u64; consumers.len()]?;
+    while let Some(nack) = rest.next() {
+        count_one(&mut counts, consumers, &nack.owner);
+    }
+    Ok(counts)
+}
+
+/// Counts one more entry of this owner.
+fn count_one(counts: &mut Vec<u64>, consumers: &[Consumer], owner: &Name)
+    requires order { AreInOrder consumers.now }
+    requires long { length counts.old.items ≡ length consumers.now }
+    requires few { All (λ count. count < 2 ^ 63) counts.old.items }
+    ensures { counts.new.items ≡ counted owner.now consumers.now counts.old.items }
+{
+    match place_of(consumers, owner) {
+        None => {}
+        Some(place) => counts[place] += 1,
+    }
+}
+
 /// The least delivery time of these entries.
 fn least_time(mut nacks: Nacks<'_>) -> Option<u64>
     ensures { result ≡ oldest_of nacks.entry }
@@ -131,10 +166,29 @@ fn earlier(time: u64, other: Option<u64>) -> u64
 }
 
 impl Group {
-    ghost use Rattle.std.specs.Prelude.{◌≡◌, take};
+    ghost use Rattle.std.specs.Prelude.{◌≡◌, IfOk, length, take};
     ghost use Rattle.std.specs.Option.{option_copied};
-    ghost use Rattle.sr_pending.specs.Pending.{owned_by, owned_by_named, pending_between};
-    ghost use Rattle.sr_group.specs.Group.{idle_for, oldest_of};
+    ghost use Rattle.sr_pending.specs.Pending.{greatest_pending, least_pending, owned_by, owned_by_named, pending_between};
+    ghost use Rattle.sr_group.specs.Group.{counts_of, idle_for, oldest_of};
+
+    /// How many entries are pending, the least and the greatest of their ids, and how many each consumer has.
+    ///
+    /// Source: Redis documentation, command XPENDING, "Summary form".
+    pub fn summary(&self, alloc: Global) -> Result<Summary, AllocError>
+        ensures total { IfOk result (λ summary. summary.total ≡ length self.now.shown.nacks) }
+        ensures least { IfOk result (λ summary. summary.least ≡ least_pending self.now.shown.nacks) }
+        ensures greatest { IfOk result (λ summary. summary.greatest ≡ greatest_pending self.now.shown.nacks) }
+        ensures counts { IfOk result (λ summary. summary.counts.items ≡ counts_of self.now.shown.consumers self.now.shown.nacks) }
+    {
+        let total = self.pending.len() as u64;
+        let counts = counts_for(alloc, self.consumers.as_slice(), self.pending.all())?;
+        Ok(Summary {
+            total,
+            least: self.pending.least_id(),
+            greatest: self.pending.greatest_id(),
+            counts,
+        })
+    }
 
     /// The pending entries from `start` to `end`, both included, that were not delivered for at least `least_idle`
     /// milliseconds, of this owner if one is named, at most `count` of them. Takes no memory.
