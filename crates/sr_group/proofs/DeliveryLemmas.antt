@@ -18,7 +18,7 @@ use Rattle.sr_group.specs.Group.{GroupState, seen_at, with_nacks}
 use Rattle.sr_group.specs.Delivery.{after_delivery, after_history, new_entries, delivered_to, found_entry, history_of, listed_in, raised, shown_again}
 use Rattle.sr_group.specs.Shown.{after_acts, after_showing, listed_of}
 use Rattle.sr_group.specs.steps.Showing.{IsActOf, again, delivery_of}
-use Rattle.sr_group.proofs.ActLemmas.{changed-with_nack}
+use Rattle.sr_group.proofs.ShowLemmas.{changed-with_nack}
 
 -- ---- entries of the stream
 

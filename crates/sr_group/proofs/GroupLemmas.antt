@@ -14,7 +14,7 @@ use Rattle.sr_group.specs.declared.shown.Act.{Act}
 use Rattle.sr_group.specs.Group.{IsGroup, IsOwned, IsSeen, KeptGroup, has_consumer, is_among, seen_at, with_ids, without_consumer, without_ids}
 use Rattle.sr_group.specs.Shown.{HasRoomFor, ShownState, after_acts}
 use Rattle.sr_group.specs.steps.Showing.{IsActOf, is_gift}
-use Rattle.sr_group.proofs.ActLemmas.{gifts-filter, owned-after_acts}
+use Rattle.sr_group.proofs.ShowLemmas.{gifts-filter, owned-after_acts}
 use Rattle.sr_group.proofs.ConsumerLemmas.{AreInOrder-filter, AreInOrder-seen_at, All-seen_at, has_consumer-seen, has_consumer-seen_at, has_consumer-without}
 
 -- the room that a call made

@@ -1,6 +1,6 @@
 use Rattle.std.proofs.Common.{refl}
 use Rattle.sr_group.specs.declared.shown.Act.TheVariants.{Touch, Forget, Only}
-use Rattle.sr_group.proofs.ActLemmas.{HaveRoom-given, HaveRoom-other}
+use Rattle.sr_group.proofs.ShowLemmas.{HaveRoom-given, HaveRoom-other}
 use Rattle.sr_group.proofs.show.apply.Goals as goal
 
 pub returns-in-Give-clause-rooms : goal.returns-in-Give-clause-rooms

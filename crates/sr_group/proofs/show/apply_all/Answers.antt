@@ -1,5 +1,5 @@
 use Rattle.std.specs.Vec.Iter.{into_iter_items}
-use Rattle.sr_group.proofs.ActLemmas.{HaveRoom-first}
+use Rattle.sr_group.proofs.ShowLemmas.{HaveRoom-first}
 use Rattle.sr_group.proofs.show.apply_all.Goals as goal
 
 pub apply-requires : goal.apply-requires

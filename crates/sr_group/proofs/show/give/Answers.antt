@@ -1,5 +1,5 @@
 use Rattle.std.proofs.Common.{sym, ◌∙◌}
-use Rattle.sr_group.proofs.ActLemmas.{moved-with_nack}
+use Rattle.sr_group.proofs.ShowLemmas.{moved-with_nack}
 use Rattle.sr_group.proofs.show.give.Goals as goal
 
 pub returns-then-contains-clause-nacks : goal.returns-then-contains-clause-nacks
