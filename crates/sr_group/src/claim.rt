@@ -195,7 +195,8 @@ fn judge_next(
     requires count { IfSome call.now.claim.count (λ count. count < 2 ^ 63) }
     requires own { All (IsActOf call.now.claimer.now) acts.old.items }
     ensures { OnOk result (Judges
-        call.now.claim call.now.claimer.now call.now.moment call.now.entries.now.entries pending.now.nacks id acts.old.items acts.new.items) }
+        call.now.claim call.now.claimer.now call.now.moment call.now.entries.now.entries
+        pending.now.nacks id acts.old.items acts.new.items) }
 {
     pending.sound();
     let Some(delivery) = delivery_now(acts.as_slice(), pending, id) else {
@@ -218,7 +219,8 @@ fn judge_all(
     requires moment { call.now.moment < 2 ^ 63 }
     requires count { IfSome call.now.claim.count (λ count. count < 2 ^ 63) }
     ensures { IfOk result (λ acts. IsJudged
-        call.now.claim call.now.claimer.now call.now.moment call.now.entries.now.entries pending.now.nacks ids.now [] acts.items) }
+        call.now.claim call.now.claimer.now call.now.moment call.now.entries.now.entries
+        pending.now.nacks ids.now [] acts.items) }
 {
     let mut acts = Vec::new(alloc);
     for id in ids {
@@ -283,14 +285,17 @@ impl Group {
         ensures shown { self.new.shown ≡ self.old.shown }
         ensures effect { IfOk result (λ scan. after_showing scan.shown self.old.shown
             ≡ group_after_claim claim claimer.now moment entries.now.entries
-            (map (λ nack. nack.id) (scanned claim claimer.now moment entries.now.entries count (pending_from start self.old.shown.nacks)))
+            (map (λ nack. nack.id)
+            (scanned claim claimer.now moment entries.now.entries count (pending_from start self.old.shown.nacks)))
             self.old.shown) }
         ensures listed { IfOk result (λ scan. listed_of scan.shown.acts
             ≡ listed_claim claim claimer.now moment entries.now.entries
-            (map (λ nack. nack.id) (scanned claim claimer.now moment entries.now.entries count (pending_from start self.old.shown.nacks)))
+            (map (λ nack. nack.id)
+            (scanned claim claimer.now moment entries.now.entries count (pending_from start self.old.shown.nacks)))
             self.old.shown.nacks) }
         ensures next { IfOk result (λ scan. scan.next
-            ≡ id_behind (length (scanned claim claimer.now moment entries.now.entries count (pending_from start self.old.shown.nacks)))
+            ≡ id_behind
+            (length (scanned claim claimer.now moment entries.now.entries count (pending_from start self.old.shown.nacks)))
             (pending_from start self.old.shown.nacks)) }
         ensures room { IfOk result (λ scan. HasRoomFor scan.shown self.new) }
     {

@@ -51,7 +51,8 @@ pub(crate) fn look(
     count: u64,
 ) -> Result<Looked, AllocError>
     ensures { IfOk result (λ looked. IsScan
-        call.now.claim call.now.claimer.now call.now.moment call.now.entries.now.entries count found.entry looked.ids.items looked.next) }
+        call.now.claim call.now.claimer.now call.now.moment call.now.entries.now.entries
+        count found.entry looked.ids.items looked.next) }
 {
     let mut rest = found;
     let mut ids = Vec::new(alloc);
