@@ -47,9 +47,7 @@ fn is_below(a: Id, b: Id) -> bool
 fn are_names_rising(names: &[Name]) -> bool
     ensures { IsTrue result ↔ spec.AreInOrder spec.ComesBefore names.now }
 {
-    names
-        .windows(2)
-        .all(|pair| pair[0].comes_before(&pair[1]))
+    names.windows(2).all(|pair| pair[0].comes_before(&pair[1]))
 }
 
 fn are_entries_rising(entries: &[Stranded]) -> bool
