@@ -133,47 +133,51 @@ fn replies_are_appended_one_behind_the_other(rt: HostRuntime) -> Result<(), Fail
 }
 
 #[test]
-fn a_failed_write_tells_how_much_was_sent(rt: HostRuntime) {
+fn a_failed_write_tells_how_much_was_sent(rt: HostRuntime) -> Result<(), Fail> {
     let turns = [Turn::Takes(3), Turn::Fails, Turn::Takes(4)];
-    let mut writer = Scripted::new(rt.alloc(), &turns);
+    let mut writer = Scripted::new(rt.alloc(), &turns)?;
     assert_eq!(rt;
         send_all(&mut WriteTo::new(&mut writer), b"+PONG\r\n"),
         Err(SendFault { sent: 3 })
     );
     assert_eq!(rt; writer.got.as_slice(), b"+PO".as_slice());
+    Ok(())
 }
 
 #[test]
-fn a_write_of_no_bytes_is_not_tried_again(rt: HostRuntime) {
+fn a_write_of_no_bytes_is_not_tried_again(rt: HostRuntime) -> Result<(), Fail> {
     let turns = [Turn::Takes(3), Turn::Takes(0), Turn::Takes(4)];
-    let mut writer = Scripted::new(rt.alloc(), &turns);
+    let mut writer = Scripted::new(rt.alloc(), &turns)?;
     assert_eq!(rt;
         send_all(&mut WriteTo::new(&mut writer), b"+PONG\r\n"),
         Err(SendFault { sent: 3 })
     );
     assert_eq!(rt; writer.got.as_slice(), b"+PO".as_slice());
+    Ok(())
 }
 
 #[test]
-fn an_interrupted_write_is_tried_again(rt: HostRuntime) {
+fn an_interrupted_write_is_tried_again(rt: HostRuntime) -> Result<(), Fail> {
     let turns = [
         Turn::Interrupted,
         Turn::Takes(3),
         Turn::Interrupted,
         Turn::Takes(9),
     ];
-    let mut writer = Scripted::new(rt.alloc(), &turns);
+    let mut writer = Scripted::new(rt.alloc(), &turns)?;
     assert_eq!(rt;
         send_all(&mut WriteTo::new(&mut writer), b"+PONG\r\n"),
         Ok(())
     );
     assert_eq!(rt; writer.got.as_slice(), b"+PONG\r\n".as_slice());
+    Ok(())
 }
 
 #[test]
-fn no_bytes_need_no_write(rt: HostRuntime) {
-    let mut writer = Scripted::new(rt.alloc(), &[]);
+fn no_bytes_need_no_write(rt: HostRuntime) -> Result<(), Fail> {
+    let mut writer = Scripted::new(rt.alloc(), &[])?;
     assert_eq!(rt; send_all(&mut WriteTo::new(&mut writer), b""), Ok(()));
+    Ok(())
 }
 
 /// The kinds of replies, but for errors and arrays with items.
@@ -228,11 +232,12 @@ struct Scripted<'a> {
 }
 
 impl<'a> Scripted<'a> {
-    fn new(alloc: Global, turns: &'a [Turn]) -> Scripted<'a> {
-        Scripted {
-            got: Vec::new(alloc),
+    /// A writer that has memory for what it takes.
+    fn new(alloc: Global, turns: &'a [Turn]) -> Result<Scripted<'a>, AllocError> {
+        Ok(Scripted {
+            got: Vec::with_capacity(alloc, 16)?,
             turns: turns.iter(),
-        }
+        })
     }
 }
 
