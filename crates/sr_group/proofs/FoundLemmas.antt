@@ -12,11 +12,12 @@ use Rattle.sr_entries.specs.Entries as entries
 use Rattle.sr_pending.specs.declared.nack.Nack.{Nack}
 use Rattle.sr_pending.specs.Pending.{is_below, is_same_id, nack_with, redelivered, touched, with_nack, without}
 use Rattle.sr_pending.proofs.NackLemmas.{is_below-from, is_same_id-above, is_same_id-below, is_same_id-refl, is_same_id-true}
+use Rattle.sr_group.specs.declared.claim.Delivery.{Delivery}
 use Rattle.sr_group.specs.declared.shown.Act.{Act}
 use Rattle.sr_group.specs.declared.shown.Act.TheVariants.{Give, Touch, Forget, Only}
 use Rattle.sr_group.specs.declared.shown.Listed.{Listed}
 use Rattle.sr_group.specs.Shown.{after_acts, listed_of}
-use Rattle.sr_group.specs.steps.Judging.{delivery_after, delivery_of}
+use Rattle.sr_group.specs.steps.Judging.{IsUpTo, delivery_after, delivery_of}
 
 -- ---- entries of a stream
 
@@ -192,3 +193,24 @@ listed_of-append (Give nack ∷ acts) more = ap (λ (l : List Listed). record { 
 listed_of-append (Touch id time count ∷ acts) more = ap (λ (l : List Listed). record { id = id; found = true } ∷ l) (listed_of-append acts more)
 listed_of-append (Forget id ∷ acts) more = ap (λ (l : List Listed). record { id = id; found = false } ∷ l) (listed_of-append acts more)
 listed_of-append (Only listed ∷ acts) more = ap (λ (l : List Listed). listed ∷ l) (listed_of-append acts more)
+
+-- ---- an id above those of all acts
+
+same_as_below : (last id other : Id) → is_below last id ≡ true → is_below last other ≡ false → is_same_id id other ≡ false
+same_as_below last id other above up_to = grind (arith, nat_tests)
+
+delivery_after-above : (last : Id) (act : Act) (id : Id) (before : Option Delivery) → is_below last id ≡ true → IsUpTo last act → delivery_after act id before ≡ before
+delivery_after-above last (Give nack) id before above up_to = rw (same_as_below last id nack.id above up_to) refl
+delivery_after-above last (Touch other time count) id before above up_to = rw (same_as_below last id other above up_to) refl
+delivery_after-above last (Forget other) id before above up_to = rw (same_as_below last id other above up_to) refl
+delivery_after-above last (Only listed) id before above up_to = refl
+
+-- finds what it found before them
+pub delivery-above : (last : Id) (acts : List Act) (id : Id) (xs : List Nack) → is_below last id ≡ true → All (IsUpTo last) acts
+    → option_map delivery_of (nack_with id (after_acts acts xs)) ≡ option_map delivery_of (nack_with id xs)
+delivery-above last [] id xs above all = refl
+delivery-above last (act ∷ acts) id xs above all =
+    ap (λ (l : List Nack). option_map delivery_of (nack_with id l)) (after_acts-append (act ∷ []) acts xs)
+    ∙ delivery-above last acts id (after_acts (act ∷ []) xs) above (All-tail (IsUpTo last) act acts all)
+    ∙ delivery_after-act act id xs
+    ∙ delivery_after-above last act id (option_map delivery_of (nack_with id xs)) above (All-head (IsUpTo last) act acts all)

@@ -1,14 +1,15 @@
 -- What it does to the pending entries that one more id is judged.
-use Rattle.std.proofs.Common.{◌≡◌, ℕ, suc, ◌+◌, ◌<◌, ◌^◌, Bool, true, false, cond, not, nat_lt, List, [], ◌∷◌, ◌++◌, length, get_or, drop, Option, Some, None, refl, ap, sym, ◌∙◌, append-nil, append_assoc, arith}
+use Rattle.std.proofs.Common.{◌≡◌, ℕ, suc, ◌+◌, ◌<◌, ◌^◌, Bool, true, false, cond, not, nat_lt, List, [], ◌∷◌, ◌++◌, length, get_or, slice_index_or, drop, Option, Some, None, refl, ap, sym, ◌∙◌, append-nil, append_assoc, arith}
 use Rattle.std.specs.Option.{option_map}
 use Rattle.std.specs.List.{All}
 use Rattle.std.proofs.Math.Seq.{drop-cons}
+use Rattle.std.proofs.lemmas.Bool.Decides.{nat_tests}
 use Rattle.std.proofs.lemmas.List.Elements.{All-head, All-tail, All-filter, All-push}
 use Rattle.sr_ids.specs.declared.id.Id.{Id}
 use Rattle.sr_entries.specs.declared.entry.Entry.{Entry}
 use Rattle.sr_entries.specs.Entries.{has_id}
 use Rattle.sr_pending.specs.declared.nack.Nack.{Nack}
-use Rattle.sr_pending.specs.Pending.{IsCountable, nack_with, redelivered}
+use Rattle.sr_pending.specs.Pending.{IsCountable, is_below, nack_with, redelivered}
 use Rattle.sr_pending.proofs.ChangeLemmas.{All-with_nack, All-changed}
 use Rattle.sr_group.specs.declared.claim.Claim.{Claim}
 use Rattle.sr_group.specs.declared.claim.Delivery.{Delivery}
@@ -18,7 +19,7 @@ use Rattle.sr_group.specs.declared.shown.Listed.{Listed}
 use Rattle.sr_group.specs.Claim.{Fate, Skipped, Dropped, GivenOver, after_claim, after_fate, count_given, fate_of, fate_of_any, fate_with, listed_claim, listed_with, time_given}
 use Rattle.sr_group.specs.Group.{idle_at}
 use Rattle.sr_group.specs.Shown.{after_acts, listed_of}
-use Rattle.sr_group.specs.steps.Judging.{IsJudged, Judges, act_with, delivered, delivery_of}
+use Rattle.sr_group.specs.steps.Judging.{IsJudged, IsUpTo, Judges, act_id, act_with, delivered, delivery_of}
 use Rattle.sr_group.specs.steps.Showing.{IsActOf}
 use Rattle.sr_group.proofs.FoundLemmas.{All-nack_with, after_acts-append, listed_of-append, nack_with-id}
 
@@ -146,3 +147,24 @@ module _ (claim : Claim) (claimer : List ℕ) (moment : ℕ) (entries : List Ent
             ∙ so_far.listed;
         own = next.own;
       }
+
+  -- an act is of the entry whose id was judged
+  pub act-id : (id : Id) (delivery : Delivery) (act : Act) → Some act ≡ act_with (fate_of claim claimer moment entries (delivered id delivery)) id → act_id act ≡ id
+  act-id id delivery act some = by (fate_of claim claimer moment entries (delivered id delivery)) refl some
+    where
+      by : (fate : Fate) → fate_of claim claimer moment entries (delivered id delivery) ≡ fate → Some act ≡ act_with fate id → act_id act ≡ id
+      by Skipped is e = cc
+      by Dropped is e = let one : act ≡ Forget id = cc in ap act_id one
+      by (GivenOver other) is e = let one : act ≡ Give other = cc in ap act_id one ∙ given_id (delivered id delivery) other is
+
+-- what is up to an id is up to a greater one
+up_to-trans : (most last other : Id) → is_below most last ≡ false → is_below last other ≡ false → is_below most other ≡ false
+up_to-trans most last other a b = grind (arith, nat_tests)
+
+pub AreUpTo-greater : (most last : Id) (acts : List Act) → is_below most last ≡ false → All (IsUpTo last) acts → All (IsUpTo most) acts
+AreUpTo-greater most last acts above all k d within = up_to-trans most last (act_id (slice_index_or acts k d)) above (all k d within)
+
+pub AreUpTo-pushed : (most last id : Id) (act : Act) (old new : List Act) → is_below most last ≡ false → is_below most id ≡ false → act_id act ≡ id
+    → All (IsUpTo last) old → new ≡ old ++ act ∷ [] → All (IsUpTo most) new
+AreUpTo-pushed most last id act old new above with_it is all pushed =
+    rw pushed (All-push (IsUpTo most) old act (AreUpTo-greater most last old above all) (rw is with_it))

@@ -1,10 +1,11 @@
-ghost use Rattle.std.specs.Prelude.{◌≡◌, ◌^◌, ◌<◌, None, Some, [], IfOk, IfSome, OnOk, OnErr, option_map};
+ghost use Rattle.std.specs.Prelude.{◌≡◌, ◌^◌, ◌<◌, false, None, Some, [], IfOk, IfSome, OnOk, OnErr, option_map};
 ghost use Rattle.std.specs.List.{All};
 ghost use Rattle.sr_entries.specs.Entries.{has_id};
-ghost use Rattle.sr_pending.specs.Pending.{IsCountable, nack_with};
+ghost use Rattle.sr_ids.specs.declared.id.Id as ids;
+ghost use Rattle.sr_pending.specs.Pending.{IsCountable, is_below, nack_with};
 ghost use Rattle.sr_group.specs.Claim.{after_claim, count_given, fate_of, listed_claim, time_given};
 ghost use Rattle.sr_group.specs.Shown.{after_acts, listed_of};
-ghost use Rattle.sr_group.specs.steps.Judging.{IsJudged, Judges, act_with, delivered, delivery_after, delivery_of};
+ghost use Rattle.sr_group.specs.steps.Judging.{IsJudged, IsUpTo, Judges, act_with, delivered, delivery_after, delivery_of};
 ghost use Rattle.sr_group.specs.steps.Showing.{IsActOf};
 
 use crate::Group;
@@ -172,8 +173,20 @@ fn first_delivery(pending: &Pending, id: Id) -> Option<Delivery>
     })
 }
 
-/// The delivery of the entry with this id, if it is pending after the acts.
-fn delivery_now(acts: &[Act], pending: &Pending, id: Id) -> Option<Delivery>
+/// The delivery of the entry with this id, if it is pending after the acts, which are of ids up to `greatest`. Ids that rise,
+/// as those of a scan do, are not looked for among the acts.
+fn delivery_now(acts: &[Act], greatest: Id, pending: &Pending, id: Id) -> Option<Delivery>
+    requires { All (IsUpTo greatest) acts.now }
+    ensures { result ≡ option_map delivery_of (nack_with id (after_acts acts.now pending.now.nacks)) }
+{
+    if greatest < id {
+        return first_delivery(pending, id);
+    }
+    delivery_after_all(acts, pending, id)
+}
+
+/// The delivery of the entry with this id, if it is pending after the acts, one of which may be of this id.
+fn delivery_after_all(acts: &[Act], pending: &Pending, id: Id) -> Option<Delivery>
     ensures { result ≡ option_map delivery_of (nack_with id (after_acts acts.now pending.now.nacks)) }
 {
     let mut delivery = first_delivery(pending, id);
@@ -183,23 +196,35 @@ fn delivery_now(acts: &[Act], pending: &Pending, id: Id) -> Option<Delivery>
     delivery
 }
 
-/// Judges one more id, as the acts so far leave the pending entries.
+/// The greater of two ids.
+fn greater(a: Id, b: Id) -> Id
+    ensures first { is_below result a ≡ false }
+    ensures second { is_below result b ≡ false }
+{
+    if a < b { b } else { a }
+}
+
+/// Judges one more id, as the acts so far leave the pending entries. They are of ids up to `greatest`.
 fn judge_next(
     alloc: Global,
     call: &Call<'_>,
     pending: &Pending,
     acts: &mut Vec<Act>,
+    greatest: Id,
     id: Id,
 ) -> Result<(), AllocError>
     requires moment { call.now.moment < 2 ^ 63 }
     requires count { IfSome call.now.claim.count (λ count. count < 2 ^ 63) }
     requires own { All (IsActOf call.now.claimer.now) acts.old.items }
-    ensures { OnOk result (Judges
+    requires up_to { All (IsUpTo greatest) acts.old.items }
+    ensures judged { OnOk result (Judges
         call.now.claim call.now.claimer.now call.now.moment call.now.entries.now.entries
         pending.now.nacks id acts.old.items acts.new.items) }
+    ensures up_to { OnOk result ((most : ids.Id) → is_below most greatest ≡ false → is_below most id ≡ false
+        → All (IsUpTo most) acts.new.items) }
 {
     pending.sound();
-    let Some(delivery) = delivery_now(acts.as_slice(), pending, id) else {
+    let Some(delivery) = delivery_now(acts.as_slice(), greatest, pending, id) else {
         return Ok(());
     };
     let Some(act) = judge(alloc, call, id, delivery)? else {
@@ -223,8 +248,10 @@ fn judge_all(
         pending.now.nacks ids.now [] acts.items) }
 {
     let mut acts = Vec::new(alloc);
+    let mut greatest = Id { ms: 0, seq: 0 };
     for id in ids {
-        judge_next(alloc, call, pending, &mut acts, *id)?;
+        judge_next(alloc, call, pending, &mut acts, greatest, *id)?;
+        greatest = greater(greatest, *id);
     }
     Ok(acts)
 }

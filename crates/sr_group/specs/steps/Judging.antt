@@ -1,12 +1,12 @@
 -- How the ids of a claim are judged, one after the other. No public clause cites it.
 
-use Rattle.std.specs.Prelude.{◌≡◌, ℕ, ◌++◌, List, [], Option, Some, None, if◌then◌else◌}
+use Rattle.std.specs.Prelude.{◌≡◌, ℕ, ◌++◌, List, [], Option, Some, None, false, if◌then◌else◌}
 use Rattle.std.specs.Option.{option_map}
 use Rattle.std.specs.List.{All}
 use Rattle.sr_ids.specs.declared.id.Id.{Id}
 use Rattle.sr_entries.specs.declared.entry.Entry.{Entry}
 use Rattle.sr_pending.specs.declared.nack.Nack.{Nack}
-use Rattle.sr_pending.specs.Pending.{is_same_id}
+use Rattle.sr_pending.specs.Pending.{is_below, is_same_id}
 use Rattle.sr_group.specs.declared.claim.Claim.{Claim}
 use Rattle.sr_group.specs.declared.claim.Delivery.{Delivery}
 use Rattle.sr_group.specs.declared.shown.Act.{Act}
@@ -14,6 +14,17 @@ use Rattle.sr_group.specs.declared.shown.Act.TheVariants.{Give, Touch, Forget, O
 use Rattle.sr_group.specs.Claim.{Fate, Skipped, Dropped, GivenOver, after_claim, fate_with, after_fate, listed_claim, listed_with}
 use Rattle.sr_group.specs.Shown.{after_acts, listed_of}
 use Rattle.sr_group.specs.steps.Showing.{IsActOf}
+
+-- the entry of an act
+abbrev pub act_id : Act → Id
+act_id (Give nack) = nack.id
+act_id (Touch id time count) = id
+act_id (Forget id) = id
+act_id (Only listed) = listed.id
+
+-- the act is not of an entry above this id
+abbrev pub IsUpTo : Id → Act → Type 0
+IsUpTo last act = is_below last (act_id act) ≡ false
 
 -- what is done to a pending entry that has this fate
 abbrev pub act_with : Fate → Id → Option Act
