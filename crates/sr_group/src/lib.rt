@@ -18,6 +18,4 @@ pub use listing::{Idle, Summary};
 pub use shown::{Listed, ListedIter, Scan, Shown};
 
 #[cfg(test)]
-mod claim_tests;
-#[cfg(test)]
 mod tests;
