@@ -1,5 +1,5 @@
 -- A consumer is closed, and its entries are offered to one consumer after another.
-use Rattle.std.proofs.Common.{◌≡◌, ℕ, ◌+◌, ◌<◌, ◌⊎◌, true, false, List, length, get_or, sym, ap, ◌∙◌, inl, inr, arith}
+use Rattle.std.proofs.Common.{◌≡◌, ℕ, ◌+◌, ◌<◌, ◌⊎◌, true, false, List, length, get_or, Option, sym, ap, ◌∙◌, inl, inr, arith}
 use Rattle.std.proofs.Math.ListN.{set, length-set}
 use Rattle.std.proofs.lemmas.Bool.{cases_eq}
 use Rattle.std.proofs.lemmas.List.{get_or-set_same, get_or-set_other}
@@ -8,6 +8,8 @@ use Rattle.sr_transport.specs.Assignment.{load}
 use Rattle.sr_solver.specs.declared.label.Label.{Label}
 use Rattle.sr_solver.specs.Labels.{no_label, label_at, open_count, priced}
 use Rattle.sr_solver.specs.Search.{IsWithin, IsSearch, IsNearest, IsRound, IsClosed}
+use Rattle.sr_solver.specs.Cutoff.{IsCutoff}
+use Rattle.sr_solver.proofs.CutoffLemmas.{cutoff_kept}
 use Rattle.sr_solver.proofs.LabelLemmas.{open_count-set_closed, IsSameWay, way_kept, same_way}
 
 -- the labels before and after consumer t is closed
@@ -50,10 +52,10 @@ closing t old label lt was_open same is_closed =
     }
 
 -- a consumer that is closed: its entries are not offered yet
-closing_search : (p : Transport) (k : ℕ) (xs prices : List ℕ) (old new : List Label) (t : ℕ)
-    → IsRound p k xs prices old → IsNearest p old t → load xs t ≡ room_of p t → IsClosing t old new
-    → IsSearch p k xs prices new t 0
-closing_search p k xs prices old new t search nearest full closing =
+closing_search : (p : Transport) (k : ℕ) (xs prices : List ℕ) (cutoff : Option ℕ) (old new : List Label) (t : ℕ)
+    → IsRound p k xs prices cutoff old → IsNearest p old t → load xs t ≡ room_of p t → IsClosing t old new
+    → IsSearch p k xs prices cutoff new t 0
+closing_search p k xs prices cutoff old new t search nearest full closing =
     let above : (c : ℕ) → 0 < (label_at new c).hops → 0 < (label_at old c).hops =
     λ c up. omega (arith, up, (closing.same c).hops) in
     let within : (dist base i c : ℕ) → IsWithin p prices old dist base i c → IsWithin p prices new dist base i c =
@@ -91,20 +93,34 @@ closing_search p k xs prices old new t search nearest full closing =
         | inr was ↦
             let far = search.offered i c lt was (λ e. allowed.0) allowed in
             let same = closing.same (get_or xs i 0) in
-            rw same.dist (within (label_at old (get_or xs i 0)).dist (priced p prices i (get_or xs i 0)) i c far)
+            rw same.dist (
+            elim far [
+              | inl near ↦ inl (within (label_at old (get_or xs i 0)).dist (priced p prices i (get_or xs i 0)) i c near)
+              | inr beyond ↦ inr beyond
+            ]
+            )
       ];
     }
 
 -- before its entries are offered to the first consumer
-pub closed_start : (p : Transport) (k : ℕ) (xs prices : List ℕ) (old : List Label) (t : ℕ) (label : Label)
-    → IsRound p k xs prices old → IsNearest p old t → load xs t ≡ room_of p t
+pub closed_start : (p : Transport) (k : ℕ) (xs prices : List ℕ) (cutoff : Option ℕ) (old : List Label) (t : ℕ) (label : Label)
+    → IsRound p k xs prices cutoff old → IsNearest p old t → load xs t ≡ room_of p t
     → IsSameWay (label_at old t) label → label.closed ≡ true
-    → IsClosed p k xs prices old (set old t label) t 0
-closed_start p k xs prices old t label search nearest full same is_closed =
+    → IsClosed p k xs prices cutoff old (set old t label) t 0
+closed_start p k xs prices cutoff old t label search nearest full same is_closed =
     let done : IsClosing t old (set old t label) =
     closing t old label (omega (arith, nearest.consumer, search.one_each)) nearest.not_closed same is_closed in
     record {
-      search = closing_search p k xs prices old (set old t label) t search nearest full done;
+      search = closing_search p k xs prices cutoff old (set old t label) t search nearest full done;
       closed = done.here;
       fewer = omega (arith, done.fewer);
     }
+
+-- the cutoff stays when a consumer is closed
+pub cutoff_closing : (p : Transport) (xs : List ℕ) (old : List Label) (t n : ℕ) (label : Label) (cutoff : Option ℕ)
+    → t < length old → (label_at old t).closed ≡ false → IsSameWay (label_at old t) label → label.closed ≡ true
+    → IsCutoff p xs old n cutoff → IsCutoff p xs (set old t label) n cutoff
+cutoff_closing p xs old t n label cutoff lt was_open same is_closed is =
+    let done : IsClosing t old (set old t label) = closing t old label lt was_open same is_closed in
+    cutoff_kept p xs old (set old t label) n n cutoff (omega arith)
+    (λ c ltc up. (omega (arith, up, (done.same c).hops), omega (arith, (done.same c).dist))) is

@@ -8,6 +8,7 @@ use Rattle.sr_transport.specs.Problem.{Transport}
 use Rattle.sr_solver.specs.declared.label.Label.{Label}
 use Rattle.sr_solver.specs.declared.label.Offer.{Offer}
 use Rattle.sr_solver.specs.Labels.{no_label, label_at, open_count}
+use Rattle.sr_solver.specs.Cutoff.{IsBeyond}
 use Rattle.sr_solver.specs.Offers.{IsTaken, IsOffered}
 use Rattle.sr_solver.specs.Search.{IsWay}
 
@@ -15,7 +16,9 @@ use Rattle.sr_solver.specs.Search.{IsWay}
 pub record IsLeft (cost : Option ℕ) (price : ℕ) (offer : Offer) (old new : Label) : Type 0 where
   pub same : new ≡ old
   pub no_nearer : IsSome cost
-      → (old.closed ≡ true) ⊎ ((0 < old.hops) × (old.dist + offer.base ≤ offer.dist + (unwrap_or cost 0 + price)))
+      → (old.closed ≡ true)
+      ⊎ ((0 < old.hops) × (old.dist + offer.base ≤ offer.dist + (unwrap_or cost 0 + price)))
+      ⊎ IsBeyond offer.cutoff offer.base (offer.dist + (unwrap_or cost 0 + price))
 
 -- the offer was allowed, and taken
 pub record IsChanged (cost : Option ℕ) (price : ℕ) (offer : Offer) (old new : Label) : Type 0 where

@@ -1,5 +1,6 @@
 pub mod PathLemmas
 pub mod LabelLemmas
+pub mod CutoffLemmas
 pub mod SearchLemmas
 pub mod TableLemmas
 pub mod MembersLemmas

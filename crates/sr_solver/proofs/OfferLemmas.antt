@@ -1,6 +1,6 @@
 -- One consumer more is asked whether an entry of the closed one comes nearer.
 use Rattle.std.proofs.Common.{◌≡◌, ℕ, ◌+◌, ◌*◌, ◌<◌, ◌≤◌, ◌⊎◌, true, false, List, length, get_or, Option, Some, None, refl, sym, ap, ◌∙◌, inl, inr, arith}
-use Rattle.sr_transport.specs.Limits.{greatest_price, most_consumers}
+use Rattle.sr_transport.specs.Limits.{greatest_cost, greatest_price, most_consumers}
 use Rattle.sr_solver.specs.Limits.{greatest_way}
 use Rattle.std.proofs.lemmas.Bool.{cases_eq, cases_lt, false≢true}
 use Rattle.sr_transport.specs.Problem.{Transport, consumers, cost_at, cost_of, IsAllowed}
@@ -10,30 +10,37 @@ use Rattle.sr_solver.specs.Labels.{label_at, open_count, priced}
 use Rattle.sr_solver.specs.declared.table.Bound.{Bound}
 use Rattle.sr_solver.specs.Offers.{IsOfferedAt, offer_of}
 use Rattle.sr_solver.specs.Table.{IsAt, IsKnown, IsTable, IsLeastMore, IsMover, IsNoNearer}
-use Rattle.sr_solver.specs.Placed.{IsPlaced}
-use Rattle.sr_solver.specs.Search.{IsWithin, IsSearch, IsNewAt, IsAsked}
+use Rattle.sr_solver.specs.Placed.{IsPlaced, AreLoads}
+use Rattle.sr_solver.specs.Search.{IsWithin, IsCovered, IsSearch, IsNewAt, IsAsked}
+use Rattle.sr_solver.specs.Cutoff.{IsCutoff, IsCut}
+use Rattle.sr_solver.proofs.CutoffLemmas.{IsNoLater, beyond_more, search_cut, cutoff_kept, cutoff_cut}
 use Rattle.sr_solver.proofs.LabelLemmas.{offered_split, open_count_same, IsSameWay, way_kept, same_way}
 use Rattle.sr_solver.proofs.SearchLemmas.{cost_small}
 use Rattle.sr_solver.specs.Search.{IsClosed}
 
 -- what the table tells of an entry at t: it comes no nearer to consumer b
-skip_at : (p : Transport) (prices : List ℕ) (at : ℕ → Type 0) (t b : ℕ) (labels : List Label) (known : Option Bound)
+skip_at : (p : Transport) (prices : List ℕ) (at : ℕ → Type 0) (t b : ℕ) (cutoff : Option ℕ) (labels : List Label) (known : Option Bound)
     → IsKnown p at t b known
-    → IsNoNearer known (label_at labels t) (get_or prices t 0) (label_at labels b) (get_or prices b 0)
+    → IsNoNearer known (label_at labels t) (get_or prices t 0) (label_at labels b) (get_or prices b 0) cutoff
     → (i : ℕ) → at i → IsAllowed p i b
-    → ((label_at labels b).closed ≡ true) ⊎ IsWithin p prices labels (label_at labels t).dist (priced p prices i t) i b
-skip_at p prices at t b labels None known far i here allowed = absurd (known i here allowed)
-skip_at p prices at t b labels (Some bound) known far i here allowed =
+    → ((label_at labels b).closed ≡ true) ⊎ IsCovered p prices cutoff labels (label_at labels t).dist (priced p prices i t) i b
+skip_at p prices at t b cutoff labels None known far i here allowed = absurd (known i here allowed)
+skip_at p prices at t b cutoff labels (Some bound) known far i here allowed =
+    let below = known.below i here allowed in
     elim far [
       | inl closed ↦ inl closed
-      | inr near ↦ inr (near.0, omega (arith, near.1, known.below i here allowed))
+      | inr (inl near) ↦ inr (inl (near.0, omega (arith, near.1, below)))
+      | inr (inr beyond) ↦ inr (inr (
+          beyond_more cutoff (greatest_cost + get_or prices t 0) ((label_at labels t).dist + (bound.low + get_or prices b 0))
+          (priced p prices i t) ((label_at labels t).dist + priced p prices i b) (omega (arith, below)) beyond
+          ))
     ]
 
-pub asked_far : (p : Transport) (k : ℕ) (xs prices : List ℕ) (t b q : ℕ) (labels : List Label) (table : List (Option Bound))
+pub asked_far : (p : Transport) (k : ℕ) (xs prices : List ℕ) (t b q : ℕ) (cutoff : Option ℕ) (labels : List Label) (table : List (Option Bound))
     → k ≤ p.entries → t < consumers p → b < consumers p → q ≡ t * consumers p + b → IsTable p xs table
-    → IsNoNearer (get_or table q None) (label_at labels t) (get_or prices t 0) (label_at labels b) (get_or prices b 0)
-    → IsAsked p k xs prices t b labels labels
-asked_far p k xs prices t b q labels table le ltt ltb is_pair table_is far =
+    → IsNoNearer (get_or table q None) (label_at labels t) (get_or prices t 0) (label_at labels b) (get_or prices b 0) cutoff
+    → IsAsked p k xs prices cutoff t b labels labels
+asked_far p k xs prices t b q cutoff labels table le ltt ltb is_pair table_is far =
     let known : IsKnown p (IsAt xs p.entries t) t b (get_or table q None) = rw is_pair (table_is.each t b ltt ltb) in
     record {
       one_each = refl;
@@ -41,16 +48,16 @@ asked_far p k xs prices t b q labels table le ltt ltb is_pair table_is far =
           record {
             same = refl;
             no_nearer = λ i lti stands allowed.
-                skip_at p prices (IsAt xs p.entries t) t b labels (get_or table q None) known far i (omega arith, stands) allowed;
+                skip_at p prices (IsAt xs p.entries t) t b cutoff labels (get_or table q None) known far i (omega arith, stands) allowed;
           }
           );
       others = λ d ne. refl;
     }
 
 -- no entry at t may go to consumer b
-pub asked_none : (p : Transport) (k : ℕ) (xs prices : List ℕ) (t b : ℕ) (labels : List Label)
-    → k ≤ p.entries → IsMover p (IsAt xs p.entries t) t b None → IsAsked p k xs prices t b labels labels
-asked_none p k xs prices t b labels le none = record {
+pub asked_none : (p : Transport) (k : ℕ) (xs prices : List ℕ) (t b : ℕ) (cutoff : Option ℕ) (labels : List Label)
+    → k ≤ p.entries → IsMover p (IsAt xs p.entries t) t b None → IsAsked p k xs prices cutoff t b labels labels
+asked_none p k xs prices t b cutoff labels le none = record {
   one_each = refl;
   here = inl (
       record {
@@ -71,22 +78,26 @@ placed_at p k xs prices t i placed ltt at =
     ]
 
 -- the entry at t that costs least more at consumer b was offered
-pub asked_mover : (p : Transport) (k : ℕ) (xs prices : List ℕ) (t b i : ℕ) (old new : List Label)
+pub asked_mover : (p : Transport) (k : ℕ) (xs prices : List ℕ) (t b i : ℕ) (cutoff : Option ℕ) (old new : List Label)
     → IsPlaced p k xs prices → k ≤ p.entries → t < consumers p → IsLeastMore p (IsAt xs p.entries t) t b i
-    → IsOfferedAt p prices (offer_of p prices old t i) b old new
-    → IsAsked p k xs prices t b old new
-asked_mover p k xs prices t b i old new placed le ltt mover offered =
+    → IsOfferedAt p prices (offer_of p prices cutoff old t i) b old new
+    → IsAsked p k xs prices cutoff t b old new
+asked_mover p k xs prices t b i cutoff old new placed le ltt mover offered =
     let least : (j : ℕ) → j < k → get_or xs j 0 ≡ t → IsAllowed p j b → cost_of p i b + cost_of p j t ≤ cost_of p j b + cost_of p i t =
     λ j lt stands allowed. mover.least j (omega arith, stands) allowed in
     record {
       one_each = offered.one_each;
-      here = elim (offered_split (cost_at p i b) (get_or prices b 0) (offer_of p prices old t i) (label_at old b) (label_at new b) offered.here) [
+      here = elim (offered_split (cost_at p i b) (get_or prices b 0) (offer_of p prices cutoff old t i) (label_at old b) (label_at new b) offered.here) [
         | inl left ↦ inl (
             record {
               same = left.same;
               no_nearer = λ j lt stands allowed. elim (left.no_nearer mover.allowed.1) [
                 | inl closed ↦ inl closed
-                | inr near ↦ inr (near.0, omega (arith, near.1, least j lt stands allowed))
+                | inr (inl near) ↦ inr (inl (near.0, omega (arith, near.1, least j lt stands allowed)))
+                | inr (inr beyond) ↦ inr (inr (
+                    beyond_more cutoff (priced p prices i t) ((label_at old t).dist + priced p prices i b) (priced p prices j t)
+                    ((label_at old t).dist + priced p prices j b) (omega (arith, least j lt stands allowed)) beyond
+                    ))
               ];
             }
             )
@@ -118,9 +129,9 @@ record IsOffering (p : Transport) (k : ℕ) (xs prices : List ℕ) (t : ℕ) (ol
   back : (c : ℕ) → (label_at new c).closed ≡ true → (label_at old c).closed ≡ true
   count : open_count new ≡ open_count old
 
-offering : (p : Transport) (k : ℕ) (xs prices : List ℕ) (t b : ℕ) (old new : List Label)
-    → IsAsked p k xs prices t b old new → IsOffering p k xs prices t old new
-offering p k xs prices t b old new asked =
+offering : (p : Transport) (k : ℕ) (xs prices : List ℕ) (t b : ℕ) (cutoff : Option ℕ) (old new : List Label)
+    → IsAsked p k xs prices cutoff t b old new → IsOffering p k xs prices t old new
+offering p k xs prices t b cutoff old new asked =
     let at : (c : ℕ) → (label_at new c ≡ label_at old c) ⊎ IsNewAt p k xs prices t old new c =
     λ c. elim (cases_eq c b) [
       | inl e ↦ rw e (elim asked.here [ inl left ↦ inl left.same | inr fresh ↦ inr fresh ])
@@ -153,33 +164,42 @@ within_kept p k xs prices t old new offering dist base j c within =
       | inr fresh ↦ (omega (arith, fresh.hops), omega (arith, within.1, fresh.nearer within.0))
     ]
 
--- a consumer that was asked is within the reach of each entry at t that it is allowed
-within_asked : (p : Transport) (k : ℕ) (xs prices : List ℕ) (old new : List Label) (t b : ℕ)
-    → IsPlaced p k xs prices → IsSearch p k xs prices old t b → t < consumers p → (label_at old t).closed ≡ true
-    → IsAsked p k xs prices t b old new → IsOffering p k xs prices t old new
+covered_kept : (p : Transport) (k : ℕ) (xs prices : List ℕ) (t : ℕ) (cutoff : Option ℕ) (old new : List Label)
+    → IsOffering p k xs prices t old new
+    → (dist base j c : ℕ) → IsCovered p prices cutoff old dist base j c → IsCovered p prices cutoff new dist base j c
+covered_kept p k xs prices t cutoff old new offering dist base j c covered =
+    elim covered [
+      | inl within ↦ inl (within_kept p k xs prices t old new offering dist base j c within)
+      | inr beyond ↦ inr beyond
+    ]
+
+-- a consumer that was asked is within the reach of each entry at t that it is allowed, or that one comes no nearer than the cutoff
+covered_asked : (p : Transport) (k : ℕ) (xs prices : List ℕ) (cutoff : Option ℕ) (old new : List Label) (t b : ℕ)
+    → IsPlaced p k xs prices → IsSearch p k xs prices cutoff old t b → t < consumers p → (label_at old t).closed ≡ true
+    → IsAsked p k xs prices cutoff t b old new → IsOffering p k xs prices t old new
     → (i : ℕ) → i < k → get_or xs i 0 ≡ t → IsAllowed p i b
-    → IsWithin p prices new (label_at old t).dist (priced p prices i t) i b
-within_asked p k xs prices old new t b placed search ltt closed asked offering i lti stands allowed =
+    → IsCovered p prices cutoff new (label_at old t).dist (priced p prices i t) i b
+covered_asked p k xs prices cutoff old new t b placed search ltt closed asked offering i lti stands allowed =
     elim asked.here [
-      | inr fresh ↦ (omega (arith, fresh.hops), omega (arith, fresh.dist, fresh.least i lti stands allowed))
+      | inr fresh ↦ inl (omega (arith, fresh.hops), omega (arith, fresh.dist, fresh.least i lti stands allowed))
       | inl left ↦
           let least : IsLeast p prices i t = rw (← stands) (placed.least i lti) in
-          let near : IsWithin p prices old (label_at old t).dist (priced p prices i t) i b =
+          let covered : IsCovered p prices cutoff old (label_at old t).dist (priced p prices i t) i b =
           elim (left.no_nearer i lti stands allowed) [
-            | inl was ↦ (
+            | inl was ↦ inl (
               search.reached b allowed.0 was,
               omega (arith, search.latest b allowed.0 was ltt, least b allowed),
             )
-            | inr within ↦ within
+            | inr covered ↦ covered
           ] in
-          within_kept p k xs prices t old new offering (label_at old t).dist (priced p prices i t) i b near
+          covered_kept p k xs prices t cutoff old new offering (label_at old t).dist (priced p prices i t) i b covered
     ]
 
 -- one consumer more was asked
-ask_search : (p : Transport) (k : ℕ) (xs prices : List ℕ) (old new : List Label) (t b : ℕ)
-    → IsPlaced p k xs prices → IsSearch p k xs prices old t b → t < consumers p → (label_at old t).closed ≡ true
-    → IsAsked p k xs prices t b old new → IsOffering p k xs prices t old new → IsSearch p k xs prices new t (b + 1)
-ask_search p k xs prices old new t b placed search ltt closed asked offering =
+ask_search : (p : Transport) (k : ℕ) (xs prices : List ℕ) (cutoff : Option ℕ) (old new : List Label) (t b : ℕ)
+    → IsPlaced p k xs prices → IsSearch p k xs prices cutoff old t b → t < consumers p → (label_at old t).closed ≡ true
+    → IsAsked p k xs prices cutoff t b old new → IsOffering p k xs prices t old new → IsSearch p k xs prices cutoff new t (b + 1)
+ask_search p k xs prices cutoff old new t b placed search ltt closed asked offering =
     let same : (c : ℕ) → label_at new c ≡ label_at old c → IsSameWay (label_at old c) (label_at new c) =
     λ c e. same_way (label_at old c) (label_at new c) e in
     let kept_same : (c : ℕ) → (label_at old c).closed ≡ true → IsSameWay (label_at old c) (label_at new c) =
@@ -250,8 +270,8 @@ ask_search p k xs prices old new t b placed search ltt closed asked offering =
           let was = offering.back (get_or xs j 0) now in
           let from = kept_same (get_or xs j 0) was in
           let before : (get_or xs j 0 ≡ t → c < b)
-          → IsWithin p prices new (label_at old (get_or xs j 0)).dist (priced p prices j (get_or xs j 0)) j c =
-          λ early. within_kept p k xs prices t old new offering (label_at old (get_or xs j 0)).dist (priced p prices j (get_or xs j 0)) j c
+          → IsCovered p prices cutoff new (label_at old (get_or xs j 0)).dist (priced p prices j (get_or xs j 0)) j c =
+          λ early. covered_kept p k xs prices t cutoff old new offering (label_at old (get_or xs j 0)).dist (priced p prices j (get_or xs j 0)) j c
           (search.offered j c lt was early allowed) in
           rw from.dist (
           elim (cases_eq (get_or xs j 0) t) [
@@ -259,7 +279,7 @@ ask_search p k xs prices old new t b placed search ltt closed asked offering =
             | inl stands ↦ elim (cases_eq c b) [
               | inr ne ↦ before (λ h. omega (arith, upto h, ne))
               | inl e ↦
-                  let far = within_asked p k xs prices old new t b placed search ltt closed asked offering j lt stands (rw (← e) allowed) in
+                  let far = covered_asked p k xs prices cutoff old new t b placed search ltt closed asked offering j lt stands (rw (← e) allowed) in
                   rw stands (rw e far)
             ]
           ]
@@ -267,37 +287,73 @@ ask_search p k xs prices old new t b placed search ltt closed asked offering =
     }
 
 -- what the loop over the consumers keeps
-pub closed_ask : (p : Transport) (k : ℕ) (xs prices : List ℕ) (old before after : List Label) (t b : ℕ)
+pub closed_ask : (p : Transport) (k : ℕ) (xs prices : List ℕ) (cutoff : Option ℕ) (old before after : List Label) (t b : ℕ)
     → IsPlaced p k xs prices → t < consumers p
-    → IsClosed p k xs prices old before t b
-    → IsAsked p k xs prices t b before after
-    → IsClosed p k xs prices old after t (b + 1)
-closed_ask p k xs prices old before after t b placed ltt closed asked =
-    let done : IsOffering p k xs prices t before after = offering p k xs prices t b before after asked in
+    → IsClosed p k xs prices cutoff old before t b
+    → IsAsked p k xs prices cutoff t b before after
+    → IsClosed p k xs prices cutoff old after t (b + 1)
+closed_ask p k xs prices cutoff old before after t b placed ltt closed asked =
+    let done : IsOffering p k xs prices t before after = offering p k xs prices t b cutoff before after asked in
     record {
-      search = ask_search p k xs prices before after t b placed closed.search ltt closed.closed asked done;
+      search = ask_search p k xs prices cutoff before after t b placed closed.search ltt closed.closed asked done;
       closed = ap (λ l. l.closed) (done.kept t closed.closed) ∙ closed.closed;
       fewer = omega (arith, closed.fewer, done.count);
     }
+
+-- what the cutoff becomes
+pub closed_cut : (p : Transport) (k : ℕ) (xs prices : List ℕ) (cutoff next : Option ℕ) (old now : List Label) (t upto : ℕ)
+    → IsNoLater cutoff next → IsClosed p k xs prices cutoff old now t upto → IsClosed p k xs prices next old now t upto
+closed_cut p k xs prices cutoff next old now t upto later closed = record {
+  search = search_cut p k xs prices cutoff next now t upto later closed.search;
+  closed = closed.closed;
+  fewer = closed.fewer;
+}
 
 -- prices and ways stay small
 pub price_small : (p : Transport) (k : ℕ) (xs prices : List ℕ) → IsPlaced p k xs prices → k ≤ p.entries
     → (c : ℕ) → c < consumers p → get_or prices c 0 ≤ greatest_price
 price_small p k xs prices placed le c lt = omega (arith, placed.low c lt, placed.limits.few_entries)
 
-pub hops_small : (p : Transport) (k : ℕ) (xs prices : List ℕ) (labels : List Label) (t upto : ℕ)
-    → IsPlaced p k xs prices → IsSearch p k xs prices labels t upto
+pub hops_small : (p : Transport) (k : ℕ) (xs prices : List ℕ) (cutoff : Option ℕ) (labels : List Label) (t upto : ℕ)
+    → IsPlaced p k xs prices → IsSearch p k xs prices cutoff labels t upto
     → (c : ℕ) → c < consumers p → (label_at labels c).closed ≡ true → (label_at labels c).hops ≤ most_consumers
-hops_small p k xs prices labels t upto placed search c lt closed =
+hops_small p k xs prices cutoff labels t upto placed search c lt closed =
     omega (arith, search.few_closed c lt closed, placed.limits.consumers)
 
-pub dist_small : (p : Transport) (k : ℕ) (xs prices : List ℕ) (labels : List Label) (t upto : ℕ)
-    → IsPlaced p k xs prices → k ≤ p.entries → IsSearch p k xs prices labels t upto
+pub dist_small : (p : Transport) (k : ℕ) (xs prices : List ℕ) (cutoff : Option ℕ) (labels : List Label) (t upto : ℕ)
+    → IsPlaced p k xs prices → k ≤ p.entries → IsSearch p k xs prices cutoff labels t upto
     → (c : ℕ) → c < consumers p → (label_at labels c).closed ≡ true → (label_at labels c).dist ≤ greatest_way
-dist_small p k xs prices labels t upto placed le search c lt closed =
+dist_small p k xs prices cutoff labels t upto placed le search c lt closed =
     omega (
       arith,
       price_small p k xs prices placed le c lt,
-      hops_small p k xs prices labels t upto placed search c lt closed,
+      hops_small p k xs prices cutoff labels t upto placed search c lt closed,
       search.long c lt (search.reached c lt closed),
     )
+
+-- a reached consumer is not far
+pub way_small : (p : Transport) (k : ℕ) (xs prices : List ℕ) (cutoff : Option ℕ) (labels : List Label) (t upto : ℕ)
+    → IsPlaced p k xs prices → k ≤ p.entries → IsSearch p k xs prices cutoff labels t upto
+    → (c : ℕ) → c < consumers p → 0 < (label_at labels c).hops → (label_at labels c).dist ≤ greatest_way
+way_small p k xs prices cutoff labels t upto placed le search c lt up =
+    omega (
+      arith,
+      price_small p k xs prices placed le c lt,
+      search.few c lt up,
+      placed.limits.consumers,
+      search.long c lt up,
+    )
+
+pub cutoff_asked : (p : Transport) (k : ℕ) (xs prices loads : List ℕ) (cutoff next : Option ℕ) (old before after : List Label) (t b : ℕ)
+    → IsPlaced p k xs prices → k ≤ p.entries → AreLoads p xs loads → b < consumers p
+    → IsClosed p k xs prices cutoff old after t (b + 1) → IsAsked p k xs prices cutoff t b before after
+    → IsCut p loads b (label_at after b) cutoff next
+    → IsCutoff p xs before (consumers p) cutoff → IsCutoff p xs after (consumers p) next
+cutoff_asked p k xs prices loads cutoff next old before after t b placed le counted ltb closed asked cut is =
+    let done : IsOffering p k xs prices t before after = offering p k xs prices t b cutoff before after asked in
+    cutoff_cut p xs loads after (consumers p) b cutoff next counted ltb ltb
+    (way_small p k xs prices cutoff after t (b + 1) placed le closed.search b ltb) cut
+    (cutoff_kept p xs before after (consumers p) (consumers p) cutoff (omega arith) (λ c lt up. elim (done.at c) [
+      | inl same ↦ rw same (up, omega arith)
+      | inr fresh ↦ (omega (arith, fresh.hops), fresh.nearer up)
+    ]) is)

@@ -1,5 +1,5 @@
 -- At the start no entry stands anywhere. Then one more is placed: the prices rise, and the entries move along the path.
-use Rattle.std.proofs.Common.{◌≡◌, ℕ, ◌+◌, ◌*◌, ◌<◌, ◌≤◌, ◌⊎◌, Bool, true, false, List, length, get_or, refl, sym, ap, ◌∙◌, subst, inl, inr, arith}
+use Rattle.std.proofs.Common.{◌≡◌, ℕ, ◌+◌, ◌*◌, ◌<◌, ◌≤◌, ◌⊎◌, Bool, true, false, List, length, get_or, Option, Some, refl, sym, ap, ◌∙◌, subst, inl, inr, arith}
 use Rattle.sr_transport.specs.Limits.{greatest_rise, most_consumers}
 use Rattle.std.proofs.lemmas.Bool.{cases_eq, cases_lt, false≢true}
 use Rattle.std.proofs.Math.ListN.{set, length-set, replicate}
@@ -14,7 +14,7 @@ use Rattle.sr_solver.specs.Labels.{no_label, label_at, open_count, priced}
 use Rattle.sr_solver.specs.declared.placement.Placement.{Placement}
 use Rattle.sr_solver.specs.Placed.{IsPlaced, AreLoads, IsStanding}
 use Rattle.sr_solver.specs.Members.{AreWide, AreMembers}
-use Rattle.sr_solver.specs.Search.{IsWay, IsWithin, IsRound, IsEnd}
+use Rattle.sr_solver.specs.Search.{IsWay, IsCovered, IsRound, IsEnd}
 use Rattle.sr_solver.specs.Path.{IsRaised, AreRaised, IsStep, ArePaths, AreShifted}
 use Rattle.sr_solver.proofs.PathLemmas.{one_at, one_at_same, one_at_other}
 use Rattle.sr_solver.proofs.LabelLemmas.{open_count-above}
@@ -115,10 +115,10 @@ mover_within p k xs prices labels c way =
     ]
 
 -- the way to a reached consumer as a step of a path
-step_of_way : (p : Transport) (k : ℕ) (xs prices : List ℕ) (labels : List Label) (c : ℕ)
-    → k < p.entries → IsPlaced p k xs prices → IsRound p k xs prices labels → IsWay p k xs prices labels c
+step_of_way : (p : Transport) (k : ℕ) (xs prices : List ℕ) (cutoff : Option ℕ) (labels : List Label) (c : ℕ)
+    → k < p.entries → IsPlaced p k xs prices → IsRound p k xs prices cutoff labels → IsWay p k xs prices labels c
     → IsStep labels k c (get_or xs (label_at labels c).mover 0)
-step_of_way p k xs prices labels c lt placed search way =
+step_of_way p k xs prices cutoff labels c lt placed search way =
     elim way.step [
       | inl first ↦
           let at : get_or xs (label_at labels c).mover 0 ≡ length labels =
@@ -139,15 +139,15 @@ step_of_way p k xs prices labels c lt placed search way =
           }
     ]
 
-pub are_paths : (p : Transport) (k : ℕ) (xs prices : List ℕ) (labels : List Label)
-    → k < p.entries → IsPlaced p k xs prices → IsRound p k xs prices labels → ArePaths labels k xs
-are_paths p k xs prices labels lt placed search =
+pub are_paths : (p : Transport) (k : ℕ) (xs prices : List ℕ) (cutoff : Option ℕ) (labels : List Label)
+    → k < p.entries → IsPlaced p k xs prices → IsRound p k xs prices cutoff labels → ArePaths labels k xs
+are_paths p k xs prices cutoff labels lt placed search =
     let way : (c : ℕ) → c < length labels → 0 < (label_at labels c).hops → IsWay p k xs prices labels c =
     λ c ltc above. search.way c (omega (arith, ltc, search.one_each)) above in
     record {
       new = placed.waiting k (omega arith) lt ∙ sym search.one_each;
       entry = λ c ltc above. omega (arith, mover_within p k xs prices labels c (way c ltc above), lt, placed.every);
-      step = λ c ltc above. step_of_way p k xs prices labels c lt placed search (way c ltc above);
+      step = λ c ltc above. step_of_way p k xs prices cutoff labels c lt placed search (way c ltc above);
     }
 
 -- what is known where the path was found, and the prices rose
@@ -166,23 +166,26 @@ no_price_falls p k xs prices labels end raised rising c lt =
       | inr is_open ↦ omega (arith, (rising.rise c lt).stays is_open)
     ]
 
--- what is within reach of an entry is no nearer after the rise than the end of the path
+-- what is within reach of an entry, or beyond the end of the path, is no nearer after the rise than the end of the path
 reach_raised : (p : Transport) (k : ℕ) (xs prices : List ℕ) (labels : List Label) (end : ℕ) (raised : List ℕ)
     → IsRising p k xs prices labels end raised
-    → (dist base i c : ℕ) → c < consumers p → IsWithin p prices labels dist base i c
+    → (dist base i c : ℕ) → c < consumers p → IsCovered p prices (Some (label_at labels end).dist) labels dist base i c
     → base + (label_at labels end).dist ≤ dist + priced p raised i c
-reach_raised p k xs prices labels end raised rising dist base i c lt within =
-    elim (cases_bool (label_at labels c).closed) [
-      | inl closed ↦ omega (arith, (rising.rise c lt).closed closed, within.1)
-      | inr is_open ↦
-          omega (arith, (rising.rise c lt).stays is_open, within.1, rising.found.nearest.least c lt within.0 is_open)
+reach_raised p k xs prices labels end raised rising dist base i c lt covered =
+    elim covered [
+      | inr beyond ↦ omega (arith, beyond, no_price_falls p k xs prices labels end raised rising c lt)
+      | inl within ↦ elim (cases_bool (label_at labels c).closed) [
+        | inl closed ↦ omega (arith, (rising.rise c lt).closed closed, within.1)
+        | inr is_open ↦
+            omega (arith, (rising.rise c lt).stays is_open, within.1, rising.found.nearest.least c lt within.0 is_open)
+      ]
     ]
 
 -- an entry that is at x, closed or the end of the path, by a way that is as long as its reach allows, is at a least sum
 least_raised : (p : Transport) (k : ℕ) (xs prices : List ℕ) (labels : List Label) (end : ℕ) (raised : List ℕ)
     → IsRising p k xs prices labels end raised
     → (dist base i x : ℕ) → x < consumers p
-    → ((c : ℕ) → IsAllowed p i c → IsWithin p prices labels dist base i c)
+    → ((c : ℕ) → IsAllowed p i c → IsCovered p prices (Some (label_at labels end).dist) labels dist base i c)
     → (label_at labels x).dist + base ≡ dist + priced p prices i x
     → ((label_at labels x).closed ≡ true) ⊎ (x ≡ end)
     → IsLeast p raised i x
@@ -207,7 +210,7 @@ least_moved p k xs prices labels end raised rising i x lt mover way passed =
       | inl first ↦
           let new : i ≡ k = sym mover ∙ first.mover in
           rw new (
-          least_raised p k xs prices labels end raised rising 0 0 k x lt rising.found.search.new_offered (omega (arith, first.dist)) passed
+          least_raised p k xs prices labels end raised rising 0 0 k x lt (λ c allowed. inl (rising.found.search.new_offered c allowed)) (omega (arith, first.dist)) passed
           )
       | inr next ↦
           let earlier : i < k = omega (arith, mover, next.earlier) in

@@ -1,15 +1,13 @@
 -- The search: its start, a consumer that is closed, and one offer more.
-use Rattle.std.proofs.Common.{◌≡◌, ℕ, ◌+◌, ◌*◌, ◌^◌, ◌<◌, ◌≤◌, true, false, List, length, get_or, Option, Some, None, ap, inl, inr, arith}
-use Rattle.std.specs.Prelude.{IfSome, unwrap_or}
+use Rattle.std.proofs.Common.{◌≡◌, ℕ, ◌<◌, ◌≤◌, true, false, List, length, get_or, Option, ap, inl, inr, arith}
 use Rattle.std.proofs.lemmas.Bool.{cases_lt, false≢true}
 use Rattle.std.proofs.lemmas.List.{get_or_past}
-use Rattle.std.proofs.lemmas.List.Elements.{All-get_or}
-use Rattle.sr_transport.specs.Problem.{Transport, IsWithinLimits, consumers, cost_at, cost_of, IsAllowed}
+use Rattle.sr_transport.specs.Problem.{Transport, IsWithinLimits, consumers, cost_at, IsAllowed}
 pub use Rattle.sr_transport.proofs.LimitLemmas.{cost_at_small, cost_small}
 use Rattle.sr_solver.specs.declared.label.Label.{Label}
 use Rattle.sr_solver.specs.Labels.{no_label, label_at}
 use Rattle.sr_solver.specs.Offers.{IsOffered}
-use Rattle.sr_solver.specs.Search.{IsFirstStep, IsSearch, IsRound, first_offer, IsStarted}
+use Rattle.sr_solver.specs.Search.{IsFirstStep, IsRound, first_offer, IsStarted}
 use Rattle.sr_solver.proofs.LabelLemmas.{offered_split, open_count-le}
 
 -- a consumer past the last has no label
@@ -34,7 +32,8 @@ fresh p k prices label c lt offered =
             offered = λ allowed. absurd (
                 elim (left.no_nearer allowed.1) [
                   | inl is_closed ↦ false≢true is_closed
-                  | inr near ↦ omega (arith, near.0)
+                  | inr (inl near) ↦ omega (arith, near.0)
+                  | inr (inr beyond) ↦ beyond
                 ]
                 );
           }
@@ -51,9 +50,9 @@ fresh p k prices label c lt offered =
     ]
 
 -- the search starts between two rounds
-pub started_round : (p : Transport) (k : ℕ) (xs prices : List ℕ) (labels : List Label)
-    → IsWithinLimits p.rooms p.entries p.costs → IsStarted p k prices labels → IsRound p k xs prices labels
-started_round p k xs prices labels limits started =
+pub started_round : (p : Transport) (k : ℕ) (xs prices : List ℕ) (cutoff : Option ℕ) (labels : List Label)
+    → IsWithinLimits p.rooms p.entries p.costs → IsStarted p k prices labels → IsRound p k xs prices cutoff labels
+started_round p k xs prices cutoff labels limits started =
     let each : (c : ℕ) → c < consumers p → IsFresh p k prices (label_at labels c) c =
     λ c lt. fresh p k prices (label_at labels c) c lt (started.each c lt) in
     let none_closed : (c : ℕ) → (label_at labels c).closed ≡ true → ⊥ =
@@ -83,31 +82,3 @@ started_round p k xs prices labels limits started =
           (above, omega (arith, first.dist));
       offered = λ i c lt is_closed upto allowed. absurd (none_closed (get_or xs i 0) is_closed);
     }
-
--- the same search, seen from another consumer
-pub search_seen : (p : Transport) (k : ℕ) (xs prices : List ℕ) (labels : List Label) (t upto s upto' : ℕ)
-    → IsSearch p k xs prices labels t upto
-    → ((c : ℕ) → c < consumers p → (label_at labels c).closed ≡ true → s < consumers p
-    → (label_at labels c).dist ≤ (label_at labels s).dist)
-    → ((i c : ℕ) → i < k → c < consumers p → (get_or xs i 0 ≡ s → c < upto') → get_or xs i 0 ≡ t → c < upto)
-    → IsSearch p k xs prices labels s upto'
-search_seen p k xs prices labels t upto s upto' search latest covers = record {
-  one_each = search.one_each;
-  way = search.way;
-  long = search.long;
-  few = search.few;
-  few_closed = search.few_closed;
-  reached = search.reached;
-  full = search.full;
-  nearer = search.nearer;
-  latest = latest;
-  new_offered = search.new_offered;
-  offered = λ i c lt is_closed within allowed. search.offered i c lt is_closed (covers i c lt allowed.0 within) allowed;
-}
-
--- where the entries are offered to all consumers, the round is over
-pub search_round : (p : Transport) (k : ℕ) (xs prices : List ℕ) (labels : List Label) (t : ℕ)
-    → IsSearch p k xs prices labels t (consumers p) → IsRound p k xs prices labels
-search_round p k xs prices labels t search =
-    search_seen p k xs prices labels t (consumers p) (consumers p) (consumers p) search (λ c lt is_closed past. absurd (omega (arith, past)))
-    (λ j c lt ltc within here. ltc)

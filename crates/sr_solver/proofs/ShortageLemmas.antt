@@ -128,7 +128,10 @@ reached_closed : (p : Transport) (k : ℕ) (xs prices : List ℕ) (labels : List
 reached_closed p k xs prices labels stuck i c member allowed =
     elim member [
       | inl new ↦ stuck.all_closed c allowed.0 (stuck.search.new_offered c (rw (← new) allowed)).0
-      | inr stranded ↦ stuck.all_closed c allowed.0 (stuck.search.offered i c stranded.0 stranded.1 (λ e. allowed.0) allowed).0
+      | inr stranded ↦ elim (stuck.search.offered i c stranded.0 stranded.1 (λ e. allowed.0) allowed) [
+        | inl within ↦ stuck.all_closed c allowed.0 within.0
+        | inr beyond ↦ absurd beyond
+      ]
     ]
 
 -- the places at a consumer are no more than its load, where it is closed, and none otherwise

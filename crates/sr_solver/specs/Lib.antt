@@ -1,5 +1,6 @@
 pub mod Limits
 pub mod Labels
+pub mod Cutoff
 pub mod Offers
 pub mod Placed
 pub mod Table

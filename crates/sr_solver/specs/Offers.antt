@@ -5,11 +5,14 @@ use Rattle.sr_transport.specs.Problem.{Transport, cost_at}
 use Rattle.sr_solver.specs.declared.label.Label.{Label}
 use Rattle.sr_solver.specs.declared.label.Offer.{Offer}
 use Rattle.sr_solver.specs.Labels.{label_at, priced}
+use Rattle.sr_solver.specs.Cutoff.{IsBeyond}
 
--- the offer was not taken: the label was closed, or as near already
+-- the offer was not taken: the label was closed, or as near already, or the offer comes no nearer than the cutoff
 pub record IsKept (offer : Offer) (sum : ℕ) (old new : Label) : Type 0 where
   pub same : new ≡ old
-  pub no_nearer : (old.closed ≡ true) ⊎ ((0 < old.hops) × (old.dist + offer.base ≤ offer.dist + sum))
+  pub no_nearer : (old.closed ≡ true)
+      ⊎ ((0 < old.hops) × (old.dist + offer.base ≤ offer.dist + sum))
+      ⊎ IsBeyond offer.cutoff offer.base (offer.dist + sum)
 
 -- the offer was taken
 pub record IsTaken (offer : Offer) (sum : ℕ) (old new : Label) : Type 0 where
@@ -32,10 +35,11 @@ pub record IsOfferedAt (p : Transport) (prices : List ℕ) (offer : Offer) (c : 
   pub others : (d : ℕ) → (d ≡ c → ⊥) → label_at new d ≡ label_at old d
 
 -- the offer of entry i, which stands at consumer t
-abbrev pub offer_of : Transport → List ℕ → List Label → ℕ → ℕ → Offer
-offer_of p prices labels t i = record {
+abbrev pub offer_of : Transport → List ℕ → Option ℕ → List Label → ℕ → ℕ → Offer
+offer_of p prices cutoff labels t i = record {
   mover = i;
   dist = (label_at labels t).dist;
   base = priced p prices i t;
   hops = (label_at labels t).hops + 1;
+  cutoff = cutoff;
 }

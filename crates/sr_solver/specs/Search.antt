@@ -8,6 +8,7 @@ use Rattle.sr_transport.specs.Assignment.{load}
 use Rattle.sr_solver.specs.declared.label.Label.{Label}
 use Rattle.sr_solver.specs.declared.label.Offer.{Offer}
 use Rattle.sr_solver.specs.Labels.{no_label, label_at, open_count, priced}
+use Rattle.sr_solver.specs.Cutoff.{IsBeyond}
 use Rattle.sr_solver.specs.Offers.{IsOffered}
 
 -- consumer c is reached by the new entry itself
@@ -34,9 +35,14 @@ abbrev pub IsWithin : Transport → List ℕ → List Label → ℕ → ℕ → 
 IsWithin p prices labels dist base i c =
     (0 < (label_at labels c).hops) × ((label_at labels c).dist + base ≤ dist + priced p prices i c)
 
+-- the same, or the entry comes there no nearer than the cutoff
+abbrev pub IsCovered : Transport → List ℕ → Option ℕ → List Label → ℕ → ℕ → ℕ → ℕ → Type 0
+IsCovered p prices cutoff labels dist base i c =
+    IsWithin p prices labels dist base i c ⊎ IsBeyond cutoff base (dist + priced p prices i c)
+
 -- the search, where the entries at consumer t are offered to the consumers below `upto`, and those at each other closed
 -- consumer to all
-pub record IsSearch (p : Transport) (k : ℕ) (xs prices : List ℕ) (labels : List Label) (t upto : ℕ) : Type 0 where
+pub record IsSearch (p : Transport) (k : ℕ) (xs prices : List ℕ) (cutoff : Option ℕ) (labels : List Label) (t upto : ℕ) : Type 0 where
   pub one_each : length labels ≡ consumers p
   pub way : (c : ℕ) → c < consumers p → 0 < (label_at labels c).hops → IsWay p k xs prices labels c
   pub long : (c : ℕ) → c < consumers p → 0 < (label_at labels c).hops
@@ -54,7 +60,7 @@ pub record IsSearch (p : Transport) (k : ℕ) (xs prices : List ℕ) (labels : L
   pub new_offered : (c : ℕ) → IsAllowed p k c → IsWithin p prices labels 0 0 k c
   pub offered : (i c : ℕ) → i < k → (label_at labels (slice_index xs i)).closed ≡ true → (slice_index xs i ≡ t → c < upto)
       → IsAllowed p i c
-      → IsWithin p prices labels (label_at labels (slice_index xs i)).dist (priced p prices i (slice_index xs i)) i c
+      → IsCovered p prices cutoff labels (label_at labels (slice_index xs i)).dist (priced p prices i (slice_index xs i)) i c
 
 -- consumer t is the nearest of those that are reached and not closed
 pub record IsNearest (p : Transport) (labels : List Label) (t : ℕ) : Type 0 where
@@ -70,20 +76,21 @@ AreAllClosed p labels =
     (c : ℕ) → c < consumers p → 0 < (label_at labels c).hops → (label_at labels c).closed ≡ true
 
 -- the search between two rounds
-abbrev pub IsRound : Transport → ℕ → List ℕ → List ℕ → List Label → Type 0
-IsRound p k xs prices labels = IsSearch p k xs prices labels (consumers p) (consumers p)
+abbrev pub IsRound : Transport → ℕ → List ℕ → List ℕ → Option ℕ → List Label → Type 0
+IsRound p k xs prices cutoff labels = IsSearch p k xs prices cutoff labels (consumers p) (consumers p)
 
 -- the search after consumer t is closed, and its entries are offered to the consumers below `upto`
-pub record IsClosed (p : Transport) (k : ℕ) (xs prices : List ℕ) (old new : List Label) (t upto : ℕ) : Type 0 where
-  pub search : IsSearch p k xs prices new t upto
+pub record IsClosed (p : Transport) (k : ℕ) (xs prices : List ℕ) (cutoff : Option ℕ) (old new : List Label) (t upto : ℕ) : Type 0 where
+  pub search : IsSearch p k xs prices cutoff new t upto
   pub closed : (label_at new t).closed ≡ true
   pub fewer : open_count new < open_count old
 
--- the label of consumer c stays where the entries at consumer t are offered: it is closed, or none of them comes nearer
-pub record IsLeftAt (p : Transport) (k : ℕ) (xs prices : List ℕ) (t : ℕ) (old new : List Label) (c : ℕ) : Type 0 where
+-- the label of consumer c stays where the entries at consumer t are offered: it is closed, or none of them comes nearer, and
+-- nearer than the cutoff
+pub record IsLeftAt (p : Transport) (k : ℕ) (xs prices : List ℕ) (cutoff : Option ℕ) (t : ℕ) (old new : List Label) (c : ℕ) : Type 0 where
   pub same : label_at new c ≡ label_at old c
   pub no_nearer : (i : ℕ) → i < k → slice_index xs i ≡ t → IsAllowed p i c
-      → ((label_at old c).closed ≡ true) ⊎ IsWithin p prices old (label_at old t).dist (priced p prices i t) i c
+      → ((label_at old c).closed ≡ true) ⊎ IsCovered p prices cutoff old (label_at old t).dist (priced p prices i t) i c
 
 -- or consumer c has a new label: its mover stands at t, and no entry there costs less more
 pub record IsNewAt (p : Transport) (k : ℕ) (xs prices : List ℕ) (t : ℕ) (old new : List Label) (c : ℕ) : Type 0 where
@@ -100,29 +107,29 @@ pub record IsNewAt (p : Transport) (k : ℕ) (xs prices : List ℕ) (t : ℕ) (o
       → cost_of p (label_at new c).mover c + cost_of p i t ≤ cost_of p i c + cost_of p (label_at new c).mover t
 
 -- the entries at consumer t were offered to consumer c
-pub record IsAsked (p : Transport) (k : ℕ) (xs prices : List ℕ) (t c : ℕ) (old new : List Label) : Type 0 where
+pub record IsAsked (p : Transport) (k : ℕ) (xs prices : List ℕ) (cutoff : Option ℕ) (t c : ℕ) (old new : List Label) : Type 0 where
   pub one_each : length new ≡ length old
-  pub here : IsLeftAt p k xs prices t old new c ⊎ IsNewAt p k xs prices t old new c
+  pub here : IsLeftAt p k xs prices cutoff t old new c ⊎ IsNewAt p k xs prices t old new c
   pub others : (d : ℕ) → (d ≡ c → ⊥) → label_at new d ≡ label_at old d
 
--- the search found a path that ends at a consumer with room
+-- the search found a path that ends at a consumer with room: its length is the cutoff
 pub record IsEnd (p : Transport) (k : ℕ) (xs prices : List ℕ) (labels : List Label) (end : ℕ) : Type 0 where
-  pub search : IsRound p k xs prices labels
+  pub search : IsRound p k xs prices (Some (label_at labels end).dist) labels
   pub nearest : IsNearest p labels end
   pub room : load xs end < room_of p end
 
--- the search ended with no path
+-- the search ended with no path, and no cutoff
 pub record IsStuck (p : Transport) (k : ℕ) (xs prices : List ℕ) (labels : List Label) : Type 0 where
   pub entry : k < p.entries
   pub placed_below : (i : ℕ) → i < k → IsAllowed p i (slice_index xs i)
   pub waiting : (i : ℕ) → k ≤ i → i < p.entries → slice_index xs i ≡ consumers p
   pub every : length xs ≡ p.entries
-  pub search : IsRound p k xs prices labels
+  pub search : IsRound p k xs prices None labels
   pub all_closed : AreAllClosed p labels
 
 -- the offer of the new entry
 abbrev pub first_offer : ℕ → Offer
-first_offer k = record { mover = k; dist = 0; base = 0; hops = 1 }
+first_offer k = record { mover = k; dist = 0; base = 0; hops = 1; cutoff = None }
 
 -- the new entry was offered to each consumer, and no other entry
 pub record IsStarted (p : Transport) (k : ℕ) (prices : List ℕ) (labels : List Label) : Type 0 where

@@ -1,12 +1,13 @@
 -- The table of bounds: for each ordered pair of consumers, what the entries that stand at the one cost more at the other.
 -- Sums are compared, never differences: a bound is greater by the greatest cost than what it bounds.
 
-use Rattle.std.specs.Prelude.{◌≡◌, ℕ, ◌+◌, ◌*◌, ◌^◌, ◌<◌, ◌≤◌, List, length, slice_index, slice_index_or, ◌⊎◌, Option, Some, None, IsSomeAnd, IfSome, true}
+use Rattle.std.specs.Prelude.{◌≡◌, ℕ, ◌+◌, ◌*◌, ◌<◌, ◌≤◌, List, length, slice_index, slice_index_or, ◌⊎◌, Option, Some, None, IsSomeAnd, IfSome, true}
 use Rattle.sr_transport.specs.Limits.{greatest_cost}
 use Rattle.sr_solver.specs.Limits.{greatest_bound}
 use Rattle.sr_transport.specs.Problem.{Transport, consumers, cost_of, IsAllowed}
 use Rattle.sr_solver.specs.declared.label.Label.{Label}
 use Rattle.sr_solver.specs.declared.table.Bound.{Bound}
+use Rattle.sr_solver.specs.Cutoff.{IsBeyond}
 
 -- a bound that holds for any entries: none costs less than the greatest cost less
 abbrev pub unknown : Bound
@@ -89,9 +90,11 @@ abbrev pub IsMover : Transport → (ℕ → Type 0) → ℕ → ℕ → Option �
 IsMover p at a b None = (i : ℕ) → at i → IsAllowed p i b → ⊥
 IsMover p at a b (Some k) = IsLeastMore p at a b k
 
--- no entry of which this is known comes nearer to a consumer from one whose label is `from`; `here` and `there` are the
--- prices of the two
-abbrev pub IsNoNearer : Option Bound → Label → ℕ → Label → ℕ → Type 0
-IsNoNearer None from here label there = Unit {0}
-IsNoNearer (Some bound) from here label there =
-    (label.closed ≡ true) ⊎ ((0 < label.hops) × (label.dist + (greatest_cost + here) ≤ from.dist + (bound.low + there)))
+-- no entry of which this is known comes nearer than before, and nearer than the cutoff, to a consumer from one whose label is
+-- `from`; `here` and `there` are the prices of the two
+abbrev pub IsNoNearer : Option Bound → Label → ℕ → Label → ℕ → Option ℕ → Type 0
+IsNoNearer None from here label there cutoff = Unit {0}
+IsNoNearer (Some bound) from here label there cutoff =
+    (label.closed ≡ true)
+    ⊎ ((0 < label.hops) × (label.dist + (greatest_cost + here) ≤ from.dist + (bound.low + there)))
+    ⊎ IsBeyond cutoff (greatest_cost + here) (from.dist + (bound.low + there))

@@ -1,7 +1,8 @@
-ghost use Rattle.std.specs.Prelude.{◌≡◌, ◌+◌, ◌≤◌, ◌&&◌, not, nat_lt, IfSome};
+ghost use Rattle.std.specs.Prelude.{◌≡◌, ◌+◌, ◌*◌, ◌≤◌, ◌&&◌, not, nat_lt, IfSome, true, false};
 ghost use Rattle.sr_transport.specs.Limits.{greatest_cost};
 ghost use Rattle.sr_solver.specs.Limits.{greatest_way};
 ghost use Rattle.sr_solver.specs.Labels.{no_label};
+ghost use Rattle.sr_solver.specs.Cutoff.{IsBeyond};
 ghost use Rattle.sr_solver.specs.Offers.{IsOffered};
 
 /// What a search knows of a consumer.
@@ -48,6 +49,8 @@ pub struct Offer {
     pub base: u64,
     /// How many entries move along a path that ends with this one.
     pub hops: usize,
+    /// A path of this length or more is of no use, if there is such a length.
+    pub cutoff: Option<u64>,
 }
 
 /// The label of a consumer after the offer of an entry that costs `cost` there.
@@ -56,13 +59,18 @@ pub fn offered(cost: Option<u64>, price: u64, offer: Offer, label: Label) -> Lab
     requires price { price ≤ greatest_way }
     requires cost { IfSome cost (λ c. c ≤ greatest_cost) }
     requires above { IfSome cost (λ c. offer.base ≤ offer.dist + (c + price)) }
+    requires cutoff { IfSome offer.cutoff (λ d. d ≤ greatest_way) }
     ensures { IsOffered cost price offer label result }
 {
     let Some(cost) = cost else {
         return label;
     };
-    let dist = offer.dist + (cost + price) - offer.base;
-    if label.closed || (0 < label.hops && label.dist <= dist) {
+    let sum = offer.dist + (cost + price);
+    let dist = sum - offer.base;
+    if label.closed
+        || (0 < label.hops && label.dist <= dist)
+        || is_beyond(offer.cutoff, offer.base, sum)
+    {
         return label;
     }
     Label {
@@ -71,4 +79,17 @@ pub fn offered(cost: Option<u64>, price: u64, offer: Offer, label: Label) -> Lab
         mover: offer.mover,
         closed: false,
     }
+}
+
+/// Whether a path whose length is `sum` less `base` is no shorter than the cutoff.
+pub fn is_beyond(cutoff: Option<u64>, base: u64, sum: u64) -> bool
+    requires cutoff { IfSome cutoff (λ d. d ≤ greatest_way) }
+    requires base { base ≤ 4 * greatest_way }
+    ensures yes { result ≡ true → IsBeyond cutoff base sum }
+    ensures no { result ≡ false → IsBeyond cutoff base sum → ⊥ }
+{
+    let Some(dist) = cutoff else {
+        return false;
+    };
+    base + dist <= sum
 }

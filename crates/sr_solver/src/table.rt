@@ -6,7 +6,7 @@ ghost use Rattle.sr_transport.specs.Assignment.{load};
 ghost use Rattle.sr_solver.specs.Members.{AreWide, AreMembersOf, AreMembers};
 ghost use Rattle.sr_solver.specs.Table.{IsUnknown, IsAt, IsApart, IsKnown, IsTableOf, IsTable, IsWithout, IsLowered, IsRowChanged, IsMover, IsNoNearer};
 
-use crate::label::Label;
+use crate::label::{Label, is_beyond};
 use crate::members::{add, remove};
 use crate::placement::Placement;
 use sr_transport::{MAX_COST, Problem};
@@ -45,16 +45,24 @@ pub fn forget(table: &mut [Option<Bound>])
     }
 }
 
-/// Whether an entry of which this is known may come nearer to a consumer with the label `label`, from one with the label
-/// `from`; `here` and `there` are the prices of the two.
-pub fn may_be_nearer(known: Option<Bound>, from: Label, here: u64, label: Label, there: u64) -> bool
+/// Whether an entry of which this is known may come nearer than the cutoff, and nearer than before, to a consumer with the
+/// label `label`, from one with the label `from`; `here` and `there` are the prices of the two.
+pub fn may_be_nearer(
+    known: Option<Bound>,
+    from: Label,
+    here: u64,
+    label: Label,
+    there: u64,
+    cutoff: Option<u64>,
+) -> bool
     requires dist { from.dist ≤ greatest_way }
     requires here { here ≤ greatest_way }
     requires there { there ≤ greatest_way }
     requires label { 0 < label.hops → label.dist ≤ greatest_way }
     requires low { IfSome known (λ bound. bound.low ≤ greatest_bound) }
-    ensures no { result ≡ false → IsNoNearer known from here label there }
-    ensures yes { result ≡ true → IsNoNearer known from here label there → ⊥ }
+    requires cutoff { IfSome cutoff (λ d. d ≤ greatest_way) }
+    ensures no { result ≡ false → IsNoNearer known from here label there cutoff }
+    ensures yes { result ≡ true → IsNoNearer known from here label there cutoff → ⊥ }
 {
     let Some(bound) = known else {
         return false;
@@ -62,7 +70,9 @@ pub fn may_be_nearer(known: Option<Bound>, from: Label, here: u64, label: Label,
     if label.closed {
         return false;
     }
-    label.hops == 0 || from.dist + (bound.low + there) < label.dist + (ABOVE + here)
+    let sum = from.dist + (bound.low + there);
+    let base = ABOVE + here;
+    (label.hops == 0 || sum < label.dist + base) && !is_beyond(cutoff, base, sum)
 }
 
 /// The entry at `from` that costs least more at `to`, or `None` where none may go there. Where the table doesn't know it, it

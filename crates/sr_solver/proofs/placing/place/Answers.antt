@@ -5,7 +5,7 @@ use Rattle.sr_solver.proofs.placing.place.Goals as goal
 
 pub shift-requires-clause-paths : goal.shift-requires-clause-paths
 shift-requires-clause-paths c =
-    are_paths c.args.problem.now c.args.entry c.args.placement.now.assign.items c.args.placement.now.prices.items c.search.new.labels
+    are_paths c.args.problem.now c.args.entry c.args.placement.now.assign.items c.args.placement.now.prices.items _ c.search.new.labels
     c.requires.entry c.requires.standing.placed c.in-Some.ensures.end.search
 
 pub returns-clause-standing : goal.returns-clause-standing

@@ -1,9 +1,12 @@
+use Rattle.sr_transport.specs.Problem.{consumers}
 use Rattle.sr_solver.specs.Table.{IsTable}
+use Rattle.sr_solver.specs.Cutoff.{IsCutoff}
 use Rattle.sr_solver.specs.Search.{IsClosed}
 use Rattle.sr_solver.proofs.search.close.Given as goal
 
 abbrev pub invariant-loop-other : goal.invariant-loop-other
 invariant-loop-other l = record {
   table : IsTable l.problem l.placement.assign.items l.table;
-  closed : IsClosed l.problem l.entry l.placement.assign.items l.placement.prices.items l.fn.labels l.labels l.near l.other;
+  closed : IsClosed l.problem l.entry l.placement.assign.items l.placement.prices.items l.cutoff l.fn.labels l.labels l.near l.other;
+  cutoff : IsCutoff l.problem l.placement.assign.items l.labels (consumers l.problem) l.cutoff;
 }
