@@ -103,6 +103,7 @@ impl Group {
     pub fn ack(&mut self, ids: &[Id]) -> u64
         ensures shown { self.new.shown ≡ record self.old.shown { nacks = without_ids ids.now self.old.shown.nacks } }
         ensures count { result ≡ length (with_ids ids.now self.old.shown.nacks) }
+        ensures bound { result < 2 ^ 63 }
     {
         let before = self.pending.len();
         remove_all(&mut self.pending, ids);
@@ -144,6 +145,7 @@ impl Group {
           nacks = without_owner name.now self.old.shown.nacks;
         } }
         ensures count { result ≡ length (owned_by name.now self.old.shown.nacks) }
+        ensures bound { result < 2 ^ 63 }
     {
         let owned = self.pending.drop_owner(name);
         remove(&mut self.consumers, name);
