@@ -4,6 +4,7 @@ ghost use Rattle.sr_resp.specs.Equality.{same_reply, same_reply-equivalence, sam
 use crate::bytes::Bytes;
 use crate::first::First;
 use crate::{Draft, ErrCode, Word};
+use itoa::Buffer;
 use sr_bytes::Name;
 use std::alloc::{AllocError, Global};
 use std::marker::Model;
@@ -30,7 +31,7 @@ impl Model for Reply {
 }
 
 impl Reply {
-    ghost use Rattle.std.specs.Prelude.{◌≡◌, ◌≤◌, ◌∷◌, [], ◌++◌, List, length, IfOk, OnOk, OnErr};
+    ghost use Rattle.std.specs.Prelude.{◌≡◌, ◌≤◌, ◌∷◌, [], ◌++◌, List, decimal, length, IfOk, OnOk, OnErr};
     ghost use Rattle.sr_resp.specs.Reply.{Answer, IsReply, IsArray, simple_string, error_reply, integer, bulk_string, null_string, null_array, array_of};
     ghost use Rattle.sr_resp.specs.steps.Pieces.{first_part};
 
@@ -78,6 +79,14 @@ impl Reply {
         Reply {
             draft: Draft::of(alloc, First::Bulk(Bytes::short(bytes))),
         }
+    }
+
+    /// A number as a bulk string of its decimal digits. Takes no memory.
+    pub fn decimal(alloc: Global, n: u64) -> Reply
+        ensures { result ≡ bulk_string (decimal n) }
+    {
+        let mut buffer = Buffer::new();
+        Reply::short(alloc, buffer.format(n).as_bytes())
     }
 
     /// The null bulk string. Takes no memory.
