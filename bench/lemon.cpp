@@ -1,8 +1,8 @@
 // Times LEMON's network simplex on problems that `bench_solver print` prints, which this reads from its standard input, and
 // prints a line for each as `bench_solver run` does. It needs the library's headers alone (Debian: liblemon-dev).
 //
-// Two times are printed, each the least of some runs: from the allowed pairs with their costs to the answer, which makes the
-// graph that LEMON works on; and of that the run of its simplex alone.
+// Two times are printed, each the least of some runs: from the costs to the answer, as our solver is timed too, which takes the
+// allowed pairs out of the costs and makes the graph that LEMON works on; and of that the run of its simplex alone.
 
 #include <lemon/network_simplex.h>
 #include <lemon/smart_graph.h>
@@ -32,7 +32,8 @@ struct Pair {
 
 struct Problem {
   std::vector<std::int64_t> rooms;
-  std::vector<Pair> pairs;
+  // A row for each entry, with a cost for each consumer, -1 where it is not allowed.
+  std::vector<std::int64_t> costs;
 };
 
 // The numbers of the next line, -1 for a `-`.
@@ -50,11 +51,22 @@ Problem read_problem() {
   problem.rooms = read_numbers();
   for (int entry = 0; entry < entries; ++entry) {
     const std::vector<std::int64_t> costs = read_numbers();
-    for (std::size_t consumer = 0; consumer < costs.size(); ++consumer) {
-      if (costs[consumer] >= 0) problem.pairs.push_back({entry, static_cast<int>(consumer), costs[consumer]});
-    }
+    problem.costs.insert(problem.costs.end(), costs.begin(), costs.end());
   }
   return problem;
+}
+
+// The pairs that are allowed.
+std::vector<Pair> allowed(const Problem& problem) {
+  const int consumers = static_cast<int>(problem.rooms.size());
+  std::vector<Pair> pairs;
+  const std::int64_t* cost = problem.costs.data();
+  for (int entry = 0; entry < entries; ++entry) {
+    for (int consumer = 0; consumer < consumers; ++consumer, ++cost) {
+      if (*cost >= 0) pairs.push_back({entry, consumer, *cost});
+    }
+  }
+  return pairs;
 }
 
 struct Answer {
@@ -70,13 +82,14 @@ double since(std::chrono::steady_clock::time_point start) {
 Answer solve(const Problem& problem) {
   const auto start = std::chrono::steady_clock::now();
   const int consumers = static_cast<int>(problem.rooms.size());
+  const std::vector<Pair> pairs = allowed(problem);
   Graph graph;
   graph.reserveNode(entries + consumers);
-  graph.reserveArc(static_cast<int>(problem.pairs.size()));
+  graph.reserveArc(static_cast<int>(pairs.size()));
   for (int node = 0; node < entries + consumers; ++node) graph.addNode();
-  for (const Pair& pair : problem.pairs) graph.addArc(graph.nodeFromId(pair.entry), graph.nodeFromId(entries + pair.consumer));
+  for (const Pair& pair : pairs) graph.addArc(graph.nodeFromId(pair.entry), graph.nodeFromId(entries + pair.consumer));
   Graph::ArcMap<std::int64_t> costs(graph);
-  for (std::size_t arc = 0; arc < problem.pairs.size(); ++arc) costs[graph.arcFromId(static_cast<int>(arc))] = problem.pairs[arc].cost;
+  for (std::size_t arc = 0; arc < pairs.size(); ++arc) costs[graph.arcFromId(static_cast<int>(arc))] = pairs[arc].cost;
   Graph::NodeMap<std::int64_t> supplies(graph, 1);
   for (int consumer = 0; consumer < consumers; ++consumer) {
     supplies[graph.nodeFromId(entries + consumer)] = -problem.rooms[consumer];
@@ -96,7 +109,7 @@ void measure(const std::string& family, const Problem& problem) {
     least.whole = std::min(least.whole, answer.whole);
     least.run = std::min(least.run, answer.run);
   }
-  std::printf("%s: %.1f ms, %.1f of them the simplex alone, %s\n", family.c_str(), least.whole, least.run, least.text.c_str());
+  std::printf("%s: %.2f ms, %.2f of them the simplex alone, %s\n", family.c_str(), least.whole, least.run, least.text.c_str());
 }
 
 }  // namespace

@@ -48,7 +48,7 @@ def main():
     for family, times in ours.items():
         least, other = min(times), min(whole[family])
         print(
-            f"| {family} | {least:.1f} | {max(times):.1f} | {other:.1f} | {min(alone[family]):.1f} "
+            f"| {family} | {least:.2f} | {max(times):.2f} | {other:.2f} | {min(alone[family]):.2f} "
             f"| {least / other:.2f} | {answers[family]} |"
         )
 

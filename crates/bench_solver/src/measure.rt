@@ -194,14 +194,14 @@ fn measure<R: AllocGlobal + Clock + Print>(
         solved = again;
         least = least.min(micros);
     }
-    let (millis, tenths) = (least / 1000, least % 1000 / 100);
+    let (millis, hundredths) = (least / 1000, least % 1000 / 10);
     match solved {
         Solved::Best { total, .. } => {
-            println!(rt; "{family}: {millis}.{tenths} ms, best, total {total}")
+            println!(rt; "{family}: {millis}.{hundredths:02} ms, best, total {total}")
         }
         Solved::Short { set } => {
             println!(rt;
-                "{family}: {millis}.{tenths} ms, short, {} entries",
+                "{family}: {millis}.{hundredths:02} ms, short, {} entries",
                 set.len()
             )
         }
