@@ -1,2 +1,4 @@
 pub mod GivenLemmas
+pub mod GroupsLemmas
+pub mod LendingLemmas
 pub mod StreamLemmas

@@ -1,5 +1,6 @@
 ghost use Rattle.std.specs.Prelude.{◌≡◌};
 ghost use Rattle.sr_stream.specs.declared.fault.AddFault.TheVariants.{Memory};
+ghost use Rattle.sr_stream.specs.declared.fault.GroupFault.TheVariants as group_fault;
 
 use std::alloc::AllocError;
 
@@ -32,5 +33,24 @@ impl From<AllocError> for AddFault {
 
     fn from(_error: AllocError) -> AddFault {
         AddFault::Memory
+    }
+}
+
+/// Why a group is not made. Of several reasons the first in this order is answered.
+///
+/// Source: Redis documentation, command XGROUP CREATE.
+#[derive(Clone, Copy, Debug, PartialEq, Eq)]
+pub enum GroupFault {
+    /// A group has this name.
+    Busy,
+    /// Memory was refused.
+    Memory,
+}
+
+impl From<AllocError> for GroupFault {
+    ghost from_gives = { λ _ fault. fault ≡ group_fault.Memory };
+
+    fn from(_error: AllocError) -> GroupFault {
+        GroupFault::Memory
     }
 }

@@ -2,11 +2,15 @@
 #![tactic(auto)]
 
 mod fault;
+mod groups;
 mod laws;
+mod named;
+mod places;
 mod stream;
 #[cfg(test)]
 mod tests;
 
-pub use fault::{AddFault, GivenFault};
+pub use fault::{AddFault, GivenFault, GroupFault};
 pub use laws::given_ids;
+pub use named::NamedGroup;
 pub use stream::Stream;

@@ -1,5 +1,10 @@
 // What no clause says: that calls succeed while there is memory. The ids and counts are those of the Redis pages, worked by hand.
-use crate::{AddFault, GivenFault, Stream};
+ghost use Rattle.std.specs.Prelude.{◌≡◌, false, Some};
+ghost use Rattle.sr_group.specs.Group.{GroupState, without_ids};
+ghost use Rattle.sr_stream.specs.Groups.{has_group, group_with, with_group};
+ghost use Rattle.sr_stream.specs.Stream.{with_groups};
+
+use crate::{AddFault, GivenFault, GroupFault, Stream};
 use sr_bytes::{Fields, Name};
 use sr_ids::{Id, Spec};
 use std::alloc::{AllocError, Global};
@@ -155,5 +160,105 @@ fn trims_and_deletes(rt: HostRuntime) -> Result<(), Fail> {
     assert_eq!(rt; stream.added(), 5);
     assert_eq!(rt; stream.len(), 1);
     assert_eq!(rt; copy.len(), 2);
+    Ok(())
+}
+
+/// Acknowledges entries in a group, and answers how many were pending: a proved caller that sees the contract alone.
+fn acknowledge(stream: &mut Stream, name: &Name, ids: &[Id]) -> u64
+    ensures shown { (group : GroupState) → group_with name.now stream.old.shown.groups ≡ Some group →
+        stream.new.shown ≡ with_groups (with_group name.now
+        (record group { nacks = without_ids ids.now group.nacks }) stream.old.shown.groups) stream.old.shown }
+    ensures missing { has_group name.now stream.old.shown.groups ≡ false → stream.new.shown ≡ stream.old.shown }
+    ensures room { stream.new.room ≡ stream.old.room }
+{
+    if !stream.has_group(name) {
+        return 0;
+    }
+    let (_entries, group) = stream.entries_and_group(name);
+    group.ack(ids)
+}
+
+/// The names of the groups, one after another, each with a space after it.
+fn group_names(alloc: Global, stream: &Stream) -> Result<Vec<u8>, AllocError> {
+    let mut names = Vec::new(alloc);
+    for named in stream.groups() {
+        for byte in named.name().as_slice() {
+            names.push(*byte)?;
+        }
+        names.push(b' ')?;
+    }
+    Ok(names)
+}
+
+/// A stream with the groups b, a, B and ab, made in this order.
+fn four_groups(alloc: Global) -> Result<Stream, Fail> {
+    let mut stream = Stream::new(alloc);
+    for text in ["b", "a", "B", "ab"] {
+        stream.create_group(alloc, &name(alloc, text)?, id(0, 0))?;
+    }
+    Ok(stream)
+}
+
+#[test]
+fn groups_are_made_once_in_byte_order(rt: HostRuntime) -> Result<(), Fail> {
+    let alloc = rt.alloc();
+    let a = name(alloc, "a")?;
+    let mut stream = four_groups(alloc)?;
+    assert!(rt; group_names(alloc, &stream)?.as_slice() == b"B a ab b ".as_slice());
+    assert_eq!(rt;
+        stream.create_group(alloc, &a, id(7, 0)),
+        Err(GroupFault::Busy)
+    );
+    assert_eq!(rt; last_of(&stream, &a), Some(id(0, 0)));
+    assert!(rt; stream.set_group_id(&a, id(8, 0)));
+    assert_eq!(rt; last_of(&stream, &a), Some(id(8, 0)));
+    assert!(rt; stream.destroy_group(&a));
+    assert!(rt; !stream.destroy_group(&a));
+    assert!(rt; !stream.set_group_id(&a, id(9, 0)));
+    assert!(rt; group_names(alloc, &stream)?.as_slice() == b"B ab b ".as_slice());
+    Ok(())
+}
+
+/// What a group of this name has delivered, if there is one.
+fn last_of(stream: &Stream, name: &Name) -> Option<Id> {
+    let group = stream.group(name)?;
+    Some(group.last_id())
+}
+
+/// How many entries are pending in a group.
+fn pending(stream: &Stream, name: &Name) -> usize {
+    match stream.group(name) {
+        Some(group) => group.pending_len(),
+        None => 0,
+    }
+}
+
+/// Delivers what is new to a reader of a group.
+fn deliver(
+    alloc: Global,
+    stream: &mut Stream,
+    name: &Name,
+    reader: &Name,
+) -> Result<(), AllocError> {
+    if stream.has_group(name) {
+        let (entries, group) = stream.entries_and_group(name);
+        let shown = group.deliver(alloc, reader, 10, entries, None, false)?;
+        group.show(shown);
+    }
+    Ok(())
+}
+
+#[test]
+fn copies_have_groups_of_their_own(rt: HostRuntime) -> Result<(), Fail> {
+    let alloc = rt.alloc();
+    let (group, reader) = (name(alloc, "g")?, name(alloc, "r")?);
+    let mut stream = five_entries(alloc)?;
+    stream.create_group(alloc, &group, id(3, 1))?;
+    deliver(alloc, &mut stream, &group, &reader)?;
+    let copy = stream.copy(alloc)?;
+    assert_eq!(rt; acknowledge(&mut stream, &group, &[id(4, 1), id(9, 9)]), 1);
+    assert_eq!(rt; acknowledge(&mut stream, &reader, &[id(5, 1)]), 0);
+    assert_eq!(rt; (pending(&stream, &group), pending(&copy, &group)), (1, 2));
+    assert_eq!(rt; last_of(&copy, &group), Some(id(5, 1)));
     Ok(())
 }

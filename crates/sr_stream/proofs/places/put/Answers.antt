@@ -1,0 +1,15 @@
+use Rattle.std.proofs.Common.{◌≡◌, ℕ, List, ap, ◌∙◌}
+use Rattle.std.specs.List.{insert}
+use Rattle.sr_group.specs.Group.{KeptGroup}
+use Rattle.sr_stream.specs.steps.Places.{before}
+use Rattle.sr_stream.proofs.GroupsLemmas.{with_group-insert}
+use Rattle.sr_stream.proofs.places.put.Goals as goal
+
+pub returns : goal.returns
+returns c =
+    let groups = c.args.groups.now.items in
+    let named : List ℕ × KeptGroup = c.args.named in
+    let same : c.named.inside.name ≡ named.0 = ap (λ (x : List ℕ × KeptGroup). x.0) c.named.view_is in
+    let found : c.count_before-place.result ≡ before c.named.inside.name groups = rw c.as_slice.ensures.value at c.count_before-place.ensures in
+    let place : c.count_before-place.result ≡ before named.0 groups = found ∙ ap (λ (n : List ℕ). before n groups) same in
+    c.insert_at.ensures ∙ ap (λ (n : ℕ). insert groups n named) place ∙ with_group-insert named.0 named.1 groups c.requires.order c.requires.missing
