@@ -1,3 +1,5 @@
+-- What a group under its name ends as, once the `&mut` to the group has ended. No public clause cites it.
+
 use Rattle.std.specs.Prelude.{ℕ, List}
 use Rattle.std.specs.Borrow.{Lends, MutBor, Fml}
 use Rattle.sr_group.specs.Group.{KeptGroup}
