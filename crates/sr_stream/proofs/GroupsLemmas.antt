@@ -390,6 +390,17 @@ with_last-with_group name id g xs order found =
     let place = group_with-found name g xs found in
     sym (with_group-set name g (record g { last = id }) xs place.0 order place.1) ∙ with_last-place name id g xs place.0 order place.1
 
+set-same : {X : Type 0} (xs : List X) (i : ℕ) (x : X) → slice_get xs i ≡ Some x → set xs i x ≡ xs
+set-same [] i x here = cc
+set-same (y ∷ ys) zero x here = let one : y ≡ x = cc in ap (λ (z : _). z ∷ ys) (sym one)
+set-same (y ∷ ys) (suc i) x here = ap (λ (l : List _). y ∷ l) (set-same ys i x here)
+
+-- written in its own place, it changes nothing
+pub with_group-same : {G : Type 0} (name : List ℕ) (g : G) (xs : ByName G) → AreInOrder xs → group_with name xs ≡ Some g → with_group name g xs ≡ xs
+with_group-same name g xs order found =
+    let place = group_with-found name g xs found in
+    sym (with_group-set name g g xs place.0 order place.1) ∙ set-same xs place.0 (name, g) place.1
+
 -- ---- answers that the place gives
 
 pub place-there : (r : Option ℕ) (name : List ℕ) (xs : ByName KeptGroup) → IfSome r (IsPlace name xs) → IfNone r (has_group name xs ≡ false) → is_some r ≡ has_group name (shown_groups xs)
