@@ -257,7 +257,8 @@ fn judge_all(
 }
 
 impl Group {
-    ghost use Rattle.std.specs.Prelude.{◌≡◌, ◌^◌, ◌<◌, IfOk, IfSome, length, map};
+    ghost use Rattle.std.specs.Prelude.{◌≡◌, ◌^◌, ◌<◌, IfOk, IfSome, OnOk, length, map};
+    ghost use Rattle.sr_pending.specs.Pending.{KeepsRooms};
     ghost use Rattle.sr_group.specs.Claim.{group_after_claim, id_behind, listed_claim, pending_from, scanned};
     ghost use Rattle.sr_group.specs.Shown.{HasRoomFor, after_showing, listed_of};
 
@@ -281,6 +282,7 @@ impl Group {
         ensures listed { IfOk result (λ shown. listed_of shown.acts
             ≡ listed_claim claim claimer.now moment entries.now.entries ids.now self.old.shown.nacks) }
         ensures room { IfOk result (λ shown. HasRoomFor shown self.new) }
+        ensures kept { OnOk result (KeepsRooms self.old.rooms self.new.rooms) }
     {
         let call = Call {
             claim,
@@ -325,6 +327,7 @@ impl Group {
             (length (scanned claim claimer.now moment entries.now.entries count (pending_from start self.old.shown.nacks)))
             (pending_from start self.old.shown.nacks)) }
         ensures room { IfOk result (λ scan. HasRoomFor scan.shown self.new) }
+        ensures kept { OnOk result (KeepsRooms self.old.rooms self.new.rooms) }
     {
         let call = Call {
             claim,

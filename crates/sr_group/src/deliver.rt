@@ -13,8 +13,9 @@ use sr_pending::{Nack, Nacks};
 use std::alloc::{AllocError, Global};
 
 impl Group {
-    ghost use Rattle.std.specs.Prelude.{◌≡◌, ◌^◌, ◌<◌, IfOk, map};
+    ghost use Rattle.std.specs.Prelude.{◌≡◌, ◌^◌, ◌<◌, IfOk, OnOk, map};
     ghost use Rattle.std.specs.List.{All};
+    ghost use Rattle.sr_pending.specs.Pending.{KeepsRooms};
     ghost use Rattle.sr_group.specs.Delivery.{after_delivery, after_history, found_entry, history_of, listed_in, new_entries};
     ghost use Rattle.sr_group.specs.Shown.{HasRoomFor, after_showing, listed_of};
     ghost use Rattle.sr_group.specs.steps.Showing.{IsActOf};
@@ -41,6 +42,7 @@ impl Group {
         ensures listed { IfOk result (λ shown. listed_of shown.acts
             ≡ map found_entry (new_entries self.old.shown.last count entries.now.entries)) }
         ensures room { IfOk result (λ shown. HasRoomFor shown self.new) }
+        ensures kept { OnOk result (KeepsRooms self.old.rooms self.new.rooms) }
     {
         let unread = entries.above(self.last).at_front(count);
         let last = last_of(entries.above(self.last).at_front(count), self.last);
@@ -68,6 +70,7 @@ impl Group {
         ensures listed { IfOk result (λ shown. listed_of shown.acts
             ≡ map (listed_in entries.now.entries) (history_of reader.now after count self.old.shown.nacks)) }
         ensures room { IfOk result (λ shown. HasRoomFor shown self.new) }
+        ensures kept { OnOk result (KeepsRooms self.old.rooms self.new.rooms) }
     {
         let last = self.last;
         let history = self.pending.above(after, count, Some(reader));
@@ -90,6 +93,7 @@ impl Group {
         ensures value { IfOk result (λ shown. shown
             ≡ record { consumer = consumer.now; moment = moment; last = last; acts = acts.items }) }
         ensures room { IfOk result (λ shown. HasRoomFor shown self.new) }
+        ensures kept { OnOk result (KeepsRooms self.old.rooms self.new.rooms) }
     {
         let name = consumer.copy(alloc)?;
         self.pending
