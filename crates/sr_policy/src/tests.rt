@@ -3,7 +3,7 @@
 use crate::{Live, Policy, PolicyFault, Rates, Snapshot, Stranded, problem, room_of, weight_of};
 use sr_bytes::{Fields, Name};
 use sr_ids::Id;
-use sr_transport::check_prices;
+use sr_transport::{Problem, check_prices};
 use std::alloc::{AllocError, Global};
 use std::test::Fail;
 
@@ -94,107 +94,119 @@ fn fields(alloc: Global, pairs: &[(&str, &str)]) -> Result<Fields, AllocError> {
     Ok(fields)
 }
 
+/// The first of the files whose fault is another, with its fault.
+fn first_other<'a>(
+    alloc: Global,
+    files: &[&'a str],
+    fault: Option<PolicyFault>,
+) -> Result<Option<(&'a str, Option<PolicyFault>)>, AllocError> {
+    for file in files {
+        let found = fault_of(alloc, file)?;
+        if found != fault {
+            return Ok(Some((*file, found)));
+        }
+    }
+    Ok(None)
+}
+
+/// Files that are not TOML.
+const NOT_TOML: &[&str] = &[
+    "[limits",
+    "limits",
+    "limits = ",
+    "limits = [1",
+    "class_field = \"c",
+    "version = 1\nversion = 1\n",
+    "[limits]\nA = 1\nA = 2\n",
+    "[limits]\nA = 9223372036854775808\n",
+    "[limits]\nA = -9223372036854775809\n",
+    "[limits]\nA = 1 B = 2\n",
+    "version = 01\n",
+    "top = 1\n[limits\n",
+];
+
 #[test]
 fn what_is_not_toml_is_refused(rt: HostRuntime) -> Result<(), Fail> {
-    let files = [
-        "[limits",
-        "limits",
-        "limits = ",
-        "limits = [1",
-        "class_field = \"c",
-        "version = 1\nversion = 1\n",
-        "[limits]\nA = 1\nA = 2\n",
-        "[limits]\nA = 9223372036854775808\n",
-        "[limits]\nA = -9223372036854775809\n",
-        "[limits]\nA = 1 B = 2\n",
-        "version = 01\n",
-        "top = 1\n[limits\n",
-    ];
-    for file in files {
-        assert_eq!(rt;
-            fault_of(rt.alloc(), file)?,
-            Some(PolicyFault::Toml),
-            "at {file}"
-        );
-    }
+    assert_eq!(rt;
+        first_other(rt.alloc(), NOT_TOML, Some(PolicyFault::Toml))?,
+        None
+    );
     Ok(())
 }
+
+/// Files of another shape than a policy.
+const OTHER_SHAPES: &[&str] = &[
+    "limits = 3",
+    "[rates.x]\nA = 1\n",
+    "top = 1\n",
+    "version = 2\ntop = 1\n",
+    "[limits]\nA = -1\n[rates.x]\nB = 1\n",
+    "version = 1.0\n",
+    "version = \"1\"\n",
+    "version = true\n",
+    "version = 1979-05-27\n",
+    "class_field = 1\n",
+    "class_field = [\"c\"]\n",
+    "[limits]\nA = \"1\"\n",
+    "[limits]\nA = 1.5\n",
+    "[limits.A]\nB = 1\n",
+    "[rates]\nA = 1\n",
+    "[limits]\nA = 1\n[rates.x]\nA = true\n",
+    "[limits]\nA = 1\n[rates.x.y]\nA = 1\n",
+    "[[limits]]\nA = 1\n",
+    "[soft]\n",
+    "Version = 1\n",
+    "[limits]\nA = 1\n[rates.x]\na = 1\n",
+];
 
 #[test]
 fn another_shape_is_refused(rt: HostRuntime) -> Result<(), Fail> {
-    let files = [
-        "limits = 3",
-        "[rates.x]\nA = 1\n",
-        "top = 1\n",
-        "version = 2\ntop = 1\n",
-        "[limits]\nA = -1\n[rates.x]\nB = 1\n",
-        "version = 1.0\n",
-        "version = \"1\"\n",
-        "version = true\n",
-        "version = 1979-05-27\n",
-        "class_field = 1\n",
-        "class_field = [\"c\"]\n",
-        "[limits]\nA = \"1\"\n",
-        "[limits]\nA = 1.5\n",
-        "[limits.A]\nB = 1\n",
-        "[rates]\nA = 1\n",
-        "[limits]\nA = 1\n[rates.x]\nA = true\n",
-        "[limits]\nA = 1\n[rates.x.y]\nA = 1\n",
-        "[[limits]]\nA = 1\n",
-        "[soft]\n",
-        "Version = 1\n",
-        "[limits]\nA = 1\n[rates.x]\na = 1\n",
-    ];
-    for file in files {
-        assert_eq!(rt;
-            fault_of(rt.alloc(), file)?,
-            Some(PolicyFault::Shape),
-            "at {file}"
-        );
-    }
+    assert_eq!(rt;
+        first_other(rt.alloc(), OTHER_SHAPES, Some(PolicyFault::Shape))?,
+        None
+    );
     Ok(())
 }
+
+/// Files with a number out of range.
+const OUT_OF_RANGE: &[&str] = &[
+    "version = 2\n",
+    "version = 0\n",
+    "version = -1\n",
+    "[limits]\nA = -1\n",
+    "[limits]\nA = 1000000001\n",
+    "[limits]\nA = 9223372036854775807\n",
+    "[limits]\nA = 1\n[rates.x]\nA = -1\n",
+    "[limits]\nA = 1\n[rates.x]\nA = 1048577\n",
+];
 
 #[test]
 fn a_number_out_of_range_is_refused(rt: HostRuntime) -> Result<(), Fail> {
-    let files = [
-        "version = 2\n",
-        "version = 0\n",
-        "version = -1\n",
-        "[limits]\nA = -1\n",
-        "[limits]\nA = 1000000001\n",
-        "[limits]\nA = 9223372036854775807\n",
-        "[limits]\nA = 1\n[rates.x]\nA = -1\n",
-        "[limits]\nA = 1\n[rates.x]\nA = 1048577\n",
-    ];
-    for file in files {
-        assert_eq!(rt;
-            fault_of(rt.alloc(), file)?,
-            Some(PolicyFault::Range),
-            "at {file}"
-        );
-    }
+    assert_eq!(rt;
+        first_other(rt.alloc(), OUT_OF_RANGE, Some(PolicyFault::Range))?,
+        None
+    );
     Ok(())
 }
 
+/// Files that are policies.
+const POLICIES: &[&str] = &[
+    "",
+    "version = 1\n",
+    "class_field = \"\"\n",
+    "[limits]\n",
+    "[rates.x]\n",
+    "[limits]\nA = 0\nB = 1000000000\n[rates.x]\nA = 0\nB = 1048576\n",
+    "limits = { \"a b\" = 1, 'c\"d' = 2, \"\u{e9}\" = 3 }\nrates.\"\u{e9}\".\"\u{e9}\" = 1\n",
+    TWO_CLASSES,
+    EQUAL,
+    FAST_AND_SLOW,
+    BY_CLASS,
+];
+
 #[test]
 fn a_policy_is_read(rt: HostRuntime) -> Result<(), Fail> {
-    let files = [
-        "",
-        "version = 1\n",
-        "class_field = \"\"\n",
-        "[limits]\n",
-        "[rates.x]\n",
-        "[limits]\nA = 0\nB = 1000000000\n[rates.x]\nA = 0\nB = 1048576\n",
-        "limits = { \"a b\" = 1, 'c\"d' = 2, \"\u{e9}\" = 3 }\nrates.\"\u{e9}\".\"\u{e9}\" = 1\n",
-        TWO_CLASSES,
-        EQUAL,
-        FAST_AND_SLOW,
-        BY_CLASS,
-    ];
-    for file in files {
-        assert_eq!(rt; fault_of(rt.alloc(), file)?, None, "at {file}");
-    }
+    assert_eq!(rt; first_other(rt.alloc(), POLICIES, None)?, None);
     Ok(())
 }
 
@@ -210,88 +222,97 @@ fn file_of(alloc: Global, consumers: usize, classes: usize) -> Result<String, Al
     Ok(file)
 }
 
+/// The fault of the file with this many consumers, and this many classes.
+fn fault_at(
+    alloc: Global,
+    consumers: usize,
+    classes: usize,
+) -> Result<Option<PolicyFault>, AllocError> {
+    let file = file_of(alloc, consumers, classes)?;
+    fault_of(alloc, file.as_str())
+}
+
 #[test]
 fn more_than_64_consumers_or_1024_classes_are_out_of_range(rt: HostRuntime) -> Result<(), Fail> {
-    let most = file_of(rt.alloc(), 64, 1024)?;
-    assert_eq!(rt; fault_of(rt.alloc(), most.as_str())?, None);
-    let many = file_of(rt.alloc(), 65, 0)?;
-    assert_eq!(rt;
-        fault_of(rt.alloc(), many.as_str())?,
-        Some(PolicyFault::Range)
-    );
-    let more = file_of(rt.alloc(), 0, 1025)?;
-    assert_eq!(rt;
-        fault_of(rt.alloc(), more.as_str())?,
-        Some(PolicyFault::Range)
-    );
+    assert_eq!(rt; fault_at(rt.alloc(), 64, 1024)?, None);
+    assert_eq!(rt; fault_at(rt.alloc(), 65, 0)?, Some(PolicyFault::Range));
+    assert_eq!(rt; fault_at(rt.alloc(), 0, 1025)?, Some(PolicyFault::Range));
     Ok(())
+}
+
+/// The policy of `TWO_CLASSES`.
+fn two_classes(alloc: Global) -> Result<Policy, AllocError> {
+    Policy::read(alloc, TWO_CLASSES).or(Err(AllocError))
+}
+
+/// Whether an entry with these fields is of this class in `TWO_CLASSES`.
+fn is_of_class(alloc: Global, pairs: &[(&str, &str)], class: &str) -> Result<bool, AllocError> {
+    let fields = fields(alloc, pairs)?;
+    let found = two_classes(alloc)?.class_of(alloc, &fields)?;
+    Ok(found.as_slice() == class.as_bytes())
+}
+
+/// The rate of this consumer for this class in `TWO_CLASSES`.
+fn rate_of(alloc: Global, class: &str, consumer: &str) -> Result<Option<u64>, AllocError> {
+    let (class, consumer) = (name(alloc, class)?, name(alloc, consumer)?);
+    Ok(two_classes(alloc)?.rate(&class, &consumer))
+}
+
+/// The room that `TWO_CLASSES` leaves this consumer with this many entries pending.
+fn room_in(alloc: Global, consumer: &str, pending: u64) -> Result<Option<u64>, AllocError> {
+    let consumer = name(alloc, consumer)?;
+    match two_classes(alloc)?.live(alloc, &consumer, pending)? {
+        Some(live) => Ok(Some(live.room())),
+        None => Ok(None),
+    }
 }
 
 #[test]
 fn a_policy_is_asked(rt: HostRuntime) -> Result<(), Fail> {
-    let alloc = rt.alloc();
-    let policy = Policy::read(alloc, TWO_CLASSES).or(Err(AllocError))?;
-    let class = policy.class_of(alloc, &fields(alloc, &[("c", "y"), ("c", "x")])?)?;
-    assert!(rt; class == name(alloc, "y")?);
-    assert_eq!(rt; policy.rate(&class, &name(alloc, "B")?), Some(100));
-    let live = policy
-        .live(alloc, &name(alloc, "A")?, 3)?
-        .expect(&rt, "the policy names A");
-    assert_eq!(rt; live.room(), 0);
+    assert!(rt; is_of_class(rt.alloc(), &[("c", "y"), ("c", "x")], "y")?);
+    assert_eq!(rt; rate_of(rt.alloc(), "y", "B")?, Some(100));
+    assert_eq!(rt; room_in(rt.alloc(), "A", 3)?, Some(0));
     Ok(())
+}
+
+/// The weight of an entry with these fields.
+fn weight(alloc: Global, pairs: &[(&str, &str)]) -> Result<u64, AllocError> {
+    Ok(weight_of(&fields(alloc, pairs)?))
+}
+
+/// The weight of an entry whose field f has a value of this many bytes.
+fn weight_of_value(alloc: Global, length: usize) -> Result<u64, AllocError> {
+    let value = vec![in alloc; 97; length]?;
+    let mut fields = Fields::new(alloc);
+    fields.add(b"f", value.as_slice())?;
+    Ok(weight_of(&fields))
 }
 
 #[test]
 fn weights_and_rooms(rt: HostRuntime) -> Result<(), Fail> {
-    let alloc = rt.alloc();
-    assert_eq!(rt; weight_of(&fields(alloc, &[("c", "x")])?), 2);
-    assert_eq!(rt; weight_of(&fields(alloc, &[("c", "y"), ("c", "x")])?), 4);
-    assert_eq!(rt; weight_of(&fields(alloc, &[("", "")])?), 1);
-    let long = vec![in alloc; 97; 1048577]?;
-    let mut large = Fields::new(alloc);
-    large.add(b"f", long.as_slice())?;
-    assert_eq!(rt; weight_of(&large), 1048576);
-    assert_eq!(rt; room_of(3, 1), 2);
-    assert_eq!(rt; room_of(1, 3), 0);
+    assert!(rt; weight(rt.alloc(), &[("c", "x")])? == 2);
+    assert!(rt; weight(rt.alloc(), &[("c", "y"), ("c", "x")])? == 4);
+    assert!(rt; weight(rt.alloc(), &[("", "")])? == 1);
+    assert!(rt; weight_of_value(rt.alloc(), 1048577)? == 1048576);
+    assert!(rt; room_of(3, 1) == 2 && room_of(1, 3) == 0);
     Ok(())
 }
 
-/// What a snapshot of two entries is made of.
-#[derive(Clone, Copy)]
-struct Case {
-    owner: &'static str,
-    ids: [u64; 2],
-    weight: u64,
-    limit: u64,
-    rate: u64,
-    names: [&'static str; 2],
-    places: usize,
-}
-
-/// Entries 1-1 of class x and 2-1 of class y, stranded with D; A and B have room for one entry each.
-const TWO_ENTRIES: Case = Case {
-    owner: "D",
-    ids: [1, 2],
-    weight: 2,
-    limit: 1,
-    rate: 1,
-    names: ["A", "B"],
-    places: 2,
-};
-
-fn stranded(alloc: Global, case: Case, ms: u64, class: &str) -> Result<Stranded, AllocError> {
+/// An entry of this class, stranded with D.
+fn stranded(alloc: Global, ms: u64, class: &str) -> Result<Stranded, AllocError> {
     Ok(Stranded {
         id: Id { ms, seq: 1 },
-        owner: name(alloc, case.owner)?,
-        weight: case.weight,
+        owner: name(alloc, "D")?,
+        weight: 2,
         class: name(alloc, class)?,
     })
 }
 
-fn live(alloc: Global, text: &str, limit: u64) -> Result<Live, AllocError> {
+/// A consumer with room for one entry.
+fn live(alloc: Global, text: &str) -> Result<Live, AllocError> {
     Ok(Live {
         name: name(alloc, text)?,
-        limit,
+        limit: 1,
         pending: 0,
     })
 }
@@ -303,36 +324,57 @@ fn row(alloc: Global, class: &str, rates: &[Option<u64>]) -> Result<(Name, Rates
     ))
 }
 
-fn snapshot(alloc: Global, case: Case) -> Result<Option<Snapshot>, AllocError> {
+fn entries(alloc: Global) -> Result<Vec<Stranded>, AllocError> {
+    let mut entries = Vec::new(alloc);
+    entries.push(stranded(alloc, 1, "x")?)?;
+    entries.push(stranded(alloc, 2, "y")?)?;
+    Ok(entries)
+}
+
+fn consumers(alloc: Global) -> Result<Vec<Live>, AllocError> {
+    let mut consumers = Vec::new(alloc);
+    consumers.push(live(alloc, "A")?)?;
+    consumers.push(live(alloc, "B")?)?;
+    Ok(consumers)
+}
+
+fn classes(alloc: Global) -> Result<Vec<(Name, Rates)>, AllocError> {
+    let mut classes = Vec::new(alloc);
+    classes.push(row(alloc, "x", &[Some(1), Some(2)])?)?;
+    classes.push(row(alloc, "y", &[Some(1), Some(100)])?)?;
+    Ok(classes)
+}
+
+fn dead(alloc: Global) -> Result<Vec<Name>, AllocError> {
     let mut dead = Vec::new(alloc);
     dead.push(name(alloc, "D")?)?;
-    let mut entries = Vec::new(alloc);
-    entries.push(stranded(alloc, case, case.ids[0], "x")?)?;
-    entries.push(stranded(alloc, case, case.ids[1], "y")?)?;
-    let mut consumers = Vec::new(alloc);
-    consumers.push(live(alloc, case.names[0], case.limit)?)?;
-    consumers.push(live(alloc, case.names[1], case.limit)?)?;
-    let rates = [Some(case.rate), Some(2), Some(3)];
-    let mut classes = Vec::new(alloc);
-    classes.push(row(alloc, "x", &rates[..case.places.min(3)])?)?;
-    classes.push(row(alloc, "y", &[Some(1), Some(100)])?)?;
-    let (key, group) = (name(alloc, "s")?, name(alloc, "g")?);
+    Ok(dead)
+}
+
+/// Entries 1-1 of class x and 2-1 of class y, stranded with D; A and B have room for one entry each.
+fn two_entries(alloc: Global) -> Result<Option<Snapshot>, AllocError> {
     Ok(Snapshot::new(
-        key,
-        group,
-        dead,
-        entries,
+        name(alloc, "s")?,
+        name(alloc, "g")?,
+        dead(alloc)?,
+        entries(alloc)?,
         Vec::new(alloc),
-        consumers,
-        classes,
+        consumers(alloc)?,
+        classes(alloc)?,
     ))
+}
+
+/// The problem of `two_entries`, whose parts are in order.
+fn problem_of_two_entries(alloc: Global) -> Result<Option<Problem>, AllocError> {
+    match two_entries(alloc)? {
+        Some(snapshot) => Ok(Some(problem(alloc, &snapshot)?)),
+        None => Ok(None),
+    }
 }
 
 #[test]
 fn the_problem_of_two_entries(rt: HostRuntime) -> Result<(), Fail> {
-    let alloc = rt.alloc();
-    let snapshot = snapshot(alloc, TWO_ENTRIES)?.expect(&rt, "the parts are in order");
-    let posed = problem(alloc, &snapshot)?;
+    let posed = problem_of_two_entries(rt.alloc())?.expect(&rt, "the parts are in order");
     assert_eq!(rt; posed.consumers(), 2);
     assert_eq!(rt; posed.entries(), 2);
     assert!(rt; check_prices(&posed, &[1, 0], &[2, 0]));

@@ -203,41 +203,50 @@ mod tests {
         (0..10).filter(|_| reader.next_request().is_some()).count()
     }
 
+    /// Bytes, the place of the first that is refused, and the number of requests before it.
+    type Row = (&'static [u8], Option<usize>, usize);
+
+    const ROWS: &[Row] = &[
+        (b"*4097", Some(4), 0),
+        (b"*4096\r\n$", None, 0),
+        (b"*00000000001", Some(11), 0),
+        (b"*0000000001\r\n$0000000001\r\na\r\n", None, 1),
+        (b"*1\r\n$1048577", Some(11), 0),
+        (b"*1\r\n$1048576\r\n", None, 0),
+        (b"*-2", Some(2), 0),
+        (b"*-1\r\n", None, 0),
+        (b"*-01", Some(2), 0),
+        (b"*1\r\n$4\r\nPING\n", Some(12), 0),
+        (b"*1\r\n$4\r\nPING\r\n", None, 1),
+        (b"$1", Some(0), 0),
+        (b"*1\r\n$4\r\nPING\r\n$1", Some(14), 1),
+        (b"*\r", Some(1), 0),
+        (b"*1\n", Some(2), 0),
+        (b"*1\r\n\r", Some(4), 0),
+        (b"*1\r\n$-", Some(5), 0),
+        (b"*0\r\n*-1\r\n*1\r\n$4\r\nping\r\n", None, 1),
+        (b"*1\r\n$1\r\na\r\n*1\r\n$1\r\nb\r\n", None, 2),
+        (b"*0000000000\r\n*2\r\n$0\r\n\r\n$1\r\n\n\r\n", None, 1),
+    ];
+
+    /// Whether bytes that are fed one by one are refused at this place, after this many requests.
+    fn is_refused_at(alloc: Global, (bytes, fault, requests): Row) -> bool {
+        let mut reader = Reader::new(alloc);
+        place_of_fault(alloc, &mut reader, bytes) == fault && count(&mut reader) == requests
+    }
+
+    /// Whether the same holds of the bytes as one piece.
+    fn is_refused_whole(alloc: Global, (bytes, fault, requests): Row) -> bool {
+        let mut reader = Reader::new(alloc);
+        feed(alloc, &mut reader, bytes).is_err() == fault.is_some()
+            && count(&mut reader) == requests
+    }
+
     #[test]
     fn finds_a_fault_at_its_first_byte(rt: HostRuntime) {
-        let alloc = rt.alloc();
-        let rows: [(&[u8], Option<usize>, usize); 20] = [
-            (b"*4097", Some(4), 0),
-            (b"*4096\r\n$", None, 0),
-            (b"*00000000001", Some(11), 0),
-            (b"*0000000001\r\n$0000000001\r\na\r\n", None, 1),
-            (b"*1\r\n$1048577", Some(11), 0),
-            (b"*1\r\n$1048576\r\n", None, 0),
-            (b"*-2", Some(2), 0),
-            (b"*-1\r\n", None, 0),
-            (b"*-01", Some(2), 0),
-            (b"*1\r\n$4\r\nPING\n", Some(12), 0),
-            (b"*1\r\n$4\r\nPING\r\n", None, 1),
-            (b"$1", Some(0), 0),
-            (b"*1\r\n$4\r\nPING\r\n$1", Some(14), 1),
-            (b"*\r", Some(1), 0),
-            (b"*1\n", Some(2), 0),
-            (b"*1\r\n\r", Some(4), 0),
-            (b"*1\r\n$-", Some(5), 0),
-            (b"*0\r\n*-1\r\n*1\r\n$4\r\nping\r\n", None, 1),
-            (b"*1\r\n$1\r\na\r\n*1\r\n$1\r\nb\r\n", None, 2),
-            (b"*0000000000\r\n*2\r\n$0\r\n\r\n$1\r\n\n\r\n", None, 1),
-        ];
-        for (bytes, fault, requests) in rows {
-            let mut reader = Reader::new(alloc);
-            let found = place_of_fault(alloc, &mut reader, bytes);
-            assert_eq!(rt; found, fault, "at {bytes:?}");
-            assert_eq!(rt; count(&mut reader), requests, "at {bytes:?}");
-
-            let mut whole = Reader::new(alloc);
-            let refused = feed(alloc, &mut whole, bytes).is_err();
-            assert_eq!(rt; refused, fault.is_some(), "at {bytes:?}");
-            assert_eq!(rt; count(&mut whole), requests, "at {bytes:?}");
+        for row in ROWS {
+            let refused = is_refused_at(rt.alloc(), *row) && is_refused_whole(rt.alloc(), *row);
+            assert!(rt; refused, "at {row:?}");
         }
     }
 

@@ -5,77 +5,81 @@ use std::alloc::{AllocError, Global};
 use std::io::{self, ErrorKind, Write};
 use std::test::Fail;
 
+/// Each error, as its page spells it.
+const ERRORS: &[(Kind, &str)] = &[
+    (Kind::Error(ErrCode::Unknown), "-ERR unknown command\r\n"),
+    (
+        Kind::Error(ErrCode::Arity),
+        "-ERR wrong number of arguments\r\n",
+    ),
+    (Kind::Error(ErrCode::Syntax), "-ERR syntax error\r\n"),
+    (
+        Kind::Error(ErrCode::Number),
+        "-ERR value is not an integer or out of range\r\n",
+    ),
+    (
+        Kind::Error(ErrCode::BadId),
+        "-ERR Invalid stream ID specified as stream command argument\r\n",
+    ),
+    (Kind::Error(ErrCode::Protocol), "-ERR Protocol error\r\n"),
+    (
+        Kind::Error(ErrCode::IdZero),
+        "-ERR The ID specified in XADD must be greater than 0-0\r\n",
+    ),
+    (
+        Kind::Error(ErrCode::IdSmall),
+        "-ERR The ID specified in XADD is equal or smaller than the target stream top item\r\n",
+    ),
+    (
+        Kind::Error(ErrCode::Exhausted),
+        "-ERR The stream has exhausted the last possible ID, unable to add more items\r\n",
+    ),
+    (Kind::Error(ErrCode::NoKey), "-ERR no such key\r\n"),
+    (
+        Kind::Error(ErrCode::NoGroup),
+        "-NOGROUP no such key or consumer group\r\n",
+    ),
+    (
+        Kind::Error(ErrCode::BusyGroup),
+        "-BUSYGROUP Consumer Group name already exists\r\n",
+    ),
+    (Kind::Error(ErrCode::Memory), "-OOM out of memory\r\n"),
+    (Kind::Error(ErrCode::Full), "-OOM history is full\r\n"),
+    (
+        Kind::Error(ErrCode::Stale),
+        "-STALE the group changed while the plan was made\r\n",
+    ),
+    (
+        Kind::Error(ErrCode::TooMany),
+        "-TOOMANY more than 4096 stranded entries\r\n",
+    ),
+];
+
 #[test]
 fn each_error_is_spelled_as_its_page_says(rt: HostRuntime) -> Result<(), Fail> {
-    let rows = [
-        (ErrCode::Unknown, "-ERR unknown command\r\n"),
-        (ErrCode::Arity, "-ERR wrong number of arguments\r\n"),
-        (ErrCode::Syntax, "-ERR syntax error\r\n"),
-        (
-            ErrCode::Number,
-            "-ERR value is not an integer or out of range\r\n",
-        ),
-        (
-            ErrCode::BadId,
-            "-ERR Invalid stream ID specified as stream command argument\r\n",
-        ),
-        (ErrCode::Protocol, "-ERR Protocol error\r\n"),
-        (
-            ErrCode::IdZero,
-            "-ERR The ID specified in XADD must be greater than 0-0\r\n",
-        ),
-        (
-            ErrCode::IdSmall,
-            "-ERR The ID specified in XADD is equal or smaller than the target stream top item\r\n",
-        ),
-        (
-            ErrCode::Exhausted,
-            "-ERR The stream has exhausted the last possible ID, unable to add more items\r\n",
-        ),
-        (ErrCode::NoKey, "-ERR no such key\r\n"),
-        (
-            ErrCode::NoGroup,
-            "-NOGROUP no such key or consumer group\r\n",
-        ),
-        (
-            ErrCode::BusyGroup,
-            "-BUSYGROUP Consumer Group name already exists\r\n",
-        ),
-        (ErrCode::Memory, "-OOM out of memory\r\n"),
-        (ErrCode::Full, "-OOM history is full\r\n"),
-        (
-            ErrCode::Stale,
-            "-STALE the group changed while the plan was made\r\n",
-        ),
-        (
-            ErrCode::TooMany,
-            "-TOOMANY more than 4096 stranded entries\r\n",
-        ),
-    ];
-    for (code, spelling) in rows {
-        let text = encode(rt.alloc(), &Reply::error(rt.alloc(), code))?;
-        assert_eq!(rt; text.as_slice(), spelling.as_bytes(), "at {code:?}");
+    for (kind, spelling) in ERRORS {
+        assert!(rt; is_spelled(rt.alloc(), *kind, spelling)?, "at {spelling}");
     }
     Ok(())
 }
 
+/// Each kind of reply, as RESP spells it.
+const KINDS: &[(Kind, &str)] = &[
+    (Kind::Simple(Word::Ok), "+OK\r\n"),
+    (Kind::Simple(Word::Pong), "+PONG\r\n"),
+    (Kind::Int(0), ":0\r\n"),
+    (Kind::Int(i64::MIN), ":-9223372036854775808\r\n"),
+    (Kind::Bulk(""), "$0\r\n\r\n"),
+    (Kind::Bulk("\r\n"), "$2\r\n\r\n\r\n"),
+    (Kind::NullBulk, "$-1\r\n"),
+    (Kind::NoArray, "*-1\r\n"),
+    (Kind::EmptyArray, "*0\r\n"),
+];
+
 #[test]
 fn each_kind_of_reply_is_spelled_as_resp_says(rt: HostRuntime) -> Result<(), Fail> {
-    let rows = [
-        (Kind::Simple(Word::Ok), "+OK\r\n"),
-        (Kind::Simple(Word::Pong), "+PONG\r\n"),
-        (Kind::Int(0), ":0\r\n"),
-        (Kind::Int(i64::MIN), ":-9223372036854775808\r\n"),
-        (Kind::Bulk(""), "$0\r\n\r\n"),
-        (Kind::Bulk("\r\n"), "$2\r\n\r\n\r\n"),
-        (Kind::NullBulk, "$-1\r\n"),
-        (Kind::NoArray, "*-1\r\n"),
-        (Kind::EmptyArray, "*0\r\n"),
-    ];
-    for (kind, spelling) in rows {
-        let reply = reply_of(rt.alloc(), kind)?;
-        let text = encode(rt.alloc(), &reply)?;
-        assert_eq!(rt; text.as_slice(), spelling.as_bytes(), "at {spelling}");
+    for (kind, spelling) in KINDS {
+        assert!(rt; is_spelled(rt.alloc(), *kind, spelling)?, "at {spelling}");
     }
     Ok(())
 }
@@ -89,12 +93,19 @@ fn an_array_of_entries_is_spelled_item_by_item(rt: HostRuntime) -> Result<(), Fa
     Ok(())
 }
 
+fn is_copied(alloc: Global) -> Result<bool, AllocError> {
+    let entries = entries(alloc)?;
+    Ok(entries.copy(alloc)? == entries)
+}
+
+fn are_nulls_equal(alloc: Global) -> bool {
+    Reply::null_bulk(alloc) == Reply::no_array(alloc)
+}
+
 #[test]
 fn a_copy_is_equal_and_another_reply_is_not(rt: HostRuntime) -> Result<(), Fail> {
-    let entries = entries(rt.alloc())?;
-    let copy = entries.copy(rt.alloc())?;
-    assert!(rt; copy == entries);
-    assert!(rt; Reply::null_bulk(rt.alloc()) != Reply::no_array(rt.alloc()));
+    assert!(rt; is_copied(rt.alloc())?);
+    assert!(rt; !are_nulls_equal(rt.alloc()));
     Ok(())
 }
 
@@ -111,15 +122,23 @@ fn a_draft_becomes_the_reply_of_its_parts(rt: HostRuntime) -> Result<(), Fail> {
     Ok(())
 }
 
+/// The longest id of an entry.
+const LONGEST: &str = "18446744073709551615-18446744073709551615";
+
+fn short(alloc: Global) -> Reply {
+    Reply::short(alloc, LONGEST.as_bytes())
+}
+
+fn is_short_as_bulk(alloc: Global) -> Result<bool, AllocError> {
+    Ok(short(alloc) == bulk(alloc, LONGEST.as_bytes())?)
+}
+
 #[test]
 fn a_short_bulk_string_is_as_any_other(rt: HostRuntime) -> Result<(), Fail> {
-    let alloc = rt.alloc();
-    let longest = b"18446744073709551615-18446744073709551615";
-    let short = Reply::short(alloc, longest);
-    assert!(rt; short == bulk(alloc, longest)?);
-    let text = encode(alloc, &short)?;
+    assert!(rt; is_short_as_bulk(rt.alloc())?);
+    let text = encode(rt.alloc(), &short(rt.alloc()))?;
     let spelling = "$41\r\n18446744073709551615-18446744073709551615\r\n";
-    assert_eq!(rt; text.as_slice(), spelling.as_bytes());
+    assert!(rt; text.as_slice() == spelling.as_bytes());
     Ok(())
 }
 
@@ -135,24 +154,30 @@ fn replies_are_appended_one_behind_the_other(rt: HostRuntime) -> Result<(), Fail
 #[test]
 fn a_failed_write_tells_how_much_was_sent(rt: HostRuntime) -> Result<(), Fail> {
     let turns = [Turn::Takes(3), Turn::Fails, Turn::Takes(4)];
-    let mut writer = Scripted::new(rt.alloc(), &turns)?;
-    assert_eq!(rt;
-        send_all(&mut WriteTo::new(&mut writer), b"+PONG\r\n"),
-        Err(SendFault { sent: 3 })
+    assert!(rt;
+        sends(
+            rt.alloc(),
+            b"+PONG\r\n",
+            &turns,
+            Err(SendFault { sent: 3 }),
+            b"+PO"
+        )?
     );
-    assert_eq!(rt; writer.got.as_slice(), b"+PO".as_slice());
     Ok(())
 }
 
 #[test]
 fn a_write_of_no_bytes_is_not_tried_again(rt: HostRuntime) -> Result<(), Fail> {
     let turns = [Turn::Takes(3), Turn::Takes(0), Turn::Takes(4)];
-    let mut writer = Scripted::new(rt.alloc(), &turns)?;
-    assert_eq!(rt;
-        send_all(&mut WriteTo::new(&mut writer), b"+PONG\r\n"),
-        Err(SendFault { sent: 3 })
+    assert!(rt;
+        sends(
+            rt.alloc(),
+            b"+PONG\r\n",
+            &turns,
+            Err(SendFault { sent: 3 }),
+            b"+PO"
+        )?
     );
-    assert_eq!(rt; writer.got.as_slice(), b"+PO".as_slice());
     Ok(())
 }
 
@@ -164,25 +189,33 @@ fn an_interrupted_write_is_tried_again(rt: HostRuntime) -> Result<(), Fail> {
         Turn::Interrupted,
         Turn::Takes(9),
     ];
-    let mut writer = Scripted::new(rt.alloc(), &turns)?;
-    assert_eq!(rt;
-        send_all(&mut WriteTo::new(&mut writer), b"+PONG\r\n"),
-        Ok(())
-    );
-    assert_eq!(rt; writer.got.as_slice(), b"+PONG\r\n".as_slice());
+    assert!(rt; sends(rt.alloc(), b"+PONG\r\n", &turns, Ok(()), b"+PONG\r\n")?);
     Ok(())
 }
 
 #[test]
 fn no_bytes_need_no_write(rt: HostRuntime) -> Result<(), Fail> {
-    let mut writer = Scripted::new(rt.alloc(), &[])?;
-    assert_eq!(rt; send_all(&mut WriteTo::new(&mut writer), b""), Ok(()));
+    assert!(rt; sends(rt.alloc(), b"", &[], Ok(()), b"")?);
     Ok(())
 }
 
-/// The kinds of replies, but for errors and arrays with items.
+/// Whether the bytes, sent to a writer with these turns, have this outcome and leave it with what it should have got.
+fn sends(
+    alloc: Global,
+    bytes: &[u8],
+    turns: &[Turn],
+    outcome: Result<(), SendFault>,
+    got: &[u8],
+) -> Result<bool, AllocError> {
+    let mut writer = Scripted::new(alloc, turns)?;
+    let sent = send_all(&mut WriteTo::new(&mut writer), bytes);
+    Ok(sent == outcome && writer.got.as_slice() == got)
+}
+
+/// The kinds of replies, but for arrays with items.
 #[derive(Clone, Copy)]
 enum Kind {
+    Error(ErrCode),
     Simple(Word),
     Int(i64),
     Bulk(&'static str),
@@ -193,6 +226,7 @@ enum Kind {
 
 fn reply_of(alloc: Global, kind: Kind) -> Result<Reply, AllocError> {
     match kind {
+        Kind::Error(code) => Ok(Reply::error(alloc, code)),
         Kind::Simple(word) => Ok(Reply::simple(alloc, word)),
         Kind::Int(n) => Ok(Reply::int(alloc, n)),
         Kind::Bulk(text) => bulk(alloc, text.as_bytes()),
@@ -200,6 +234,11 @@ fn reply_of(alloc: Global, kind: Kind) -> Result<Reply, AllocError> {
         Kind::NoArray => Ok(Reply::no_array(alloc)),
         Kind::EmptyArray => Ok(Reply::empty_array(alloc)),
     }
+}
+
+fn is_spelled(alloc: Global, kind: Kind, spelling: &str) -> Result<bool, AllocError> {
+    let text = encode(alloc, &reply_of(alloc, kind)?)?;
+    Ok(text.as_slice() == spelling.as_bytes())
 }
 
 /// The reply to XRANGE for a stream with one entry, 1-1, whose field a has the value b.
