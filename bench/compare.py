@@ -6,7 +6,9 @@ It starts `redis-server` (Debian: redis-server) on a socket of its own. Each rou
 exists from the start. Replies count as the same if both are errors, both are empty lists of either kind, or both are ids that the
 clock gave, since the texts of errors and the moments are each server's own. Commands whose replies differ by decision
 (docs/DECISIONS.md) are left out: `~`, an option given twice, numbers with a leading zero and `-0`, ids that begin with a sign or
-a space, and XDEL of a bad id if the key may be missing. The status is 1 if anything differs.
+a space, and XDEL and XACK of a bad id if the key or the group may be missing; IDLE and TIME below 0; the greatest COUNT of XAUTOCLAIM; `-` and
+`+` as ids of XGROUP; and XINFO, which tells other things. A claim that claims nothing makes its consumer here and not in Redis, so the one that
+claims is never made otherwise. The status is 1 if anything differs.
 """
 
 import os
@@ -21,6 +23,7 @@ LAST = 2**64 - 1
 BAD_IDS = ["", "-", "+", "x", "1-", "-1", "1-1-1", f"{LAST + 1}", f"1-{LAST + 1}", "(", "(1", "((1-1", "*", "1-*", "*-1", "$", ">",
            "1 ", "0-0", "0", "(-", "(+", "(0-0", f"({LAST}-{LAST}"]
 NUMBERS = ["0", "1", "2", "3", "5", "100", "-1", "x", "", "1.5", f"{2**63 - 1}", f"{2**63}", f"-{2**63}", "1 "]
+COUNTS = ["0", "1", "2", "5", "100", "x", ""]
 COMMANDS_A_ROUND = 40
 
 
@@ -104,6 +107,48 @@ class Commands:
         count = [self.in_some_case("COUNT"), self.number()] if self.likely(0.35) else []
         return [self.in_some_case(self.random.choice(["XRANGE", "XREVRANGE"])), key, self.end(), self.end(), *count]
 
+    def option(self, name, values=None):
+        """An option with one of these values, or without one, or not at all."""
+        if self.likely(0.7):
+            return []
+        return [self.in_some_case(name), *([] if values is None else [self.random.choice(values)])]
+
+    def read(self):
+        """XREAD of one key or of both."""
+        keys = self.random.choice([["s"], ["t"], ["s", "t"], ["t", "s"]])
+        places = ["$" if self.likely(0.1) else self.id() for _ in keys]
+        return [self.in_some_case("XREAD"), *self.option("COUNT", NUMBERS), self.in_some_case("STREAMS"), *keys, *places[self.likely(0.05):]]
+
+    def groups(self, key):
+        """XGROUP in its five forms."""
+        group, consumer = self.random.choice("ggh"), self.random.choice("AB")
+        place = "$" if self.likely(0.3) else self.id().strip("-+") or "0"
+        rest = self.random.choice([
+            ["CREATE", key, group, place, *self.option("MKSTREAM")],
+            ["CREATE", key, group, place, *self.option("MKSTREAM")],
+            ["SETID", key, group, place],
+            ["DESTROY", key, group],
+            ["CREATECONSUMER", key, group, consumer],
+            ["DELCONSUMER", key, group, consumer],
+            ["CREATE", key, group],
+        ])
+        return [self.in_some_case("XGROUP"), self.in_some_case(rest[0]), *rest[1:]]
+
+    def pending(self, key):
+        """What is done to the pending entries of a group."""
+        group, consumer = self.random.choice("ggh"), self.random.choice("AB")
+        ids = [self.id(0) for _ in range(self.random.randrange(1, 4))]
+        listing = [*self.option("IDLE", NUMBERS), self.end(), self.end(), self.number(), *self.random.choice([[], [consumer]])]
+        claim = [group, "C", self.number()]
+        return self.random.choice([
+            ["XACK", key, group, *ids],
+            ["XPENDING", key, group],
+            ["XPENDING", key, group, *listing],
+            ["XCLAIM", key, *claim, *ids, *self.option("IDLE", COUNTS), *self.option("TIME", COUNTS),
+             *self.option("RETRYCOUNT", COUNTS), *self.option("JUSTID")],
+            ["XAUTOCLAIM", key, *claim, self.end(), *self.option("COUNT", COUNTS), *self.option("JUSTID")],
+        ])
+
     def end(self):
         if self.likely(0.25):
             return self.random.choice("-+")
@@ -111,13 +156,16 @@ class Commands:
 
     def one(self):
         key = self.random.choice(["s", "s", "s", "t"])
-        others = [["PING"], ["PING", "a"], ["PING", "a", "b"], ["FOO"], ["XLEN", key, "x"]]
+        others = [["PING"], ["PING", "a"], ["PING", "a", "b"], ["FOO"], ["XLEN", key, "x"], ["XGROUP"], ["XGROUP", "FOO", key]]
         makers = [
             (40, lambda: self.add(key)),
             (10, lambda: [self.in_some_case("XTRIM"), key, *self.trim()]),
             (10, lambda: ["XDEL", key, *(self.id(0.1 if key == "s" else 0) for _ in range(self.random.randrange(4)))]),
             (6, lambda: ["XLEN", key]),
             (31, lambda: self.range(key)),
+            (10, lambda: self.read()),
+            (12, lambda: self.groups(key)),
+            (12, lambda: self.pending(key)),
             (3, lambda: self.random.choice(others)),
         ]
         weights, choices = zip(*makers)

@@ -13,9 +13,12 @@ use Rattle.sr_args.specs.declared.options.Choice.{Choice}
 use Rattle.sr_args.specs.declared.options.ValueFault.{ValueFault}
 use Rattle.sr_args.specs.declared.options.ValueFault.TheVariants as faults
 use Rattle.sr_args.specs.Place.{Word, Place, HasNumber, HasId, HasNumbers, HasIds}
-use Rattle.sr_args.specs.Options.{TrimReading, Written, count, no_make, trimming, sign_places, bound_place, limit_places, option_places, Chosen, nothing, IsBound, IsLimit, IsTrim, Sets, Choose}
+use Rattle.sr_args.specs.Options.{TrimReading, Written, count, no_make, make_key, ids_only, idle, since, deliveries, trimming, count_place, sign_places, bound_place, limit_places, option_places, Chosen, nothing, IsBound, IsLimit, IsTrim, Sets, Choose}
 use Rattle.sr_args.specs.steps.Options.{AreJudged, IsJudged, GivesBound, GivesTrim, chosen_of, trim_operands}
-use Rattle.sr_args.specs.Number.{IsInt}
+use Rattle.sr_args.specs.declared.call.TimeAsked.TheVariants as times
+use Rattle.sr_args.specs.declared.number.CountRange.{CountRange}
+use Rattle.sr_args.specs.declared.number.CountRange.TheVariants.{Any, FromOne}
+use Rattle.sr_args.specs.Number.{IsInt, IsCount}
 use Rattle.sr_args.specs.Number.IsInt.{positive, negative}
 use Rattle.sr_args.proofs.NumberLemmas.{IsInt-one, IsNat-one}
 
@@ -109,20 +112,52 @@ IsTrim-one t a b p q =
     let limit = limit_value-one t.limit a.limit b.limit p.limit q.limit in
     ap (λ (x : TrimBy). trim_of_parts x a.limit) by ∙ ap (λ (x : ℕ). trim_of_parts b.by x) limit
 
+-- COUNT
+count-number : (range : CountRange) (word : Word) (z : ℤ) → IsCount range word z → HasNumber (count_place range word)
+count-number Any word z i = (z, i)
+count-number FromOne word z i = (z, i)
+
+count-exists : (range : CountRange) (word : Word) → HasNumber (count_place range word) → (z : ℤ) × IsCount range word z
+count-exists Any word n = n
+count-exists FromOne word n = n
+
+count-id : (range : CountRange) (word : Word) → HasId (count_place range word)
+count-id Any word = tt
+count-id FromOne word = tt
+
+IsCount-one : (range : CountRange) (word : Word) (x y : ℤ) → IsCount range word x → IsCount range word y → x ≡ y
+IsCount-one Any word x y p q = IsInt-one word x y p q
+IsCount-one FromOne word x y p q = IsInt-one word x y p.0 q.0
+
+count-int : (range : CountRange) (word : Word) (z : ℤ) → IsCount range word z → IsInt word z
+count-int Any word z i = i
+count-int FromOne word z i = i.0
+
 -- one option
 pub Sets-numbers : (o : Written) (a b : Chosen) → Sets o a b → HasNumbers (option_places o)
-Sets-numbers (count most) a b s = (tt, ((s.0, s.1), tt))
-Sets-numbers no_make a b s = (tt, tt)
+Sets-numbers (count range most) a b s = (tt, (count-number range most s.0 s.1, tt))
+Sets-numbers (idle word) a b s = (tt, ((s.0, s.1), tt))
+Sets-numbers (since word) a b s = (tt, ((s.0, s.1), tt))
+Sets-numbers (deliveries word) a b s = (tt, ((s.0, s.1), tt))
 Sets-numbers (trimming t) a b s = trim-numbers t s.0 s.1
+Sets-numbers o a b s = (tt, tt)
 
 pub Sets-ids : (o : Written) (a b : Chosen) → Sets o a b → HasIds (option_places o)
-Sets-ids (count most) a b s = (tt, (tt, tt))
-Sets-ids no_make a b s = (tt, tt)
+Sets-ids (count range most) a b s = (tt, (count-id range most, tt))
+Sets-ids (idle word) a b s = (tt, (tt, tt))
+Sets-ids (since word) a b s = (tt, (tt, tt))
+Sets-ids (deliveries word) a b s = (tt, (tt, tt))
 Sets-ids (trimming t) a b s = trim-ids t s.0 s.1
+Sets-ids o a b s = (tt, tt)
 
 pub Sets-one : (o : Written) (a b c : Chosen) → Sets o a b → Sets o a c → b ≡ c
-Sets-one (count most) a b c s t = s.2 ∙ ap (λ (z : ℤ). record a { count = Some z }) (IsInt-one most s.0 t.0 s.1 t.1) ∙ sym t.2
+Sets-one (count range most) a b c s t = s.2 ∙ ap (λ (z : ℤ). record a { count = Some z }) (IsCount-one range most s.0 t.0 s.1 t.1) ∙ sym t.2
+Sets-one (idle word) a b c s t = s.2 ∙ ap (λ (n : ℕ). record a { time = times.Idle n }) (IsNat-one word s.0 t.0 s.1 t.1) ∙ sym t.2
+Sets-one (since word) a b c s t = s.2 ∙ ap (λ (n : ℕ). record a { time = times.At n }) (IsNat-one word s.0 t.0 s.1 t.1) ∙ sym t.2
+Sets-one (deliveries word) a b c s t = s.2 ∙ ap (λ (n : ℕ). record a { delivered = Some n }) (IsNat-one word s.0 t.0 s.1 t.1) ∙ sym t.2
 Sets-one no_make a b c s t = s ∙ sym t
+Sets-one make_key a b c s t = s ∙ sym t
+Sets-one ids_only a b c s t = s ∙ sym t
 Sets-one (trimming r) a b c s t = s.2 ∙ ap (λ (trim : Trim). record a { trim = Some trim }) (IsTrim-one r s.0 t.0 s.1 t.1) ∙ sym t.2
 
 -- all of them
@@ -198,8 +233,8 @@ pub count-back : (word : Word) (z : ℤ) → IsInt word z → to_z w64 (of_z w64
 count-back word z (positive n d lt e) = let fits : FitsSigned w64 z = omega (arith, ints) in to_z-of_z w64 z fits
 count-back word z (negative digits n w d le e) = let fits : FitsSigned w64 z = omega (arith, ints) in to_z-of_z w64 z fits
 
-pub Sets-count : (word : Word) (z : ℤ) (before : Chosen) → IsInt word z → Sets (count word) before (record before { count = Some (to_z w64 (of_z w64 z)) })
-Sets-count word z before i = (z, i, ap (λ (y : ℤ). record before { count = Some y }) (count-back word z i))
+pub Sets-count : (range : CountRange) (word : Word) (z : ℤ) (before : Chosen) → IsCount range word z → Sets (count range word) before (record before { count = Some (to_z w64 (of_z w64 z)) })
+Sets-count range word z before i = (z, i, ap (λ (y : ℤ). record before { count = Some y }) (count-back word z (count-int range word z i)))
 
-pub no_int-no_numbers : (word : Word) → ((z : ℤ) → IsInt word z → ⊥) → HasNumbers (option_places (count word)) → ⊥
-no_int-no_numbers word none n = none n.1.0.0 n.1.0.1
+pub no_count-no_numbers : (range : CountRange) (word : Word) → ((z : ℤ) → IsCount range word z → ⊥) → HasNumbers (option_places (count range word)) → ⊥
+no_count-no_numbers range word none n = let found = count-exists range word n.1.0 in none found.0 found.1

@@ -1,7 +1,8 @@
 -- How the loop over options goes on: one option more, none that fits, one that is written twice, and the end.
-use Rattle.std.proofs.Common.{◌≡◌, ◌≢◌, ◌⊎◌, inl, inr, ℕ, zero, suc, ◌<◌, List, [], ◌∷◌, ◌++◌, length, get_or, map, Bool, true, false, All, refl, sym, ap, ◌∙◌, arith, append_assoc, append-nil, subst}
+use Rattle.std.proofs.Common.{◌≡◌, ◌≢◌, ◌⊎◌, inl, inr, ℕ, zero, suc, ◌<◌, List, [], ◌∷◌, ◌++◌, length, get_or, map, Bool, true, false, All, Ok, refl, sym, ap, ◌∙◌, arith, append_assoc, append-nil, subst}
 use Rattle.std.specs.List.{flat_map}
 use Rattle.std.proofs.Math.ListN.{set}
+use Rattle.std.proofs.lemmas.Bool.Decides.{eqb_tells}
 use Rattle.std.proofs.lemmas.List.{get_or-set_same, get_or-set_other, length-set}
 use Rattle.std.proofs.lemmas.List.Elements.{All-nil, All-cons, All-append, All-tail}
 use Rattle.sr_args.specs.declared.name.OptionName.{OptionName}
@@ -10,39 +11,38 @@ use Rattle.sr_args.specs.declared.options.OptionKind.TheVariants as kinds
 use Rattle.sr_args.specs.declared.options.OptionSet.{OptionSet}
 use Rattle.sr_args.specs.Name.{IsSameName, option_text}
 use Rattle.sr_args.specs.Place.{Word, Place, Fits, option}
-use Rattle.sr_args.specs.Options.{Written, first_name, operand_places, option_places, is_of, kind, IsOptionFit, IsIn, AreDistinct, AreOptionsFit, IsUnnamed, IsPast}
-use Rattle.sr_args.specs.steps.Options.{Begins, BeginsNone, IsOptionNamed, IsOptionEnd, GoesOn, BeginsOptions, BeginsNoOptions, EndsOptions, AreSeen, index_of}
+use Rattle.sr_args.specs.Options.{Written, first_name, operand_places, option_places, is_of, kind, IsOptionFit, IsIn, AreDistinct, AreOptionsFit, IsUnnamed, IsPast, nothing}
+use Rattle.sr_args.specs.declared.options.Choice.{Choice}
+use Rattle.sr_args.specs.steps.Options.{Begins, BeginsNone, IsOptionNamed, IsOptionEnd, GoesOn, BeginsOptions, BeginsNoOptions, EndsOptions, AreSeen, IsUnderway, chosen_of, index_of}
 use Rattle.sr_args.proofs.OptionLemmas.{name-one, then_places, then-cons, end-after, head-fit, head-of_set}
 
--- kinds: each is in a list or not
-kind-is : (a b : OptionKind) → (a ≡ b) ⊎ (a ≢ b)
-kind-is kinds.Count kinds.Count = inl refl
-kind-is kinds.NoMkStream kinds.NoMkStream = inl refl
-kind-is kinds.Trim kinds.Trim = inl refl
-kind-is kinds.Count kinds.NoMkStream = inr (λ e. cc)
-kind-is kinds.Count kinds.Trim = inr (λ e. cc)
-kind-is kinds.NoMkStream kinds.Count = inr (λ e. cc)
-kind-is kinds.NoMkStream kinds.Trim = inr (λ e. cc)
-kind-is kinds.Trim kinds.Count = inr (λ e. cc)
-kind-is kinds.Trim kinds.NoMkStream = inr (λ e. cc)
-
+-- kinds: each has its own place among them, and two are one or not
 abbrev kind_at : ℕ → OptionKind
 kind_at zero = kinds.Count
 kind_at (suc zero) = kinds.NoMkStream
-kind_at (suc (suc n)) = kinds.Trim
+kind_at (suc (suc zero)) = kinds.Trim
+kind_at (suc (suc (suc zero))) = kinds.MkStream
+kind_at (suc (suc (suc (suc zero)))) = kinds.JustId
+kind_at (suc (suc (suc (suc (suc zero))))) = kinds.Idle
+kind_at (suc (suc (suc (suc (suc (suc zero)))))) = kinds.Time
+kind_at (suc (suc (suc (suc (suc (suc (suc n))))))) = kinds.RetryCount
 
 kind_at-index : (k : OptionKind) → kind_at (index_of k) ≡ k
 kind_at-index kinds.Count = refl
-kind_at-index kinds.NoMkStream = refl
-kind_at-index kinds.Trim = refl
+kind_at-index k = refl
+
+kind-is : (a b : OptionKind) → (a ≡ b) ⊎ (a ≢ b)
+kind-is a b = elim (eqb_tells (index_of a) (index_of b)) [
+  | inl same ↦ inl (sym (kind_at-index a) ∙ ap kind_at same.1 ∙ kind_at-index b)
+  | inr apart ↦ inr (λ e. apart.1 (ap index_of e))
+]
 
 index-apart : (a b : OptionKind) → a ≢ b → index_of a ≢ index_of b
 index-apart a b differ e = differ (sym (kind_at-index a) ∙ ap kind_at e ∙ kind_at-index b)
 
-index-within : (k : OptionKind) → index_of k < 3
+index-within : (k : OptionKind) → index_of k < 8
 index-within kinds.Count = omega arith
-index-within kinds.NoMkStream = omega arith
-index-within kinds.Trim = omega arith
+index-within k = omega arith
 
 in-last : (os : List Written) (o : Written) → IsIn (kind o) (map kind (os ++ o ∷ []))
 in-last [] o = inl refl
@@ -100,6 +100,26 @@ AreSeen-more seen os o s = record {
   no = λ k e i. seen-no seen os o k s (kind-is k (kind o)) e i;
 }
 
+-- at first no kind was seen, and nothing is asked for
+abbrev unseen : List Bool
+unseen = false ∷ false ∷ false ∷ false ∷ false ∷ false ∷ false ∷ false ∷ []
+
+unseen-none : (k : OptionKind) → get_or unseen (index_of k) false ≡ true → ⊥
+unseen-none kinds.Count e = cc
+unseen-none k e = cc
+
+pub IsUnderway-start : (set : OptionSet) (words : List Word) (choice : Choice) → chosen_of choice ≡ nothing → IsUnderway set words words unseen (Ok choice)
+IsUnderway-start set words choice e = record {
+  written = [];
+  begins = record {
+    right = record { each = All-nil (IsOptionFit set); of_set = All-nil (λ o. is_of set (first_name o) ≡ true); once = tt };
+    fits = λ places f. f;
+    only = λ others places r p f. record { tail = others; are = refl; fits = f };
+  };
+  seen_are = record { many = refl; yes = λ k e. absurd (unseen-none k e); no = λ k e i. i };
+  judged_are = e;
+}
+
 -- places of options, and of one more
 then-last : (os : List Written) (o : Written) (ps : List Place) → flat_map option_places (os ++ o ∷ []) ++ ps ≡ flat_map option_places os ++ (option_places o ++ ps)
 then-last [] o ps = append_assoc (option_places o) [] ps
@@ -120,11 +140,11 @@ pub record TakesNext (set : OptionSet) (name : OptionName) (rest : List Word) (t
   pub o : Written
   pub others : List Written
   pub are : tail ≡ o ∷ others
-  pub right : IsOptionNamed name o
+  pub right : IsOptionNamed set name o
   pub last : IsOptionEnd o (then_places others places)
   pub fits : Fits rest (operand_places o ++ then_places others places)
 
-takes_next-at : (set : OptionSet) (name : OptionName) (word : Word) (rest : List Word) (tail : List Written) (places : List Place) → is_of set name ≡ true → IsSameName word (option_text name) → All IsOptionFit tail → All (λ o. is_of set (first_name o) ≡ true) tail → IsPast set places → Fits (word ∷ rest) (then_places tail places) → TakesNext set name rest tail places
+takes_next-at : (set : OptionSet) (name : OptionName) (word : Word) (rest : List Word) (tail : List Written) (places : List Place) → is_of set name ≡ true → IsSameName word (option_text name) → All (IsOptionFit set) tail → All (λ o. is_of set (first_name o) ≡ true) tail → IsPast set places → Fits (word ∷ rest) (then_places tail places) → TakesNext set name rest tail places
 takes_next-at set name word rest [] places of same each of_set p f = absurd (p.unnamed word rest f name of same)
 takes_next-at set name word rest (o ∷ others) places of same each of_set p f =
     let fits : Fits (word ∷ rest) (option (first_name o) ∷ (operand_places o ++ then_places others places)) = subst (λ (rs : List Place). Fits (word ∷ rest) rs) (then-cons o others places) f in
@@ -132,27 +152,27 @@ takes_next-at set name word rest (o ∷ others) places of same each of_set p f =
       o = o;
       others = others;
       are = refl;
-      right = record { name_is = name-one word (first_name o) name fits.0 same; fit = head-fit o others each };
+      right = record { name_is = name-one word (first_name o) name fits.0 same; fit = head-fit set o others each };
       last = end-after set o others places (head-of_set set o others of_set) p;
       fits = fits.1;
     }
 
 takes_next : (set : OptionSet) (words : List Word) (written : List Written) (left : List Word) (name : OptionName) (rest : List Word) (others : List Written) (places : List Place) → BeginsOptions set words written left → IsNamedNext set name left rest → AreOptionsFit set others → IsPast set places → (g : GoesOn written others left places) → TakesNext set name rest g.tail places
 takes_next set words written left name rest others places b n r p g =
-    let each : All IsOptionFit g.tail = All-back IsOptionFit written g.tail (subst (λ (os : List Written). All IsOptionFit os) g.are r.each) in
+    let each : All (IsOptionFit set) g.tail = All-back (IsOptionFit set) written g.tail (subst (λ (os : List Written). All (IsOptionFit set) os) g.are r.each) in
     let of_set : All (λ o. is_of set (first_name o) ≡ true) g.tail = All-back (λ o. is_of set (first_name o) ≡ true) written g.tail (subst (λ (os : List Written). All (λ o. is_of set (first_name o) ≡ true) os) g.are r.of_set) in
     let fits : Fits (n.word ∷ rest) (then_places g.tail places) = subst (λ (ws : List Word). Fits ws (then_places g.tail places)) n.are g.fits in
     takes_next-at set name n.word rest g.tail places n.of_set n.same each of_set p fits
 
 -- no operands: no reading
-pub BeginsNoOptions-from_none : (set : OptionSet) (words : List Word) (written : List Written) (left : List Word) (name : OptionName) (rest : List Word) → BeginsOptions set words written left → IsNamedNext set name left rest → BeginsNone operand_places (IsOptionNamed name) IsOptionEnd rest → BeginsNoOptions set words
+pub BeginsNoOptions-from_none : (set : OptionSet) (words : List Word) (written : List Written) (left : List Word) (name : OptionName) (rest : List Word) → BeginsOptions set words written left → IsNamedNext set name left rest → BeginsNone operand_places (IsOptionNamed set name) IsOptionEnd rest → BeginsNoOptions set words
 BeginsNoOptions-from_none set words written left name rest b n none others places r p f =
     let g = b.only others places r p f in
     let t = takes_next set words written left name rest others places b n r p g in
     none t.o (then_places t.others places) t.right t.last t.fits
 
 -- written twice: no reading
-pub BeginsNoOptions-from_twice : (set : OptionSet) (words : List Word) (written : List Written) (left : List Word) (name : OptionName) (rest new : List Word) (o : Written) → BeginsOptions set words written left → IsNamedNext set name left rest → Begins operand_places (IsOptionNamed name) IsOptionEnd rest o new → IsIn (kind o) (map kind written) → BeginsNoOptions set words
+pub BeginsNoOptions-from_twice : (set : OptionSet) (words : List Word) (written : List Written) (left : List Word) (name : OptionName) (rest new : List Word) (o : Written) → BeginsOptions set words written left → IsNamedNext set name left rest → Begins operand_places (IsOptionNamed set name) IsOptionEnd rest o new → IsIn (kind o) (map kind written) → BeginsNoOptions set words
 BeginsNoOptions-from_twice set words written left name rest new o b n read i others places r p f =
     let g = b.only others places r p f in
     let t = takes_next set words written left name rest others places b n r p g in
@@ -162,7 +182,7 @@ BeginsNoOptions-from_twice set words written left name rest new o b n read i oth
     twice-apart written o t.others (subst (λ (os : List Written). AreDistinct (map kind os)) are r.once) i
 
 -- one option more
-more-only : (set : OptionSet) (words : List Word) (written : List Written) (left : List Word) (name : OptionName) (rest new : List Word) (o : Written) → BeginsOptions set words written left → IsNamedNext set name left rest → Begins operand_places (IsOptionNamed name) IsOptionEnd rest o new → (others : List Written) (places : List Place) → AreOptionsFit set others → IsPast set places → Fits words (flat_map option_places others ++ places) → GoesOn (written ++ o ∷ []) others new places
+more-only : (set : OptionSet) (words : List Word) (written : List Written) (left : List Word) (name : OptionName) (rest new : List Word) (o : Written) → BeginsOptions set words written left → IsNamedNext set name left rest → Begins operand_places (IsOptionNamed set name) IsOptionEnd rest o new → (others : List Written) (places : List Place) → AreOptionsFit set others → IsPast set places → Fits words (flat_map option_places others ++ places) → GoesOn (written ++ o ∷ []) others new places
 more-only set words written left name rest new o b n read others places r p f =
     let g = b.only others places r p f in
     let t = takes_next set words written left name rest others places b n r p g in
@@ -179,13 +199,13 @@ more-fits words left rest new written o word places fits are same f =
     let here : Fits left (option_places o ++ places) = subst (λ (ws : List Word). Fits ws (option_places o ++ places)) (sym are) (same, f) in
     subst (λ (ps : List Place). Fits words ps) (sym (then-last written o places)) (fits (option_places o ++ places) here)
 
-pub BeginsOptions-more : (set : OptionSet) (words : List Word) (written : List Written) (left : List Word) (name : OptionName) (rest new : List Word) (o : Written) → BeginsOptions set words written left → IsNamedNext set name left rest → Begins operand_places (IsOptionNamed name) IsOptionEnd rest o new → (IsIn (kind o) (map kind written) → ⊥) → BeginsOptions set words (written ++ o ∷ []) new
+pub BeginsOptions-more : (set : OptionSet) (words : List Word) (written : List Written) (left : List Word) (name : OptionName) (rest new : List Word) (o : Written) → BeginsOptions set words written left → IsNamedNext set name left rest → Begins operand_places (IsOptionNamed set name) IsOptionEnd rest o new → (IsIn (kind o) (map kind written) → ⊥) → BeginsOptions set words (written ++ o ∷ []) new
 BeginsOptions-more set words written left name rest new o b n read unseen =
     let of_set : is_of set (first_name o) ≡ true = ap (λ (x : OptionName). is_of set x) read.right.name_is ∙ n.of_set in
     let same : IsSameName n.word (option_text (first_name o)) = subst (λ (x : OptionName). IsSameName n.word (option_text x)) (sym read.right.name_is) n.same in
     record {
       right = record {
-        each = All-append IsOptionFit written (o ∷ []) b.right.each (All-cons IsOptionFit o [] read.right.fit (All-nil IsOptionFit));
+        each = All-append (IsOptionFit set) written (o ∷ []) b.right.each (All-cons (IsOptionFit set) o [] read.right.fit (All-nil (IsOptionFit set)));
         of_set = All-append (λ o. is_of set (first_name o) ≡ true) written (o ∷ []) b.right.of_set (All-cons (λ o. is_of set (first_name o) ≡ true) o [] of_set (All-nil (λ o. is_of set (first_name o) ≡ true)));
         once = distinct-more written o b.right.once unseen;
       };

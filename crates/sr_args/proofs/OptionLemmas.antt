@@ -8,14 +8,18 @@ use Rattle.std.proofs.lemmas.Option.{same_Some}
 use Rattle.sr_args.specs.declared.name.Measure.{Measure}
 use Rattle.sr_args.specs.declared.name.Measure.TheVariants as measures
 use Rattle.sr_args.specs.declared.name.OptionName.{OptionName}
-use Rattle.sr_args.specs.declared.name.OptionName.TheVariants.{Count, NoMkStream, MaxLen, MinId, Limit}
+use Rattle.sr_args.specs.declared.name.OptionName.TheVariants.{Count, NoMkStream, MaxLen, MinId, Limit, MkStream, JustId, Idle, Time, RetryCount, Force, LastId, Streams}
 use Rattle.sr_args.specs.declared.name.Sign.{Sign}
 use Rattle.sr_args.specs.declared.name.Sign.TheVariants.{Exact, Nearly}
+use Rattle.sr_args.specs.declared.options.OptionKind.{OptionKind}
+use Rattle.sr_args.specs.declared.options.OptionKind.TheVariants as kinds
 use Rattle.sr_args.specs.declared.options.OptionSet.{OptionSet}
 use Rattle.sr_args.specs.declared.options.OptionSet.TheVariants as sets
 use Rattle.sr_args.specs.Name.{IsSameName, measure_name, option_text, sign_text}
-use Rattle.sr_args.specs.Place.{Word, Place, Stands, Fits, option, spelled, IdForm}
-use Rattle.sr_args.specs.Options.{TrimReading, Written, count, no_make, trimming, sign_places, bound_place, limit_places, first_name, operand_places, option_places, is_of, IsTrimFit, IsOptionFit, AreOptionsFit, IsUnnamed, IsPast}
+use Rattle.sr_args.specs.declared.number.CountRange.{CountRange}
+use Rattle.sr_args.specs.declared.number.CountRange.TheVariants.{Any, FromOne}
+use Rattle.sr_args.specs.Place.{Word, Place, Range, int, nat, from_one, Stands, Fits, option, numeric, spelled, IdForm}
+use Rattle.sr_args.specs.Options.{TrimReading, Written, count, no_make, make_key, ids_only, idle, since, deliveries, trimming, sign_places, bound_place, limit_places, count_place, first_name, operand_places, option_places, kind, is_of, IsTrimFit, IsOptionFit, AreOptionsFit, IsUnnamed, IsPast}
 use Rattle.sr_args.specs.steps.Options.{IsUnlimited, IsSigned, IsOptionEnd}
 
 -- the option with this name in small letters
@@ -26,14 +30,19 @@ option_at text =
     (cond (bytes_eq text (codes "maxlen")) (Some MaxLen)
     (cond (bytes_eq text (codes "minid")) (Some MinId)
     (cond (bytes_eq text (codes "limit")) (Some Limit)
-    None))))
+    (cond (bytes_eq text (codes "mkstream")) (Some MkStream)
+    (cond (bytes_eq text (codes "justid")) (Some JustId)
+    (cond (bytes_eq text (codes "idle")) (Some Idle)
+    (cond (bytes_eq text (codes "time")) (Some Time)
+    (cond (bytes_eq text (codes "retrycount")) (Some RetryCount)
+    (cond (bytes_eq text (codes "force")) (Some Force)
+    (cond (bytes_eq text (codes "lastid")) (Some LastId)
+    (cond (bytes_eq text (codes "streams")) (Some Streams)
+    None))))))))))))
 
 option_at-text : (name : OptionName) → option_at (map to_ascii_lowercase (option_text name)) ≡ Some name
 option_at-text Count = refl
-option_at-text NoMkStream = refl
-option_at-text MaxLen = refl
-option_at-text MinId = refl
-option_at-text Limit = refl
+option_at-text name = refl
 
 -- no word names two options
 pub name-one : (word : Word) (a b : OptionName) → IsSameName word (option_text a) → IsSameName word (option_text b) → a ≡ b
@@ -116,29 +125,64 @@ trim_operands-one words a b ps qs by u v m n f g =
     (same_trim a b by sign.0 sign.1 limit.0, limit.1)
 
 -- after its name an option is read in one way
-number-one : (words : List Word) (x y : Word) (ps qs : List Place) → Fits words (operand_places (count x) ++ ps) → Fits words (operand_places (count y) ++ qs) → (x ≡ y) × GoOn ps qs
-number-one [] x y ps qs f g = absurd f
-number-one (w ∷ words) x y ps qs f g = (sym f.0 ∙ g.0, record { rest = words; left = f.1; right = g.1 })
+number-one : (range : Range) (words : List Word) (x y : Word) (ps qs : List Place) → Fits words (numeric range x ∷ ps) → Fits words (numeric range y ∷ qs) → (x ≡ y) × GoOn ps qs
+number-one range [] x y ps qs f g = absurd f
+number-one range (w ∷ words) x y ps qs f g = (sym f.0 ∙ g.0, record { rest = words; left = f.1; right = g.1 })
 
-pub count-no_trim : (by : Measure) → Count ≢ measure_name by
-count-no_trim measures.MaxLen = λ e. cc
-count-no_trim measures.MinId = λ e. cc
+-- the word of COUNT is read in one way, whatever numbers it takes
+abbrev place_range : CountRange → Range
+place_range Any = int
+place_range FromOne = from_one
 
-pub no_make-no_trim : (by : Measure) → NoMkStream ≢ measure_name by
-no_make-no_trim measures.MaxLen = λ e. cc
-no_make-no_trim measures.MinId = λ e. cc
+place-count : (range : CountRange) (word : Word) → count_place range word ≡ numeric (place_range range) word
+place-count Any word = refl
+place-count FromOne word = refl
 
-pub operands-one : (words : List Word) (a b : Written) (ps qs : List Place) → first_name a ≡ first_name b → IsOptionFit a → IsOptionFit b → IsOptionEnd a ps → IsOptionEnd b qs → Fits words (operand_places a ++ ps) → Fits words (operand_places b ++ qs) → (a ≡ b) × GoOn ps qs
-operands-one words (count x) (count y) ps qs e u v m n f g = let one = number-one words x y ps qs f g in (ap count one.0, one.1)
-operands-one words no_make no_make ps qs e u v m n f g = (refl, record { rest = words; left = f; right = g })
-operands-one words (trimming a) (trimming b) ps qs e u v m n f g =
+count-one : (range other : CountRange) (words : List Word) (x y : Word) (ps qs : List Place) → range ≡ other → Fits words (count_place range x ∷ ps) → Fits words (count_place other y ∷ qs) → (count range x ≡ count other y) × GoOn ps qs
+count-one range other words x y ps qs e f g =
+    let left : Fits words (numeric (place_range range) x ∷ ps) = subst (λ (p : Place). Fits words (p ∷ ps)) (place-count range x) f in
+    let same : Fits words (count_place range y ∷ qs) = subst (λ (r : CountRange). Fits words (count_place r y ∷ qs)) (sym e) g in
+    let right : Fits words (numeric (place_range range) y ∷ qs) = subst (λ (p : Place). Fits words (p ∷ qs)) (place-count range y) same in
+    let one = number-one (place_range range) words x y ps qs left right in
+    let word = one.0 in
+    (cc, one.1)
+
+-- the kind of an option is seen from its name
+abbrev kind_named : OptionName → OptionKind
+kind_named Count = kinds.Count
+kind_named NoMkStream = kinds.NoMkStream
+kind_named MkStream = kinds.MkStream
+kind_named JustId = kinds.JustId
+kind_named Idle = kinds.Idle
+kind_named Time = kinds.Time
+kind_named RetryCount = kinds.RetryCount
+kind_named name = kinds.Trim
+
+measure-kind : (by : Measure) → kind_named (measure_name by) ≡ kinds.Trim
+measure-kind measures.MaxLen = refl
+measure-kind measures.MinId = refl
+
+kind-from_name : (o : Written) → kind_named (first_name o) ≡ kind o
+kind-from_name (trimming trim) = measure-kind trim.by
+kind-from_name o = refl
+
+kind-one : (a b : Written) → first_name a ≡ first_name b → kind a ≡ kind b
+kind-one a b e = sym (kind-from_name a) ∙ ap kind_named e ∙ kind-from_name b
+
+operands-one_kind : (set : OptionSet) (words : List Word) (a b : Written) (ps qs : List Place) → kind a ≡ kind b → first_name a ≡ first_name b → IsOptionFit set a → IsOptionFit set b → IsOptionEnd a ps → IsOptionEnd b qs → Fits words (operand_places a ++ ps) → Fits words (operand_places b ++ qs) → (a ≡ b) × GoOn ps qs
+operands-one_kind set words (count r x) (count q y) ps qs k e u v m n f g = count-one r q words x y ps qs (u ∙ sym v) f g
+operands-one_kind set words no_make no_make ps qs k e u v m n f g = (refl, record { rest = words; left = f; right = g })
+operands-one_kind set words make_key make_key ps qs k e u v m n f g = (refl, record { rest = words; left = f; right = g })
+operands-one_kind set words ids_only ids_only ps qs k e u v m n f g = (refl, record { rest = words; left = f; right = g })
+operands-one_kind set words (idle x) (idle y) ps qs k e u v m n f g = let one = number-one nat words x y ps qs f g in (ap idle one.0, one.1)
+operands-one_kind set words (since x) (since y) ps qs k e u v m n f g = let one = number-one nat words x y ps qs f g in (ap since one.0, one.1)
+operands-one_kind set words (deliveries x) (deliveries y) ps qs k e u v m n f g = let one = number-one nat words x y ps qs f g in (ap deliveries one.0, one.1)
+operands-one_kind set words (trimming a) (trimming b) ps qs k e u v m n f g =
     let one = trim_operands-one words a b ps qs (measure_name-one a.by b.by e) u v m n f g in (ap trimming one.0, one.1)
-operands-one words (count x) no_make ps qs e u v m n f g = cc
-operands-one words (count x) (trimming b) ps qs e u v m n f g = absurd (count-no_trim b.by e)
-operands-one words no_make (count y) ps qs e u v m n f g = cc
-operands-one words no_make (trimming b) ps qs e u v m n f g = absurd (no_make-no_trim b.by e)
-operands-one words (trimming a) (count y) ps qs e u v m n f g = absurd (count-no_trim a.by (sym e))
-operands-one words (trimming a) no_make ps qs e u v m n f g = absurd (no_make-no_trim a.by (sym e))
+operands-one_kind set words a b ps qs k e u v m n f g = cc
+
+pub operands-one : (set : OptionSet) (words : List Word) (a b : Written) (ps qs : List Place) → first_name a ≡ first_name b → IsOptionFit set a → IsOptionFit set b → IsOptionEnd a ps → IsOptionEnd b qs → Fits words (operand_places a ++ ps) → Fits words (operand_places b ++ qs) → (a ≡ b) × GoOn ps qs
+operands-one set words a b ps qs e u v m n f g = operands-one_kind set words a b ps qs (kind-one a b e) e u v m n f g
 
 -- LIMIT begins no option
 measure_name-no_limit : (by : Measure) → measure_name by ≢ Limit
@@ -146,16 +190,14 @@ measure_name-no_limit measures.MaxLen = λ e. cc
 measure_name-no_limit measures.MinId = λ e. cc
 
 pub first_name-no_limit : (o : Written) → first_name o ≢ Limit
-first_name-no_limit (count most) = λ e. cc
-first_name-no_limit no_make = λ e. cc
 first_name-no_limit (trimming trim) = measure_name-no_limit trim.by
+first_name-no_limit o = λ e. cc
 
 -- a set with a trim has LIMIT
 limit-of_set : (set : OptionSet) (by : Measure) → is_of set (measure_name by) ≡ true → is_of set Limit ≡ true
-limit-of_set sets.Range measures.MaxLen e = cc
-limit-of_set sets.Range measures.MinId e = cc
-limit-of_set sets.Xadd measures.MaxLen e = refl
-limit-of_set sets.Xadd measures.MinId e = refl
+limit-of_set sets.Xadd by e = refl
+limit-of_set set measures.MaxLen e = cc
+limit-of_set set measures.MinId e = cc
 
 -- the options of a set and what follows them
 abbrev pub then_places : List Written → List Place → List Place
@@ -169,19 +211,18 @@ unlimited-after set by [] ps e p = record { unnamed = λ word words same f. p.un
 unlimited-after set by (o ∷ os) ps e p = record { unnamed = λ word words same f. first_name-no_limit o (name-one word (first_name o) Limit f.0 same) }
 
 pub end-after : (set : OptionSet) (o : Written) (os : List Written) (ps : List Place) → is_of set (first_name o) ≡ true → IsPast set ps → IsOptionEnd o (then_places os ps)
-end-after set (count most) os ps e p = tt
-end-after set no_make os ps e p = tt
 end-after set (trimming trim) os ps e p = unlimited-after set trim.by os ps e p
+end-after set o os ps e p = tt
 
 -- what is said of options holds of those after the first
 abbrev Each : OptionSet → List Written → Type 0
-Each set os = All IsOptionFit os × All (λ o. is_of set (first_name o) ≡ true) os
+Each set os = All (IsOptionFit set) os × All (λ o. is_of set (first_name o) ≡ true) os
 
 Each-tail : (set : OptionSet) (o : Written) (os : List Written) → Each set (o ∷ os) → Each set os
-Each-tail set o os e = (All-tail IsOptionFit o os e.0, All-tail (λ o. is_of set (first_name o) ≡ true) o os e.1)
+Each-tail set o os e = (All-tail (IsOptionFit set) o os e.0, All-tail (λ o. is_of set (first_name o) ≡ true) o os e.1)
 
-pub head-fit : (o : Written) (os : List Written) → All IsOptionFit (o ∷ os) → IsOptionFit o
-head-fit o os e = All-head IsOptionFit o os e
+pub head-fit : (set : OptionSet) (o : Written) (os : List Written) → All (IsOptionFit set) (o ∷ os) → IsOptionFit set o
+head-fit set o os e = All-head (IsOptionFit set) o os e
 
 pub head-of_set : (set : OptionSet) (o : Written) (os : List Written) → All (λ o. is_of set (first_name o) ≡ true) (o ∷ os) → is_of set (first_name o) ≡ true
 head-of_set set o os e = All-head (λ o. is_of set (first_name o) ≡ true) o os e
@@ -199,7 +240,7 @@ options-one-each set (w ∷ words) (o ∷ a) (q ∷ b) ps qs u v m n f g =
     let name = name-one w (first_name o) (first_name q) left.0 right.0 in
     let of_o = head-of_set set o a u.1 in
     let of_q = head-of_set set q b v.1 in
-    let first = operands-one words o q (then_places a ps) (then_places b qs) name (head-fit o a u.0) (head-fit q b v.0) (end-after set o a ps of_o m) (end-after set q b qs of_q n) left.1 right.1 in
+    let first = operands-one set words o q (then_places a ps) (then_places b qs) name (head-fit set o a u.0) (head-fit set q b v.0) (end-after set o a ps of_o m) (end-after set q b qs of_q n) left.1 right.1 in
     let rest = options-one-each set first.1.rest a b ps qs (Each-tail set o a u) (Each-tail set q b v) m n first.1.left first.1.right in
     let head = first.0 in
     let tail = rest.0 in
@@ -224,3 +265,13 @@ IsPast-id set form word places differs = record { unnamed = λ other words f nam
 
 pub IsPast-end : (set : OptionSet) → IsPast set []
 IsPast-end set = record { unnamed = λ word words f. absurd f }
+
+-- and STREAMS is the name of none
+streams-no_option : (set : OptionSet) → is_of set Streams ≡ true → ⊥
+streams-no_option sets.Range e = cc
+streams-no_option set e = cc
+
+pub IsPast-streams : (set : OptionSet) (places : List Place) → IsPast set (option Streams ∷ places)
+IsPast-streams set places = record {
+  unnamed = λ word words f name of same. streams-no_option set (subst (λ (n : OptionName). is_of set n ≡ true) (name-one word name Streams same f.0) of);
+}

@@ -1,16 +1,14 @@
 -- What XRANGE and XREVRANGE answer, over the words of a range with its ids in either order.
-use Rattle.std.proofs.Common.{◌≡◌, List, [], ◌∷◌, refl, sym, ap, ◌∙◌, Ok, Err}
+use Rattle.std.proofs.Common.{◌≡◌, List, [], ◌∷◌, refl, Ok, Err}
 use Rattle.std.specs.List.{flat_map}
-use Rattle.sr_args.specs.declared.fault.CallFault.{CallFault}
-use Rattle.sr_args.specs.declared.fault.CallFault.TheVariants as call_faults
 use Rattle.sr_args.specs.declared.options.Choice.{Choice}
 use Rattle.sr_args.specs.declared.options.OptionSet.TheVariants as sets
 use Rattle.sr_args.specs.declared.options.ValueFault.{ValueFault}
 use Rattle.sr_args.specs.declared.options.ValueFault.TheVariants as faults
 use Rattle.sr_args.specs.Place.{Word, IdForm, HasNumbers}
 use Rattle.sr_args.specs.Options.{Written, option_places, nothing}
-use Rattle.sr_args.specs.Form.{Form, Reading, Values, places, Reads}
-use Rattle.sr_args.specs.steps.Gives.{Gives, GivesCall}
+use Rattle.sr_args.specs.Form.{Reading, Values, places, Reads}
+use Rattle.sr_args.specs.steps.Gives.{Gives}
 use Rattle.sr_args.specs.steps.Options.{EndsOptions, BeginsNoOptions, AreJudged, chosen_of, fault_of}
 use Rattle.sr_args.specs.steps.Ranges.{range_form, range_reading}
 use Rattle.sr_args.proofs.ChoiceLemmas.{HasNumbers-append, HasNumbers-front, HasIds-front, Choose-numbers}
@@ -42,18 +40,3 @@ range-fault first second call_of words key a b written faults.BadId reads judged
 pub range-numbers : (first second : IdForm) (key a b : Word) (written : List Written) (choice : Choice) → AreJudged written (Ok choice) → HasNumbers (places (range_form first second) (range_reading key a b written first second))
 range-numbers first second key a b written choice judged =
     (tt, (tt, (tt, HasNumbers-append (flat_map option_places written) [] (Choose-numbers written nothing (chosen_of choice) judged) tt)))
-
--- what is made of a call, or of a fault, is made of it by the form too
-pub made_call : {A B : Type 0} (form : Form) (f : Values form → A) (g : Values form → B) (make : A → B) (words : List Word) (a : A)
-    → ((values : Values form) → g values ≡ make (f values)) → GivesCall form f words a → GivesCall form g words (make a)
-made_call form f g make words a same gives =
-    record { reading = gives.reading; reads = gives.reads; values = gives.values; means = gives.means; is = ap make gives.is ∙ sym (same gives.values) }
-
-pub made_fault : {A B : Type 0} (form : Form) (f : Values form → A) (g : Values form → B) (make : A → B) (words : List Word) (fault : CallFault)
-    → ((values : Values form) → g values ≡ make (f values)) → Gives form f words (Err fault) → Gives form g words (Err fault)
-made_fault form f g make words call_faults.Unknown same gives = gives
-made_fault form f g make words call_faults.Arity same gives = gives
-made_fault form f g make words call_faults.Syntax same gives = gives
-made_fault form f g make words call_faults.Number same gives = gives
-made_fault form f g make words call_faults.BadId same gives = gives
-made_fault form f g make words call_faults.Memory same gives = (make gives.0, made_call form f g make words gives.0 same gives.1)

@@ -100,6 +100,6 @@ xadd-bad_id words key written id fields choice r chosen none = (
       none last.0 last.1,
 )
 
-pub xadd-gives : (words : List Word) (key copy : Word) (written : List Written) (id : Word) (fields copied : List (Word × Word)) (choice : Choice) (spec : Spec) → Reads form words (key, (written, (id, fields))) → copy ≡ key → Choose written nothing (chosen_of choice) → IsSpec id spec → copied ≡ fields → GivesCall form call words (Xadd copy choice.make choice.trim spec copied)
+pub xadd-gives : (words : List Word) (key copy : Word) (written : List Written) (id : Word) (fields copied : List (Word × Word)) (choice : Choice) (spec : Spec) → Reads form words (key, (written, (id, fields))) → copy ≡ key → Choose written nothing (chosen_of choice) → IsSpec id spec → copied ≡ fields → GivesCall form call words (Xadd copy choice.add_makes choice.trim spec copied)
 xadd-gives words key copy written id fields copied choice spec r same chosen spells e =
     record { reading = (key, (written, (id, fields))); reads = r; values = (copy, (chosen_of choice, (spec, copied))); means = (same, (chosen, (spells, e))); is = refl }

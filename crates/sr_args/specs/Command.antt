@@ -19,6 +19,19 @@ use Rattle.sr_args.specs.commands.Xdel as xdel
 use Rattle.sr_args.specs.commands.Xlen as xlen
 use Rattle.sr_args.specs.commands.Xrange as xrange
 use Rattle.sr_args.specs.commands.Xrevrange as xrevrange
+use Rattle.sr_args.specs.commands.Xack as xack
+use Rattle.sr_args.specs.commands.XgroupCreate as xgroup_create
+use Rattle.sr_args.specs.commands.XgroupSetId as xgroup_set_id
+use Rattle.sr_args.specs.commands.XgroupDestroy as xgroup_destroy
+use Rattle.sr_args.specs.commands.XgroupCreateConsumer as xgroup_create_consumer
+use Rattle.sr_args.specs.commands.XgroupDelConsumer as xgroup_del_consumer
+use Rattle.sr_args.specs.commands.XinfoStream as xinfo_stream
+use Rattle.sr_args.specs.commands.XinfoGroups as xinfo_groups
+use Rattle.sr_args.specs.commands.XinfoConsumers as xinfo_consumers
+use Rattle.sr_args.specs.commands.Xautoclaim as xautoclaim
+use Rattle.sr_args.specs.commands.Xclaim as xclaim
+use Rattle.sr_args.specs.commands.Xpending as xpending
+use Rattle.sr_args.specs.commands.Xread as xread
 
 -- the form of each command, after its name
 abbrev pub form_of : CommandName → Form
@@ -29,6 +42,19 @@ form_of commands.Xdel = xdel.form
 form_of commands.Xlen = xlen.form
 form_of commands.Xrange = xrange.form
 form_of commands.Xrevrange = xrevrange.form
+form_of commands.Xack = xack.form
+form_of commands.XgroupCreate = xgroup_create.form
+form_of commands.XgroupSetId = xgroup_set_id.form
+form_of commands.XgroupDestroy = xgroup_destroy.form
+form_of commands.XgroupCreateConsumer = xgroup_create_consumer.form
+form_of commands.XgroupDelConsumer = xgroup_del_consumer.form
+form_of commands.XinfoStream = xinfo_stream.form
+form_of commands.XinfoGroups = xinfo_groups.form
+form_of commands.XinfoConsumers = xinfo_consumers.form
+form_of commands.Xautoclaim = xautoclaim.form
+form_of commands.Xclaim = xclaim.form
+form_of commands.Xpending = xpending.form
+form_of commands.Xread = xread.form
 
 -- the call that the values in a command's form are
 abbrev pub call_of : (command : CommandName) → Values (form_of command) → Call
@@ -39,6 +65,19 @@ call_of commands.Xdel values = xdel.call values
 call_of commands.Xlen values = xlen.call values
 call_of commands.Xrange values = xrange.call values
 call_of commands.Xrevrange values = xrevrange.call values
+call_of commands.Xack values = xack.call values
+call_of commands.XgroupCreate values = xgroup_create.call values
+call_of commands.XgroupSetId values = xgroup_set_id.call values
+call_of commands.XgroupDestroy values = xgroup_destroy.call values
+call_of commands.XgroupCreateConsumer values = xgroup_create_consumer.call values
+call_of commands.XgroupDelConsumer values = xgroup_del_consumer.call values
+call_of commands.XinfoStream values = xinfo_stream.call values
+call_of commands.XinfoGroups values = xinfo_groups.call values
+call_of commands.XinfoConsumers values = xinfo_consumers.call values
+call_of commands.Xautoclaim values = xautoclaim.call values
+call_of commands.Xclaim values = xclaim.call values
+call_of commands.Xpending values = xpending.call values
+call_of commands.Xread values = xread.call values
 
 -- the words name the command, these operands follow its name, and it takes that many words
 pub record IsWellCounted (words : List Word) (command : CommandName) (operands : List Word) : Type 0 where

@@ -4,6 +4,7 @@ pub mod Name
 pub mod Number
 pub mod Options
 pub mod Place
+pub mod Position
 pub mod Table
 pub mod commands
 pub mod steps

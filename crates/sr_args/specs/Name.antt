@@ -4,7 +4,8 @@
 use Rattle.std.specs.Prelude.{◌≡◌, ℕ, List, map, codes}
 use Rattle.std.specs.Char.{to_ascii_lowercase}
 use Rattle.sr_args.specs.declared.name.OptionName.{OptionName}
-use Rattle.sr_args.specs.declared.name.OptionName.TheVariants.{Count, NoMkStream, MaxLen, MinId, Limit}
+use Rattle.sr_args.specs.declared.name.OptionName.TheVariants.{Count, NoMkStream, MaxLen, MinId, Limit, MkStream}
+use Rattle.sr_args.specs.declared.name.OptionName.TheVariants.{JustId, Idle, Time, RetryCount, Force, LastId, Streams}
 use Rattle.sr_args.specs.declared.name.Measure.{Measure}
 use Rattle.sr_args.specs.declared.name.Measure.TheVariants as measures
 use Rattle.sr_args.specs.declared.name.Sign.{Sign}
@@ -20,6 +21,14 @@ option_text NoMkStream = codes "NOMKSTREAM"
 option_text MaxLen = codes "MAXLEN"
 option_text MinId = codes "MINID"
 option_text Limit = codes "LIMIT"
+option_text MkStream = codes "MKSTREAM"
+option_text JustId = codes "JUSTID"
+option_text Idle = codes "IDLE"
+option_text Time = codes "TIME"
+option_text RetryCount = codes "RETRYCOUNT"
+option_text Force = codes "FORCE"
+option_text LastId = codes "LASTID"
+option_text Streams = codes "STREAMS"
 
 -- the option that begins a trim of this measure
 abbrev pub measure_name : Measure → OptionName

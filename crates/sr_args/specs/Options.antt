@@ -4,11 +4,15 @@
 use Rattle.std.specs.Prelude.{◌≡◌, ◌≢◌, ◌⊎◌, ℕ, ℤ, List, [], ◌∷◌, ◌++◌, map}
 use Rattle.std.specs.Prelude.{Option, Some, None, Bool, true, false, All, ⊤}
 use Rattle.sr_ids.specs.Spelling.{SpellsId}
+use Rattle.sr_args.specs.declared.call.TimeAsked.{TimeAsked}
+use Rattle.sr_args.specs.declared.call.TimeAsked.TheVariants as times
 use Rattle.sr_args.specs.declared.call.Trim.{Trim}
 use Rattle.sr_args.specs.declared.call.TrimBy.{TrimBy}
 use Rattle.sr_args.specs.declared.call.TrimBy.TheVariants as bounds
 use Rattle.sr_args.specs.declared.name.Measure.{Measure}
 use Rattle.sr_args.specs.declared.name.Measure.TheVariants as measures
+use Rattle.sr_args.specs.declared.number.CountRange.{CountRange}
+use Rattle.sr_args.specs.declared.number.CountRange.TheVariants.{Any, FromOne}
 use Rattle.sr_args.specs.declared.options.OptionKind.{OptionKind}
 use Rattle.sr_args.specs.declared.options.OptionKind.TheVariants as kinds
 use Rattle.sr_args.specs.declared.name.OptionName.{OptionName}
@@ -18,8 +22,8 @@ use Rattle.sr_args.specs.declared.options.OptionSet.TheVariants as sets
 use Rattle.sr_args.specs.declared.name.Sign.{Sign}
 use Rattle.sr_args.specs.declared.name.Sign.TheVariants.{Nearly}
 use Rattle.sr_args.specs.Name.{IsSameName, measure_name, option_text, sign_text}
-use Rattle.sr_args.specs.Number.{IsInt, IsNat}
-use Rattle.sr_args.specs.Place.{Word, Place, Fits, option, any, numeric, spelled, int, nat, strict_id}
+use Rattle.sr_args.specs.Number.{IsNat, IsCount}
+use Rattle.sr_args.specs.Place.{Word, Place, Fits, option, any, numeric, spelled, int, nat, from_one, strict_id}
 
 -- a trim with the words in its places
 pub record TrimReading : Type 0 where
@@ -30,8 +34,13 @@ pub record TrimReading : Type 0 where
 
 -- an option with the words in its places
 pub data Written : Type 0 where
-  count : (most : Word) → Written
+  count : (range : CountRange) (most : Word) → Written
   no_make : Written
+  make_key : Written
+  ids_only : Written
+  idle : (ago : Word) → Written
+  since : (moment : Word) → Written
+  deliveries : (many : Word) → Written
   trimming : (trim : TrimReading) → Written
 
 -- [=|~]
@@ -49,16 +58,32 @@ abbrev pub limit_places : Option Word → List Place
 limit_places None = []
 limit_places (Some word) = option options.Limit ∷ numeric nat word ∷ []
 
+-- how many entries are wanted
+abbrev pub count_place : CountRange → Word → Place
+count_place Any word = numeric int word
+count_place FromOne word = numeric from_one word
+
 -- the name with which an option begins
 abbrev pub first_name : Written → OptionName
-first_name (count most) = options.Count
+first_name (count range most) = options.Count
 first_name no_make = options.NoMkStream
+first_name make_key = options.MkStream
+first_name ids_only = options.JustId
+first_name (idle word) = options.Idle
+first_name (since word) = options.Time
+first_name (deliveries word) = options.RetryCount
 first_name (trimming trim) = measure_name trim.by
 
--- what follows the name of an option: COUNT number, NOMKSTREAM, MAXLEN|MINID [=|~] bound [LIMIT number]
+-- what follows the name of an option: COUNT number, NOMKSTREAM, MKSTREAM, JUSTID, IDLE number, TIME number,
+-- RETRYCOUNT number, MAXLEN|MINID [=|~] bound [LIMIT number]
 abbrev pub operand_places : Written → List Place
-operand_places (count most) = numeric int most ∷ []
+operand_places (count range most) = count_place range most ∷ []
 operand_places no_make = []
+operand_places make_key = []
+operand_places ids_only = []
+operand_places (idle word) = numeric nat word ∷ []
+operand_places (since word) = numeric nat word ∷ []
+operand_places (deliveries word) = numeric nat word ∷ []
 operand_places (trimming trim) = sign_places trim.sign ++ (bound_place trim.by trim.bound ∷ limit_places trim.limit)
 
 -- an option: its name and what follows it
@@ -70,30 +95,58 @@ pub record IsTrimFit (trim : TrimReading) : Type 0 where
   pub sign_first : (sign : Sign) → trim.sign ≡ None → trim.bound ≢ sign_text sign
   pub limit_nearly : (trim.limit ≡ None) ⊎ (trim.sign ≡ Some Nearly)
 
+-- which numbers COUNT takes in each set
+abbrev pub count_range : OptionSet → CountRange
+count_range sets.Range = Any
+count_range sets.Xadd = Any
+count_range sets.XgroupCreate = Any
+count_range sets.Xautoclaim = FromOne
+count_range sets.Xclaim = Any
+count_range sets.Xread = Any
+
 -- what the places of an option do not say
-abbrev pub IsOptionFit : Written → Type 0
-IsOptionFit (count most) = ⊤
-IsOptionFit no_make = ⊤
-IsOptionFit (trimming trim) = IsTrimFit trim
+abbrev pub IsOptionFit : OptionSet → Written → Type 0
+IsOptionFit set (count range most) = range ≡ count_range set
+IsOptionFit set no_make = ⊤
+IsOptionFit set make_key = ⊤
+IsOptionFit set ids_only = ⊤
+IsOptionFit set (idle word) = ⊤
+IsOptionFit set (since word) = ⊤
+IsOptionFit set (deliveries word) = ⊤
+IsOptionFit set (trimming trim) = IsTrimFit trim
 
 -- what kind of option it is: MAXLEN and MINID are both a trim
 abbrev pub kind : Written → OptionKind
-kind (count most) = kinds.Count
+kind (count range most) = kinds.Count
 kind no_make = kinds.NoMkStream
+kind make_key = kinds.MkStream
+kind ids_only = kinds.JustId
+kind (idle word) = kinds.Idle
+kind (since word) = kinds.Time
+kind (deliveries word) = kinds.RetryCount
 kind (trimming trim) = kinds.Trim
 
 -- the names in each set, with those inside an option: LIMIT
 abbrev pub is_of : OptionSet → OptionName → Bool
 is_of sets.Range options.Count = true
-is_of sets.Range options.NoMkStream = false
-is_of sets.Range options.MaxLen = false
-is_of sets.Range options.MinId = false
-is_of sets.Range options.Limit = false
-is_of sets.Xadd options.Count = false
+is_of sets.Range name = false
 is_of sets.Xadd options.NoMkStream = true
 is_of sets.Xadd options.MaxLen = true
 is_of sets.Xadd options.MinId = true
 is_of sets.Xadd options.Limit = true
+is_of sets.Xadd name = false
+is_of sets.XgroupCreate options.MkStream = true
+is_of sets.XgroupCreate name = false
+is_of sets.Xread options.Count = true
+is_of sets.Xread name = false
+is_of sets.Xautoclaim options.Count = true
+is_of sets.Xautoclaim options.JustId = true
+is_of sets.Xautoclaim name = false
+is_of sets.Xclaim options.Idle = true
+is_of sets.Xclaim options.Time = true
+is_of sets.Xclaim options.RetryCount = true
+is_of sets.Xclaim options.JustId = true
+is_of sets.Xclaim name = false
 
 -- the kind is one of these
 abbrev pub IsIn : OptionKind → List OptionKind → Type 0
@@ -107,7 +160,7 @@ AreDistinct (k ∷ ks) = (IsIn k ks → ⊥) × AreDistinct ks
 
 -- what the places of the options of a set do not say: each is of the set, and none is written twice
 pub record AreOptionsFit (set : OptionSet) (written : List Written) : Type 0 where
-  pub each : All IsOptionFit written
+  pub each : All (IsOptionFit set) written
   pub of_set : All (λ o. is_of set (first_name o) ≡ true) written
   pub once : AreDistinct (map kind written)
 
@@ -121,14 +174,29 @@ pub record IsPast (set : OptionSet) (places : List Place) : Type 0 where
 
 -- what options ask for
 pub record Chosen : Type 0 where
-  -- whether a missing key is made
-  pub make : Bool
+  -- whether XADD makes a missing key: not with NOMKSTREAM
+  pub add_makes : Bool
+  -- whether XGROUP CREATE makes a missing key: only with MKSTREAM
+  pub create_makes : Bool
   pub trim : Option Trim
   pub count : Option ℤ
+  -- whether ids are replied, and not entries
+  pub just_ids : Bool
+  -- when a claimed entry counts as delivered, and how often
+  pub time : TimeAsked
+  pub delivered : Option ℕ
 
 -- what is asked for if no option is written
 abbrev pub nothing : Chosen
-nothing = record { make = true; trim = None; count = None }
+nothing = record {
+  add_makes = true;
+  create_makes = false;
+  trim = None;
+  count = None;
+  just_ids = false;
+  time = times.Now;
+  delivered = None;
+}
 
 -- the bound of a trim: a number of entries, or an id
 abbrev pub IsBound : Measure → Word → TrimBy → Type 0
@@ -149,8 +217,13 @@ pub record IsTrim (reading : TrimReading) (trim : Trim) : Type 0 where
 
 -- the option turns what was asked for before it into what is asked for after it
 abbrev pub Sets : Written → Chosen → Chosen → Type 0
-Sets (count most) before after = (z : ℤ) × IsInt most z × (after ≡ record before { count = Some z })
-Sets no_make before after = after ≡ record before { make = false }
+Sets (count range most) before after = (z : ℤ) × IsCount range most z × (after ≡ record before { count = Some z })
+Sets no_make before after = after ≡ record before { add_makes = false }
+Sets make_key before after = after ≡ record before { create_makes = true }
+Sets ids_only before after = after ≡ record before { just_ids = true }
+Sets (idle word) before after = (n : ℕ) × IsNat word n × (after ≡ record before { time = times.Idle n })
+Sets (since word) before after = (n : ℕ) × IsNat word n × (after ≡ record before { time = times.At n })
+Sets (deliveries word) before after = (n : ℕ) × IsNat word n × (after ≡ record before { delivered = Some n })
 Sets (trimming reading) before after =
     (trim : Trim) × IsTrim reading trim × (after ≡ record before { trim = Some trim })
 

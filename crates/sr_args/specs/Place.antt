@@ -6,39 +6,47 @@ use Rattle.sr_ids.specs.declared.id.Id.{Id}
 use Rattle.sr_ids.specs.declared.spec.Spec.{Spec}
 use Rattle.sr_ids.specs.Spec.{IsSpec}
 use Rattle.sr_ids.specs.Spelling.{SpellsId, IsStart, IsEnd}
+use Rattle.sr_args.specs.declared.call.Position.{Position}
 use Rattle.sr_args.specs.declared.name.OptionName.{OptionName}
 use Rattle.sr_args.specs.Name.{IsSameName, option_text}
-use Rattle.sr_args.specs.Number.{IsInt, IsNat}
+use Rattle.sr_args.specs.Number.{IsInt, IsNat, IsFromOne}
+use Rattle.sr_args.specs.Position.{SpellsPosition}
 
 abbrev pub Word : Type 0
 Word = List ℕ
 
--- which numbers a place takes: any of 64 bits with a sign, or those that are not below 0
+-- which numbers a place takes: any of 64 bits with a sign, those that are not below 0, or those from 1 on
 pub data Range : Type 0 where
   int : Range
   nat : Range
+  from_one : Range
 
 abbrev pub Number : Range → Type 0
 Number int = ℤ
 Number nat = ℕ
+Number from_one = ℤ
 
 -- the word writes the number
 abbrev pub Writes : (range : Range) → Word → Number range → Type 0
 Writes int word z = IsInt word z
 Writes nat word n = IsNat word n
+Writes from_one word z = IsFromOne word z
 
--- how the id of a place is spelled: as a written id, as the start or the end of a range, or as the id of a new entry
+-- how the id of a place is spelled: as a written id, as the start or the end of a range, as the id of a new entry, or as
+-- a position in a stream
 pub data IdForm : Type 0 where
   strict_id : IdForm
   range_start : IdForm
   range_end : IdForm
   new_id : IdForm
+  position : IdForm
 
 abbrev pub IdOf : IdForm → Type 0
 IdOf strict_id = Id
 IdOf range_start = Id
 IdOf range_end = Id
 IdOf new_id = Spec
+IdOf position = Position
 
 -- the word spells the id
 abbrev pub Spells : (form : IdForm) → Word → IdOf form → Type 0
@@ -46,6 +54,7 @@ Spells strict_id word id = SpellsId 0 word id
 Spells range_start word id = IsStart word id
 Spells range_end word id = IsEnd word id
 Spells new_id word spec = IsSpec word spec
+Spells position word from = SpellsPosition word from
 
 -- a place in a form: the name of an option, any word, a word that is to write a number, or one that is to spell an id
 pub data Place : Type 0 where

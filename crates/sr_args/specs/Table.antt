@@ -4,6 +4,10 @@
 use Rattle.std.specs.Prelude.{◌≡◌, ℕ, ◌≤◌, List, [], ◌∷◌, codes, Option, Some, None, IfSome}
 use Rattle.sr_args.specs.declared.table.CommandName.{CommandName}
 use Rattle.sr_args.specs.declared.table.CommandName.TheVariants.{Ping, Xadd, Xtrim, Xdel, Xlen, Xrange, Xrevrange}
+use Rattle.sr_args.specs.declared.table.CommandName.TheVariants.{Xack, XgroupCreate, XgroupSetId, XgroupDestroy}
+use Rattle.sr_args.specs.declared.table.CommandName.TheVariants.{XgroupCreateConsumer, XgroupDelConsumer}
+use Rattle.sr_args.specs.declared.table.CommandName.TheVariants.{XinfoStream, XinfoGroups, XinfoConsumers}
+use Rattle.sr_args.specs.declared.table.CommandName.TheVariants.{Xautoclaim, Xclaim, Xpending, Xread}
 use Rattle.sr_args.specs.Name.{IsSameName}
 use Rattle.sr_args.specs.Place.{Word}
 
@@ -25,6 +29,19 @@ row_of Xdel = row (codes "XDEL" ∷ []) 3 None
 row_of Xlen = row (codes "XLEN" ∷ []) 2 (Some 2)
 row_of Xrange = row (codes "XRANGE" ∷ []) 4 (Some 6)
 row_of Xrevrange = row (codes "XREVRANGE" ∷ []) 4 (Some 6)
+row_of Xack = row (codes "XACK" ∷ []) 4 None
+row_of XgroupCreate = row (codes "XGROUP" ∷ codes "CREATE" ∷ []) 5 (Some 6)
+row_of XgroupSetId = row (codes "XGROUP" ∷ codes "SETID" ∷ []) 5 (Some 5)
+row_of XgroupDestroy = row (codes "XGROUP" ∷ codes "DESTROY" ∷ []) 4 (Some 4)
+row_of XgroupCreateConsumer = row (codes "XGROUP" ∷ codes "CREATECONSUMER" ∷ []) 5 (Some 5)
+row_of XgroupDelConsumer = row (codes "XGROUP" ∷ codes "DELCONSUMER" ∷ []) 5 (Some 5)
+row_of XinfoStream = row (codes "XINFO" ∷ codes "STREAM" ∷ []) 3 (Some 3)
+row_of XinfoGroups = row (codes "XINFO" ∷ codes "GROUPS" ∷ []) 3 (Some 3)
+row_of XinfoConsumers = row (codes "XINFO" ∷ codes "CONSUMERS" ∷ []) 4 (Some 4)
+row_of Xautoclaim = row (codes "XAUTOCLAIM" ∷ []) 6 (Some 9)
+row_of Xclaim = row (codes "XCLAIM" ∷ []) 6 None
+row_of Xpending = row (codes "XPENDING" ∷ []) 3 (Some 9)
+row_of Xread = row (codes "XREAD" ∷ []) 4 None
 
 -- the words begin with the name, in any case of its letters, and these words follow it
 abbrev pub Begins : (name : List Word) → List Word → List Word → Type 0

@@ -1,5 +1,9 @@
+pub mod Claims
 pub mod Gives
+pub mod Named
 pub mod Names
 pub mod Options
 pub mod Pairs
+pub mod Pending
 pub mod Ranges
+pub mod Streams

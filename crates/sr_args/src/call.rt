@@ -1,5 +1,8 @@
-use sr_bytes::{Fields, Name};
+ghost use Rattle.std.specs.Prelude.{◌≡◌};
+
+use sr_bytes::{Fields, Name, Words};
 use sr_ids::{Id, Ids, Spec};
+use std::marker::Model;
 
 /// What a trim leaves in a stream.
 ///
@@ -21,6 +24,76 @@ pub struct Trim {
     pub by: TrimBy,
     /// LIMIT: how many entries it removes at most, if it is above 0.
     pub limit: u64,
+}
+
+/// From where a stream is read.
+///
+/// Source: Redis documentation, commands XGROUP CREATE and XREAD.
+#[derive(Clone, Copy, Debug, PartialEq, Eq)]
+pub enum Position {
+    /// `$`: after the last id that the stream gave.
+    Last,
+    /// After this id.
+    At(Id),
+}
+
+/// When a claimed entry counts as delivered.
+///
+/// Source: Redis documentation, command XCLAIM.
+#[derive(Clone, Copy, Debug, PartialEq, Eq)]
+pub enum TimeAsked {
+    /// Now.
+    Now,
+    /// IDLE: that many milliseconds ago.
+    Idle(u64),
+    /// TIME: at this moment, in milliseconds since 1970.
+    At(u64),
+}
+
+/// Which pending entries XPENDING lists.
+///
+/// Source: Redis documentation, command XPENDING.
+#[derive(Drop)]
+pub struct PendingAsked {
+    /// IDLE: for how many milliseconds they are idle at least.
+    pub least_idle: Option<i64>,
+    pub start: Id,
+    pub end: Id,
+    /// How many at most.
+    pub count: i64,
+    /// Whose they are, if those of one consumer are wanted.
+    pub consumer: Option<Name>,
+}
+
+/// From where streams are read, in the order in which they are named.
+#[derive(Drop)]
+pub struct Positions {
+    list: Vec<Position>,
+}
+
+impl Model for Positions {
+    ghost use Rattle.std.specs.Prelude.{List};
+    ghost use Rattle.sr_args.specs.declared.call.Position as positions;
+
+    ghost Value = { List positions.Position };
+
+    ghost view = { λ p. p.list.items };
+}
+
+impl Positions {
+    /// A list of these. Takes no memory.
+    pub fn new(list: Vec<Position>) -> Positions
+        ensures { result ≡ list.items }
+    {
+        Positions { list }
+    }
+
+    /// The positions.
+    pub fn as_slice(&self) -> &[Position]
+        ensures { result.now ≡ self.now }
+    {
+        self.list.as_slice()
+    }
 }
 
 /// A command that acts on the keys of one server.
@@ -69,6 +142,96 @@ pub enum Call {
         end: Id,
         start: Id,
         count: Option<i64>,
+    },
+    /// XACK: the entries with these ids are no longer pending.
+    Xack {
+        key: Name,
+        group: Name,
+        ids: Ids,
+    },
+    /// XGROUP CREATE: a consumer group for the stream at a key.
+    XgroupCreate {
+        key: Name,
+        group: Name,
+        from: Position,
+        /// Whether a missing key is made: only with MKSTREAM.
+        make: bool,
+    },
+    /// XGROUP SETID: from where a consumer group reads on.
+    XgroupSetId {
+        key: Name,
+        group: Name,
+        from: Position,
+    },
+    /// XGROUP DESTROY: a consumer group goes.
+    XgroupDestroy {
+        key: Name,
+        group: Name,
+    },
+    /// XGROUP CREATECONSUMER: a consumer in a group.
+    XgroupCreateConsumer {
+        key: Name,
+        group: Name,
+        consumer: Name,
+    },
+    /// XGROUP DELCONSUMER: a consumer goes, with what is pending for it.
+    XgroupDelConsumer {
+        key: Name,
+        group: Name,
+        consumer: Name,
+    },
+    /// XINFO STREAM: what is known of the stream at a key.
+    XinfoStream {
+        key: Name,
+    },
+    /// XINFO GROUPS: its consumer groups.
+    XinfoGroups {
+        key: Name,
+    },
+    /// XINFO CONSUMERS: the consumers of a group.
+    XinfoConsumers {
+        key: Name,
+        group: Name,
+    },
+    /// XAUTOCLAIM: pending entries from an id on become the consumer's.
+    Xautoclaim {
+        key: Name,
+        group: Name,
+        consumer: Name,
+        /// For how many milliseconds they are idle at least.
+        least_idle: i64,
+        start: Id,
+        count: Option<i64>,
+        /// Whether their ids are replied, and not the entries.
+        just_ids: bool,
+    },
+    /// XCLAIM: the pending entries with these ids become the consumer's.
+    Xclaim {
+        key: Name,
+        group: Name,
+        consumer: Name,
+        /// For how many milliseconds they are idle at least.
+        least_idle: i64,
+        ids: Ids,
+        time: TimeAsked,
+        /// RETRYCOUNT: how often they count as delivered.
+        count: Option<u64>,
+        /// Whether their ids are replied, and not the entries.
+        just_ids: bool,
+    },
+    /// XREAD: the entries of streams after an id in each.
+    Xread {
+        /// How many entries of each stream are wanted at most.
+        count: Option<i64>,
+        keys: Words,
+        /// From where each is read: as many as keys, in their order.
+        from: Positions,
+    },
+    /// XPENDING: what is pending in a group, in sum or as a list.
+    Xpending {
+        key: Name,
+        group: Name,
+        listing: Option<PendingAsked>,
     },
 }
 

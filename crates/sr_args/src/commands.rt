@@ -3,9 +3,17 @@
 //! A reader judges the form first, then numbers, then ids, and copies at the end: this order is the order of faults,
 //! and no memory is taken before all is judged.
 
+pub(crate) mod named;
 pub(crate) mod ping;
+pub(crate) mod xack;
 pub(crate) mod xadd;
+pub(crate) mod xautoclaim;
+pub(crate) mod xclaim;
 pub(crate) mod xdel;
+pub(crate) mod xgroup;
+pub(crate) mod xinfo;
 pub(crate) mod xlen;
+pub(crate) mod xpending;
 pub(crate) mod xrange;
+pub(crate) mod xread;
 pub(crate) mod xtrim;

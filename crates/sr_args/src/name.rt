@@ -16,6 +16,22 @@ pub(crate) enum OptionName {
     MinId,
     /// How many entries a trim removes at most.
     Limit,
+    /// A missing key is made.
+    MkStream,
+    /// Ids are replied, and not entries.
+    JustId,
+    /// For how long a claimed entry counts as idle.
+    Idle,
+    /// Since when a claimed entry counts as idle.
+    Time,
+    /// How often a claimed entry counts as delivered.
+    RetryCount,
+    /// Entries that are not pending are claimed too: not supported.
+    Force,
+    /// The last id delivered to the group: not supported.
+    LastId,
+    /// Keys follow, and then an id for each. It is an option of no command, and its name has a place of its own.
+    Streams,
 }
 
 /// By what a trim measures.
@@ -55,6 +71,30 @@ pub(crate) fn option_named(word: &[u8]) -> Option<OptionName>
     }
     if word.eq_ignore_ascii_case(b"LIMIT") {
         return Some(OptionName::Limit);
+    }
+    if word.eq_ignore_ascii_case(b"MKSTREAM") {
+        return Some(OptionName::MkStream);
+    }
+    if word.eq_ignore_ascii_case(b"JUSTID") {
+        return Some(OptionName::JustId);
+    }
+    if word.eq_ignore_ascii_case(b"IDLE") {
+        return Some(OptionName::Idle);
+    }
+    if word.eq_ignore_ascii_case(b"TIME") {
+        return Some(OptionName::Time);
+    }
+    if word.eq_ignore_ascii_case(b"RETRYCOUNT") {
+        return Some(OptionName::RetryCount);
+    }
+    if word.eq_ignore_ascii_case(b"FORCE") {
+        return Some(OptionName::Force);
+    }
+    if word.eq_ignore_ascii_case(b"LASTID") {
+        return Some(OptionName::LastId);
+    }
+    if word.eq_ignore_ascii_case(b"STREAMS") {
+        return Some(OptionName::Streams);
     }
     None
 }

@@ -1,7 +1,16 @@
 ghost use Rattle.std.specs.Prelude.{ℕ, ℤ, IfSome, IfNone};
-ghost use Rattle.sr_args.specs.Number.{IsInt, IsNat};
+ghost use Rattle.sr_args.specs.Number.{IsInt, IsNat, IsFromOne, IsCount};
 
 use sr_bytes::read_decimal;
+
+/// Which numbers COUNT takes.
+#[derive(Clone, Copy, Debug, PartialEq, Eq)]
+pub(crate) enum CountRange {
+    /// Any of 64 bits with a sign.
+    Any,
+    /// Those from 1 on.
+    FromOne,
+}
 
 /// The number that a word writes in 1 to 19 digits, after a `-` if it is below 0.
 ///
@@ -22,4 +31,27 @@ pub(crate) fn read_nat(word: &[u8]) -> Option<u64>
     ensures none { IfNone result ((n : ℕ) → IsNat word.now n → ⊥) }
 {
     u64::try_from(read_int(word)?).ok()
+}
+
+/// The number that a word writes, if it is 1 or more.
+fn read_from_one(word: &[u8]) -> Option<i64>
+    ensures found { IfSome result (IsFromOne word.now) }
+    ensures none { IfNone result ((z : ℤ) → IsFromOne word.now z → ⊥) }
+{
+    let number = read_int(word)?;
+    if number < 1 {
+        return None;
+    }
+    Some(number)
+}
+
+/// The number that a word writes for COUNT.
+pub(crate) fn read_count(range: CountRange, word: &[u8]) -> Option<i64>
+    ensures found { IfSome result (IsCount range word.now) }
+    ensures none { IfNone result ((z : ℤ) → IsCount range word.now z → ⊥) }
+{
+    match range {
+        CountRange::Any => read_int(word),
+        CountRange::FromOne => read_from_one(word),
+    }
 }

@@ -1,6 +1,7 @@
 ghost use Rattle.std.specs.Prelude.{◌≡◌, ◌+◌, ◌<◌, ◌≤◌, ◌++◌, ℕ, List, [], ◌∷◌};
 ghost use Rattle.std.specs.Prelude.{length, Option, IfSome, IfNone, Result, Err, true, false};
 ghost use Rattle.std.specs.Option.{option_copied};
+ghost use Rattle.sr_args.specs.declared.name.OptionName as names;
 ghost use Rattle.sr_args.specs.Name.{IsSameName, option_text};
 ghost use Rattle.sr_args.specs.Place.{Word};
 ghost use Rattle.sr_args.specs.Options as written;
@@ -11,8 +12,8 @@ ghost use Rattle.sr_args.specs.steps.Options.{GivesBound, IsTrimBy, IsTrimEnd, I
 ghost use Rattle.sr_args.specs.steps.Options.{signed_places, trim_operands, trim_reading, written_of};
 
 use crate::name::{option_named, sign_named};
-use crate::number::{read_int, read_nat};
-use crate::{CallFault, Measure, OptionName, Sign, Trim, TrimBy};
+use crate::number::{read_count, read_nat};
+use crate::{CallFault, CountRange, Measure, OptionName, Sign, TimeAsked, Trim, TrimBy};
 use sr_bytes::Unread;
 use sr_ids::parse_strict;
 
@@ -23,6 +24,14 @@ pub(crate) enum OptionSet {
     Range,
     /// Those of XADD.
     Xadd,
+    /// That of XGROUP CREATE.
+    XgroupCreate,
+    /// Those of XAUTOCLAIM.
+    Xautoclaim,
+    /// Those of XCLAIM.
+    Xclaim,
+    /// That of XREAD.
+    Xread,
 }
 
 /// What an option is. MAXLEN and MINID are both a trim.
@@ -31,10 +40,15 @@ pub(crate) enum OptionKind {
     Count,
     NoMkStream,
     Trim,
+    MkStream,
+    JustId,
+    Idle,
+    Time,
+    RetryCount,
 }
 
 /// How many kinds of options there are.
-const KINDS: usize = 3;
+const KINDS: usize = 8;
 
 /// The words of a trim, in the places of its form.
 #[derive(Clone, Copy)]
@@ -48,18 +62,31 @@ pub(crate) struct TrimWords<'a> {
 /// The words of an option, in the places of its form.
 #[derive(Clone, Copy)]
 pub(crate) enum OptionWords<'a> {
-    Count(&'a [u8]),
+    Count(CountRange, &'a [u8]),
     NoMkStream,
+    MkStream,
+    JustId,
+    Idle(&'a [u8]),
+    Time(&'a [u8]),
+    RetryCount(&'a [u8]),
     Trim(TrimWords<'a>),
 }
 
 /// What options ask for.
 #[derive(Clone, Copy)]
 pub(crate) struct Choice {
-    /// Whether a missing key is made.
-    pub(crate) make: bool,
+    /// Whether XADD makes a missing key.
+    pub(crate) add_makes: bool,
+    /// Whether XGROUP CREATE makes a missing key.
+    pub(crate) create_makes: bool,
     pub(crate) trim: Option<Trim>,
     pub(crate) count: Option<i64>,
+    /// Whether ids are replied, and not entries.
+    pub(crate) just_ids: bool,
+    /// When a claimed entry counts as delivered.
+    pub(crate) time: TimeAsked,
+    /// How often a claimed entry counts as delivered.
+    pub(crate) delivered: Option<u64>,
 }
 
 /// What is wrong with the words of options that fit their form.
@@ -97,7 +124,7 @@ pub(crate) fn read_options(
     let mut seen = [false; KINDS];
     let mut judged = Ok(nothing());
     while let Some(name) = next_name(set, words) {
-        let option = operand_words(name, words)?;
+        let option = operand_words(set, name, words)?;
         let kind = index_of_kind(kind_of(option));
         if seen[kind] {
             return None;
@@ -133,30 +160,70 @@ fn has_option(set: OptionSet, name: OptionName) -> bool
     match set {
         OptionSet::Range => match name {
             OptionName::Count => true,
-            OptionName::NoMkStream | OptionName::MaxLen | OptionName::MinId | OptionName::Limit =>
-                false,
+            _ => false,
         },
         OptionSet::Xadd => match name {
             OptionName::NoMkStream | OptionName::MaxLen | OptionName::MinId | OptionName::Limit =>
                 true,
-            OptionName::Count => false,
+            _ => false,
+        },
+        OptionSet::Xread => match name {
+            OptionName::Count => true,
+            _ => false,
+        },
+        OptionSet::XgroupCreate => match name {
+            OptionName::MkStream => true,
+            _ => false,
+        },
+        OptionSet::Xautoclaim => match name {
+            OptionName::Count | OptionName::JustId => true,
+            _ => false,
+        },
+        OptionSet::Xclaim => match name {
+            OptionName::Idle | OptionName::Time | OptionName::RetryCount | OptionName::JustId => {
+                true
+            }
+            _ => false,
         },
     }
 }
 
-/// The words that follow the name of an option.
-fn operand_words<'a>(name: OptionName, words: &mut Unread<'a>) -> Option<OptionWords<'a>>
+/// Which numbers COUNT takes in the set.
+fn count_range(set: OptionSet) -> CountRange
+    ensures { result ≡ written.count_range set }
+{
+    match set {
+        OptionSet::Range
+        | OptionSet::Xadd
+        | OptionSet::XgroupCreate
+        | OptionSet::Xclaim
+        | OptionSet::Xread => CountRange::Any,
+        OptionSet::Xautoclaim => CountRange::FromOne,
+    }
+}
+
+/// The words that follow the name of an option of the set.
+fn operand_words<'a>(
+    set: OptionSet,
+    name: OptionName,
+    words: &mut Unread<'a>,
+) -> Option<OptionWords<'a>>
     ensures found { IfSome result (λ read.
-        Begins operand_places (IsOptionNamed name) IsOptionEnd words.old (written_of read) words.new) }
-    ensures none { IfNone result (BeginsNone operand_places (IsOptionNamed name) IsOptionEnd words.old) }
+        Begins operand_places (IsOptionNamed set name) IsOptionEnd words.old (written_of read) words.new) }
+    ensures none { IfNone result (BeginsNone operand_places (IsOptionNamed set name) IsOptionEnd words.old) }
     ensures shorter { IfSome result (λ _. length words.new ≤ length words.old) }
 {
     match name {
-        OptionName::Count => Some(OptionWords::Count(words.next()?)),
+        OptionName::Count => Some(OptionWords::Count(count_range(set), words.next()?)),
         OptionName::NoMkStream => Some(OptionWords::NoMkStream),
+        OptionName::MkStream => Some(OptionWords::MkStream),
+        OptionName::JustId => Some(OptionWords::JustId),
+        OptionName::Idle => Some(OptionWords::Idle(words.next()?)),
+        OptionName::Time => Some(OptionWords::Time(words.next()?)),
+        OptionName::RetryCount => Some(OptionWords::RetryCount(words.next()?)),
         OptionName::MaxLen => Some(OptionWords::Trim(trim_words(Measure::MaxLen, words)?)),
         OptionName::MinId => Some(OptionWords::Trim(trim_words(Measure::MinId, words)?)),
-        OptionName::Limit => None,
+        OptionName::Limit | OptionName::Force | OptionName::LastId | OptionName::Streams => None,
     }
 }
 
@@ -212,8 +279,20 @@ fn limit_word<'a>(sign: Option<Sign>, words: &mut Unread<'a>) -> Option<Option<&
     Some(Some(words.next()?))
 }
 
+/// Whether the word names an option of the set.
+pub(crate) fn names_option(set: OptionSet, word: &[u8]) -> bool
+    ensures yes { result ≡ true → (name : names.OptionName) × (is_of set name ≡ true) ×
+        IsSameName word.now (option_text name) }
+    ensures no { result ≡ false → IsUnnamed set word.now }
+{
+    match option_named(word) {
+        None => false,
+        Some(name) => has_option(set, name),
+    }
+}
+
 /// Whether the word names the option.
-fn is_named(word: &[u8], name: OptionName) -> bool
+pub(crate) fn is_named(word: &[u8], name: OptionName) -> bool
     ensures yes { result ≡ true → IsSameName word.now (option_text name) }
     ensures no { result ≡ false → IsSameName word.now (option_text name) → ⊥ }
 {
@@ -228,8 +307,13 @@ fn kind_of(option: OptionWords<'_>) -> OptionKind
     ensures { result ≡ written.kind (written_of option.entry) }
 {
     match option {
-        OptionWords::Count(_) => OptionKind::Count,
+        OptionWords::Count(_, _) => OptionKind::Count,
         OptionWords::NoMkStream => OptionKind::NoMkStream,
+        OptionWords::MkStream => OptionKind::MkStream,
+        OptionWords::JustId => OptionKind::JustId,
+        OptionWords::Idle(_) => OptionKind::Idle,
+        OptionWords::Time(_) => OptionKind::Time,
+        OptionWords::RetryCount(_) => OptionKind::RetryCount,
         OptionWords::Trim(_) => OptionKind::Trim,
     }
 }
@@ -243,6 +327,11 @@ fn index_of_kind(kind: OptionKind) -> usize
         OptionKind::Count => 0,
         OptionKind::NoMkStream => 1,
         OptionKind::Trim => 2,
+        OptionKind::MkStream => 3,
+        OptionKind::JustId => 4,
+        OptionKind::Idle => 5,
+        OptionKind::Time => 6,
+        OptionKind::RetryCount => 7,
     }
 }
 
@@ -251,9 +340,13 @@ fn nothing() -> Choice
     ensures { chosen_of result ≡ written.nothing }
 {
     Choice {
-        make: true,
+        add_makes: true,
+        create_makes: false,
         trim: None,
         count: None,
+        just_ids: false,
+        time: TimeAsked::Now,
+        delivered: None,
     }
 }
 
@@ -290,17 +383,46 @@ fn judge(choice: Choice, option: OptionWords<'_>) -> Result<Choice, ValueFault>
     ensures { IsJudged (written_of option.entry) (chosen_of choice) result }
 {
     match option {
-        OptionWords::Count(most) => {
-            let count = read_int(most).ok_or(ValueFault::Number)?;
+        OptionWords::Count(range, most) => {
+            let count = read_count(range, most).ok_or(ValueFault::Number)?;
             Ok(Choice {
                 count: Some(count),
                 ..choice
             })
         }
         OptionWords::NoMkStream => Ok(Choice {
-            make: false,
+            add_makes: false,
             ..choice
         }),
+        OptionWords::MkStream => Ok(Choice {
+            create_makes: true,
+            ..choice
+        }),
+        OptionWords::JustId => Ok(Choice {
+            just_ids: true,
+            ..choice
+        }),
+        OptionWords::Idle(word) => {
+            let time = read_nat(word).ok_or(ValueFault::Number)?;
+            Ok(Choice {
+                time: TimeAsked::Idle(time),
+                ..choice
+            })
+        }
+        OptionWords::Time(word) => {
+            let time = read_nat(word).ok_or(ValueFault::Number)?;
+            Ok(Choice {
+                time: TimeAsked::At(time),
+                ..choice
+            })
+        }
+        OptionWords::RetryCount(word) => {
+            let delivered = read_nat(word).ok_or(ValueFault::Number)?;
+            Ok(Choice {
+                delivered: Some(delivered),
+                ..choice
+            })
+        }
         OptionWords::Trim(words) => {
             let trim = read_trim(words)?;
             Ok(Choice {

@@ -5,10 +5,20 @@ ghost use Rattle.sr_args.specs.Command.{IsCommand, Refuses, Answers, form_of, ca
 ghost use Rattle.sr_args.specs.steps.Gives.{Gives};
 
 use crate::commands::ping::read_ping;
+use crate::commands::xack::read_xack;
 use crate::commands::xadd::read_xadd;
+use crate::commands::xautoclaim::read_xautoclaim;
+use crate::commands::xclaim::read_xclaim;
 use crate::commands::xdel::read_xdel;
+use crate::commands::xgroup::{
+    read_xgroup_create, read_xgroup_create_consumer, read_xgroup_del_consumer, read_xgroup_destroy,
+    read_xgroup_set_id,
+};
+use crate::commands::xinfo::{read_xinfo_consumers, read_xinfo_groups, read_xinfo_stream};
 use crate::commands::xlen::read_xlen;
+use crate::commands::xpending::read_xpending;
 use crate::commands::xrange::{read_xrange, read_xrevrange};
+use crate::commands::xread::read_xread;
 use crate::commands::xtrim::read_xtrim;
 use crate::table::{Found, find_command, is_counted};
 use crate::{Call, CallFault, Command, CommandName};
@@ -57,6 +67,19 @@ fn read_operands(
         CommandName::Xlen => read_xlen(alloc, operands),
         CommandName::Xrange => read_xrange(alloc, operands),
         CommandName::Xrevrange => read_xrevrange(alloc, operands),
+        CommandName::Xack => read_xack(alloc, operands),
+        CommandName::XgroupCreate => read_xgroup_create(alloc, operands),
+        CommandName::XgroupSetId => read_xgroup_set_id(alloc, operands),
+        CommandName::XgroupDestroy => read_xgroup_destroy(alloc, operands),
+        CommandName::XgroupCreateConsumer => read_xgroup_create_consumer(alloc, operands),
+        CommandName::XgroupDelConsumer => read_xgroup_del_consumer(alloc, operands),
+        CommandName::XinfoStream => read_xinfo_stream(alloc, operands),
+        CommandName::XinfoGroups => read_xinfo_groups(alloc, operands),
+        CommandName::XinfoConsumers => read_xinfo_consumers(alloc, operands),
+        CommandName::Xautoclaim => read_xautoclaim(alloc, operands),
+        CommandName::Xclaim => read_xclaim(alloc, operands),
+        CommandName::Xpending => read_xpending(alloc, operands),
+        CommandName::Xread => read_xread(alloc, operands),
     }
 }
 

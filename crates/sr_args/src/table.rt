@@ -17,10 +17,23 @@ pub(crate) enum CommandName {
     Xlen,
     Xrange,
     Xrevrange,
+    Xack,
+    XgroupCreate,
+    XgroupSetId,
+    XgroupDestroy,
+    XgroupCreateConsumer,
+    XgroupDelConsumer,
+    XinfoStream,
+    XinfoGroups,
+    XinfoConsumers,
+    Xautoclaim,
+    Xclaim,
+    Xpending,
+    Xread,
 }
 
 /// The commands in the order in which a request's words are looked up.
-const COMMANDS: [CommandName; 7] = [
+const COMMANDS: [CommandName; 20] = [
     CommandName::Ping,
     CommandName::Xadd,
     CommandName::Xtrim,
@@ -28,24 +41,37 @@ const COMMANDS: [CommandName; 7] = [
     CommandName::Xlen,
     CommandName::Xrange,
     CommandName::Xrevrange,
+    CommandName::Xack,
+    CommandName::XgroupCreate,
+    CommandName::XgroupSetId,
+    CommandName::XgroupDestroy,
+    CommandName::XgroupCreateConsumer,
+    CommandName::XgroupDelConsumer,
+    CommandName::XinfoStream,
+    CommandName::XinfoGroups,
+    CommandName::XinfoConsumers,
+    CommandName::Xautoclaim,
+    CommandName::Xclaim,
+    CommandName::Xpending,
+    CommandName::Xread,
 ];
 
 /// What the table says of a command.
 #[derive(Clone, Copy)]
-pub(crate) struct Row {
+struct Row {
     /// The first word of its name.
-    pub(crate) first: &'static [u8],
+    first: &'static [u8],
     /// The second word of a name of two.
-    pub(crate) second: Option<&'static [u8]>,
+    second: Option<&'static [u8]>,
     /// The fewest words that it takes, its name counted.
-    pub(crate) fewest: usize,
+    fewest: usize,
     /// The most words that it takes, if there is a bound.
-    pub(crate) most: Option<usize>,
+    most: Option<usize>,
 }
 
 /// How words meet a name.
 #[derive(Drop)]
-pub(crate) enum NameMatch<'a> {
+enum NameMatch<'a> {
     /// They begin with it, and these words follow.
     Named(Unread<'a>),
     /// They are its first word alone, and it has two.
@@ -77,6 +103,24 @@ fn row_of(command: CommandName) -> Row
         CommandName::Xlen => table_row(b"XLEN", None, 2, Some(2)),
         CommandName::Xrange => table_row(b"XRANGE", None, 4, Some(6)),
         CommandName::Xrevrange => table_row(b"XREVRANGE", None, 4, Some(6)),
+        CommandName::Xack => table_row(b"XACK", None, 4, None),
+        CommandName::XgroupCreate => table_row(b"XGROUP", Some(b"CREATE"), 5, Some(6)),
+        CommandName::XgroupSetId => table_row(b"XGROUP", Some(b"SETID"), 5, Some(5)),
+        CommandName::XgroupDestroy => table_row(b"XGROUP", Some(b"DESTROY"), 4, Some(4)),
+        CommandName::XgroupCreateConsumer => table_row(
+            b"XGROUP",
+            Some(b"CREATECONSUMER"),
+            5,
+            Some(5),
+        ),
+        CommandName::XgroupDelConsumer => table_row(b"XGROUP", Some(b"DELCONSUMER"), 5, Some(5)),
+        CommandName::XinfoStream => table_row(b"XINFO", Some(b"STREAM"), 3, Some(3)),
+        CommandName::XinfoGroups => table_row(b"XINFO", Some(b"GROUPS"), 3, Some(3)),
+        CommandName::XinfoConsumers => table_row(b"XINFO", Some(b"CONSUMERS"), 4, Some(4)),
+        CommandName::Xautoclaim => table_row(b"XAUTOCLAIM", None, 6, Some(9)),
+        CommandName::Xclaim => table_row(b"XCLAIM", None, 6, None),
+        CommandName::Xpending => table_row(b"XPENDING", None, 3, Some(9)),
+        CommandName::Xread => table_row(b"XREAD", None, 4, None),
     }
 }
 
@@ -100,7 +144,7 @@ fn table_row(
 }
 
 /// How words meet the name of a row.
-pub(crate) fn name_match<'a>(row: &Row, mut words: Unread<'a>) -> NameMatch<'a>
+fn name_match<'a>(row: &Row, mut words: Unread<'a>) -> NameMatch<'a>
     ensures { IsMatch (shown row.now).name words.entry result }
 {
     let Some(word) = words.next() else {

@@ -1,6 +1,5 @@
 use crate::number::read_int;
-use crate::table::{NameMatch, Row, name_match};
-use crate::{Call, CallFault, Command, Trim, TrimBy, read_call};
+use crate::{Call, CallFault, Command, Position, TimeAsked, Trim, TrimBy, read_call};
 use sr_bytes::{Fields, Name, Words};
 use sr_ids::{Id, Spec};
 use std::alloc::{AllocError, Global};
@@ -45,74 +44,189 @@ fn is_pair(found: Option<(&[u8], &[u8])>, field: &[u8], value: &[u8]) -> bool {
     }
 }
 
-// A refusal takes no memory, so it stays the same when memory runs out: a failed allocation fails this test only while
-// the words are made.
+/// Fails the test unless a line is refused with this fault.
+///
+/// A refusal takes no memory, so it stays the same when memory runs out: a failed allocation fails the test only while
+/// the words are made.
+fn refuses(rt: &(impl AllocGlobal + Abort), line: &str, want: CallFault) -> Result<(), AllocError> {
+    let words = words_of(rt.alloc(), line)?;
+    assert!(rt; words.len() > 0);
+    match read_call(rt.alloc(), &words) {
+        Ok(_) => assert!(rt; false, "{line}"),
+        Err(fault) => assert_eq!(rt; fault, want, "{line}"),
+    }
+    Ok(())
+}
+
 #[test]
-fn first_fault_is_answered(rt: HostRuntime) -> Result<(), Fail> {
-    for (line, want) in [
-        ("FOO", CallFault::Unknown),
-        ("FOO a b c d e f", CallFault::Unknown),
-        ("XLENS s", CallFault::Unknown),
-        ("PING a b", CallFault::Arity),
-        ("XADD s x a", CallFault::Arity),
-        ("XLEN", CallFault::Arity),
-        ("XTRIM s MAXLEN", CallFault::Arity),
-        ("XTRIM s MAXLEN ~ 1 LIMIT 2 3", CallFault::Arity),
-        ("XDEL s", CallFault::Arity),
-        ("XRANGE s ! + COUNT 5 x", CallFault::Arity),
-        ("XREVRANGE s +", CallFault::Arity),
-        ("XADD s 1-1 a b c", CallFault::Syntax),
-        ("XADD s x a b c", CallFault::Syntax),
-        ("XADD s NOMKSTREAM a b", CallFault::Syntax),
-        ("XADD s NOMKSTREAM NOMKSTREAM 1-1 a b", CallFault::Syntax),
-        ("XADD s MAXLEN 1 MINID 1 1-1 a b", CallFault::Syntax),
-        ("XADD s MAXLEN 5 LIMIT 3 x", CallFault::Syntax),
-        ("XADD s MAXLEN = 5 LIMIT 3 1-1 a b", CallFault::Syntax),
-        (
-            "XADD s MAXLEN ~ 5 NOMKSTREAM LIMIT 1 1-1 a b",
-            CallFault::Syntax,
-        ),
-        ("XADD s LIMIT 3 1-1 a b", CallFault::Syntax),
-        ("XADD s limit a b", CallFault::Syntax),
-        ("XTRIM s FOO 1", CallFault::Syntax),
-        ("XTRIM s MAXLEN 1 x", CallFault::Syntax),
-        ("XTRIM s MAXLEN = = 5", CallFault::Syntax),
-        ("XTRIM s MAXLEN 1 LIMIT 2", CallFault::Syntax),
-        ("XTRIM s MAXLEN ~ 1 NOMKSTREAM", CallFault::Syntax),
-        ("XTRIM s MINID x LIMIT", CallFault::Syntax),
-        ("XRANGE s - + COUNT", CallFault::Syntax),
-        ("XRANGE s - + LIMIT 5", CallFault::Syntax),
-        ("XRANGE s ! + COUNT x", CallFault::Number),
-        ("XRANGE s - + COUNT 9223372036854775808", CallFault::Number),
-        ("XRANGE s - + COUNT +1", CallFault::Number),
-        ("XRANGE s - + COUNT ", CallFault::Number),
-        ("XTRIM s MAXLEN x", CallFault::Number),
-        ("XTRIM s MAXLEN -1", CallFault::Number),
-        ("XTRIM s MINID ~ x LIMIT y", CallFault::Number),
-        ("XADD s MAXLEN = = 1-1 a b", CallFault::Number),
-        ("XADD s MAXLEN NOMKSTREAM 1-1 a b", CallFault::Number),
-        ("XADD s MAXLEN x y a b", CallFault::Number),
-        ("XADD s x a b", CallFault::BadId),
-        ("XADD s + a b", CallFault::BadId),
-        ("XADD s $ a b", CallFault::BadId),
-        ("XADD s COUNT a b", CallFault::BadId),
-        ("XADD s BLOCK a b", CallFault::BadId),
-        ("XADD s GROUP a b", CallFault::BadId),
-        ("XTRIM s MINID x", CallFault::BadId),
-        ("XTRIM s MINID -", CallFault::BadId),
-        ("XTRIM s MINID (5", CallFault::BadId),
-        ("XDEL s 1-1 x", CallFault::BadId),
-        ("XDEL s -", CallFault::BadId),
-        ("XRANGE s (- +", CallFault::BadId),
-        ("XRANGE s - !", CallFault::BadId),
-        ("XREVRANGE s (- +", CallFault::BadId),
+fn other_names_are_unknown(rt: HostRuntime) -> Result<(), Fail> {
+    for line in [
+        "FOO",
+        "FOO a b c d e f",
+        "XLENS s",
+        "XGROUP FOO s g",
+        "XGROUPS CREATE s g $",
+        "CREATE XGROUP s g $",
+        "XINFO CONSUMER s g",
     ] {
-        let words = words_of(rt.alloc(), line)?;
-        assert!(rt; words.len() > 0);
-        match read_call(rt.alloc(), &words) {
-            Ok(_) => assert!(rt; false, "{line}"),
-            Err(fault) => assert_eq!(rt; fault, want, "{line}"),
-        }
+        refuses(&rt, line, CallFault::Unknown)?;
+    }
+    Ok(())
+}
+
+#[test]
+fn other_numbers_of_words_are_refused(rt: HostRuntime) -> Result<(), Fail> {
+    for line in [
+        "PING a b",
+        "XADD s x a",
+        "XLEN",
+        "XTRIM s MAXLEN",
+        "XTRIM s MAXLEN ~ 1 LIMIT 2 3",
+        "XDEL s",
+        "XRANGE s ! + COUNT 5 x",
+        "XREVRANGE s +",
+        "xgroup",
+        "XINFO",
+        "XACK s g",
+        "XGROUP CREATE s g",
+        "XGROUP CREATE s g x MKSTREAM x",
+        "XGROUP SETID s g",
+        "XGROUP SETID s g $ MKSTREAM",
+        "XGROUP DESTROY s g c",
+        "XGROUP CREATECONSUMER s g",
+        "XGROUP DELCONSUMER s g c d",
+        "XINFO STREAM s FULL",
+        "XINFO GROUPS",
+        "XINFO CONSUMERS s",
+        "XAUTOCLAIM s g c 0",
+        "XAUTOCLAIM s g c 0 0 COUNT 1 JUSTID x",
+        "XCLAIM s g c 0",
+        "XPENDING s",
+        "XPENDING s g IDLE 5 - + 10 c d",
+        "XREAD STREAMS s",
+    ] {
+        refuses(&rt, line, CallFault::Arity)?;
+    }
+    Ok(())
+}
+
+#[test]
+fn other_forms_on_streams_are_refused(rt: HostRuntime) -> Result<(), Fail> {
+    for line in [
+        "XADD s 1-1 a b c",
+        "XADD s x a b c",
+        "XADD s NOMKSTREAM a b",
+        "XADD s NOMKSTREAM NOMKSTREAM 1-1 a b",
+        "XADD s MAXLEN 1 MINID 1 1-1 a b",
+        "XADD s MAXLEN 5 LIMIT 3 x",
+        "XADD s MAXLEN = 5 LIMIT 3 1-1 a b",
+        "XADD s MAXLEN ~ 5 NOMKSTREAM LIMIT 1 1-1 a b",
+        "XADD s LIMIT 3 1-1 a b",
+        "XADD s limit a b",
+        "XTRIM s FOO 1",
+        "XTRIM s MAXLEN 1 x",
+        "XTRIM s MAXLEN = = 5",
+        "XTRIM s MAXLEN 1 LIMIT 2",
+        "XTRIM s MAXLEN ~ 1 NOMKSTREAM",
+        "XTRIM s MINID x LIMIT",
+        "XRANGE s - + COUNT",
+        "XRANGE s - + LIMIT 5",
+    ] {
+        refuses(&rt, line, CallFault::Syntax)?;
+    }
+    Ok(())
+}
+
+#[test]
+fn other_forms_on_groups_are_refused(rt: HostRuntime) -> Result<(), Fail> {
+    for line in [
+        "XGROUP CREATE s g x NOMKSTREAM",
+        "XGROUP CREATE s g MKSTREAM $",
+        "XAUTOCLAIM s g c x 0 COUNT",
+        "XAUTOCLAIM s g c 0 0 IDLE 5",
+        "XCLAIM s g c 0 JUSTID",
+        "XCLAIM s g c 0 1-1 FORCE",
+        "XCLAIM s g c 0 1-1 IDLE force",
+        "XCLAIM s g c 0 LastId 1-1",
+        "XCLAIM s g c 0 1-1 IDLE 5 2-2",
+        "XCLAIM s g c 0 1-1 IDLE 5 TIME 6 IDLE 7",
+        "XCLAIM s g c 0 1-1 TIME",
+        "XPENDING s g -",
+        "XPENDING s g IDLE 5 -",
+        "XPENDING s g IDLE 5 - +",
+        "XPENDING s g - + 10 c d",
+        "XREAD STREAMS s t 0",
+        "XREAD STREAMS s t s 0 0 0",
+        "XREAD COUNT 5 STREAMS",
+        "XREAD COUNT 1 COUNT 2 STREAMS s 0",
+        "XREAD s 0 STREAMS",
+        "XREAD BLOCK 0 STREAMS s 0",
+    ] {
+        refuses(&rt, line, CallFault::Syntax)?;
+    }
+    Ok(())
+}
+
+#[test]
+fn number_is_refused_before_id(rt: HostRuntime) -> Result<(), Fail> {
+    for line in [
+        "XRANGE s ! + COUNT x",
+        "XRANGE s - + COUNT 9223372036854775808",
+        "XRANGE s - + COUNT +1",
+        "XRANGE s - + COUNT ",
+        "XTRIM s MAXLEN x",
+        "XTRIM s MAXLEN -1",
+        "XTRIM s MINID ~ x LIMIT y",
+        "XADD s MAXLEN = = 1-1 a b",
+        "XADD s MAXLEN NOMKSTREAM 1-1 a b",
+        "XADD s MAXLEN x y a b",
+        "XAUTOCLAIM s g c x ! COUNT 1",
+        "XAUTOCLAIM s g c 0 ! COUNT 0",
+        "XAUTOCLAIM s g c 0 0 COUNT -1",
+        "XCLAIM s g c x y",
+        "XCLAIM s g c 0 x IDLE -1",
+        "XCLAIM s g c 0 x RETRYCOUNT JUSTID",
+        "XPENDING s g ! + x",
+        "XPENDING s g IDLE x ! + 1",
+        "XREAD COUNT STREAMS STREAMS s !",
+    ] {
+        refuses(&rt, line, CallFault::Number)?;
+    }
+    Ok(())
+}
+
+#[test]
+fn other_ids_are_refused(rt: HostRuntime) -> Result<(), Fail> {
+    for line in [
+        "XADD s x a b",
+        "XADD s + a b",
+        "XADD s $ a b",
+        "XADD s COUNT a b",
+        "XADD s BLOCK a b",
+        "XADD s GROUP a b",
+        "XTRIM s MINID x",
+        "XTRIM s MINID -",
+        "XTRIM s MINID (5",
+        "XDEL s 1-1 x",
+        "XDEL s -",
+        "XRANGE s (- +",
+        "XRANGE s - !",
+        "XREVRANGE s (- +",
+        "XACK s g 1-1 x",
+        "XACK s g $",
+        "XGROUP CREATE s g MKSTREAM",
+        "XGROUP CREATE s g $$ MKSTREAM",
+        "XGROUP SETID s g -",
+        "XGROUP SETID s g >",
+        "XAUTOCLAIM s g c 0 (-",
+        "XCLAIM s g c 0 1-1 x",
+        "XCLAIM FORCE g c 0 COUNT",
+        "XPENDING s g ! + 1",
+        "XPENDING s g - (- 1",
+        "XREAD STREAMS s t 0 >",
+        "XREAD STREAMS s t $ -",
+    ] {
+        refuses(&rt, line, CallFault::BadId)?;
     }
     Ok(())
 }
@@ -286,30 +400,285 @@ fn removals_are_read(rt: HostRuntime) -> Result<(), Fail> {
     Ok(())
 }
 
-// No command of today's table has a name of two words.
 #[test]
-fn names_of_two_words_are_read(rt: HostRuntime) -> Result<(), Fail> {
-    let row = Row {
-        first: b"XGROUP",
-        second: Some(b"CREATE"),
-        fewest: 5,
-        most: Some(6),
-    };
-    for (line, want) in [("XGROUP CREATE s g", Some(2)), ("xgroup Create", Some(0))] {
-        let words = words_of(rt.alloc(), line)?;
-        match name_match(&row, words.unread()) {
-            NameMatch::Named(operands) => assert_eq!(rt; Some(operands.len()), want, "{line}"),
-            NameMatch::Cut | NameMatch::Other => assert!(rt; false, "{line}"),
+fn acknowledged_ids_are_read(rt: HostRuntime) -> Result<(), Fail> {
+    match &call(&rt, "XACK s g 1-1 5 1-1")? {
+        Call::Xack { key, group, ids } => {
+            let first = Id { ms: 1, seq: 1 };
+            assert!(rt; is_text(key, b"s"));
+            assert!(rt; is_text(group, b"g"));
+            assert!(rt; ids.as_slice() == [first, Id { ms: 5, seq: 0 }, first].as_slice());
+        }
+        _ => assert!(rt; false),
+    }
+    Ok(())
+}
+
+#[test]
+fn place_of_a_group_is_read(rt: HostRuntime) -> Result<(), Fail> {
+    let written = Position::At(Id { ms: 5, seq: 0 });
+    for (line, want_from, want_make) in [
+        ("XGROUP CREATE s g $", Position::Last, false),
+        ("xgroup create s g $ mkstream", Position::Last, true),
+        ("XGROUP CREATE s g 5 MkStream", written, true),
+    ] {
+        match &call(&rt, line)? {
+            Call::XgroupCreate {
+                key,
+                group,
+                from,
+                make,
+            } => {
+                assert!(rt; is_text(key, b"s"), "{line}");
+                assert!(rt; is_text(group, b"g"), "{line}");
+                assert_eq!(rt; *from, want_from, "{line}");
+                assert_eq!(rt; *make, want_make, "{line}");
+            }
+            _ => assert!(rt; false, "{line}"),
         }
     }
-    let words = words_of(rt.alloc(), "xGROUP")?;
-    assert!(rt; matches!(name_match(&row, words.unread()), NameMatch::Cut));
-    for line in ["XGROUP FOO", "XGROUPS CREATE", "CREATE XGROUP", "XLEN s"] {
-        let words = words_of(rt.alloc(), line)?;
-        assert!(rt;
-            matches!(name_match(&row, words.unread()), NameMatch::Other),
-            "{line}"
-        );
+    for (line, want) in [
+        ("XGROUP SETID s g $", Position::Last),
+        ("XGROUP SETID s g 5-0", written),
+    ] {
+        match &call(&rt, line)? {
+            Call::XgroupSetId { key, group, from } => {
+                assert!(rt; is_text(key, b"s"), "{line}");
+                assert!(rt; is_text(group, b"g"), "{line}");
+                assert_eq!(rt; *from, want, "{line}");
+            }
+            _ => assert!(rt; false, "{line}"),
+        }
+    }
+    Ok(())
+}
+
+/// Which of the commands that only name things a call is, with the names.
+fn named(call: &Call) -> Option<(&'static str, &Name, &Name, &Name)> {
+    match call {
+        Call::XgroupDestroy { key, group } => Some(("destroy", key, group, group)),
+        Call::XgroupCreateConsumer {
+            key,
+            group,
+            consumer,
+        } => Some(("create", key, group, consumer)),
+        Call::XgroupDelConsumer {
+            key,
+            group,
+            consumer,
+        } => Some(("delete", key, group, consumer)),
+        Call::XinfoStream { key } => Some(("stream", key, key, key)),
+        Call::XinfoGroups { key } => Some(("groups", key, key, key)),
+        Call::XinfoConsumers { key, group } => Some(("consumers", key, group, group)),
+        _ => None,
+    }
+}
+
+#[test]
+fn names_are_read_in_order(rt: HostRuntime) -> Result<(), Fail> {
+    for (line, want, second, third) in [
+        ("XGROUP DESTROY s g", "destroy", "g", "g"),
+        ("XGROUP CREATECONSUMER s g c", "create", "g", "c"),
+        ("xGroup delConsumer s g c", "delete", "g", "c"),
+        ("XINFO STREAM s", "stream", "s", "s"),
+        ("XINFO GROUPS s", "groups", "s", "s"),
+        ("XINFO CONSUMERS s g", "consumers", "g", "g"),
+    ] {
+        let call = call(&rt, line)?;
+        match named(&call) {
+            Some((found, key, group, consumer)) => {
+                assert!(rt; found == want, "{line}");
+                assert!(rt; is_text(key, b"s"), "{line}");
+                assert!(rt; is_text(group, second.as_bytes()), "{line}");
+                assert!(rt; is_text(consumer, third.as_bytes()), "{line}");
+            }
+            None => assert!(rt; false, "{line}"),
+        }
+    }
+    Ok(())
+}
+
+#[test]
+fn automatic_claims_are_read(rt: HostRuntime) -> Result<(), Fail> {
+    for (line, want_idle, want_start, want_count, want_ids) in [
+        (
+            "XAUTOCLAIM s g c 3600000 0-0",
+            3_600_000,
+            (0, 0),
+            None,
+            false,
+        ),
+        (
+            "xautoclaim s g c -1 (5 justid Count 25",
+            -1,
+            (5, 1),
+            Some(25),
+            true,
+        ),
+    ] {
+        match &call(&rt, line)? {
+            Call::Xautoclaim {
+                key,
+                group,
+                consumer,
+                least_idle,
+                start,
+                count,
+                just_ids,
+            } => {
+                assert!(rt; is_text(key, b"s"), "{line}");
+                assert!(rt; is_text(group, b"g"), "{line}");
+                assert!(rt; is_text(consumer, b"c"), "{line}");
+                assert_eq!(rt; *least_idle, want_idle, "{line}");
+                assert_eq!(rt; (start.ms, start.seq), want_start, "{line}");
+                assert_eq!(rt; *count, want_count, "{line}");
+                assert_eq!(rt; *just_ids, want_ids, "{line}");
+            }
+            _ => assert!(rt; false, "{line}"),
+        }
+    }
+    Ok(())
+}
+
+#[test]
+fn claims_are_read(rt: HostRuntime) -> Result<(), Fail> {
+    for (line, want_time, want_count, want_ids) in [
+        ("XCLAIM s g c 9 1-1 5", TimeAsked::Now, None, false),
+        (
+            "xclaim s g c 9 1-1 5 idle 7 retrycount 3 time 8 justid",
+            TimeAsked::At(8),
+            Some(3),
+            true,
+        ),
+        (
+            "XCLAIM s g c 9 1-1 5 TIME 8 IDLE 7",
+            TimeAsked::Idle(7),
+            None,
+            false,
+        ),
+    ] {
+        match &call(&rt, line)? {
+            Call::Xclaim {
+                key,
+                group,
+                consumer,
+                least_idle,
+                ids,
+                time,
+                count,
+                just_ids,
+            } => {
+                let wanted = [Id { ms: 1, seq: 1 }, Id { ms: 5, seq: 0 }];
+                assert!(rt; is_text(key, b"s"), "{line}");
+                assert!(rt; is_text(group, b"g"), "{line}");
+                assert!(rt; is_text(consumer, b"c"), "{line}");
+                assert_eq!(rt; *least_idle, 9, "{line}");
+                assert!(rt; ids.as_slice() == wanted.as_slice(), "{line}");
+                assert_eq!(rt; *time, want_time, "{line}");
+                assert_eq!(rt; *count, want_count, "{line}");
+                assert_eq!(rt; *just_ids, want_ids, "{line}");
+            }
+            _ => assert!(rt; false, "{line}"),
+        }
+    }
+    Ok(())
+}
+
+/// The listing that XPENDING asks for: least idle time, start, end, count, and whether it is of the consumer `c`.
+fn listing(call: &Call) -> Option<(Option<i64>, (u64, u64), (u64, u64), i64, bool)> {
+    let Call::Xpending {
+        key,
+        group,
+        listing: Some(listing),
+    } = call
+    else {
+        return None;
+    };
+    if !is_text(key, b"s") || !is_text(group, b"g") {
+        return None;
+    }
+    let of_consumer = match &listing.consumer {
+        None => false,
+        Some(consumer) => is_text(consumer, b"c"),
+    };
+    let start = (listing.start.ms, listing.start.seq);
+    let end = (listing.end.ms, listing.end.seq);
+    Some((listing.least_idle, start, end, listing.count, of_consumer))
+}
+
+#[test]
+fn listings_are_read(rt: HostRuntime) -> Result<(), Fail> {
+    for (line, want_idle, want_end, want_count, want_consumer) in [
+        ("XPENDING s g 5 + 10", None, (u64::MAX, u64::MAX), 10, false),
+        ("XPENDING s g 5 7 -1 c", None, (7, u64::MAX), -1, true),
+        (
+            "xpending s g idle 9000 5 7-3 10",
+            Some(9000),
+            (7, 3),
+            10,
+            false,
+        ),
+        (
+            "XPENDING s g IDLE -2 5 7-3 10 c",
+            Some(-2),
+            (7, 3),
+            10,
+            true,
+        ),
+    ] {
+        match listing(&call(&rt, line)?) {
+            Some(found) => {
+                let want = (want_idle, (5, 0), want_end, want_count, want_consumer);
+                assert!(rt; found == want, "{line}");
+            }
+            None => assert!(rt; false, "{line}"),
+        }
+    }
+    match &call(&rt, "XPENDING s g")? {
+        Call::Xpending {
+            key,
+            group,
+            listing,
+        } => {
+            assert!(rt; is_text(key, b"s"));
+            assert!(rt; is_text(group, b"g"));
+            assert!(rt; listing.is_none());
+        }
+        _ => assert!(rt; false),
+    }
+    Ok(())
+}
+
+/// Whether the words are these.
+fn are_words(words: &Words, wanted: &[&[u8]]) -> bool {
+    let mut left = words.unread();
+    for word in wanted {
+        match left.next() {
+            Some(found) if found == *word => {}
+            _ => return false,
+        }
+    }
+    left.is_empty()
+}
+
+#[test]
+fn streams_are_read_with_their_ids(rt: HostRuntime) -> Result<(), Fail> {
+    let written = Position::At(Id { ms: 5, seq: 0 });
+    for (line, want_count) in [
+        ("XREAD STREAMS s STREAMS $ 5", None),
+        ("xread count -1 streams s STREAMS $ 5-0", Some(-1)),
+    ] {
+        match &call(&rt, line)? {
+            Call::Xread { count, keys, from } => {
+                assert_eq!(rt; *count, want_count, "{line}");
+                assert!(rt; are_words(keys, &[b"s", b"STREAMS"]), "{line}");
+                assert!(rt;
+                    from.as_slice() == [Position::Last, written].as_slice(),
+                    "{line}"
+                );
+            }
+            _ => assert!(rt; false, "{line}"),
+        }
     }
     Ok(())
 }

@@ -1,7 +1,10 @@
-ghost use Rattle.std.specs.Prelude.{◌≡◌, ◌↔◌, map, IsTrue, IfOk};
+ghost use Rattle.std.specs.Prelude.{◌≡◌, ◌↔◌, map, take, IsTrue, IfOk, IfSome, IfNone};
 ghost use Rattle.sr_args.specs.Place.{strict_id, spelled, HasIds};
 ghost use Rattle.sr_args.specs.Form.{AreIds};
+ghost use Rattle.sr_args.specs.Position.{SpellsPosition};
+ghost use Rattle.sr_args.specs.declared.call.Position as positions;
 
+use crate::Position;
 use sr_bytes::{Name, Unread};
 use sr_ids::{Ids, parse_strict};
 use std::alloc::{AllocError, Global};
@@ -13,27 +16,69 @@ pub(crate) fn copy_word(alloc: Global, word: &[u8]) -> Result<Name, AllocError>
     Ok(Name::new(Vec::from_slice(alloc, word)?))
 }
 
+/// From where a stream is read, by a word of XGROUP or of XREAD.
+pub(crate) fn read_position(word: &[u8]) -> Option<Position>
+    ensures found { IfSome result (SpellsPosition word.now) }
+    ensures none { IfNone result ((from : positions.Position) → SpellsPosition word.now from → ⊥) }
+{
+    if word == b"$".as_slice() {
+        return Some(Position::Last);
+    }
+    Some(Position::At(parse_strict(word)?))
+}
+
 /// Whether each word spells an id.
-pub(crate) fn are_ids(mut words: Unread<'_>) -> bool
+pub(crate) fn are_ids(words: Unread<'_>) -> bool
     ensures { IsTrue result ↔ HasIds (map (spelled strict_id) words.entry) }
 {
-    while let Some(word) = words.next() {
+    let many = words.len();
+    are_first_ids(words, many)
+}
+
+/// Whether each of the first words spells an id.
+pub(crate) fn are_first_ids(mut words: Unread<'_>, many: usize) -> bool
+    ensures { IsTrue result ↔ HasIds (map (spelled strict_id) (take many words.entry)) }
+{
+    let mut left = many;
+    while left > 0 {
+        let Some(word) = words.next() else {
+            return true;
+        };
         if parse_strict(word).is_none() {
             return false;
         }
+        left -= 1;
     }
     true
 }
 
 /// The ids that words spell, each of which spells one.
-pub(crate) fn copy_ids(alloc: Global, mut words: Unread<'_>) -> Result<Ids, AllocError>
+pub(crate) fn copy_ids(alloc: Global, words: Unread<'_>) -> Result<Ids, AllocError>
     requires { HasIds (map (spelled strict_id) words) }
     ensures { IfOk result (AreIds strict_id words.entry) }
 {
-    let mut ids = Vec::with_capacity(alloc, words.len())?;
-    while let Some(word) = words.next() {
+    let many = words.len();
+    copy_first_ids(alloc, words, many)
+}
+
+/// The ids that the first words spell, each of which spells one.
+pub(crate) fn copy_first_ids(
+    alloc: Global,
+    mut words: Unread<'_>,
+    many: usize,
+) -> Result<Ids, AllocError>
+    requires { HasIds (map (spelled strict_id) (take many words)) }
+    ensures { IfOk result (AreIds strict_id (take many words.entry)) }
+{
+    let mut ids = Vec::with_capacity(alloc, many)?;
+    let mut left = many;
+    while left > 0 {
+        let Some(word) = words.next() else {
+            break;
+        };
         let id = parse_strict(word).unwrap();
         ids.push(id)?;
+        left -= 1;
     }
     Ok(Ids::new(ids))
 }

@@ -175,8 +175,13 @@ fn gives(
 
 #[test]
 fn cuts_change_no_answer(rt: HostRuntime) -> Result<(), Fail> {
-    let rows: [(&[u8], &[u8], End); 5] = [
+    let rows: [(&[u8], &[u8], End); 6] = [
         (XLEN, b":0\r\n", End::Closed),
+        (
+            b"*6\r\n$6\r\nXGROUP\r\n$6\r\nCREATE\r\n$1\r\ns\r\n$1\r\ng\r\n$1\r\n0\r\n$8\r\nMKSTREAM\r\n*3\r\n$8\r\nXPENDING\r\n$1\r\ns\r\n$1\r\ng\r\n",
+            b"+OK\r\n*4\r\n:0\r\n$-1\r\n$-1\r\n*-1\r\n",
+            End::Closed,
+        ),
         (
             b"*2\r\n$4\r\nXLEN\r\n$1\r\ns\r\n*2\r\n$4\r\nXLEN\r\n$1\r\ns\r\n",
             b":0\r\n:0\r\n",

@@ -1,4 +1,12 @@
+pub mod Lawful
+pub mod ArrayLemmas
+pub mod PendingLemmas
+pub mod ClaimLemmas
+pub mod GroupLaws
+pub mod GroupedLemmas
 pub mod KeysLemmas
 pub mod CommandLaws
 pub mod LawLemmas
 pub mod ReplyLemmas
+pub mod InfoLemmas
+pub mod ReadingLemmas

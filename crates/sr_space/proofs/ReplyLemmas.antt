@@ -5,6 +5,7 @@ use Rattle.sr_ids.specs.Spelling.{spelling}
 use Rattle.sr_resp.specs.Reply.{Answer, Part, Bulk, Array, IsReply, array_header, array_of, bulk_string}
 use Rattle.sr_resp.proofs.CallerLemmas.{IsReply-array_of, IsReply-array_of_map}
 use Rattle.sr_entries.specs.declared.entry.Entry.{Entry}
+use Rattle.sr_space.proofs.ArrayLemmas.{array_of-map}
 use Rattle.sr_space.specs.EntryReply.{pairs_answer, entry_answer}
 
 -- the parts of a field and its value
@@ -42,28 +43,26 @@ entry-written entry old counted named grown draft id fields pairs is_id is_field
     let second : grown ≡ old ++ array_header 2 ++ bulk_string (spelling entry.id) ++ array_header (2 * length entry.fields) = d ∙ ap (λ (l : List (List ℕ × List ℕ)). named ++ array_header (2 * length l)) is_fields ∙ ap (λ (l : List Part). l ++ array_header (2 * length entry.fields)) first in
     e ∙ ap (λ (l : List (List ℕ × List ℕ)). grown ++ flat_map pair_parts l) is_pairs ∙ ap (λ (l : List Part). l ++ flat_map pair_parts entry.fields) second ∙ entry_answer-parts entry old
 
--- each entry's reply is a reply
-IsReply-entry_answer : (entry : Entry) → IsReply (entry_answer entry)
-IsReply-entry_answer entry = IsReply-array_of (bulk_string (spelling entry.id) ∷ pairs_answer entry.fields ∷ []) (refl, (IsReply-array_of (flat_map (λ (pair : List ℕ × List ℕ). bulk_string pair.0 ∷ bulk_string pair.1 ∷ []) entry.fields) (each entry.fields), tt))
+-- fields are a reply, and each entry is
+pub IsReply-pairs_answer : (pairs : List (List ℕ × List ℕ)) → IsReply (pairs_answer pairs)
+IsReply-pairs_answer pairs = IsReply-array_of (flat_map (λ (pair : List ℕ × List ℕ). bulk_string pair.0 ∷ bulk_string pair.1 ∷ []) pairs) (each pairs)
   where
     each : (pairs : List (List ℕ × List ℕ)) → AllByRecursion IsReply (flat_map (λ (pair : List ℕ × List ℕ). bulk_string pair.0 ∷ bulk_string pair.1 ∷ []) pairs)
     each [] = tt
     each (pair ∷ pairs) = (refl, (refl, each pairs))
 
+IsReply-entry_answer : (entry : Entry) → IsReply (entry_answer entry)
+IsReply-entry_answer entry = IsReply-array_of (bulk_string (spelling entry.id) ∷ pairs_answer entry.fields ∷ []) (refl, (IsReply-pairs_answer entry.fields, tt))
+
 pub IsReply-entries : (entries : List Entry) → IsReply (array_of (map entry_answer entries))
 IsReply-entries entries = IsReply-array_of_map entry_answer entries IsReply-entry_answer
 
 -- entries are a header and their replies
-entries_answer-parts : (entries : List Entry) → array_header (length entries) ++ flat_map entry_answer entries ≡ array_of (map entry_answer entries)
-entries_answer-parts entries = ap (λ (n : ℕ). Array n ∷ flat_map entry_answer entries) (sym (count entries)) ∙ ap (λ (l : List Part). Array (length (map entry_answer entries)) ∷ l) (sym (parts entries))
-  where
-    count : (entries : List Entry) → length (map entry_answer entries) ≡ length entries
-    count [] = refl
-    count (entry ∷ entries) = omega (arith, count entries)
-
-    parts : (entries : List Entry) → flat_map (λ (item : Answer). item) (map entry_answer entries) ≡ flat_map entry_answer entries
-    parts [] = refl
-    parts (entry ∷ entries) = ap (λ (l : List Part). entry_answer entry ++ l) (parts entries)
-
 pub entries-written : (entries written : List Entry) (draft : List Part) → written ≡ entries → draft ≡ array_header (length entries) ++ flat_map entry_answer written → draft ≡ array_of (map entry_answer entries)
-entries-written entries written draft all e = e ∙ ap (λ (l : List Entry). array_header (length entries) ++ flat_map entry_answer l) all ∙ entries_answer-parts entries
+entries-written entries written draft all e = e ∙ ap (λ (l : List Entry). array_header (length entries) ++ flat_map entry_answer l) all ∙ array_of-map entry_answer entries
+
+-- the fields are a header and their parts
+pub fields-written : (fields pairs : List (List ℕ × List ℕ)) (n : ℕ) (draft written : List Part) → pairs ≡ fields → n ≡ length pairs → draft ≡ array_header (2 * n) → written ≡ draft ++ flat_map pair_parts pairs → written ≡ pairs_answer fields
+fields-written fields pairs n draft written is count begun all =
+    let counted : n ≡ length fields = count ∙ ap (λ (l : List (List ℕ × List ℕ)). length l) is in
+    all ∙ ap (λ (l : List (List ℕ × List ℕ)). draft ++ flat_map pair_parts l) is ∙ ap (λ (l : List Part). l ++ flat_map pair_parts fields) begun ∙ ap (λ (k : ℕ). Array (2 * k) ∷ flat_map pair_parts fields) counted ∙ sym (pairs_answer-parts fields)

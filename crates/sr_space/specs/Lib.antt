@@ -1,5 +1,7 @@
 pub mod Keys
 pub mod Touched
+pub mod Grouped
+pub mod Bounds
 pub mod EntryReply
 pub mod commands
 pub mod Effect

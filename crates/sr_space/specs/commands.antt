@@ -4,3 +4,9 @@ pub mod Xtrim
 pub mod Xdel
 pub mod Xlen
 pub mod Xrange
+pub mod Xread
+pub mod Xack
+pub mod Xgroup
+pub mod Xinfo
+pub mod Xpending
+pub mod Xclaim

@@ -1,6 +1,12 @@
 pub(crate) mod ping;
+pub(crate) mod xack;
 pub(crate) mod xadd;
+pub(crate) mod xclaim;
 pub(crate) mod xdel;
+pub(crate) mod xgroup;
+pub(crate) mod xinfo;
 pub(crate) mod xlen;
+pub(crate) mod xpending;
 pub(crate) mod xrange;
+pub(crate) mod xread;
 pub(crate) mod xtrim;

@@ -1,7 +1,9 @@
 //! The keys of a server with their streams, and what each command does to them.
 #![tactic(auto)]
 
+mod bounds;
 mod commands;
+mod grouped;
 mod laws;
 mod outcome;
 mod reply;

@@ -1,8 +1,10 @@
-ghost use Rattle.std.specs.Prelude.{◌≡◌, ◌++◌, length, map, reverse, IfOk, OnOk};
+ghost use Rattle.std.specs.Prelude.{◌≡◌, ◌^◌, ◌<◌, ◌++◌, pos, length, map, reverse, IfOk, OnOk};
+ghost use Rattle.std.specs.List.{flat_map};
 ghost use Rattle.sr_ids.specs.Spelling.{spelling};
-ghost use Rattle.sr_resp.specs.Reply.{array_header, array_of, bulk_string};
-ghost use Rattle.sr_space.specs.EntryReply.{entry_answer};
+ghost use Rattle.sr_resp.specs.Reply.{array_header, array_of, bulk_string, integer};
+ghost use Rattle.sr_space.specs.EntryReply.{entry_answer, pairs_answer};
 
+use sr_bytes::Pairs;
 use sr_entries::{EntryRef, Span};
 use sr_ids::{Id, write_id};
 use sr_resp::{Draft, Reply};
@@ -18,6 +20,14 @@ pub(crate) fn id_reply(alloc: Global, id: Id) -> Reply
     let mut text = [0; 41];
     let len = write_id(id, &mut text);
     Reply::short(alloc, &text[..len])
+}
+
+/// The number as an integer. Takes no memory.
+pub(crate) fn number_reply(alloc: Global, n: u64) -> Reply
+    requires { n < 2 ^ 63 }
+    ensures { result ≡ integer (pos n) }
+{
+    Reply::int(alloc, n as i64)
 }
 
 /// Entries as an array of them, in the order in which they lie.
@@ -42,6 +52,24 @@ pub(crate) fn newest_first_reply(alloc: Global, mut entries: Span<'_>) -> Result
     Ok(draft.finish())
 }
 
+/// An entry as an array of its id and its fields with their values.
+pub(crate) fn entry_reply(alloc: Global, entry: &EntryRef<'_>) -> Result<Reply, AllocError>
+    ensures { IfOk result (λ reply. reply ≡ entry_answer entry.now) }
+{
+    let fields = fields_reply(alloc, entry)?;
+    Reply::array(alloc, [id_reply(alloc, entry.id()), fields])
+}
+
+/// The fields of an entry with their values, as one array.
+fn fields_reply(alloc: Global, entry: &EntryRef<'_>) -> Result<Reply, AllocError>
+    ensures { IfOk result (λ reply. reply ≡ pairs_answer entry.now.fields) }
+{
+    let pairs = entry.fields().pairs();
+    let mut draft = Draft::array(alloc, 2 * pairs.len());
+    write_pairs(&mut draft, pairs)?;
+    Ok(draft.finish())
+}
+
 /// The header of an array of these entries, with room for them.
 fn draft_for(alloc: Global, entries: &Span<'_>) -> Result<Draft, AllocError>
     ensures { IfOk result (λ draft. draft ≡ array_header (length entries.now)) }
@@ -56,10 +84,17 @@ fn write_entry(draft: &mut Draft, entry: &EntryRef<'_>) -> Result<(), AllocError
 {
     let mut text = [0; 41];
     let len = write_id(entry.id(), &mut text);
-    let mut pairs = entry.fields().pairs();
+    let pairs = entry.fields().pairs();
     draft.header(2)?;
     draft.bulk(&text[..len])?;
     draft.header(2 * pairs.len())?;
+    write_pairs(draft, pairs)
+}
+
+/// Adds fields to a draft, each followed by its value.
+fn write_pairs(draft: &mut Draft, mut pairs: Pairs<'_>) -> Result<(), AllocError>
+    ensures { OnOk result (draft.new ≡ draft.old ++ flat_map (λ pair. bulk_string pair.0 ++ bulk_string pair.1) pairs.entry) }
+{
     while let Some((field, value)) = pairs.next() {
         draft.bulk(field)?;
         draft.bulk(value)?;

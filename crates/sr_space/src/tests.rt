@@ -13,7 +13,7 @@ use std::test::Fail;
 const MOMENT: u64 = 7;
 
 /// Commands of each kind that acts on keys.
-const COMMANDS: [&str; 12] = [
+const COMMANDS: [&str; 26] = [
     "XADD s 1-0 f a",
     "XADD s 2-0 f b",
     "XADD t 1-0 f c",
@@ -26,10 +26,24 @@ const COMMANDS: [&str; 12] = [
     "XRANGE s - +",
     "XREVRANGE s + -",
     "XLEN t",
+    "XREAD STREAMS s t 0 $",
+    "XGROUP CREATE s g 0",
+    "XGROUP CREATE v h $ MKSTREAM",
+    "XGROUP CREATE s gone 0",
+    "XGROUP CREATECONSUMER s g A",
+    "XGROUP SETID s g 2",
+    "XGROUP DESTROY s gone",
+    "XCLAIM s g B 0 1-0",
+    "XAUTOCLAIM s g C 0 0",
+    "XGROUP DELCONSUMER s g C",
+    "XACK s g 1-0",
+    "XPENDING s g",
+    "XPENDING s g - + 10",
+    "XINFO STREAM s",
 ];
 
 /// Commands that show what the keys hold, each with its reply at the end.
-const LOOKS: [(&str, &str); 6] = [
+const LOOKS: [(&str, &str); 9] = [
     ("XLEN s", ":1\r\n"),
     (
         "XRANGE s - +",
@@ -42,6 +56,18 @@ const LOOKS: [(&str, &str); 6] = [
     ),
     ("XLEN u", ":0\r\n"),
     ("XRANGE u - +", "*0\r\n"),
+    (
+        "XINFO GROUPS s",
+        "*1\r\n*8\r\n$4\r\nname\r\n$1\r\ng\r\n$9\r\nconsumers\r\n:2\r\n$7\r\npending\r\n:0\r\n$17\r\nlast-delivered-id\r\n$3\r\n2-0\r\n",
+    ),
+    (
+        "XINFO CONSUMERS s g",
+        "*2\r\n*6\r\n$4\r\nname\r\n$1\r\nA\r\n$7\r\npending\r\n:0\r\n$4\r\nidle\r\n:0\r\n*6\r\n$4\r\nname\r\n$1\r\nB\r\n$7\r\npending\r\n:0\r\n$4\r\nidle\r\n:0\r\n",
+    ),
+    (
+        "XINFO GROUPS v",
+        "*1\r\n*8\r\n$4\r\nname\r\n$1\r\nh\r\n$9\r\nconsumers\r\n:0\r\n$7\r\npending\r\n:0\r\n$17\r\nlast-delivered-id\r\n$3\r\n0-0\r\n",
+    ),
 ];
 
 /// The words of a line, which stand between single spaces.

@@ -11,4 +11,4 @@ abbrev pub form : Form
 form = text (options sets.Xadd (id new_id pairs))
 
 abbrev pub call : Values form → Call
-call (key, (chosen, (spec, fields))) = calls.Xadd key chosen.make chosen.trim spec fields
+call (key, (chosen, (spec, fields))) = calls.Xadd key chosen.add_makes chosen.trim spec fields

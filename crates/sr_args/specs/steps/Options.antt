@@ -25,7 +25,8 @@ use Rattle.sr_args.specs.declared.name.Sign.{Sign}
 use Rattle.sr_args.specs.declared.name.Sign.TheVariants.{Nearly}
 use Rattle.sr_args.specs.Name.{IsSameName, option_text, sign_text}
 use Rattle.sr_args.specs.Place.{Word, Place, Fits, HasNumber, HasNumbers, HasId, HasIds}
-use Rattle.sr_args.specs.Options.{TrimReading, Written, count, no_make, trimming, operand_places, sign_places}
+use Rattle.sr_args.specs.Options.{TrimReading, Written, count, no_make, make_key, ids_only, idle, since, deliveries}
+use Rattle.sr_args.specs.Options.{trimming, operand_places, sign_places}
 use Rattle.sr_args.specs.Options.{bound_place, option_places, first_name, kind, IsIn}
 use Rattle.sr_args.specs.Options.{IsTrimFit, IsOptionFit, AreOptionsFit, IsUnnamed, IsPast, Chosen, Choose, Sets}
 use Rattle.sr_args.specs.Options.{IsBound, IsTrim, nothing}
@@ -81,15 +82,20 @@ pub record IsTrimBy (by : Measure) (trim : TrimReading) : Type 0 where
 abbrev pub IsTrimEnd : TrimReading → List Place → Type 0
 IsTrimEnd trim places = IsUnlimited places
 
--- an option of this name
-pub record IsOptionNamed (name : OptionName) (o : Written) : Type 0 where
+-- an option of this name in the set
+pub record IsOptionNamed (set : OptionSet) (name : OptionName) (o : Written) : Type 0 where
   pub name_is : first_name o ≡ name
-  pub fit : IsOptionFit o
+  pub fit : IsOptionFit set o
 
 -- no word goes on with the option
 abbrev pub IsOptionEnd : Written → List Place → Type 0
-IsOptionEnd (count most) places = ⊤
+IsOptionEnd (count range most) places = ⊤
 IsOptionEnd no_make places = ⊤
+IsOptionEnd make_key places = ⊤
+IsOptionEnd ids_only places = ⊤
+IsOptionEnd (idle word) places = ⊤
+IsOptionEnd (since word) places = ⊤
+IsOptionEnd (deliveries word) places = ⊤
 IsOptionEnd (trimming trim) places = IsUnlimited places
 
 -- the other options are those written and a tail, which the words left begin with
@@ -125,12 +131,25 @@ trim_reading words =
 
 -- the words of an option
 abbrev pub written_of : OptionWords → Written
-written_of (words.Count most) = count most.now
+written_of (words.Count range most) = count range most.now
 written_of words.NoMkStream = no_make
+written_of words.MkStream = make_key
+written_of words.JustId = ids_only
+written_of (words.Idle word) = idle word.now
+written_of (words.Time word) = since word.now
+written_of (words.RetryCount word) = deliveries word.now
 written_of (words.Trim trim) = trimming (trim_reading trim)
 
 abbrev pub chosen_of : Choice → Chosen
-chosen_of choice = record { make = choice.make; trim = choice.trim; count = choice.count }
+chosen_of choice = record {
+  add_makes = choice.add_makes;
+  create_makes = choice.create_makes;
+  trim = choice.trim;
+  count = choice.count;
+  just_ids = choice.just_ids;
+  time = choice.time;
+  delivered = choice.delivered;
+}
 
 -- what the options ask for, or the first fault of their words: a number that is missing comes before an id that is
 abbrev pub AreJudged : List Written → Result Choice ValueFault → Type 0
@@ -162,6 +181,11 @@ abbrev pub index_of : OptionKind → ℕ
 index_of kinds.Count = 0
 index_of kinds.NoMkStream = 1
 index_of kinds.Trim = 2
+index_of kinds.MkStream = 3
+index_of kinds.JustId = 4
+index_of kinds.Idle = 5
+index_of kinds.Time = 6
+index_of kinds.RetryCount = 7
 
 abbrev pub fault_of : ValueFault → CallFault
 fault_of faults.Number = calls.Number
@@ -169,7 +193,7 @@ fault_of faults.BadId = calls.BadId
 
 -- the kinds of the options written are those that were seen
 pub record AreSeen (seen : List Bool) (written : List Written) : Type 0 where
-  pub many : length seen ≡ 3
+  pub many : length seen ≡ 8
   pub yes : (k : OptionKind) → get_or seen (index_of k) false ≡ true → IsIn k (map kind written)
   pub no : (k : OptionKind) → get_or seen (index_of k) false ≡ false → IsIn k (map kind written) → ⊥
 

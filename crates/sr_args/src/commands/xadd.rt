@@ -38,7 +38,7 @@ pub(crate) fn read_xadd(alloc: Global, words: Unread<'_>) -> Result<Call, CallFa
     let fields = copy_fields(alloc, read.fields)?;
     Ok(Call::Xadd {
         key,
-        make: choice.make,
+        make: choice.add_makes,
         trim: choice.trim,
         id,
         fields,

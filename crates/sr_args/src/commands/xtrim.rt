@@ -56,6 +56,6 @@ fn measure_named(word: &[u8]) -> Option<Measure>
     match option_named(word)? {
         OptionName::MaxLen => Some(Measure::MaxLen),
         OptionName::MinId => Some(Measure::MinId),
-        OptionName::Count | OptionName::NoMkStream | OptionName::Limit => None,
+        _ => None,
     }
 }

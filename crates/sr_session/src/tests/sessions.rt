@@ -13,7 +13,7 @@ struct Array {
     begun: usize,
 }
 
-/// Replies as redis-cli prints them. Arrays have at most nine items, and texts need no escapes.
+/// Replies as redis-cli prints them. Arrays have at most 99 items, and texts need no escapes.
 #[derive(Drop)]
 struct Screen {
     text: String,
@@ -34,11 +34,17 @@ impl Screen {
         };
         array.begun = array.begun.saturating_add(1);
         let number = array.begun;
-        for _ in 0..indent {
-            self.text.push_str("   ")?;
+        let pad = if array.items > 9 && number < 10 {
+            " "
+        } else {
+            ""
+        };
+        let mut margin = String::new(alloc);
+        for outer in self.open.iter().take(indent) {
+            margin.push_str(if outer.items > 9 { "    " } else { "   " })?;
         }
         self.text
-            .push_str(format!(in alloc; "{number}) ")?.as_str())
+            .push_str(format!(in alloc; "{margin}{pad}{number}) ")?.as_str())
     }
 
     /// Shows a reply that is not an array of items.
@@ -386,6 +392,23 @@ fn streams_are_cut(rt: HostRuntime) -> Result<(), Fail> {
 (error) ERR syntax error
 > XLEN s
 (integer) 2
+> XINFO STREAM s
+ 1) "length"
+ 2) (integer) 2
+ 3) "last-generated-id"
+ 4) "5-1"
+ 5) "entries-added"
+ 6) (integer) 5
+ 7) "groups"
+ 8) (integer) 0
+ 9) "first-entry"
+10) 1) "4-1"
+    2) 1) "a"
+       2) "b"
+11) "last-entry"
+12) 1) "5-1"
+    2) 1) "a"
+       2) "b"
 "#,
             r#"
 > XADD t 0-* a b
@@ -430,6 +453,224 @@ fn streams_are_cut(rt: HostRuntime) -> Result<(), Fail> {
 (empty array)
 > XREVRANGE t + -
 (empty array)
+"#,
+        ],
+    )
+}
+
+#[test]
+fn streams_are_read(rt: HostRuntime) -> Result<(), Fail> {
+    play(
+        &rt,
+        &[
+            r#"
+> XADD s 1-1 a b
+"1-1"
+> XADD s 2-1 a c
+"2-1"
+> XREAD COUNT 1 STREAMS s t 0 0
+1) 1) "s"
+   2) 1) 1) "1-1"
+         2) 1) "a"
+            2) "b"
+> XREAD STREAMS s $
+(nil)
+> XREAD STREAMS s s 0 0
+(error) ERR syntax error
+> XREAD STREAMS s >
+(error) ERR Invalid stream ID specified as stream command argument
+> XREAD COUNT 0 STREAMS s 1-1
+1) 1) "s"
+   2) 1) 1) "2-1"
+         2) 1) "a"
+            2) "c"
+> XREAD STREAMS t 0
+(nil)
+> XADD t 3-1 d e
+"3-1"
+> XREAD STREAMS t s 0 1-1
+1) 1) "t"
+   2) 1) 1) "3-1"
+         2) 1) "d"
+            2) "e"
+2) 1) "s"
+   2) 1) 1) "2-1"
+         2) 1) "a"
+            2) "c"
+"#,
+        ],
+    )
+}
+
+#[test]
+fn groups(rt: HostRuntime) -> Result<(), Fail> {
+    play(
+        &rt,
+        &[
+            r#"
+> XINFO STREAM s
+(error) ERR no such key
+> XADD s NOMKSTREAM 1-1 a b
+(nil)
+> XGROUP CREATE s g 0
+(error) ERR no such key
+> XGROUP CREATE s g 0 MKSTREAM
+OK
+> XGROUP CREATE s g 0 MKSTREAM
+(error) BUSYGROUP Consumer Group name already exists
+> XGROUP CREATECONSUMER s g C
+(integer) 1
+> XGROUP CREATECONSUMER s g C
+(integer) 0
+> XGROUP DESTROY s h
+(integer) 0
+> XACK s g 1-1
+(integer) 0
+> XINFO STREAM s
+ 1) "length"
+ 2) (integer) 0
+ 3) "last-generated-id"
+ 4) "0-0"
+ 5) "entries-added"
+ 6) (integer) 0
+ 7) "groups"
+ 8) (integer) 1
+ 9) "first-entry"
+10) (nil)
+11) "last-entry"
+12) (nil)
+"#,
+            r#"
+> XADD s 7-1 a b
+"7-1"
+> XGROUP CREATE s h $
+OK
+> XGROUP CREATE s G 3
+OK
+> XGROUP CREATECONSUMER s h b
+(integer) 1
+> XGROUP CREATECONSUMER s h a
+(integer) 1
+> XINFO GROUPS s
+1) 1) "name"
+   2) "G"
+   3) "consumers"
+   4) (integer) 0
+   5) "pending"
+   6) (integer) 0
+   7) "last-delivered-id"
+   8) "3-0"
+2) 1) "name"
+   2) "h"
+   3) "consumers"
+   4) (integer) 2
+   5) "pending"
+   6) (integer) 0
+   7) "last-delivered-id"
+   8) "7-1"
+> XINFO CONSUMERS s h
+1) 1) "name"
+   2) "a"
+   3) "pending"
+   4) (integer) 0
+   5) "idle"
+   6) (integer) 0
+2) 1) "name"
+   2) "b"
+   3) "pending"
+   4) (integer) 0
+   5) "idle"
+   6) (integer) 0
+> XGROUP SETID s h 0
+OK
+> XGROUP DELCONSUMER s h a
+(integer) 0
+> XGROUP DESTROY s G
+(integer) 1
+> XINFO GROUPS s
+1) 1) "name"
+   2) "h"
+   3) "consumers"
+   4) (integer) 1
+   5) "pending"
+   6) (integer) 0
+   7) "last-delivered-id"
+   8) "0-0"
+"#,
+            r#"
+> XGROUP SETID s g 0
+(error) ERR no such key
+> XGROUP CREATECONSUMER s g C
+(error) ERR no such key
+> XGROUP DELCONSUMER s g C
+(error) ERR no such key
+> XGROUP DESTROY s g
+(error) ERR no such key
+> XINFO GROUPS s
+(error) ERR no such key
+> XINFO CONSUMERS s g
+(error) ERR no such key
+> XACK s g 1-1
+(integer) 0
+> XADD s 1-1 a b
+"1-1"
+> XGROUP SETID s g 0
+(error) NOGROUP no such key or consumer group
+> XGROUP CREATECONSUMER s g C
+(error) NOGROUP no such key or consumer group
+> XGROUP DELCONSUMER s g C
+(error) NOGROUP no such key or consumer group
+> XINFO GROUPS s
+(empty array)
+> XINFO CONSUMERS s g
+(error) NOGROUP no such key or consumer group
+> XACK s g 1-1
+(integer) 0
+> XGROUP
+(error) ERR wrong number of arguments
+> XGROUP FOO s
+(error) ERR unknown command
+"#,
+            r#"
+> XGROUP CREATE s g 0 MKSTREAM
+OK
+> XPENDING s g - + 10
+(empty array)
+> XPENDING s g IDLE 5 - + 10 A
+(empty array)
+> XCLAIM s g A 0 1-1
+(empty array)
+> XAUTOCLAIM s g B 0 0 COUNT 2 JUSTID
+1) "0-0"
+2) (empty array)
+3) (empty array)
+> XINFO CONSUMERS s g
+1) 1) "name"
+   2) "A"
+   3) "pending"
+   4) (integer) 0
+   5) "idle"
+   6) (integer) 0
+2) 1) "name"
+   2) "B"
+   3) "pending"
+   4) (integer) 0
+   5) "idle"
+   6) (integer) 0
+> XPENDING s h
+(error) NOGROUP no such key or consumer group
+> XPENDING t g - + 1
+(error) NOGROUP no such key or consumer group
+> XCLAIM t g A 0 1-1
+(error) NOGROUP no such key or consumer group
+> XAUTOCLAIM s h A 0 0
+(error) NOGROUP no such key or consumer group
+> XAUTOCLAIM s g A 0 0 COUNT 0
+(error) ERR value is not an integer or out of range
+> XCLAIM s g A 0 1-1 FORCE
+(error) ERR syntax error
+> XPENDING s g IDLE 5 - +
+(error) ERR syntax error
 "#,
         ],
     )

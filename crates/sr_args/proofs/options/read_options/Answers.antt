@@ -2,7 +2,7 @@ use Rattle.std.proofs.Common.{◌≡◌, ◌∙◌, ℕ, List, [], ◌∷◌, �
 use Rattle.sr_args.specs.Place.{Word}
 use Rattle.sr_args.specs.Options.{kind}
 use Rattle.sr_args.specs.steps.Options.{AreSeen, BeginsOptions, index_of, written_of}
-use Rattle.sr_args.proofs.LoopLemmas.{IsNamedNext, BeginsNoOptions-from_none, BeginsNoOptions-from_twice, BeginsOptions-more, EndsOptions-from_begins, AreSeen-more}
+use Rattle.sr_args.proofs.LoopLemmas.{IsNamedNext, BeginsNoOptions-from_none, BeginsNoOptions-from_twice, BeginsOptions-more, EndsOptions-from_begins, AreSeen-more, IsUnderway-start}
 use Rattle.sr_args.proofs.options.read_options.Goals as goal
 
 pub returns-in_err-option-clause-none : goal.returns-in_err-option-clause-none
@@ -21,6 +21,9 @@ returns-then-seen-kind-clause-none c =
     let place : c.index_of_kind-kind.result ≡ index_of (kind o) = c.index_of_kind-kind.ensures.value ∙ ap index_of c.kind_of.ensures in
     let seen : get_or c.loop-name.seen (index_of (kind o)) false ≡ true = subst (λ (i : ℕ). get_or c.loop-name.seen i false ≡ true) place c.if-seen-kind.true in
     BeginsNoOptions-from_twice c.args.set c.args.words.now u.written c.loop-name.words c.in-Some.name c.next_name.new.words c.operand_words.new.words o u.begins next c.in_ok-option.ensures.found (u.seen_are.yes (kind o) seen)
+
+pub loop-name-init : goal.loop-name-init
+loop-name-init c = IsUnderway-start c.args.set c.args.words.now c.nothing.result c.nothing.ensures
 
 pub loop-name-preserved : goal.loop-name-preserved
 loop-name-preserved c =

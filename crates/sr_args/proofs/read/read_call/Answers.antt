@@ -1,8 +1,8 @@
-use Rattle.std.proofs.Common.{inl, length, Ok, Err, rules}
+use Rattle.std.proofs.Common.{inl, inr, length, Ok, Err, rules}
 use Rattle.std.proofs.lemmas.Result.{err_from_is_err_and}
 use Rattle.sr_args.specs.declared.call.Command.TheVariants.{Call}
 use Rattle.sr_args.specs.declared.fault.CallFault.TheVariants.{Arity}
-use Rattle.sr_args.specs.Table.{IsCounted, IsNamed}
+use Rattle.sr_args.specs.Table.{IsCounted, IsHalfNamed, IsNamed}
 use Rattle.sr_args.specs.Command.{IsWellCounted, Refuses}
 use Rattle.sr_args.proofs.AnswerLemmas.{Answers-only, IsCall-from_gives, Refuses-from_gives}
 use Rattle.sr_args.proofs.read.read_call.Goals as goal
@@ -61,4 +61,11 @@ returns-then-not-is_counted-clause-only c = λ answer n other.
     let named : IsNamed command words operands = search rules in
     let uncounted : IsCounted command (length words) → ⊥ = search rules in
     let refused : Refuses words Arity = inl (record { name = command; operands = operands; named = named; uncounted = uncounted }) in
+    Answers-only words (Err Arity) answer refused n other
+
+pub returns-in-HalfNamed-clause-only : goal.returns-in-HalfNamed-clause-only
+returns-in-HalfNamed-clause-only c = λ answer n other.
+    let words = c.args.words.now in
+    let half : IsHalfNamed words = search rules in
+    let refused : Refuses words Arity = inr half in
     Answers-only words (Err Arity) answer refused n other

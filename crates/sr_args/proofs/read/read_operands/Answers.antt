@@ -20,3 +20,42 @@ returns-in-Xrange c = rw c.in-Xrange.is c.read_xrange.ensures
 
 pub returns-in-Xrevrange : goal.returns-in-Xrevrange
 returns-in-Xrevrange c = rw c.in-Xrevrange.is c.read_xrevrange.ensures
+
+pub returns-in-Xack : goal.returns-in-Xack
+returns-in-Xack c = rw c.in-Xack.is c.read_xack.ensures
+
+pub returns-in-XgroupCreate : goal.returns-in-XgroupCreate
+returns-in-XgroupCreate c = rw c.in-XgroupCreate.is c.read_xgroup_create.ensures
+
+pub returns-in-XgroupSetId : goal.returns-in-XgroupSetId
+returns-in-XgroupSetId c = rw c.in-XgroupSetId.is c.read_xgroup_set_id.ensures
+
+pub returns-in-XgroupDestroy : goal.returns-in-XgroupDestroy
+returns-in-XgroupDestroy c = rw c.in-XgroupDestroy.is c.read_xgroup_destroy.ensures
+
+pub returns-in-XgroupCreateConsumer : goal.returns-in-XgroupCreateConsumer
+returns-in-XgroupCreateConsumer c = rw c.in-XgroupCreateConsumer.is c.read_xgroup_create_consumer.ensures
+
+pub returns-in-XgroupDelConsumer : goal.returns-in-XgroupDelConsumer
+returns-in-XgroupDelConsumer c = rw c.in-XgroupDelConsumer.is c.read_xgroup_del_consumer.ensures
+
+pub returns-in-XinfoStream : goal.returns-in-XinfoStream
+returns-in-XinfoStream c = rw c.in-XinfoStream.is c.read_xinfo_stream.ensures
+
+pub returns-in-XinfoGroups : goal.returns-in-XinfoGroups
+returns-in-XinfoGroups c = rw c.in-XinfoGroups.is c.read_xinfo_groups.ensures
+
+pub returns-in-XinfoConsumers : goal.returns-in-XinfoConsumers
+returns-in-XinfoConsumers c = rw c.in-XinfoConsumers.is c.read_xinfo_consumers.ensures
+
+pub returns-in-Xautoclaim : goal.returns-in-Xautoclaim
+returns-in-Xautoclaim c = rw c.in-Xautoclaim.is c.read_xautoclaim.ensures
+
+pub returns-in-Xclaim : goal.returns-in-Xclaim
+returns-in-Xclaim c = rw c.in-Xclaim.is c.read_xclaim.ensures
+
+pub returns-in-Xpending : goal.returns-in-Xpending
+returns-in-Xpending c = rw c.in-Xpending.is c.read_xpending.ensures
+
+pub returns-in-Xread : goal.returns-in-Xread
+returns-in-Xread c = rw c.in-Xread.is c.read_xread.ensures

@@ -2,19 +2,15 @@ use Rattle.std.proofs.Common.{◌≡◌, ◌≢◌, List, [], ◌∷◌, map, re
 use Rattle.std.proofs.lemmas.Result.{err_from_is_err_and}
 use Rattle.sr_ids.specs.declared.id.Id.{Id}
 use Rattle.sr_args.specs.declared.call.Call.TheVariants.{Xdel}
-use Rattle.sr_args.specs.Place.{Word, Fits, HasIds, strict_id, spelled}
+use Rattle.sr_args.specs.Place.{Word, HasIds, strict_id, spelled}
 use Rattle.sr_args.specs.Form.{Reading, Reads, AreIds}
 use Rattle.sr_args.specs.commands.Xdel.{form, call}
 use Rattle.sr_args.specs.steps.Gives.{GivesCall}
-use Rattle.sr_args.proofs.FormLemmas.{ids-numbers, AreIds-exist}
+use Rattle.sr_args.proofs.FormLemmas.{Fits-ids, ids-numbers, AreIds-exist}
 use Rattle.sr_args.proofs.commands.xdel.read_xdel.Goals as goal
 
-fits : (rest : List Word) → Fits rest (map (spelled strict_id) rest)
-fits [] = tt
-fits (word ∷ rest) = (refl, fits rest)
-
 reads : (words rest : List Word) (key : Word) → words ≡ key ∷ rest → rest ≢ [] → Reads form words (key, rest)
-reads words rest key e some = record { fits = rw e (refl, fits rest); fit = some }
+reads words rest key e some = record { fits = rw e (refl, Fits-ids strict_id rest); fit = some }
 
 gives : (words rest : List Word) (key copy : Word) (list : List Id) → words ≡ key ∷ rest → rest ≢ [] → AreIds strict_id rest list → copy ≡ key → GivesCall form call words (Xdel copy list)
 gives words rest key copy list e some p same =

@@ -7,7 +7,7 @@ use Rattle.sr_args.specs.declared.commands.xrange.Bound.TheVariants.{Start, End}
 use Rattle.sr_args.specs.Form.{Values}
 use Rattle.sr_args.specs.commands.Xrevrange.{form, call}
 use Rattle.sr_args.specs.steps.Ranges.{asked_of}
-use Rattle.sr_args.proofs.RangeLemmas.{made_call, made_fault}
+use Rattle.sr_args.proofs.GivesLemmas.{made_call, made_fault}
 use Rattle.sr_args.proofs.commands.xrange.read_xrevrange.Goals as goal
 
 abbrev pub call_for : Asked → Call

@@ -1,0 +1,66 @@
+use Rattle.std.proofs.Common.{◌≡◌, List, map, take, Ok, Err, refl, rules}
+use Rattle.std.proofs.lemmas.Result.{err_from_is_err_and}
+use Rattle.sr_args.specs.declared.call.Call.TheVariants.{Xread}
+use Rattle.sr_args.specs.declared.call.Position.{Position}
+use Rattle.sr_args.specs.declared.options.Choice.{Choice}
+use Rattle.sr_args.specs.declared.options.OptionSet.TheVariants as sets
+use Rattle.sr_args.specs.Place.{Word, HasIds, position, spelled}
+use Rattle.sr_args.specs.Options.{Written}
+use Rattle.sr_args.specs.Form.{Reads, AreIds}
+use Rattle.sr_args.specs.commands.Xread.{form, call}
+use Rattle.sr_args.specs.steps.Gives.{GivesCall}
+use Rattle.sr_args.specs.steps.Options.{AreJudged, chosen_of}
+use Rattle.sr_args.specs.steps.Streams.{streams_reading}
+use Rattle.sr_args.proofs.FormLemmas.{AreIds-exist}
+use Rattle.sr_args.proofs.ReadLemmas.{read-fault, read-numbers, read-ids}
+use Rattle.sr_args.proofs.commands.xread.read_xread.Goals as goal
+
+gives : (words : List Word) (written : List Written) (keys ids copy : List Word) (list : List Position) (choice : Choice) → Reads form words (streams_reading sets.Xread position written keys ids) → copy ≡ keys → AreIds position ids list → AreJudged written (Ok choice) → GivesCall form call words (Xread choice.count copy list)
+gives words written keys ids copy list choice reads same are judged = record {
+  reading = streams_reading sets.Xread position written keys ids;
+  reads = reads;
+  values = (chosen_of choice, (copy, list));
+  means = (judged, (same, are));
+  is = refl;
+}
+
+pub returns-in_err-choice : goal.returns-in_err-choice
+returns-in_err-choice c =
+    let p = err_from_is_err_and c.from_residual.result c.from_residual.ensures.1 in
+    let read = c.in-Some.read in
+    let found = c.in-Some.ensures.found in
+    let judged : AreJudged found.0 (Err c.in_err-choice.field-0.0) = rw c.in_err-choice.was at found.1 in
+    rw (p.1, p.2) (read-fault sets.Xread position call c.args.words found.0 (take read.streams.keys read.streams.from_keys) read.streams.ids c.in_err-choice.field-0.0 (found.2 position) judged)
+
+pub returns-then-not-are_positions : goal.returns-then-not-are_positions
+returns-then-not-are_positions c =
+    let read = c.in-Some.read in
+    let found = c.in-Some.ensures.found in
+    let judged : AreJudged found.0 (Ok c.in_ok-choice.choice) = rw c.in_ok-choice.was at found.1 in
+    let unspelled : HasIds (map (spelled position) read.streams.ids) → ⊥ = search rules in
+    (streams_reading sets.Xread position found.0 (take read.streams.keys read.streams.from_keys) read.streams.ids, found.2 position, read-numbers sets.Xread position found.0 (take read.streams.keys read.streams.from_keys) read.streams.ids c.in_ok-choice.choice judged, λ h. unspelled (read-ids sets.Xread position found.0 (take read.streams.keys read.streams.from_keys) read.streams.ids h))
+
+pub returns-in_err-from : goal.returns-in_err-from
+returns-in_err-from c =
+    let p = err_from_is_err_and c.from_residual-in_err-from.result c.from_residual-in_err-from.ensures.1 in
+    let read = c.in-Some.read in
+    let found = c.in-Some.ensures.found in
+    let judged : AreJudged found.0 (Ok c.in_ok-choice.choice) = rw c.in_ok-choice.was at found.1 in
+    let all : HasIds (map (spelled position) read.streams.ids) = search rules in
+    let list = AreIds-exist position read.streams.ids all in
+    rw (p.1, p.2) (_, gives c.args.words found.0 (take read.streams.keys read.streams.from_keys) read.streams.ids (take read.streams.keys read.streams.from_keys) list.0 c.in_ok-choice.choice (found.2 position) refl list.1 judged)
+
+pub returns-in_err-keys : goal.returns-in_err-keys
+returns-in_err-keys c =
+    let p = err_from_is_err_and c.from_residual-in_err-keys.result c.from_residual-in_err-keys.ensures.1 in
+    let read = c.in-Some.read in
+    let found = c.in-Some.ensures.found in
+    let judged : AreJudged found.0 (Ok c.in_ok-choice.choice) = rw c.in_ok-choice.was at found.1 in
+    rw (p.1, p.2) (_, gives c.args.words found.0 (take read.streams.keys read.streams.from_keys) read.streams.ids (take read.streams.keys read.streams.from_keys) c.in_ok-from.from c.in_ok-choice.choice (found.2 position) refl c.in_ok-from.ensures judged)
+
+pub returns : goal.returns
+returns c =
+    let read = c.in-Some.read in
+    let found = c.in-Some.ensures.found in
+    let judged : AreJudged found.0 (Ok c.in_ok-choice.choice) = rw c.in_ok-choice.was at found.1 in
+    gives c.args.words found.0 (take read.streams.keys read.streams.from_keys) read.streams.ids c.in_ok-keys.keys c.in_ok-from.from c.in_ok-choice.choice (found.2 position) c.in_ok-keys.ensures c.in_ok-from.ensures judged

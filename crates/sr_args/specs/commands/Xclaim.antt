@@ -1,0 +1,22 @@
+-- XCLAIM key group consumer least_idle id [id ..] [IDLE number] [TIME number] [RETRYCOUNT number] [JUSTID]
+-- Source: Redis documentation, command XCLAIM.
+
+use Rattle.std.specs.Prelude.{List, [], ◌∷◌}
+use Rattle.sr_args.specs.declared.call.Call.{Call}
+use Rattle.sr_args.specs.declared.call.Call.TheVariants as calls
+use Rattle.sr_args.specs.declared.name.OptionName.{OptionName}
+use Rattle.sr_args.specs.declared.name.OptionName.TheVariants.{Force, LastId}
+use Rattle.sr_args.specs.declared.options.OptionSet.TheVariants as sets
+use Rattle.sr_args.specs.Place.{int}
+use Rattle.sr_args.specs.Form.{Form, text, number, ids_before, barring, Values}
+
+-- options of Redis that are not supported: no word after the least idle time names one of them
+abbrev pub unsupported : List OptionName
+unsupported = Force ∷ LastId ∷ []
+
+abbrev pub form : Form
+form = text (text (text (number int (barring unsupported (ids_before sets.Xclaim)))))
+
+abbrev pub call : Values form → Call
+call (key, (group, (consumer, (least_idle, (list, chosen))))) =
+    calls.Xclaim key group consumer least_idle list chosen.time chosen.delivered chosen.just_ids

@@ -1,0 +1,14 @@
+-- XREAD [COUNT number] STREAMS key [key ..] id [id ..]
+-- Source: Redis documentation, command XREAD.
+
+use Rattle.sr_args.specs.declared.call.Call.{Call}
+use Rattle.sr_args.specs.declared.call.Call.TheVariants as calls
+use Rattle.sr_args.specs.declared.options.OptionSet.TheVariants as sets
+use Rattle.sr_args.specs.Place.{position}
+use Rattle.sr_args.specs.Form.{Form, options, streams, Values}
+
+abbrev pub form : Form
+form = options sets.Xread (streams position)
+
+abbrev pub call : Values form → Call
+call (chosen, (keys, from)) = calls.Xread chosen.count keys from

@@ -1,0 +1,23 @@
+-- A command on one stream that leaves it sound, and writes nothing if it replies an error.
+use Rattle.std.proofs.Common.{◌≡◌, ℤ, Option, None, refl, arith}
+use Rattle.std.specs.Prelude.{IfSome}
+use Rattle.sr_resp.specs.declared.code.ErrCode.{ErrCode}
+use Rattle.sr_resp.specs.Reply.{Answer, error_reply, integer}
+use Rattle.sr_stream.specs.Stream.{StreamState, IsStream, empty_stream}
+use Rattle.sr_space.specs.Touched.{Touched, reply_of, replies}
+
+pub record IsLawful (f : Option StreamState → Touched) : Type 0 where
+  pub sound : (found : Option StreamState) → IfSome found IsStream → IfSome (f found).written IsStream
+  pub errors : (found : Option StreamState) (code : ErrCode) → (f found).outcome ≡ reply_of (error_reply code) → (f found).written ≡ None
+
+-- a number is no error
+pub integer_no_error : (n : ℤ) (code : ErrCode) → reply_of (integer n) ≡ reply_of (error_reply code) → ⊥
+integer_no_error n code e = cc
+
+-- a command that writes nothing
+pub IsLawful-replies : (answer : Option StreamState → Answer) → IsLawful (λ found. replies (answer found))
+IsLawful-replies answer = record { sound = λ found is. tt; errors = λ found code e. refl }
+
+-- a new stream
+pub IsStream-empty : IsStream empty_stream
+IsStream-empty = record { rising = tt; up_to = tt; few = omega arith; in_order = tt }
