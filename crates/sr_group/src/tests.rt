@@ -1,5 +1,6 @@
 //! What no clause says: that calls succeed while there is memory. The values were worked out by hand.
-ghost use Rattle.std.specs.Prelude.{◌<◌, ◌^◌, IfSome};
+ghost use Rattle.std.specs.Prelude.{◌<◌, ◌^◌, IfOk, IfSome};
+ghost use Rattle.sr_group.specs.Shown.{HasRoomFor};
 
 use crate::{Claim, ClaimTime, Group, Shown};
 use sr_bytes::{Fields, Name};
@@ -92,8 +93,11 @@ fn first_byte(name: &Name) -> u8 {
 fn rows(alloc: Global, group: &Group) -> Result<Vec<Row>, AllocError> {
     let mut listing = group.listing(id(0), id(100), 100, 0, 0, None);
     let mut rows = Vec::new(alloc);
-    while let Some(nack) = listing.next() {
-        rows.push((nack.id.ms, first_byte(&nack.owner), nack.time, nack.count))?;
+    for _ in 0..listing.len() {
+        match listing.next() {
+            None => return Ok(rows),
+            Some(nack) => rows.push((nack.id.ms, first_byte(&nack.owner), nack.time, nack.count))?,
+        }
     }
     Ok(rows)
 }
@@ -102,8 +106,11 @@ fn rows(alloc: Global, group: &Group) -> Result<Vec<Row>, AllocError> {
 fn listed(alloc: Global, shown: &Shown) -> Result<Vec<Item>, AllocError> {
     let mut entries = shown.listed();
     let mut list = Vec::new(alloc);
-    while let Some(entry) = entries.next() {
-        list.push((entry.id.ms, entry.found))?;
+    for _ in 0..entries.len() {
+        match entries.next() {
+            None => return Ok(list),
+            Some(entry) => list.push((entry.id.ms, entry.found))?,
+        }
     }
     Ok(list)
 }
@@ -127,7 +134,9 @@ fn shown_by(
     entries: &Entries,
     consumer: &Name,
     step: &Step<'_>,
-) -> Result<Shown, AllocError> {
+) -> Result<Shown, AllocError>
+    ensures { IfOk result (λ shown. HasRoomFor shown group.new) }
+{
     let moment = u64::from(step.moment);
     match step.call {
         Call::Deliver { noack } => group.deliver(alloc, consumer, moment, entries, None, noack),
