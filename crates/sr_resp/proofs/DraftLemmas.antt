@@ -24,7 +24,7 @@ unfolding parts_of
 fit-spelled text is = is.1.fit
 
 -- a text has the parts that it is known to spell
-parts-known : (text : List ℕ) (is : IsSpelled text) (parts : List Part) → text ≡ reply_text parts → AreSpellable parts → parts_of text is ≡ parts
+pub parts-known : (text : List ℕ) (is : IsSpelled text) (parts : List Part) → text ≡ reply_text parts → AreSpellable parts → parts_of text is ≡ parts
 parts-known text is parts e fit = one_spelling (parts_of text is) parts (fit-spelled text is) fit (sym (text-spelled text is) ∙ e)
 
 -- no text spells no parts
@@ -53,18 +53,18 @@ IsSpelled-grown (Ok x) old new more parts was fit spelled grown stayed =
 IsSpelled-grown (Err e) old new more parts was fit spelled grown stayed = subst IsSpelled (sym stayed) was
 
 -- each part has a byte at least
-reply_text-long : (parts : List Part) → length parts ≤ length (reply_text parts)
+pub part_text-some : (part : Part) → 1 ≤ length (part_text part)
+part_text-some (Simple word) = omega arith
+part_text-some (Error code) = omega arith
+part_text-some (Int n) = omega arith
+part_text-some (Bulk bytes) = omega arith
+part_text-some NullBulk = omega arith
+part_text-some NullArray = omega arith
+part_text-some (Array items) = omega arith
+
+pub reply_text-long : (parts : List Part) → length parts ≤ length (reply_text parts)
 reply_text-long [] = omega arith
-reply_text-long (part ∷ parts) = omega (arith, reply_text-long parts, some part, length-append (part_text part) (reply_text parts))
-  where
-    some : (part : Part) → 1 ≤ length (part_text part)
-    some (Simple word) = omega arith
-    some (Error code) = omega arith
-    some (Int n) = omega arith
-    some (Bulk bytes) = omega arith
-    some NullBulk = omega arith
-    some NullArray = omega arith
-    some (Array items) = omega arith
+reply_text-long (part ∷ parts) = omega (arith, reply_text-long parts, part_text-some part, length-append (part_text part) (reply_text parts))
 
 pub parts-few : (text : List ℕ) (is : IsSpelled text) → length (parts_of text is) ≤ length text
 parts-few text is = omega (arith, reply_text-long (parts_of text is), ap length (text-spelled text is))

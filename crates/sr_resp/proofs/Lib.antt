@@ -1,5 +1,6 @@
 pub mod CallerLemmas
 pub mod Choice
+pub mod DecodingLemmas
 pub mod DraftLemmas
 pub mod EncodingLemmas
 pub mod EqualityLemmas

@@ -56,6 +56,16 @@ impl Bytes {
         }
     }
 
+    /// These bytes. More than 41 take memory.
+    pub(crate) fn of(alloc: Global, bytes: &[u8]) -> Result<Bytes, AllocError>
+        ensures { IfOk result (λ b. b ≡ bytes.now) }
+    {
+        if bytes.len() <= 41 {
+            return Ok(Bytes::short(bytes));
+        }
+        Ok(Bytes::long(Name::new(Vec::from_slice(alloc, bytes)?)))
+    }
+
     pub(crate) fn as_slice(&self) -> &[u8]
         ensures { result.now ≡ self.now }
     {

@@ -1,6 +1,6 @@
 ghost use Rattle.std.specs.Prelude.{◌≡◌, ◌∷◌, [], ◌++◌, ◌+◌, ◌<◌, ℕ, List, length, IfOk, OnOk, OnErr, IsTrue, ◌↔◌};
 ghost use Rattle.sr_resp.specs.Reply.{Part, Array, IsReply, bulk_string, integer, null_string, null_array, array_header, reply_text};
-ghost use Rattle.sr_resp.specs.Spelled.{IsSpelled};
+ghost use Rattle.sr_resp.specs.Spelled.{Spells, IsSpelled};
 ghost use Rattle.sr_resp.specs.steps.OneSpelling.{IsSpelled-prop};
 ghost use Rattle.sr_resp.specs.steps.Pieces.{first_part, part_of};
 
@@ -61,6 +61,18 @@ impl Draft {
             first,
             rest: Vec::new(alloc),
         }
+    }
+
+    /// A draft of this part, followed by the parts that the bytes spell. It copies the bytes.
+    pub(crate) fn read(alloc: Global, first: Piece<'_>, others: &[u8]) -> Result<Draft, AllocError>
+        requires { IsSpelled others.now }
+        ensures { (parts : List Part) → Spells others.now parts
+            → IfOk result (λ draft. draft ≡ part_of first.entry ∷ parts) }
+    {
+        Ok(Draft {
+            first: First::of(alloc, first)?,
+            rest: Vec::from_slice(alloc, others)?,
+        })
     }
 
     /// Adds the header of an array.

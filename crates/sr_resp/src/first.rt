@@ -1,6 +1,7 @@
 ghost use Rattle.std.specs.Prelude.{◌≡◌, IfOk};
 
 use crate::bytes::Bytes;
+use crate::piece::Piece;
 use crate::{ErrCode, Word};
 use std::alloc::{AllocError, Global};
 
@@ -24,6 +25,24 @@ pub(crate) enum First {
 }
 
 impl First {
+    ghost use Rattle.std.specs.Prelude.{◌≡◌, IfOk};
+    ghost use Rattle.sr_resp.specs.steps.Pieces.{first_part, part_of};
+
+    /// The same part with bytes of its own. Only a bulk string of more than 41 bytes takes memory.
+    pub(crate) fn of(alloc: Global, piece: Piece<'_>) -> Result<First, AllocError>
+        ensures { IfOk result (λ first. first_part first ≡ part_of piece.entry) }
+    {
+        Ok(match piece {
+            Piece::Simple(word) => First::Simple(word),
+            Piece::Error(code) => First::Error(code),
+            Piece::Int(n) => First::Int(n),
+            Piece::Bulk(bytes) => First::Bulk(Bytes::of(alloc, bytes)?),
+            Piece::NullBulk => First::NullBulk,
+            Piece::NullArray => First::NullArray,
+            Piece::Array(items) => First::Array(items),
+        })
+    }
+
     /// A copy of this part.
     pub(crate) fn copy(&self, alloc: Global) -> Result<First, AllocError>
         ensures { IfOk result (λ first. first ≡ self.now) }

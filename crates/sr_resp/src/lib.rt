@@ -1,8 +1,11 @@
-//! RESP2 both ways: requests read from a stream of bytes, and replies written to one.
+//! RESP2 both ways: requests read from a stream of bytes, and replies written to one or read back from their bytes.
 #![tactic(auto)]
 
 mod bytes;
 mod code;
+mod decoding;
+#[cfg(test)]
+mod decoding_tests;
 mod draft;
 mod encoding;
 mod first;
@@ -17,6 +20,7 @@ mod send;
 mod stage;
 
 pub use code::{ErrCode, Word};
+pub use decoding::decode;
 pub use draft::Draft;
 pub use encoding::{append_reply, encode};
 pub use reader::{ReadFault, Reader, one_reading, one_spelling};

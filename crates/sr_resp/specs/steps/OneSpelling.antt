@@ -21,7 +21,7 @@ use Rattle.sr_resp.specs.Spelled.{IsSpellable, AreSpellable, Spells, IsSpelled}
 -- ---- lines
 
 -- each byte of the line is above this one
-abbrev IsAbove : ℕ → List ℕ → Type 0
+abbrev pub IsAbove : ℕ → List ℕ → Type 0
 IsAbove low [] = Unit {0}
 IsAbove low (b ∷ bytes) = (low < b) × IsAbove low bytes
 
@@ -45,7 +45,7 @@ IsAbove-lower : (high low : ℕ) (bytes : List ℕ) → low ≤ high → IsAbove
 IsAbove-lower high low [] le each = tt
 IsAbove-lower high low (b ∷ bytes) le each = (omega (arith, each.0), IsAbove-lower high low bytes le each.1)
 
-IsAbove-decimal : (n : ℕ) → n < 2 ^ 64 → IsAbove 47 (decimal n)
+pub IsAbove-decimal : (n : ℕ) → n < 2 ^ 64 → IsAbove 47 (decimal n)
 IsAbove-decimal n small = decimal_by_steps (λ n ds. IsAbove 47 ds) one more n small
   where
     one : (n : ℕ) → n < 10 → IsAbove 47 ((48 + n) ∷ [])
@@ -75,7 +75,7 @@ one_line (c ∷ a) (d ∷ b) x y p q e =
 
 -- ---- the texts of errors and simple strings differ
 
-abbrev each_error : List ErrCode
+abbrev pub each_error : List ErrCode
 each_error =
     errors.Unknown ∷ errors.Arity ∷ errors.Syntax ∷ errors.Number ∷ errors.BadId ∷ errors.Protocol ∷ errors.IdZero ∷ errors.IdSmall ∷ errors.Exhausted ∷ errors.NoKey ∷ errors.NoGroup ∷ errors.BusyGroup ∷ errors.Memory ∷ errors.Full ∷ errors.Stale ∷ errors.TooMany ∷ []
 
@@ -134,7 +134,7 @@ is_above-error_text errors.TooMany = refl
 
 -- ---- a part is a mark, a line and a tail
 
-abbrev mark : Part → ℕ
+abbrev pub mark : Part → ℕ
 mark (Simple word) = 43
 mark (Error code) = 45
 mark (Int n) = 58
@@ -143,7 +143,7 @@ mark NullBulk = 36
 mark NullArray = 42
 mark (Array items) = 42
 
-abbrev line : Part → List ℕ
+abbrev pub line : Part → List ℕ
 line (Simple word) = word_text word
 line (Error code) = error_text code
 line (Int n) = signed_decimal n
@@ -153,11 +153,11 @@ line NullArray = 45 ∷ 49 ∷ []
 line (Array items) = decimal items
 
 -- what follows the line, before the next part
-abbrev tail : Part → List ℕ → List ℕ
+abbrev pub tail : Part → List ℕ → List ℕ
 tail (Bulk bytes) behind = bytes ++ (13 ∷ 10 ∷ behind)
 tail _ behind = behind
 
-IsAbove-line : (part : Part) → IsSpellable part → IsAbove 13 (line part)
+pub IsAbove-line : (part : Part) → IsSpellable part → IsAbove 13 (line part)
 IsAbove-line (Simple word) fits = IsAbove-word_text word
 IsAbove-line (Error code) fits = IsAbove-tested 13 (error_text code) (is_above-error_text code)
 IsAbove-line (Int n) fits = IsAbove-signed n fits
@@ -169,7 +169,7 @@ IsAbove-line (Array items) fits = IsAbove-lower 47 13 (decimal items) (omega ari
 short_text : (text behind : List ℕ) → (text ++ (13 ∷ 10 ∷ [])) ++ behind ≡ text ++ (13 ∷ 10 ∷ behind)
 short_text text behind = append_assoc text (13 ∷ 10 ∷ []) behind
 
-part_text-lines : (part : Part) (behind : List ℕ) → part_text part ++ behind ≡ mark part ∷ (line part ++ (13 ∷ 10 ∷ tail part behind))
+pub part_text-lines : (part : Part) (behind : List ℕ) → part_text part ++ behind ≡ mark part ∷ (line part ++ (13 ∷ 10 ∷ tail part behind))
 part_text-lines (Simple word) behind = ap (λ (t : List ℕ). 43 ∷ t) (short_text (word_text word) behind)
 part_text-lines (Error code) behind = ap (λ (t : List ℕ). 45 ∷ t) (short_text (error_text code) behind)
 part_text-lines (Int n) behind = ap (λ (t : List ℕ). 58 ∷ t) (short_text (signed_decimal n) behind)
@@ -213,7 +213,7 @@ same_part (Array a) NullArray x y f g m l t = absurd (no_length a f l)
 same_part NullArray (Array b) x y f g m l t = absurd (no_length b g (sym l))
 same_part p q x y f g m l t = absurd (omega (arith, m))
 
-one_part : (p q : Part) (x y : List ℕ) → IsSpellable p → IsSpellable q → part_text p ++ x ≡ part_text q ++ y → (p ≡ q) × (x ≡ y)
+pub one_part : (p q : Part) (x y : List ℕ) → IsSpellable p → IsSpellable q → part_text p ++ x ≡ part_text q ++ y → (p ≡ q) × (x ≡ y)
 one_part p q x y f g e =
     let whole : mark p ∷ (line p ++ (13 ∷ 10 ∷ tail p x)) ≡ mark q ∷ (line q ++ (13 ∷ 10 ∷ tail q y)) = sym (part_text-lines p x) ∙ e ∙ part_text-lines q y in
     let marks : mark p ≡ mark q = cc whole in
