@@ -1,6 +1,7 @@
-ghost use Rattle.std.specs.Prelude.{◌≡◌};
+ghost use Rattle.std.specs.Prelude.{◌≡◌, IfOk};
 
 use crate::Id;
+use std::alloc::{AllocError, Global};
 use std::marker::Model;
 
 /// A list of ids, in the order in which they were written.
@@ -31,5 +32,13 @@ impl Ids {
         ensures { result.now ≡ self.now }
     {
         self.list.as_slice()
+    }
+
+    /// A copy with the same ids.
+    pub fn copy(&self, alloc: Global) -> Result<Ids, AllocError>
+        ensures { IfOk result (λ copy. copy ≡ self.now) }
+    {
+        let list = Vec::from_slice(alloc, self.as_slice())?;
+        Ok(Ids::new(list))
     }
 }
