@@ -1,5 +1,5 @@
 -- Consumers in byte order: where binary search finds one, and what is left with one more, one seen again or one gone.
-use Rattle.std.proofs.Common.{◌≡◌, ℕ, zero, suc, ◌+◌, ◌<◌, Bool, true, false, cond, not, ◌||◌, List, [], ◌∷◌, ◌++◌, length, get_or, set, take, drop, filter, slice_get, Some, inl, inr, refl, ap, sym, ◌∙◌, arith}
+use Rattle.std.proofs.Common.{◌≡◌, ℕ, zero, suc, ◌+◌, ◌<◌, Bool, true, false, cond, not, ◌||◌, List, [], ◌∷◌, ◌++◌, length, get_or, set, take, drop, filter, slice_get, Some, None, option_map, inl, inr, refl, ap, sym, ◌∙◌, arith}
 use Rattle.std.proofs.Math.Seq.{take-nil}
 use Rattle.std.proofs.lemmas.Bool.{cases_lt}
 use Rattle.std.specs.List.{All, insert}
@@ -10,7 +10,7 @@ use Rattle.sr_bytes.specs.Order.{comes_before}
 use Rattle.sr_pending.specs.Pending.{is_same_name}
 use Rattle.sr_pending.proofs.Splitting.{Splits, Splits-counted, drop-Splits}
 use Rattle.sr_group.specs.declared.consumer.Consumer.{Consumer}
-use Rattle.sr_group.specs.Group.{AreAfter, AreInOrder, has_consumer, seen_at, without_consumer}
+use Rattle.sr_group.specs.Group.{AreAfter, AreInOrder, consumer_with, has_consumer, seen_at, without_consumer}
 use Rattle.sr_group.specs.steps.Consumers.{before}
 use Rattle.sr_group.proofs.NameLemmas.{comes_before-trans, comes_before-itself, comes_before-one_way, comes_before-neither, is_same_name-refl, is_same_name-true, is_same_name-before, is_same_name-after}
 
@@ -83,6 +83,24 @@ has_consumer-no_place name (y ∷ ys) (suc i) order splits other =
 
 before_place : (name : List ℕ) (y : Consumer) (ys : List Consumer) (i : ℕ) (x : Consumer) → AreAfter y.name ys → slice_get ys i ≡ Some x → x.name ≡ name → comes_before y.name name ≡ true
 before_place name y ys i x after here same = rw same at (AreAfter-get y.name ys i x after here)
+
+-- ---- the one with a name
+
+-- the consumer at its place is the one with the name
+pub consumer_with-place : (name : List ℕ) (xs : List Consumer) (i : ℕ) (x d : Consumer) → AreInOrder xs → slice_get xs i ≡ Some x → x.name ≡ name → Some (get_or xs i d).seen ≡ option_map (λ c. c.seen) (consumer_with name xs)
+consumer_with-place name [] i x d order here same = cc
+consumer_with-place name (y ∷ ys) zero x d order here same =
+    let first : y ≡ x = cc in
+    let test : is_same_name y.name name ≡ true = rw (first, same) (is_same_name-refl name) in
+    rw test refl
+consumer_with-place name (y ∷ ys) (suc i) x d order here same =
+    rw (is_same_name-before y.name name (before_place name y ys i x order.0 here same)) (consumer_with-place name ys i x d order.1 here same)
+
+pub consumer_with-none : (name : List ℕ) (xs : List Consumer) → has_consumer name xs ≡ false → None ≡ option_map (λ (c : Consumer). c.seen) (consumer_with name xs)
+consumer_with-none name [] none = refl
+consumer_with-none name (x ∷ xs) none =
+    let parts = has_consumer-not_first name x xs none in
+    rw parts.0 (consumer_with-none name xs parts.1)
 
 -- ---- without one
 

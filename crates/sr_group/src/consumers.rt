@@ -1,6 +1,6 @@
-ghost use Rattle.std.specs.Prelude.{◌≡◌, ◌+◌, ◌<◌, ◌≤◌, ◌⊎◌, IsTrue, false, IfSome, IfNone, OnOk, OnErr, vec_len, vec_capacity};
+ghost use Rattle.std.specs.Prelude.{◌≡◌, ◌+◌, ◌<◌, ◌≤◌, ◌⊎◌, IsTrue, false, IfSome, IfNone, OnOk, OnErr, option_map, vec_len, vec_capacity};
 ghost use Rattle.std.specs.List.{insert};
-ghost use Rattle.sr_group.specs.Group.{AreInOrder, has_consumer, seen_at, without_consumer};
+ghost use Rattle.sr_group.specs.Group.{AreInOrder, consumer_with, has_consumer, seen_at, without_consumer};
 ghost use Rattle.sr_group.specs.steps.Consumers.{IsPlace, before};
 
 use crate::Consumer;
@@ -42,6 +42,17 @@ pub(crate) fn is_there(consumers: &[Consumer], name: &Name) -> bool
     match place_of(consumers, name) {
         Some(_place) => true,
         None => false,
+    }
+}
+
+/// When the consumer with this name was seen last.
+pub(crate) fn seen_by(consumers: &[Consumer], name: &Name) -> Option<u64>
+    requires { AreInOrder consumers.now }
+    ensures { result ≡ option_map (λ consumer. consumer.seen) (consumer_with name.now consumers.now) }
+{
+    match place_of(consumers, name) {
+        Some(place) => Some(consumers[place].seen),
+        None => None,
     }
 }
 

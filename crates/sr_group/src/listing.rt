@@ -3,7 +3,7 @@ ghost use Rattle.std.specs.List.{All};
 ghost use Rattle.sr_group.specs.Group.{AreInOrder, counts_of, earlier, idle_for, oldest_of};
 ghost use Rattle.sr_group.specs.steps.Listing.{counted};
 
-use crate::consumers::place_of;
+use crate::consumers::{place_of, seen_by};
 use crate::{Consumer, Group};
 use sr_bytes::Name;
 use sr_ids::Id;
@@ -166,10 +166,10 @@ fn earlier(time: u64, other: Option<u64>) -> u64
 }
 
 impl Group {
-    ghost use Rattle.std.specs.Prelude.{◌≡◌, IfOk, length, take};
+    ghost use Rattle.std.specs.Prelude.{◌≡◌, IfOk, length, option_map, take};
     ghost use Rattle.std.specs.Option.{option_copied};
     ghost use Rattle.sr_pending.specs.Pending.{greatest_pending, least_pending, owned_by, owned_by_named, pending_between};
-    ghost use Rattle.sr_group.specs.Group.{counts_of, idle_for, oldest_of};
+    ghost use Rattle.sr_group.specs.Group.{consumer_with, counts_of, idle_for, oldest_of};
 
     /// How many entries are pending, the least and the greatest of their ids, and how many each consumer has.
     ///
@@ -215,5 +215,21 @@ impl Group {
         ensures { result ≡ oldest_of (owned_by consumer.now self.now.shown.nacks) }
     {
         least_time(self.pending.of(consumer))
+    }
+
+    /// How many entries are pending for the consumer.
+    pub fn count_of(&self, consumer: &Name) -> usize
+        ensures { result ≡ length (owned_by consumer.now self.now.shown.nacks) }
+    {
+        self.pending.count_of(consumer)
+    }
+
+    /// When the consumer was seen last, in milliseconds since 1970. None if the group doesn't have it.
+    ///
+    /// Source: Redis documentation, command XINFO CONSUMERS.
+    pub fn seen(&self, consumer: &Name) -> Option<u64>
+        ensures { result ≡ option_map (λ found. found.seen) (consumer_with consumer.now self.now.shown.consumers) }
+    {
+        seen_by(self.consumers.as_slice(), consumer)
     }
 }

@@ -365,7 +365,9 @@ fn a_consumer_is_made_once(rt: HostRuntime) -> Result<(), AllocError> {
     assert!(rt; group.add_consumer(alloc, &b, 10)?);
     assert!(rt; !group.add_consumer(alloc, &b, 20)?);
     assert!(rt; group.consumers().len() == 1 && group.consumers()[0].seen == 10);
+    assert_eq!(rt; group.seen(&b), Some(10));
     assert_eq!(rt; group.del_consumer(&b), 0);
+    assert_eq!(rt; group.seen(&b), None);
     assert_eq!(rt; group.consumers().len(), 0);
     Ok(())
 }
@@ -381,5 +383,6 @@ fn a_summary_counts_for_each_consumer(rt: HostRuntime) -> Result<(), AllocError>
     assert_eq!(rt; summary.greatest, Some(id(3)));
     assert!(rt; summary.counts.as_slice() == [3].as_slice());
     assert_eq!(rt; group.oldest(&a), Some(10));
+    assert_eq!(rt; group.count_of(&a), 3);
     Ok(())
 }

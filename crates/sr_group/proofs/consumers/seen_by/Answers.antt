@@ -1,0 +1,10 @@
+use Rattle.sr_group.proofs.ConsumerLemmas.{consumer_with-none, consumer_with-place}
+use Rattle.sr_group.proofs.consumers.seen_by.Goals as goal
+
+pub returns-in-Some : goal.returns-in-Some
+returns-in-Some c =
+    let at = c.in-Some.ensures.found in
+    consumer_with-place c.args.name.now c.args.consumers.now c.in-Some.place at.consumer c.index-consumers-place.result c.requires at.here at.same
+
+pub returns-in-None : goal.returns-in-None
+returns-in-None c = consumer_with-none c.args.name.now c.args.consumers.now c.in-None.ensures.none
