@@ -13,7 +13,7 @@ use Rattle.sr_args.specs.declared.options.Choice.{Choice}
 use Rattle.sr_args.specs.declared.options.ValueFault.{ValueFault}
 use Rattle.sr_args.specs.declared.options.ValueFault.TheVariants as faults
 use Rattle.sr_args.specs.Place.{Word, Place, HasNumber, HasId, HasNumbers, HasIds}
-use Rattle.sr_args.specs.Options.{TrimReading, Written, count, no_make, make_key, ids_only, idle, since, deliveries, trimming, count_place, sign_places, bound_place, limit_places, option_places, Chosen, nothing, IsBound, IsLimit, IsTrim, Sets, Choose}
+use Rattle.sr_args.specs.Options.{TrimReading, Written, count, no_make, make_key, ids_only, idle, since, deliveries, named_group, no_ack, block, trimming, count_place, sign_places, bound_place, limit_places, option_places, Chosen, nothing, IsBound, IsLimit, IsTrim, Sets, Choose}
 use Rattle.sr_args.specs.steps.Options.{AreJudged, IsJudged, GivesBound, GivesTrim, chosen_of, trim_operands}
 use Rattle.sr_args.specs.declared.call.TimeAsked.TheVariants as times
 use Rattle.sr_args.specs.declared.number.CountRange.{CountRange}
@@ -139,6 +139,8 @@ Sets-numbers (count range most) a b s = (tt, (count-number range most s.0 s.1, t
 Sets-numbers (idle word) a b s = (tt, ((s.0, s.1), tt))
 Sets-numbers (since word) a b s = (tt, ((s.0, s.1), tt))
 Sets-numbers (deliveries word) a b s = (tt, ((s.0, s.1), tt))
+Sets-numbers (block wait) a b s = (tt, ((s.0, s.1), tt))
+Sets-numbers (named_group group consumer) a b s = (tt, (tt, (tt, tt)))
 Sets-numbers (trimming t) a b s = trim-numbers t s.0 s.1
 Sets-numbers o a b s = (tt, tt)
 
@@ -147,6 +149,8 @@ Sets-ids (count range most) a b s = (tt, (count-id range most, tt))
 Sets-ids (idle word) a b s = (tt, (tt, tt))
 Sets-ids (since word) a b s = (tt, (tt, tt))
 Sets-ids (deliveries word) a b s = (tt, (tt, tt))
+Sets-ids (block wait) a b s = (tt, (tt, tt))
+Sets-ids (named_group group consumer) a b s = (tt, (tt, (tt, tt)))
 Sets-ids (trimming t) a b s = trim-ids t s.0 s.1
 Sets-ids o a b s = (tt, tt)
 
@@ -158,6 +162,9 @@ Sets-one (deliveries word) a b c s t = s.2 ∙ ap (λ (n : ℕ). record a { deli
 Sets-one no_make a b c s t = s ∙ sym t
 Sets-one make_key a b c s t = s ∙ sym t
 Sets-one ids_only a b c s t = s ∙ sym t
+Sets-one (named_group group consumer) a b c s t = s ∙ sym t
+Sets-one no_ack a b c s t = s ∙ sym t
+Sets-one (block wait) a b c s t = s.2 ∙ ap (λ (n : ℕ). record a { block = Some n }) (IsNat-one wait s.0 t.0 s.1 t.1) ∙ sym t.2
 Sets-one (trimming r) a b c s t = s.2 ∙ ap (λ (trim : Trim). record a { trim = Some trim }) (IsTrim-one r s.0 t.0 s.1 t.1) ∙ sym t.2
 
 -- all of them

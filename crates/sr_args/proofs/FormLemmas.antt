@@ -1,6 +1,7 @@
 -- Words fit a form with one reading, and a reading has one meaning.
 use Rattle.std.proofs.Common.{◌≡◌, ◌≢◌, List, [], ◌∷◌, ◌++◌, map, Option, Some, None, true, All, refl, sym, ap, ◌∙◌, subst, append-nil}
 use Rattle.std.specs.List.{flat_map}
+use Rattle.std.proofs.lemmas.Option.{same_Some}
 use Rattle.sr_ids.proofs.SpellingLemmas.{SpellsId-one}
 use Rattle.sr_ids.proofs.SpecLemmas.{IsSpec-one}
 use Rattle.sr_ids.proofs.StartLemmas.{IsStart-one}
@@ -8,12 +9,12 @@ use Rattle.sr_ids.proofs.EndLemmas.{IsEnd-one}
 use Rattle.sr_args.specs.Options.{Written, AreOptionsFit, IsUnnamed, is_of, first_name, nothing, option_places}
 use Rattle.sr_args.specs.declared.name.OptionName.{OptionName}
 use Rattle.sr_args.specs.declared.options.OptionSet.{OptionSet}
-use Rattle.sr_args.specs.Place.{Word, Place, Range, int, nat, from_one, Number, Writes, IdForm, strict_id, range_start, range_end, new_id, position, IdOf, Spells, Fits, HasNumbers, HasIds, spelled}
-use Rattle.sr_args.specs.Form.{Form, end, text, id, number, optional_text, ids, pairs, options, trim, before, maybe, ids_before, streams, barring, named_places, IsNamedFirst, AreUnnamed, IsMaybeNumber, Reading, Values, places, pair_places, IsFit, Reads, AreIds, Means}
+use Rattle.sr_args.specs.Place.{Word, Place, Range, int, nat, from_one, Number, Writes, IdForm, strict_id, range_start, range_end, new_id, position, read_id, IdOf, Spells, Fits, HasNumbers, HasIds, spelled}
+use Rattle.sr_args.specs.Form.{Form, end, text, id, number, optional_text, ids, pairs, options, grouped, trim, before, maybe, ids_before, streams, barring, named_places, IsNamedFirst, AreUnnamed, IsMaybeNumber, Reading, Values, places, pair_places, IsFit, Reads, AreIds, Means}
 use Rattle.sr_args.proofs.ChoiceLemmas.{HasNumbers-append, HasIds-append, Choose-one, Choose-numbers, Choose-ids, IsTrim-one, trim-numbers, trim-ids}
 use Rattle.sr_args.proofs.NumberLemmas.{IsInt-one, IsNat-one}
 use Rattle.sr_args.proofs.OptionLemmas.{GoOn, IsPast-end, head-of_set, options-one, trim-one}
-use Rattle.sr_args.proofs.PositionLemmas.{SpellsPosition-one}
+use Rattle.sr_args.proofs.PositionLemmas.{SpellsPosition-one, SpellsRead-one}
 use Rattle.sr_args.proofs.StreamsLemmas.{streams-one, keys-numbers, keys-ids}
 
 -- pairs with equal parts are equal
@@ -101,6 +102,9 @@ reading-one pairs words r s f g p q = pairs-one words r s f g
 reading-one (options set form) words r s f g p q =
     let one = options-one set words r.0 s.0 (places form r.1) (places form s.1) p.0 q.0 p.1 q.1 f g in
     same_pair r s one.0 (reading-one form one.1.rest r.1 s.1 one.1.left one.1.right p.2 q.2)
+reading-one (grouped set form) words r s f g p q =
+    let one = options-one set words r.0 s.0 (places form r.1) (places form s.1) p.0 q.0 p.1 q.1 f g in
+    same_pair r s one.0 (reading-one form one.1.rest r.1 s.1 one.1.left one.1.right p.3 q.3)
 reading-one trim words r s f g p q = trim-one words r s p q f g
 reading-one (before name range form) words r s f g p q =
     let one = before-one name range words r.0 s.0 (places form r.1) (places form s.1) p.0 q.0 f g in
@@ -128,6 +132,7 @@ Spells-one range_start word i j p q = IsStart-one word i j p q
 Spells-one range_end word i j p q = IsEnd-one word i j p q
 Spells-one new_id word i j p q = IsSpec-one word i j p q
 Spells-one position word i j p q = SpellsPosition-one word i j p q
+Spells-one read_id word i j p q = SpellsRead-one word i j p q
 
 Writes-one : (range : Range) (word : Word) (m n : Number range) → Writes range word m → Writes range word n → m ≡ n
 Writes-one int word m n p q = IsInt-one word m n p q
@@ -160,6 +165,9 @@ Means-one optional_text reading v w p q = p ∙ sym q
 Means-one (ids spelling) reading v w p q = AreIds-one spelling reading v w p q
 Means-one pairs reading v w p q = p ∙ sym q
 Means-one (options set form) reading v w p q = same_pair v w (Choose-one reading.0 nothing v.0 w.0 p.0 q.0) (Means-one form reading.1 v.1 w.1 p.1 q.1)
+Means-one (grouped set form) reading v w p q =
+    let named : v.0 ≡ w.0 = same_Some v.0 w.0 (sym p.0 ∙ q.0) in
+    same_pair v w named (same_pair v.1 w.1 (Choose-one reading.0 nothing v.1.0 w.1.0 p.1 q.1) (Means-one form reading.1 v.1.1 w.1.1 p.2 q.2))
 Means-one trim reading v w p q = IsTrim-one reading v w p q
 Means-one (before name range form) reading v w p q = same_pair v w (maybe_number-one range reading.0 v.0 w.0 p.0 q.0) (Means-one form reading.1 v.1 w.1 p.1 q.1)
 Means-one (maybe form) None None None p q = refl
@@ -218,6 +226,8 @@ HasNumbers-from_means (ids spelling) r v p = ids-numbers spelling r
 HasNumbers-from_means pairs r v p = pairs-numbers r
 HasNumbers-from_means (options set form) r v p =
     HasNumbers-append (flat_map option_places r.0) (places form r.1) (Choose-numbers r.0 nothing v.0 p.0) (HasNumbers-from_means form r.1 v.1 p.1)
+HasNumbers-from_means (grouped set form) r v p =
+    HasNumbers-append (flat_map option_places r.0) (places form r.1) (Choose-numbers r.0 nothing v.1.0 p.1) (HasNumbers-from_means form r.1 v.1.1 p.2)
 HasNumbers-from_means trim r v p = trim-numbers r v p
 HasNumbers-from_means (before name range form) r v p =
     HasNumbers-append (named_places name range r.0) (places form r.1) (maybe_number-numbers name range r.0 v.0 p.0) (HasNumbers-from_means form r.1 v.1 p.1)
@@ -239,6 +249,8 @@ HasIds-from_means (ids spelling) r v p = HasIds-from_are spelling r v p
 HasIds-from_means pairs r v p = pairs-ids r
 HasIds-from_means (options set form) r v p =
     HasIds-append (flat_map option_places r.0) (places form r.1) (Choose-ids r.0 nothing v.0 p.0) (HasIds-from_means form r.1 v.1 p.1)
+HasIds-from_means (grouped set form) r v p =
+    HasIds-append (flat_map option_places r.0) (places form r.1) (Choose-ids r.0 nothing v.1.0 p.1) (HasIds-from_means form r.1 v.1.1 p.2)
 HasIds-from_means trim r v p = trim-ids r v p
 HasIds-from_means (before name range form) r v p =
     HasIds-append (named_places name range r.0) (places form r.1) (named-ids name range r.0) (HasIds-from_means form r.1 v.1 p.1)

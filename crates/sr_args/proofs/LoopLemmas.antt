@@ -1,6 +1,7 @@
 -- How the loop over options goes on: one option more, none that fits, one that is written twice, and the end.
-use Rattle.std.proofs.Common.{◌≡◌, ◌≢◌, ◌⊎◌, inl, inr, ℕ, zero, suc, ◌<◌, List, [], ◌∷◌, ◌++◌, length, get_or, map, Bool, true, false, All, Ok, refl, sym, ap, ◌∙◌, arith, append_assoc, append-nil, subst}
+use Rattle.std.proofs.Common.{◌≡◌, ◌≢◌, ◌⊎◌, inl, inr, ℕ, zero, suc, ◌<◌, List, [], ◌∷◌, ◌++◌, length, get_or, map, Bool, true, false, Option, Some, None, All, Ok, refl, sym, ap, ◌∙◌, arith, append_assoc, append-nil, subst}
 use Rattle.std.specs.List.{flat_map}
+use Rattle.std.specs.Option.{option_or}
 use Rattle.std.proofs.Math.ListN.{set}
 use Rattle.std.proofs.lemmas.Bool.Decides.{eqb_tells}
 use Rattle.std.proofs.lemmas.List.{get_or-set_same, get_or-set_other, length-set}
@@ -11,7 +12,7 @@ use Rattle.sr_args.specs.declared.options.OptionKind.TheVariants as kinds
 use Rattle.sr_args.specs.declared.options.OptionSet.{OptionSet}
 use Rattle.sr_args.specs.Name.{IsSameName, option_text}
 use Rattle.sr_args.specs.Place.{Word, Place, Fits, option}
-use Rattle.sr_args.specs.Options.{Written, first_name, operand_places, option_places, is_of, kind, IsOptionFit, IsIn, AreDistinct, AreOptionsFit, IsUnnamed, IsPast, nothing}
+use Rattle.sr_args.specs.Options.{Written, first_name, operand_places, option_places, is_of, kind, IsOptionFit, IsIn, AreDistinct, AreOptionsFit, IsUnnamed, IsPast, nothing, group_in, group_in_one}
 use Rattle.sr_args.specs.declared.options.Choice.{Choice}
 use Rattle.sr_args.specs.steps.Options.{Begins, BeginsNone, IsOptionNamed, IsOptionEnd, GoesOn, BeginsOptions, BeginsNoOptions, EndsOptions, AreSeen, IsUnderway, chosen_of, index_of}
 use Rattle.sr_args.proofs.OptionLemmas.{name-one, then_places, then-cons, end-after, head-fit, head-of_set}
@@ -25,7 +26,10 @@ kind_at (suc (suc (suc zero))) = kinds.MkStream
 kind_at (suc (suc (suc (suc zero)))) = kinds.JustId
 kind_at (suc (suc (suc (suc (suc zero))))) = kinds.Idle
 kind_at (suc (suc (suc (suc (suc (suc zero)))))) = kinds.Time
-kind_at (suc (suc (suc (suc (suc (suc (suc n))))))) = kinds.RetryCount
+kind_at (suc (suc (suc (suc (suc (suc (suc zero))))))) = kinds.RetryCount
+kind_at (suc (suc (suc (suc (suc (suc (suc (suc zero)))))))) = kinds.Group
+kind_at (suc (suc (suc (suc (suc (suc (suc (suc (suc zero))))))))) = kinds.NoAck
+kind_at (suc (suc (suc (suc (suc (suc (suc (suc (suc (suc n)))))))))) = kinds.Block
 
 kind_at-index : (k : OptionKind) → kind_at (index_of k) ≡ k
 kind_at-index kinds.Count = refl
@@ -40,7 +44,7 @@ kind-is a b = elim (eqb_tells (index_of a) (index_of b)) [
 index-apart : (a b : OptionKind) → a ≢ b → index_of a ≢ index_of b
 index-apart a b differ e = differ (sym (kind_at-index a) ∙ ap kind_at e ∙ kind_at-index b)
 
-index-within : (k : OptionKind) → index_of k < 8
+index-within : (k : OptionKind) → index_of k < 11
 index-within kinds.Count = omega arith
 index-within k = omega arith
 
@@ -102,13 +106,13 @@ AreSeen-more seen os o s = record {
 
 -- at first no kind was seen, and nothing is asked for
 abbrev unseen : List Bool
-unseen = false ∷ false ∷ false ∷ false ∷ false ∷ false ∷ false ∷ false ∷ []
+unseen = false ∷ false ∷ false ∷ false ∷ false ∷ false ∷ false ∷ false ∷ false ∷ false ∷ false ∷ []
 
 unseen-none : (k : OptionKind) → get_or unseen (index_of k) false ≡ true → ⊥
 unseen-none kinds.Count e = cc
 unseen-none k e = cc
 
-pub IsUnderway-start : (set : OptionSet) (words : List Word) (choice : Choice) → chosen_of choice ≡ nothing → IsUnderway set words words unseen (Ok choice)
+pub IsUnderway-start : (set : OptionSet) (words : List Word) (choice : Choice) → chosen_of choice ≡ nothing → IsUnderway set words words unseen (Ok choice) None
 IsUnderway-start set words choice e = record {
   written = [];
   begins = record {
@@ -118,7 +122,22 @@ IsUnderway-start set words choice e = record {
   };
   seen_are = record { many = refl; yes = λ k e. absurd (unseen-none k e); no = λ k e i. i };
   judged_are = e;
+  group_is = refl;
 }
+
+-- the group that options name, with one option more
+or-none : (a : Option (Word × Word)) → option_or a None ≡ a
+or-none None = refl
+or-none (Some named) = refl
+
+or_assoc : (a b c : Option (Word × Word)) → option_or a (option_or b c) ≡ option_or (option_or a b) c
+or_assoc None b c = refl
+or_assoc (Some named) b c = refl
+
+pub group_in-last : (os : List Written) (o : Written) → group_in (os ++ o ∷ []) ≡ option_or (group_in os) (group_in_one o)
+group_in-last [] o = or-none (group_in_one o)
+group_in-last (p ∷ os) o =
+    ap (λ (named : Option (Word × Word)). option_or (group_in_one p) named) (group_in-last os o) ∙ or_assoc (group_in_one p) (group_in os) (group_in_one o)
 
 -- places of options, and of one more
 then-last : (os : List Written) (o : Written) (ps : List Place) → flat_map option_places (os ++ o ∷ []) ++ ps ≡ flat_map option_places os ++ (option_places o ++ ps)

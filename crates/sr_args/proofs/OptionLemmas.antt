@@ -8,7 +8,7 @@ use Rattle.std.proofs.lemmas.Option.{same_Some}
 use Rattle.sr_args.specs.declared.name.Measure.{Measure}
 use Rattle.sr_args.specs.declared.name.Measure.TheVariants as measures
 use Rattle.sr_args.specs.declared.name.OptionName.{OptionName}
-use Rattle.sr_args.specs.declared.name.OptionName.TheVariants.{Count, NoMkStream, MaxLen, MinId, Limit, MkStream, JustId, Idle, Time, RetryCount, Force, LastId, Streams}
+use Rattle.sr_args.specs.declared.name.OptionName.TheVariants.{Count, NoMkStream, MaxLen, MinId, Limit, MkStream, JustId, Idle, Time, RetryCount, Group, NoAck, Block, Force, LastId, Streams}
 use Rattle.sr_args.specs.declared.name.Sign.{Sign}
 use Rattle.sr_args.specs.declared.name.Sign.TheVariants.{Exact, Nearly}
 use Rattle.sr_args.specs.declared.options.OptionKind.{OptionKind}
@@ -18,8 +18,8 @@ use Rattle.sr_args.specs.declared.options.OptionSet.TheVariants as sets
 use Rattle.sr_args.specs.Name.{IsSameName, measure_name, option_text, sign_text}
 use Rattle.sr_args.specs.declared.number.CountRange.{CountRange}
 use Rattle.sr_args.specs.declared.number.CountRange.TheVariants.{Any, FromOne}
-use Rattle.sr_args.specs.Place.{Word, Place, Range, int, nat, from_one, Stands, Fits, option, numeric, spelled, IdForm}
-use Rattle.sr_args.specs.Options.{TrimReading, Written, count, no_make, make_key, ids_only, idle, since, deliveries, trimming, sign_places, bound_place, limit_places, count_place, first_name, operand_places, option_places, kind, is_of, IsTrimFit, IsOptionFit, AreOptionsFit, IsUnnamed, IsPast}
+use Rattle.sr_args.specs.Place.{Word, Place, Range, int, nat, from_one, Stands, Fits, option, any, numeric, spelled, IdForm}
+use Rattle.sr_args.specs.Options.{TrimReading, Written, count, no_make, make_key, ids_only, idle, since, deliveries, named_group, no_ack, block, trimming, sign_places, bound_place, limit_places, count_place, first_name, operand_places, option_places, kind, is_of, IsTrimFit, IsOptionFit, AreOptionsFit, IsUnnamed, IsPast}
 use Rattle.sr_args.specs.steps.Options.{IsUnlimited, IsSigned, IsOptionEnd}
 
 -- the option with this name in small letters
@@ -35,10 +35,13 @@ option_at text =
     (cond (bytes_eq text (codes "idle")) (Some Idle)
     (cond (bytes_eq text (codes "time")) (Some Time)
     (cond (bytes_eq text (codes "retrycount")) (Some RetryCount)
+    (cond (bytes_eq text (codes "group")) (Some Group)
+    (cond (bytes_eq text (codes "noack")) (Some NoAck)
+    (cond (bytes_eq text (codes "block")) (Some Block)
     (cond (bytes_eq text (codes "force")) (Some Force)
     (cond (bytes_eq text (codes "lastid")) (Some LastId)
     (cond (bytes_eq text (codes "streams")) (Some Streams)
-    None))))))))))))
+    None)))))))))))))))
 
 option_at-text : (name : OptionName) → option_at (map to_ascii_lowercase (option_text name)) ≡ Some name
 option_at-text Count = refl
@@ -129,6 +132,15 @@ number-one : (range : Range) (words : List Word) (x y : Word) (ps qs : List Plac
 number-one range [] x y ps qs f g = absurd f
 number-one range (w ∷ words) x y ps qs f g = (sym f.0 ∙ g.0, record { rest = words; left = f.1; right = g.1 })
 
+-- so are the words of GROUP
+group-one : (words : List Word) (g h c d : Word) (ps qs : List Place) → Fits words (any g ∷ any c ∷ ps) → Fits words (any h ∷ any d ∷ qs) → (named_group g c ≡ named_group h d) × GoOn ps qs
+group-one [] g h c d ps qs f k = absurd f
+group-one (w ∷ []) g h c d ps qs f k = absurd f.1
+group-one (w ∷ v ∷ words) g h c d ps qs f k =
+    let group : g ≡ h = sym f.0 ∙ k.0 in
+    let consumer : c ≡ d = sym f.1.0 ∙ k.1.0 in
+    (cc, record { rest = words; left = f.1.1; right = k.1.1 })
+
 -- the word of COUNT is read in one way, whatever numbers it takes
 abbrev place_range : CountRange → Range
 place_range Any = int
@@ -148,7 +160,7 @@ count-one range other words x y ps qs e f g =
     (cc, one.1)
 
 -- the kind of an option is seen from its name
-abbrev kind_named : OptionName → OptionKind
+abbrev pub kind_named : OptionName → OptionKind
 kind_named Count = kinds.Count
 kind_named NoMkStream = kinds.NoMkStream
 kind_named MkStream = kinds.MkStream
@@ -156,13 +168,16 @@ kind_named JustId = kinds.JustId
 kind_named Idle = kinds.Idle
 kind_named Time = kinds.Time
 kind_named RetryCount = kinds.RetryCount
+kind_named Group = kinds.Group
+kind_named NoAck = kinds.NoAck
+kind_named Block = kinds.Block
 kind_named name = kinds.Trim
 
 measure-kind : (by : Measure) → kind_named (measure_name by) ≡ kinds.Trim
 measure-kind measures.MaxLen = refl
 measure-kind measures.MinId = refl
 
-kind-from_name : (o : Written) → kind_named (first_name o) ≡ kind o
+pub kind-from_name : (o : Written) → kind_named (first_name o) ≡ kind o
 kind-from_name (trimming trim) = measure-kind trim.by
 kind-from_name o = refl
 
@@ -177,6 +192,9 @@ operands-one_kind set words ids_only ids_only ps qs k e u v m n f g = (refl, rec
 operands-one_kind set words (idle x) (idle y) ps qs k e u v m n f g = let one = number-one nat words x y ps qs f g in (ap idle one.0, one.1)
 operands-one_kind set words (since x) (since y) ps qs k e u v m n f g = let one = number-one nat words x y ps qs f g in (ap since one.0, one.1)
 operands-one_kind set words (deliveries x) (deliveries y) ps qs k e u v m n f g = let one = number-one nat words x y ps qs f g in (ap deliveries one.0, one.1)
+operands-one_kind set words (named_group g c) (named_group h d) ps qs k e u v m n f l = group-one words g h c d ps qs f l
+operands-one_kind set words no_ack no_ack ps qs k e u v m n f g = (refl, record { rest = words; left = f; right = g })
+operands-one_kind set words (block x) (block y) ps qs k e u v m n f g = let one = number-one nat words x y ps qs f g in (ap block one.0, one.1)
 operands-one_kind set words (trimming a) (trimming b) ps qs k e u v m n f g =
     let one = trim_operands-one words a b ps qs (measure_name-one a.by b.by e) u v m n f g in (ap trimming one.0, one.1)
 operands-one_kind set words a b ps qs k e u v m n f g = cc

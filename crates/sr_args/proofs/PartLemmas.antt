@@ -1,11 +1,14 @@
 -- The parts of an option, as they are read one after the other.
-use Rattle.std.proofs.Common.{◌≡◌, List, ◌++◌, Option, Some, None, refl, sym, ap, subst}
+use Rattle.std.proofs.Common.{◌≡◌, ◌∙◌, List, [], ◌∷◌, ◌++◌, Option, Some, None, refl, sym, ap, subst}
 use Rattle.sr_args.specs.declared.name.Measure.{Measure}
 use Rattle.sr_args.specs.declared.name.Sign.{Sign}
-use Rattle.sr_args.specs.Place.{Word, Place, Fits}
-use Rattle.sr_args.specs.Options.{TrimReading, limit_places}
-use Rattle.sr_args.specs.steps.Options.{Begins, BeginsNone, IsAny, IsSigned, IsLimitOf, IsUnlimitedAfter, IsTrimBy, IsTrimEnd, signed_places, trim_operands}
-use Rattle.sr_args.proofs.OptionLemmas.{same_trim, trim_with}
+use Rattle.sr_args.specs.declared.name.OptionName.TheVariants.{Group}
+use Rattle.sr_args.specs.declared.options.OptionKind.TheVariants as kinds
+use Rattle.sr_args.specs.declared.options.OptionSet.{OptionSet}
+use Rattle.sr_args.specs.Place.{Word, Place, Fits, any}
+use Rattle.sr_args.specs.Options.{TrimReading, Written, named_group, limit_places, operand_places, kind}
+use Rattle.sr_args.specs.steps.Options.{Begins, BeginsNone, IsOptionEnd, IsOptionNamed, IsAny, IsSigned, IsLimitOf, IsUnlimitedAfter, IsTrimBy, IsTrimEnd, signed_places, trim_operands}
+use Rattle.sr_args.proofs.OptionLemmas.{same_trim, trim_with, kind_named, kind-from_name}
 
 -- a trim is a signed bound and a limit
 parts : (by : Measure) (sign : Option Sign) (bound : Word) (limit : Option Word) (places : List Place) → trim_operands (trim_with by sign bound limit) ++ places ≡ signed_places by (sign, bound) ++ (limit_places limit ++ places)
@@ -42,3 +45,17 @@ BeginsNone-limit by sign bound words behind s none other places r u f =
     let same_sign : other.sign ≡ sign = ap (λ (p : Option Sign × Word). p.0) signed.0 in
     let nearly : IsLimitOf sign other.limit = subst (λ (x : Option Sign). IsLimitOf x other.limit) same_sign r.fit.limit_nearly in
     none other.limit places nearly u signed.1
+
+-- fewer than two words do not go on with GROUP
+no_group-fits : (words : List Word) (group consumer : Word) (places : List Place) → ((group consumer : Word) (rest : List Word) → words ≡ group ∷ consumer ∷ rest → ⊥) → Fits words (any group ∷ any consumer ∷ places) → ⊥
+no_group-fits [] group consumer places none f = f
+no_group-fits (w ∷ []) group consumer places none f = f.1
+no_group-fits (w ∷ v ∷ words) group consumer places none f = none w v words refl
+
+no_group-at : (words : List Word) (o : Written) (places : List Place) → kind o ≡ kinds.Group → ((group consumer : Word) (rest : List Word) → words ≡ group ∷ consumer ∷ rest → ⊥) → Fits words (operand_places o ++ places) → ⊥
+no_group-at words (named_group group consumer) places e none f = no_group-fits words group consumer places none f
+no_group-at words o places e none f = cc
+
+pub BeginsNone-group : (set : OptionSet) (words : List Word) → ((group consumer : Word) (rest : List Word) → words ≡ group ∷ consumer ∷ rest → ⊥) → BeginsNone operand_places (IsOptionNamed set Group) IsOptionEnd words
+BeginsNone-group set words none other places r u f =
+    no_group-at words other places (sym (kind-from_name other) ∙ ap kind_named r.name_is) none f

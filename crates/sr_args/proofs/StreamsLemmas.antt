@@ -1,12 +1,15 @@
 -- Keys and ids after STREAMS are the two halves of the words.
-use Rattle.std.proofs.Common.{◌≡◌, ◌≢◌, ◌⊎◌, inl, inr, ℕ, ◌<◌, ◌≤◌, ◌+◌, ◌-◌, ◌*◌, ◌/◌, ◌%◌, List, [], ◌∷◌, ◌++◌, length, map, take, drop, refl, sym, ap, ◌∙◌, subst, arith, length-append, length-drop, append_assoc}
-use Rattle.std.proofs.lemmas.List.{length-take-le, take-append-drop}
+use Rattle.std.proofs.Common.{◌≡◌, ◌≢◌, ◌⊎◌, inl, inr, ℕ, ◌<◌, ◌≤◌, ◌+◌, ◌-◌, ◌*◌, ◌/◌, ◌%◌, zero, suc, List, [], ◌∷◌, ◌++◌, length, map, take, drop, refl, sym, ap, ◌∙◌, subst, arith, length-append, length-drop}
+use Rattle.std.proofs.lemmas.List.{length-take, length-take-le, take-append-drop}
 use Rattle.std.proofs.Math.Seq.{take-append_seam, drop-append_seam}
 use Rattle.sr_args.specs.declared.name.OptionName.TheVariants.{Streams}
 use Rattle.sr_args.specs.Name.{IsSameName, option_text}
-use Rattle.sr_args.specs.Place.{Word, Place, Fits, IdForm, any, option, spelled, HasNumbers, HasIds}
+use Rattle.sr_args.specs.Place.{Word, Place, Fits, IdForm, IdOf, any, option, spelled, HasNumbers, HasIds}
 use Rattle.sr_args.proofs.IdsLemmas.{take-next, take-none}
-use Rattle.sr_args.specs.Form.{streams, Reading, Reads, IsAmong, AreDifferent, ArePaired}
+use Rattle.sr_args.specs.Different.{IsAmong, AreDifferent}
+use Rattle.sr_args.specs.Form.{streams, Reading, Reads, AreIds, ArePaired}
+use Rattle.sr_args.specs.steps.Streams.{AreStreams}
+use Rattle.std.specs.List.{zip}
 
 -- the words in these places are the keys and the ids
 halves-from_fits : (spelling : IdForm) (words keys ids : List Word) → Fits words (map any keys ++ map (spelled spelling) ids) → words ≡ keys ++ ids
@@ -111,6 +114,53 @@ AreDifferent-next n words rest word lt e different = subst (λ (ws : List Word).
 pub AreDifferent-with : (n : ℕ) (words rest : List Word) (word : Word) → 0 < n → words ≡ word ∷ rest → (IsAmong word (take (n - 1) rest) → ⊥) → AreDifferent (take (n - 1) rest) → AreDifferent (take n words)
 AreDifferent-with n words rest word lt e new different = subst (λ (ws : List Word). AreDifferent ws) (sym (take-next n words rest word lt e)) (new, different)
 
-pub copied-more : (copy whole : List Word) (n : ℕ) (words rest : List Word) (word : Word) → 0 < n → words ≡ word ∷ rest → copy ++ take n words ≡ whole → (copy ++ word ∷ []) ++ take (n - 1) rest ≡ whole
-copied-more copy whole n words rest word lt e are =
-    append_assoc copy (word ∷ []) (take (n - 1) rest) ∙ ap (λ (ws : List Word). copy ++ ws) (sym (take-next n words rest word lt e)) ∙ are
+-- streams word by word
+abbrev Stream : IdForm → Type 0
+Stream spelling = Word × IdOf spelling
+
+streams-keys : (spelling : IdForm) (keys words : List Word) (list : List (Stream spelling)) → AreStreams spelling keys words list → map (λ (s : Stream spelling). s.0) list ≡ take (length words) keys
+streams-keys spelling keys [] [] are = refl
+streams-keys spelling keys [] (s ∷ list) are = absurd are
+streams-keys spelling [] (word ∷ words) list are = absurd are
+streams-keys spelling (key ∷ keys) (word ∷ words) [] are = absurd are
+streams-keys spelling (key ∷ keys) (word ∷ words) (s ∷ list) are =
+    let rest = streams-keys spelling keys words list are.2 in
+    let same = are.0 in
+    cc
+
+streams-ids : (spelling : IdForm) (keys words : List Word) (list : List (Stream spelling)) → AreStreams spelling keys words list → AreIds spelling words (map (λ (s : Stream spelling). s.1) list)
+streams-ids spelling keys [] [] are = tt
+streams-ids spelling keys [] (s ∷ list) are = absurd are
+streams-ids spelling [] (word ∷ words) list are = absurd are
+streams-ids spelling (key ∷ keys) (word ∷ words) [] are = absurd are
+streams-ids spelling (key ∷ keys) (word ∷ words) (s ∷ list) are = (are.1, streams-ids spelling keys words list are.2)
+
+zip-parts : {P : Type 0} (list : List (Word × P)) → list ≡ zip (map (λ (s : Word × P). s.0) list) (map (λ (s : Word × P). s.1) list)
+zip-parts {P} [] = refl
+zip-parts {P} (s ∷ list) = ap (λ (l : List (Word × P)). s ∷ l) (zip-parts list)
+
+take-as_long : (n : ℕ) (words : List Word) → take (length (take n words)) words ≡ take n words
+take-as_long zero words = refl
+take-as_long (suc n) [] = refl
+take-as_long (suc n) (word ∷ words) = ap (λ (ws : List Word). word ∷ ws) (take-as_long n words)
+
+-- the streams with the first keys and with ids, one for each of these keys
+pub record AreZipped (spelling : IdForm) (keys words : List Word) (list : List (Stream spelling)) : Type 0 where
+  pub asked : List (IdOf spelling)
+  pub are : AreIds spelling words asked
+  pub is : list ≡ zip keys asked
+  pub once : AreDifferent (map (λ (s : Stream spelling). s.0) list)
+
+pub zipped : (spelling : IdForm) (n : ℕ) (from words : List Word) (list : List (Stream spelling)) → ArePaired (take n from) words → AreStreams spelling from words list → AreZipped spelling (take n from) words list
+zipped spelling n from words list paired are =
+    let keys : map (λ (s : Stream spelling). s.0) list ≡ take n from = streams-keys spelling from words list are ∙ ap (λ (m : ℕ). take m from) paired.paired ∙ take-as_long n from in
+    let asked = map (λ (s : Stream spelling). s.1) list in
+    record {
+      asked = asked;
+      are = streams-ids spelling from words list are;
+      is = zip-parts list ∙ ap (λ (ks : List Word). zip ks asked) keys;
+      once = subst (λ (ks : List Word). AreDifferent ks) (sym keys) paired.once;
+    }
+
+pub enough-keys : (n : ℕ) (from words : List Word) → ArePaired (take n from) words → length words ≤ length from
+enough-keys n from words paired = omega (arith, length-take n from, paired.paired)

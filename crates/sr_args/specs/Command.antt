@@ -32,6 +32,7 @@ use Rattle.sr_args.specs.commands.Xautoclaim as xautoclaim
 use Rattle.sr_args.specs.commands.Xclaim as xclaim
 use Rattle.sr_args.specs.commands.Xpending as xpending
 use Rattle.sr_args.specs.commands.Xread as xread
+use Rattle.sr_args.specs.commands.Xreadgroup as xreadgroup
 
 -- the form of each command, after its name
 abbrev pub form_of : CommandName → Form
@@ -55,6 +56,7 @@ form_of commands.Xautoclaim = xautoclaim.form
 form_of commands.Xclaim = xclaim.form
 form_of commands.Xpending = xpending.form
 form_of commands.Xread = xread.form
+form_of commands.Xreadgroup = xreadgroup.form
 
 -- the call that the values in a command's form are
 abbrev pub call_of : (command : CommandName) → Values (form_of command) → Call
@@ -78,6 +80,7 @@ call_of commands.Xautoclaim values = xautoclaim.call values
 call_of commands.Xclaim values = xclaim.call values
 call_of commands.Xpending values = xpending.call values
 call_of commands.Xread values = xread.call values
+call_of commands.Xreadgroup values = xreadgroup.call values
 
 -- the words name the command, these operands follow its name, and it takes that many words
 pub record IsWellCounted (words : List Word) (command : CommandName) (operands : List Word) : Type 0 where

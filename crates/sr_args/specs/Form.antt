@@ -1,16 +1,17 @@
 -- The grammar of commands: a form says which words stand in which place after a command's name, and what they mean.
 -- Source: Redis documentation, the page of each command, "Syntax".
 
-use Rattle.std.specs.Prelude.{◌≡◌, ◌≢◌, ◌⊎◌, List, [], ◌∷◌, ◌++◌, length, map, Option, Some, None, ⊤}
+use Rattle.std.specs.Prelude.{◌≡◌, ◌≢◌, List, [], ◌∷◌, ◌++◌, length, map, Option, Some, None, IsSome, ⊤}
 use Rattle.std.specs.List.{flat_map}
 use Rattle.sr_ids.specs.declared.id.Id.{Id}
 use Rattle.sr_args.specs.declared.call.Trim.{Trim}
 use Rattle.sr_args.specs.declared.name.OptionName.{OptionName}
 use Rattle.sr_args.specs.declared.name.OptionName.TheVariants as option_names
 use Rattle.sr_args.specs.declared.options.OptionSet.{OptionSet}
+use Rattle.sr_args.specs.Different.{AreDifferent}
 use Rattle.sr_args.specs.Name.{IsSameName, option_text}
 use Rattle.sr_args.specs.Options.{Written, TrimReading, Chosen, trimming, option_places, AreOptionsFit}
-use Rattle.sr_args.specs.Options.{IsUnnamed, IsPast, IsTrimFit, nothing, Choose, IsTrim}
+use Rattle.sr_args.specs.Options.{IsUnnamed, IsPast, IsTrimFit, nothing, Choose, IsTrim, group_in}
 use Rattle.sr_args.specs.Place.{Word, Range, Number, Writes, IdForm, IdOf, Spells, strict_id}
 use Rattle.sr_args.specs.Place.{Place, option, any, numeric, spelled, Fits}
 
@@ -31,6 +32,8 @@ pub data Form : Type 0 where
   pairs : Form
   -- the options of a set in any order, and then this form
   options : OptionSet → Form → Form
+  -- the options of a set in any order, one of which names a group and a consumer, and then this form
+  grouped : OptionSet → Form → Form
   -- MAXLEN|MINID [=|~] bound [LIMIT number]
   trim : Form
   -- [option number], and then this form
@@ -54,6 +57,7 @@ Reading optional_text = Option Word
 Reading (ids spelling) = List Word
 Reading pairs = List (Word × Word)
 Reading (options set form) = List Written × Reading form
+Reading (grouped set form) = List Written × Reading form
 Reading trim = TrimReading
 Reading (before name range form) = Option Word × Reading form
 Reading (maybe form) = Option (Reading form)
@@ -71,6 +75,7 @@ Values optional_text = Option Word
 Values (ids spelling) = List (IdOf spelling)
 Values pairs = List (Word × Word)
 Values (options set form) = Chosen × Values form
+Values (grouped set form) = (Word × Word) × (Chosen × Values form)
 Values trim = Trim
 Values (before name range form) = Option (Number range) × Values form
 Values (maybe form) = Option (Values form)
@@ -98,6 +103,7 @@ places optional_text (Some word) = any word ∷ []
 places (ids spelling) words = map (spelled spelling) words
 places pairs fields = flat_map pair_places fields
 places (options set form) reading = flat_map option_places reading.0 ++ places form reading.1
+places (grouped set form) reading = flat_map option_places reading.0 ++ places form reading.1
 places trim reading = option_places (trimming reading)
 places (before name range form) reading = named_places name range reading.0 ++ places form reading.1
 places (maybe form) None = []
@@ -130,16 +136,6 @@ abbrev pub AreNoneOf : List OptionName → List Word → Type 0
 AreNoneOf names [] = ⊤
 AreNoneOf names (word ∷ words) = IsNoneOf names word × AreNoneOf names words
 
--- the word is one of these
-abbrev pub IsAmong : Word → List Word → Type 0
-IsAmong word [] = ⊥
-IsAmong word (other ∷ words) = (word ≡ other) ⊎ IsAmong word words
-
--- no word is written twice
-abbrev pub AreDifferent : List Word → Type 0
-AreDifferent [] = ⊤
-AreDifferent (word ∷ words) = (IsAmong word words → ⊥) × AreDifferent words
-
 -- there is a key, no key is named twice, and there are as many ids as keys
 pub record ArePaired (keys ids : List Word) : Type 0 where
   pub some : keys ≢ []
@@ -151,9 +147,9 @@ pub record AreBarred (names : List OptionName) (places : List Place) : Type 0 wh
   pub unnamed : (words : List Word) → Fits words places → AreNoneOf names words
 
 -- what the places alone do not say: there is at least one id and at least one field; options are of their set, each once;
--- the word after them names no option of it, nor does an id before them; a first word that names an option is this
--- option; a form that may be left out has a word if it is there; streams have one id each, and none is named twice; and
--- barred options are nowhere
+-- the word after them names no option of it, nor does an id before them; if they are to name a group, they do; a first
+-- word that names an option is this option; a form that may be left out has a word if it is there; streams have one id
+-- each, and none is named twice; and barred options are nowhere
 abbrev pub IsFit : (form : Form) → Reading form → Type 0
 IsFit end reading = ⊤
 IsFit (text form) reading = IsFit form reading.1
@@ -164,6 +160,9 @@ IsFit (ids spelling) words = words ≢ []
 IsFit pairs fields = fields ≢ []
 IsFit (options set form) reading =
     AreOptionsFit set reading.0 × IsPast set (places form reading.1) × IsFit form reading.1
+IsFit (grouped set form) reading =
+    AreOptionsFit set reading.0 × IsPast set (places form reading.1) × IsSome (group_in reading.0) ×
+    IsFit form reading.1
 IsFit trim reading = IsTrimFit reading
 IsFit (before name range form) reading = IsNamedFirst name reading.0 (places form reading.1) × IsFit form reading.1
 IsFit (maybe form) None = ⊤
@@ -201,6 +200,8 @@ Means optional_text word value = value ≡ word
 Means (ids spelling) words list = AreIds spelling words list
 Means pairs fields list = list ≡ fields
 Means (options set form) reading values = Choose reading.0 nothing values.0 × Means form reading.1 values.1
+Means (grouped set form) reading values =
+    (group_in reading.0 ≡ Some values.0) × Choose reading.0 nothing values.1.0 × Means form reading.1 values.1.1
 Means trim reading value = IsTrim reading value
 Means (before name range form) reading values = IsMaybeNumber range reading.0 values.0 × Means form reading.1 values.1
 Means (maybe form) None None = ⊤

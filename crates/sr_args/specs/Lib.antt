@@ -1,4 +1,6 @@
+pub mod Blocking
 pub mod Command
+pub mod Different
 pub mod Form
 pub mod Name
 pub mod Number
@@ -8,4 +10,5 @@ pub mod Position
 pub mod Table
 pub mod commands
 pub mod steps
+pub use Rattle.sr_args.specs.Blocking.{block_of, without_block}
 pub use Rattle.sr_args.specs.Command.{Answers, IsCall, IsCommand, Refuses}

@@ -5,7 +5,8 @@ use Rattle.std.specs.Prelude.{◌≡◌, ℕ, List, map, codes}
 use Rattle.std.specs.Char.{to_ascii_lowercase}
 use Rattle.sr_args.specs.declared.name.OptionName.{OptionName}
 use Rattle.sr_args.specs.declared.name.OptionName.TheVariants.{Count, NoMkStream, MaxLen, MinId, Limit, MkStream}
-use Rattle.sr_args.specs.declared.name.OptionName.TheVariants.{JustId, Idle, Time, RetryCount, Force, LastId, Streams}
+use Rattle.sr_args.specs.declared.name.OptionName.TheVariants.{JustId, Idle, Time, RetryCount, Group, NoAck, Block}
+use Rattle.sr_args.specs.declared.name.OptionName.TheVariants.{Force, LastId, Streams}
 use Rattle.sr_args.specs.declared.name.Measure.{Measure}
 use Rattle.sr_args.specs.declared.name.Measure.TheVariants as measures
 use Rattle.sr_args.specs.declared.name.Sign.{Sign}
@@ -26,6 +27,9 @@ option_text JustId = codes "JUSTID"
 option_text Idle = codes "IDLE"
 option_text Time = codes "TIME"
 option_text RetryCount = codes "RETRYCOUNT"
+option_text Group = codes "GROUP"
+option_text NoAck = codes "NOACK"
+option_text Block = codes "BLOCK"
 option_text Force = codes "FORCE"
 option_text LastId = codes "LASTID"
 option_text Streams = codes "STREAMS"

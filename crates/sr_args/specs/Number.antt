@@ -9,7 +9,8 @@ use Rattle.sr_args.specs.declared.number.CountRange.TheVariants.{Any, FromOne}
 -- the word writes the number in 1 to 19 digits, after a "-" if it is below 0; "-0" is 0
 pub data IsInt (word : List ℕ) (z : ℤ) : Type 0 where
   positive : (n : ℕ) → IsDecimal 19 word n → n < 2 ^ 63 → z ≡ pos n → IsInt word z
-  negative : (digits : List ℕ) (n : ℕ) → word ≡ codes "-" ++ digits → IsDecimal 19 digits n → n ≤ 2 ^ 63 → z ≡ neg_ℤ (pos n) → IsInt word z
+  negative : (digits : List ℕ) (n : ℕ) → word ≡ codes "-" ++ digits → IsDecimal 19 digits n → n ≤ 2 ^ 63
+      → z ≡ neg_ℤ (pos n) → IsInt word z
 
 -- the word writes a number that is not below 0
 abbrev pub IsNat : List ℕ → ℕ → Type 0

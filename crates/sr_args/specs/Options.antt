@@ -3,6 +3,7 @@
 
 use Rattle.std.specs.Prelude.{◌≡◌, ◌≢◌, ◌⊎◌, ℕ, ℤ, List, [], ◌∷◌, ◌++◌, map}
 use Rattle.std.specs.Prelude.{Option, Some, None, Bool, true, false, All, ⊤}
+use Rattle.std.specs.Option.{option_or}
 use Rattle.sr_ids.specs.Spelling.{SpellsId}
 use Rattle.sr_args.specs.declared.call.TimeAsked.{TimeAsked}
 use Rattle.sr_args.specs.declared.call.TimeAsked.TheVariants as times
@@ -41,6 +42,9 @@ pub data Written : Type 0 where
   idle : (ago : Word) → Written
   since : (moment : Word) → Written
   deliveries : (many : Word) → Written
+  named_group : (group consumer : Word) → Written
+  no_ack : Written
+  block : (wait : Word) → Written
   trimming : (trim : TrimReading) → Written
 
 -- [=|~]
@@ -72,10 +76,13 @@ first_name ids_only = options.JustId
 first_name (idle word) = options.Idle
 first_name (since word) = options.Time
 first_name (deliveries word) = options.RetryCount
+first_name (named_group group consumer) = options.Group
+first_name no_ack = options.NoAck
+first_name (block wait) = options.Block
 first_name (trimming trim) = measure_name trim.by
 
 -- what follows the name of an option: COUNT number, NOMKSTREAM, MKSTREAM, JUSTID, IDLE number, TIME number,
--- RETRYCOUNT number, MAXLEN|MINID [=|~] bound [LIMIT number]
+-- RETRYCOUNT number, GROUP group consumer, NOACK, BLOCK number, MAXLEN|MINID [=|~] bound [LIMIT number]
 abbrev pub operand_places : Written → List Place
 operand_places (count range most) = count_place range most ∷ []
 operand_places no_make = []
@@ -84,6 +91,9 @@ operand_places ids_only = []
 operand_places (idle word) = numeric nat word ∷ []
 operand_places (since word) = numeric nat word ∷ []
 operand_places (deliveries word) = numeric nat word ∷ []
+operand_places (named_group group consumer) = any group ∷ any consumer ∷ []
+operand_places no_ack = []
+operand_places (block wait) = numeric nat wait ∷ []
 operand_places (trimming trim) = sign_places trim.sign ++ (bound_place trim.by trim.bound ∷ limit_places trim.limit)
 
 -- an option: its name and what follows it
@@ -103,6 +113,7 @@ count_range sets.XgroupCreate = Any
 count_range sets.Xautoclaim = FromOne
 count_range sets.Xclaim = Any
 count_range sets.Xread = Any
+count_range sets.Xreadgroup = Any
 
 -- what the places of an option do not say
 abbrev pub IsOptionFit : OptionSet → Written → Type 0
@@ -113,6 +124,9 @@ IsOptionFit set ids_only = ⊤
 IsOptionFit set (idle word) = ⊤
 IsOptionFit set (since word) = ⊤
 IsOptionFit set (deliveries word) = ⊤
+IsOptionFit set (named_group group consumer) = ⊤
+IsOptionFit set no_ack = ⊤
+IsOptionFit set (block wait) = ⊤
 IsOptionFit set (trimming trim) = IsTrimFit trim
 
 -- what kind of option it is: MAXLEN and MINID are both a trim
@@ -124,6 +138,9 @@ kind ids_only = kinds.JustId
 kind (idle word) = kinds.Idle
 kind (since word) = kinds.Time
 kind (deliveries word) = kinds.RetryCount
+kind (named_group group consumer) = kinds.Group
+kind no_ack = kinds.NoAck
+kind (block wait) = kinds.Block
 kind (trimming trim) = kinds.Trim
 
 -- the names in each set, with those inside an option: LIMIT
@@ -138,7 +155,13 @@ is_of sets.Xadd name = false
 is_of sets.XgroupCreate options.MkStream = true
 is_of sets.XgroupCreate name = false
 is_of sets.Xread options.Count = true
+is_of sets.Xread options.Block = true
 is_of sets.Xread name = false
+is_of sets.Xreadgroup options.Count = true
+is_of sets.Xreadgroup options.Block = true
+is_of sets.Xreadgroup options.Group = true
+is_of sets.Xreadgroup options.NoAck = true
+is_of sets.Xreadgroup name = false
 is_of sets.Xautoclaim options.Count = true
 is_of sets.Xautoclaim options.JustId = true
 is_of sets.Xautoclaim name = false
@@ -185,6 +208,10 @@ pub record Chosen : Type 0 where
   -- when a claimed entry counts as delivered, and how often
   pub time : TimeAsked
   pub delivered : Option ℕ
+  -- whether XREADGROUP delivers new entries as acknowledged: only with NOACK
+  pub no_ack : Bool
+  -- how many milliseconds a read waits for an entry, if it waits: 0 is without end
+  pub block : Option ℕ
 
 -- what is asked for if no option is written
 abbrev pub nothing : Chosen
@@ -196,6 +223,8 @@ nothing = record {
   just_ids = false;
   time = times.Now;
   delivered = None;
+  no_ack = false;
+  block = None;
 }
 
 -- the bound of a trim: a number of entries, or an id
@@ -224,6 +253,9 @@ Sets ids_only before after = after ≡ record before { just_ids = true }
 Sets (idle word) before after = (n : ℕ) × IsNat word n × (after ≡ record before { time = times.Idle n })
 Sets (since word) before after = (n : ℕ) × IsNat word n × (after ≡ record before { time = times.At n })
 Sets (deliveries word) before after = (n : ℕ) × IsNat word n × (after ≡ record before { delivered = Some n })
+Sets (named_group group consumer) before after = after ≡ before
+Sets no_ack before after = after ≡ record before { no_ack = true }
+Sets (block wait) before after = (n : ℕ) × IsNat wait n × (after ≡ record before { block = Some n })
 Sets (trimming reading) before after =
     (trim : Trim) × IsTrim reading trim × (after ≡ record before { trim = Some trim })
 
@@ -231,3 +263,22 @@ Sets (trimming reading) before after =
 abbrev pub Choose : List Written → Chosen → Chosen → Type 0
 Choose [] before after = after ≡ before
 Choose (o ∷ written) before after = (next : Chosen) × Sets o before next × Choose written next after
+
+-- the group and the consumer that an option names
+abbrev pub group_in_one : Written → Option (Word × Word)
+group_in_one (count range most) = None
+group_in_one no_make = None
+group_in_one make_key = None
+group_in_one ids_only = None
+group_in_one (idle word) = None
+group_in_one (since word) = None
+group_in_one (deliveries word) = None
+group_in_one (named_group group consumer) = Some (group, consumer)
+group_in_one no_ack = None
+group_in_one (block wait) = None
+group_in_one (trimming trim) = None
+
+-- the group and the consumer that the options name, if they do: those of the first option that names them
+abbrev pub group_in : List Written → Option (Word × Word)
+group_in [] = None
+group_in (o ∷ written) = option_or (group_in_one o) (group_in written)

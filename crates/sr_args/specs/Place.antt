@@ -7,10 +7,11 @@ use Rattle.sr_ids.specs.declared.spec.Spec.{Spec}
 use Rattle.sr_ids.specs.Spec.{IsSpec}
 use Rattle.sr_ids.specs.Spelling.{SpellsId, IsStart, IsEnd}
 use Rattle.sr_args.specs.declared.call.Position.{Position}
+use Rattle.sr_args.specs.declared.reads.ReadAsked.{ReadAsked}
 use Rattle.sr_args.specs.declared.name.OptionName.{OptionName}
 use Rattle.sr_args.specs.Name.{IsSameName, option_text}
 use Rattle.sr_args.specs.Number.{IsInt, IsNat, IsFromOne}
-use Rattle.sr_args.specs.Position.{SpellsPosition}
+use Rattle.sr_args.specs.Position.{SpellsPosition, SpellsRead}
 
 abbrev pub Word : Type 0
 Word = List ℕ
@@ -32,14 +33,15 @@ Writes int word z = IsInt word z
 Writes nat word n = IsNat word n
 Writes from_one word z = IsFromOne word z
 
--- how the id of a place is spelled: as a written id, as the start or the end of a range, as the id of a new entry, or as
--- a position in a stream
+-- how the id of a place is spelled: as a written id, as the start or the end of a range, as the id of a new entry, as a
+-- position in a stream, or as what a consumer of a group reads of it
 pub data IdForm : Type 0 where
   strict_id : IdForm
   range_start : IdForm
   range_end : IdForm
   new_id : IdForm
   position : IdForm
+  read_id : IdForm
 
 abbrev pub IdOf : IdForm → Type 0
 IdOf strict_id = Id
@@ -47,6 +49,7 @@ IdOf range_start = Id
 IdOf range_end = Id
 IdOf new_id = Spec
 IdOf position = Position
+IdOf read_id = ReadAsked
 
 -- the word spells the id
 abbrev pub Spells : (form : IdForm) → Word → IdOf form → Type 0
@@ -55,6 +58,7 @@ Spells range_start word id = IsStart word id
 Spells range_end word id = IsEnd word id
 Spells new_id word spec = IsSpec word spec
 Spells position word from = SpellsPosition word from
+Spells read_id word asked = SpellsRead word asked
 
 -- a place in a form: the name of an option, any word, a word that is to write a number, or one that is to spell an id
 pub data Place : Type 0 where

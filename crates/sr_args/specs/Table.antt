@@ -7,7 +7,7 @@ use Rattle.sr_args.specs.declared.table.CommandName.TheVariants.{Ping, Xadd, Xtr
 use Rattle.sr_args.specs.declared.table.CommandName.TheVariants.{Xack, XgroupCreate, XgroupSetId, XgroupDestroy}
 use Rattle.sr_args.specs.declared.table.CommandName.TheVariants.{XgroupCreateConsumer, XgroupDelConsumer}
 use Rattle.sr_args.specs.declared.table.CommandName.TheVariants.{XinfoStream, XinfoGroups, XinfoConsumers}
-use Rattle.sr_args.specs.declared.table.CommandName.TheVariants.{Xautoclaim, Xclaim, Xpending, Xread}
+use Rattle.sr_args.specs.declared.table.CommandName.TheVariants.{Xautoclaim, Xclaim, Xpending, Xread, Xreadgroup}
 use Rattle.sr_args.specs.Name.{IsSameName}
 use Rattle.sr_args.specs.Place.{Word}
 
@@ -42,6 +42,7 @@ row_of Xautoclaim = row (codes "XAUTOCLAIM" ∷ []) 6 (Some 9)
 row_of Xclaim = row (codes "XCLAIM" ∷ []) 6 None
 row_of Xpending = row (codes "XPENDING" ∷ []) 3 (Some 9)
 row_of Xread = row (codes "XREAD" ∷ []) 4 None
+row_of Xreadgroup = row (codes "XREADGROUP" ∷ []) 7 None
 
 -- the words begin with the name, in any case of its letters, and these words follow it
 abbrev pub Begins : (name : List Word) → List Word → List Word → Type 0

@@ -16,5 +16,6 @@ pub mod Xlen
 pub mod Xpending
 pub mod Xrange
 pub mod Xread
+pub mod Xreadgroup
 pub mod Xrevrange
 pub mod Xtrim

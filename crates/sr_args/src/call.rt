@@ -1,8 +1,6 @@
-ghost use Rattle.std.specs.Prelude.{◌≡◌};
-
-use sr_bytes::{Fields, Name, Words};
+use crate::{ReadAsked, Streams};
+use sr_bytes::{Fields, Name};
 use sr_ids::{Id, Ids, Spec};
-use std::marker::Model;
 
 /// What a trim leaves in a stream.
 ///
@@ -63,37 +61,6 @@ pub struct PendingAsked {
     pub count: i64,
     /// Whose they are, if those of one consumer are wanted.
     pub consumer: Option<Name>,
-}
-
-/// From where streams are read, in the order in which they are named.
-#[derive(Drop)]
-pub struct Positions {
-    list: Vec<Position>,
-}
-
-impl Model for Positions {
-    ghost use Rattle.std.specs.Prelude.{List};
-    ghost use Rattle.sr_args.specs.declared.call.Position as positions;
-
-    ghost Value = { List positions.Position };
-
-    ghost view = { λ p. p.list.items };
-}
-
-impl Positions {
-    /// A list of these. Takes no memory.
-    pub fn new(list: Vec<Position>) -> Positions
-        ensures { result ≡ list.items }
-    {
-        Positions { list }
-    }
-
-    /// The positions.
-    pub fn as_slice(&self) -> &[Position]
-        ensures { result.now ≡ self.now }
-    {
-        self.list.as_slice()
-    }
 }
 
 /// A command that acts on the keys of one server.
@@ -223,9 +190,21 @@ pub enum Call {
     Xread {
         /// How many entries of each stream are wanted at most.
         count: Option<i64>,
-        keys: Words,
-        /// From where each is read: as many as keys, in their order.
-        from: Positions,
+        /// BLOCK: how many milliseconds it waits for an entry, if it waits. 0 is without end.
+        block: Option<u64>,
+        streams: Streams<Position>,
+    },
+    /// XREADGROUP: new entries of streams for a consumer of a group, or what is pending for it.
+    Xreadgroup {
+        group: Name,
+        consumer: Name,
+        /// How many entries of each stream are wanted at most.
+        count: Option<i64>,
+        /// BLOCK: how many milliseconds it waits for an entry, if it waits. 0 is without end.
+        block: Option<u64>,
+        /// NOACK: whether new entries need no acknowledgement.
+        no_ack: bool,
+        streams: Streams<ReadAsked>,
     },
     /// XPENDING: what is pending in a group, in sum or as a list.
     Xpending {

@@ -16,4 +16,5 @@ pub(crate) mod xlen;
 pub(crate) mod xpending;
 pub(crate) mod xrange;
 pub(crate) mod xread;
+pub(crate) mod xreadgroup;
 pub(crate) mod xtrim;

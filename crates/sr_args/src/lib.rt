@@ -1,22 +1,26 @@
 //! Commands: the words of a request read as the command that they write.
 #![tactic(auto)]
 
+mod blocking;
 mod call;
 mod commands;
+mod copy;
 mod fault;
 mod name;
 mod number;
 mod options;
 mod read;
+mod reads;
 mod streams;
 mod table;
 #[cfg(test)]
 mod tests;
 mod value;
 
-pub use call::{Call, Command, PendingAsked, Position, Positions, TimeAsked, Trim, TrimBy};
+pub use call::{Call, Command, PendingAsked, Position, TimeAsked, Trim, TrimBy};
 pub use fault::CallFault;
 pub(crate) use name::{Measure, OptionName, Sign};
 pub(crate) use number::CountRange;
 pub use read::{one_answer, read_call};
+pub use reads::{ReadAsked, Streams};
 pub(crate) use table::CommandName;

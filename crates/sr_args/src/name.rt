@@ -26,6 +26,12 @@ pub(crate) enum OptionName {
     Time,
     /// How often a claimed entry counts as delivered.
     RetryCount,
+    /// For which consumer of which group streams are read.
+    Group,
+    /// New entries are delivered as acknowledged.
+    NoAck,
+    /// For how long a read waits for an entry.
+    Block,
     /// Entries that are not pending are claimed too: not supported.
     Force,
     /// The last id delivered to the group: not supported.
@@ -86,6 +92,15 @@ pub(crate) fn option_named(word: &[u8]) -> Option<OptionName>
     }
     if word.eq_ignore_ascii_case(b"RETRYCOUNT") {
         return Some(OptionName::RetryCount);
+    }
+    if word.eq_ignore_ascii_case(b"GROUP") {
+        return Some(OptionName::Group);
+    }
+    if word.eq_ignore_ascii_case(b"NOACK") {
+        return Some(OptionName::NoAck);
+    }
+    if word.eq_ignore_ascii_case(b"BLOCK") {
+        return Some(OptionName::Block);
     }
     if word.eq_ignore_ascii_case(b"FORCE") {
         return Some(OptionName::Force);

@@ -1,15 +1,16 @@
 ghost use Rattle.std.specs.Prelude.{◌≡◌, ◌+◌, ◌<◌, ◌≤◌, ◌++◌, ℕ, List, [], ◌∷◌};
 ghost use Rattle.std.specs.Prelude.{length, Option, IfSome, IfNone, Result, Err, true, false};
-ghost use Rattle.std.specs.Option.{option_copied};
+ghost use Rattle.std.specs.Option.{option_copied, option_or};
 ghost use Rattle.sr_args.specs.declared.name.OptionName as names;
 ghost use Rattle.sr_args.specs.Name.{IsSameName, option_text};
 ghost use Rattle.sr_args.specs.Place.{Word};
 ghost use Rattle.sr_args.specs.Options as written;
-ghost use Rattle.sr_args.specs.Options.{Written, operand_places, is_of, IsUnnamed, IsLimit};
+ghost use Rattle.sr_args.specs.Options.{Written, operand_places, is_of, IsUnnamed, IsLimit, group_in_one};
 ghost use Rattle.sr_args.specs.steps.Options.{BeginsNoOptions, EndsOptions, AreJudged, IsJudged, GivesTrim};
 ghost use Rattle.sr_args.specs.steps.Options.{Begins, BeginsNone, IsAny, IsLimitOf, IsOptionEnd, IsOptionNamed, IsSigned};
 ghost use Rattle.sr_args.specs.steps.Options.{GivesBound, IsTrimBy, IsTrimEnd, IsUnlimitedAfter, chosen_of, fault_of, index_of};
 ghost use Rattle.sr_args.specs.steps.Options.{signed_places, trim_operands, trim_reading, written_of};
+ghost use Rattle.sr_args.specs.steps.Options.{named_by, IsGiven};
 
 use crate::name::{option_named, sign_named};
 use crate::number::{read_count, read_nat};
@@ -30,8 +31,10 @@ pub(crate) enum OptionSet {
     Xautoclaim,
     /// Those of XCLAIM.
     Xclaim,
-    /// That of XREAD.
+    /// Those of XREAD.
     Xread,
+    /// Those of XREADGROUP.
+    Xreadgroup,
 }
 
 /// What an option is. MAXLEN and MINID are both a trim.
@@ -45,10 +48,13 @@ pub(crate) enum OptionKind {
     Idle,
     Time,
     RetryCount,
+    Group,
+    NoAck,
+    Block,
 }
 
 /// How many kinds of options there are.
-const KINDS: usize = 8;
+const KINDS: usize = 11;
 
 /// The words of a trim, in the places of its form.
 #[derive(Clone, Copy)]
@@ -57,6 +63,13 @@ pub(crate) struct TrimWords<'a> {
     sign: Option<Sign>,
     bound: &'a [u8],
     limit: Option<&'a [u8]>,
+}
+
+/// The words of a group and a consumer of it.
+#[derive(Clone, Copy)]
+pub(crate) struct GroupWords<'a> {
+    pub(crate) group: &'a [u8],
+    pub(crate) consumer: &'a [u8],
 }
 
 /// The words of an option, in the places of its form.
@@ -69,6 +82,9 @@ pub(crate) enum OptionWords<'a> {
     Idle(&'a [u8]),
     Time(&'a [u8]),
     RetryCount(&'a [u8]),
+    Group(GroupWords<'a>),
+    NoAck,
+    Block(&'a [u8]),
     Trim(TrimWords<'a>),
 }
 
@@ -87,6 +103,10 @@ pub(crate) struct Choice {
     pub(crate) time: TimeAsked,
     /// How often a claimed entry counts as delivered.
     pub(crate) delivered: Option<u64>,
+    /// Whether XREADGROUP delivers new entries as acknowledged.
+    pub(crate) no_ack: bool,
+    /// How many milliseconds a read waits for an entry, if it waits.
+    pub(crate) block: Option<u64>,
 }
 
 /// What is wrong with the words of options that fit their form.
@@ -96,6 +116,15 @@ pub(crate) enum ValueFault {
     Number,
     /// A word in the place of an id is none.
     BadId,
+}
+
+/// What the words of options say.
+#[derive(Clone, Copy)]
+pub(crate) struct Given<'a> {
+    /// What they ask for, or the first fault of their words.
+    pub(crate) judged: Result<Choice, ValueFault>,
+    /// The group and the consumer that they name, if they do.
+    pub(crate) group: Option<GroupWords<'a>>,
 }
 
 impl From<ValueFault> for CallFault {
@@ -121,8 +150,18 @@ pub(crate) fn read_options(
         EndsOptions set words.old written words.new × AreJudged written judged) }
     ensures none { IfNone result (BeginsNoOptions set words.old) }
 {
+    Some(read_given(set, words)?.judged)
+}
+
+/// Reads the options of a set as `read_options` does, and keeps the group and the consumer that they name.
+pub(crate) fn read_given<'a>(set: OptionSet, words: &mut Unread<'a>) -> Option<Given<'a>>
+    ensures found { IfSome result (λ given. (written : List Written) ×
+        EndsOptions set words.old written words.new × IsGiven written given) }
+    ensures none { IfNone result (BeginsNoOptions set words.old) }
+{
     let mut seen = [false; KINDS];
     let mut judged = Ok(nothing());
+    let mut group = None;
     while let Some(name) = next_name(set, words) {
         let option = operand_words(set, name, words)?;
         let kind = index_of_kind(kind_of(option));
@@ -131,8 +170,31 @@ pub(crate) fn read_options(
         }
         seen[kind] = true;
         judged = judge_next(judged, option);
+        group = first_group(group, option);
     }
-    Some(judged)
+    Some(Given { judged, group })
+}
+
+/// The group and the consumer that options name, with one option more.
+fn first_group<'a>(group: Option<GroupWords<'a>>, option: OptionWords<'a>) -> Option<GroupWords<'a>>
+    ensures { named_by result ≡ option_or (named_by group.entry) (group_in_one (written_of option.entry)) }
+{
+    if let Some(words) = group {
+        return Some(words);
+    }
+    match option {
+        OptionWords::Group(words) => Some(words),
+        OptionWords::Count(_, _)
+        | OptionWords::NoMkStream
+        | OptionWords::MkStream
+        | OptionWords::JustId
+        | OptionWords::Idle(_)
+        | OptionWords::Time(_)
+        | OptionWords::RetryCount(_)
+        | OptionWords::NoAck
+        | OptionWords::Block(_)
+        | OptionWords::Trim(_) => None,
+    }
 }
 
 /// The name of an option of the set, if it is the next word, which is then read.
@@ -168,7 +230,11 @@ fn has_option(set: OptionSet, name: OptionName) -> bool
             _ => false,
         },
         OptionSet::Xread => match name {
-            OptionName::Count => true,
+            OptionName::Count | OptionName::Block => true,
+            _ => false,
+        },
+        OptionSet::Xreadgroup => match name {
+            OptionName::Count | OptionName::Block | OptionName::Group | OptionName::NoAck => true,
             _ => false,
         },
         OptionSet::XgroupCreate => match name {
@@ -197,7 +263,8 @@ fn count_range(set: OptionSet) -> CountRange
         | OptionSet::Xadd
         | OptionSet::XgroupCreate
         | OptionSet::Xclaim
-        | OptionSet::Xread => CountRange::Any,
+        | OptionSet::Xread
+        | OptionSet::Xreadgroup => CountRange::Any,
         OptionSet::Xautoclaim => CountRange::FromOne,
     }
 }
@@ -221,10 +288,24 @@ fn operand_words<'a>(
         OptionName::Idle => Some(OptionWords::Idle(words.next()?)),
         OptionName::Time => Some(OptionWords::Time(words.next()?)),
         OptionName::RetryCount => Some(OptionWords::RetryCount(words.next()?)),
+        OptionName::Group => Some(OptionWords::Group(group_words(words)?)),
+        OptionName::NoAck => Some(OptionWords::NoAck),
+        OptionName::Block => Some(OptionWords::Block(words.next()?)),
         OptionName::MaxLen => Some(OptionWords::Trim(trim_words(Measure::MaxLen, words)?)),
         OptionName::MinId => Some(OptionWords::Trim(trim_words(Measure::MinId, words)?)),
         OptionName::Limit | OptionName::Force | OptionName::LastId | OptionName::Streams => None,
     }
+}
+
+/// `group consumer`
+fn group_words<'a>(words: &mut Unread<'a>) -> Option<GroupWords<'a>>
+    ensures found { IfSome result (λ read. words.old ≡ read.group.now ∷ read.consumer.now ∷ words.new) }
+    ensures none { IfNone result ((group consumer : Word) (rest : List Word) →
+        words.old ≡ group ∷ consumer ∷ rest → ⊥) }
+{
+    let group = words.next()?;
+    let consumer = words.next()?;
+    Some(GroupWords { group, consumer })
 }
 
 /// The words of a trim that follow the name of its measure: `[=|~] bound [LIMIT number]`
@@ -314,6 +395,9 @@ fn kind_of(option: OptionWords<'_>) -> OptionKind
         OptionWords::Idle(_) => OptionKind::Idle,
         OptionWords::Time(_) => OptionKind::Time,
         OptionWords::RetryCount(_) => OptionKind::RetryCount,
+        OptionWords::Group(_) => OptionKind::Group,
+        OptionWords::NoAck => OptionKind::NoAck,
+        OptionWords::Block(_) => OptionKind::Block,
         OptionWords::Trim(_) => OptionKind::Trim,
     }
 }
@@ -332,6 +416,9 @@ fn index_of_kind(kind: OptionKind) -> usize
         OptionKind::Idle => 5,
         OptionKind::Time => 6,
         OptionKind::RetryCount => 7,
+        OptionKind::Group => 8,
+        OptionKind::NoAck => 9,
+        OptionKind::Block => 10,
     }
 }
 
@@ -347,6 +434,8 @@ fn nothing() -> Choice
         just_ids: false,
         time: TimeAsked::Now,
         delivered: None,
+        no_ack: false,
+        block: None,
     }
 }
 
@@ -420,6 +509,18 @@ fn judge(choice: Choice, option: OptionWords<'_>) -> Result<Choice, ValueFault>
             let delivered = read_nat(word).ok_or(ValueFault::Number)?;
             Ok(Choice {
                 delivered: Some(delivered),
+                ..choice
+            })
+        }
+        OptionWords::Group(_) => Ok(choice),
+        OptionWords::NoAck => Ok(Choice {
+            no_ack: true,
+            ..choice
+        }),
+        OptionWords::Block(word) => {
+            let wait = read_nat(word).ok_or(ValueFault::Number)?;
+            Ok(Choice {
+                block: Some(wait),
                 ..choice
             })
         }

@@ -19,6 +19,7 @@ use crate::commands::xlen::read_xlen;
 use crate::commands::xpending::read_xpending;
 use crate::commands::xrange::{read_xrange, read_xrevrange};
 use crate::commands::xread::read_xread;
+use crate::commands::xreadgroup::read_xreadgroup;
 use crate::commands::xtrim::read_xtrim;
 use crate::table::{Found, find_command, is_counted};
 use crate::{Call, CallFault, Command, CommandName};
@@ -80,6 +81,7 @@ fn read_operands(
         CommandName::Xclaim => read_xclaim(alloc, operands),
         CommandName::Xpending => read_xpending(alloc, operands),
         CommandName::Xread => read_xread(alloc, operands),
+        CommandName::Xreadgroup => read_xreadgroup(alloc, operands),
     }
 }
 

@@ -1,14 +1,16 @@
-ghost use Rattle.std.specs.Prelude.{◌≡◌, ◌↔◌, List, take, drop, IsTrue, IfSome, IfNone, IfOk};
-ghost use Rattle.sr_args.specs.Form.{streams, Reading, Reads, IsAmong, AreDifferent};
-ghost use Rattle.sr_args.specs.Options.{Written};
+ghost use Rattle.std.specs.Prelude.{◌≡◌, ◌↔◌, List, Some, take, drop, IsTrue, IfSome, IfNone};
+ghost use Rattle.sr_args.specs.Different.{IsAmong, AreDifferent};
+ghost use Rattle.sr_args.specs.Form.{streams, Reading, Reads};
+ghost use Rattle.sr_args.specs.Options.{Written, group_in};
 ghost use Rattle.sr_args.specs.Place.{IdForm};
 ghost use Rattle.sr_args.specs.steps.Options.{AreJudged};
-ghost use Rattle.sr_args.specs.steps.Streams.{streams_form, streams_reading};
+ghost use Rattle.sr_args.specs.steps.Streams.{streams_form, streams_reading, grouped_form, grouped_reading};
 
 use crate::OptionName;
-use crate::options::{Choice, OptionSet, ValueFault, is_named, read_options};
-use sr_bytes::{Unread, Words};
-use std::alloc::{AllocError, Global};
+use crate::options::{
+    Choice, GroupWords, OptionSet, ValueFault, is_named, read_given, read_options,
+};
+use sr_bytes::Unread;
 
 /// The words after STREAMS.
 #[derive(Drop)]
@@ -28,6 +30,14 @@ pub(crate) struct ReadWords<'a> {
     pub(crate) streams: StreamsWords<'a>,
 }
 
+/// The words of a command with streams that names a group and a consumer, and what its options ask for.
+#[derive(Drop)]
+pub(crate) struct GroupedWords<'a> {
+    pub(crate) group: GroupWords<'a>,
+    pub(crate) judged: Result<Choice, ValueFault>,
+    pub(crate) streams: StreamsWords<'a>,
+}
+
 /// The options of the set, and then streams.
 pub(crate) fn read_words(set: OptionSet, mut words: Unread<'_>) -> Option<ReadWords<'_>>
     ensures found { IfSome result (λ read. (written : List Written) × AreJudged written read.judged
@@ -39,6 +49,25 @@ pub(crate) fn read_words(set: OptionSet, mut words: Unread<'_>) -> Option<ReadWo
     let judged = read_options(set, &mut words)?;
     let streams = streams_words(words)?;
     Some(ReadWords { judged, streams })
+}
+
+/// The options of the set, one of which names a group and a consumer, and then streams.
+pub(crate) fn read_grouped_words(set: OptionSet, mut words: Unread<'_>) -> Option<GroupedWords<'_>>
+    ensures found { IfSome result (λ read. (written : List Written) × AreJudged written read.judged
+        × (group_in written ≡ Some (read.group.group.now, read.group.consumer.now))
+        × ((spelling : IdForm) → Reads (grouped_form set spelling) words.entry
+        (grouped_reading set spelling written (take read.streams.keys read.streams.from_keys) read.streams.ids))) }
+    ensures none { IfNone result ((spelling : IdForm) (reading : Reading (grouped_form set spelling)) →
+        Reads (grouped_form set spelling) words.entry reading → ⊥) }
+{
+    let given = read_given(set, &mut words)?;
+    let group = given.group?;
+    let streams = streams_words(words)?;
+    Some(GroupedWords {
+        group,
+        judged: given.judged,
+        streams,
+    })
 }
 
 /// `STREAMS key [key ..] id [id ..]`
@@ -115,24 +144,4 @@ fn is_among(word: &[u8], mut words: Unread<'_>, many: usize) -> bool
         left -= 1;
     }
     false
-}
-
-/// A copy of the first words.
-pub(crate) fn copy_words(
-    alloc: Global,
-    mut words: Unread<'_>,
-    many: usize,
-) -> Result<Words, AllocError>
-    ensures { IfOk result (λ copy. copy ≡ take many words.entry) }
-{
-    let mut copy = Words::new(alloc);
-    let mut left = many;
-    while left > 0 {
-        let Some(word) = words.next() else {
-            break;
-        };
-        copy.add(word)?;
-        left -= 1;
-    }
-    Ok(copy)
 }

@@ -30,10 +30,11 @@ pub(crate) enum CommandName {
     Xclaim,
     Xpending,
     Xread,
+    Xreadgroup,
 }
 
 /// The commands in the order in which a request's words are looked up.
-const COMMANDS: [CommandName; 20] = [
+const COMMANDS: [CommandName; 21] = [
     CommandName::Ping,
     CommandName::Xadd,
     CommandName::Xtrim,
@@ -54,6 +55,7 @@ const COMMANDS: [CommandName; 20] = [
     CommandName::Xclaim,
     CommandName::Xpending,
     CommandName::Xread,
+    CommandName::Xreadgroup,
 ];
 
 /// What the table says of a command.
@@ -121,6 +123,7 @@ fn row_of(command: CommandName) -> Row
         CommandName::Xclaim => table_row(b"XCLAIM", None, 6, None),
         CommandName::Xpending => table_row(b"XPENDING", None, 3, Some(9)),
         CommandName::Xread => table_row(b"XREAD", None, 4, None),
+        CommandName::Xreadgroup => table_row(b"XREADGROUP", None, 7, None),
     }
 }
 

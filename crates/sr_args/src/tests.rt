@@ -1,7 +1,11 @@
+mod copies;
+mod groups;
+mod reads;
+mod streams;
+
 use crate::number::read_int;
-use crate::{Call, CallFault, Command, Position, TimeAsked, Trim, TrimBy, read_call};
-use sr_bytes::{Fields, Name, Words};
-use sr_ids::{Id, Spec};
+use crate::{Call, CallFault, Command, read_call};
+use sr_bytes::{Name, Words};
 use std::alloc::{AllocError, Global};
 use std::process::Abort;
 use std::test::Fail;
@@ -23,25 +27,22 @@ fn call(rt: &(impl AllocGlobal + Abort), line: &str) -> Result<Call, CallFault> 
     Ok(call)
 }
 
-fn is_text(name: &Name, text: &[u8]) -> bool {
-    name.as_slice() == text
-}
-
-fn are_texts(fields: &Fields, texts: &[(&[u8], &[u8])]) -> bool {
-    let mut pairs = fields.pairs();
-    for text in texts {
-        if !is_pair(pairs.next(), text.0, text.1) {
-            return false;
-        }
-    }
-    pairs.next().is_none()
-}
-
-fn is_pair(found: Option<(&[u8], &[u8])>, field: &[u8], value: &[u8]) -> bool {
-    match found {
-        Some((f, v)) => f == field && v == value,
-        None => false,
-    }
+/// Fails the test unless a line is read as a call that passes the check.
+///
+/// The check borrows the call, so that calls are dropped here alone: what their many variants cost the prover it costs
+/// once, and not at each exit of each test.
+fn gives<F: FnOnce(&Call) -> bool + Drop>(
+    rt: &(impl AllocGlobal + Abort),
+    line: &str,
+    is_wanted: F,
+) -> Result<(), CallFault>
+    requires { F.IsAlwaysCallable is_wanted }
+{
+    let call = call(rt, line)?;
+    let good = is_wanted(&call);
+    drop(call);
+    assert!(rt; good, "{line}");
+    Ok(())
 }
 
 /// Fails the test unless a line is refused with this fault.
@@ -56,6 +57,11 @@ fn refuses(rt: &(impl AllocGlobal + Abort), line: &str, want: CallFault) -> Resu
         Err(fault) => assert_eq!(rt; fault, want, "{line}"),
     }
     Ok(())
+}
+
+/// Whether these are the bytes of a name.
+fn is_text(name: &Name, text: &[u8]) -> bool {
+    name.as_slice() == text
 }
 
 #[test]
@@ -104,6 +110,7 @@ fn other_numbers_of_words_are_refused(rt: HostRuntime) -> Result<(), Fail> {
         "XPENDING s",
         "XPENDING s g IDLE 5 - + 10 c d",
         "XREAD STREAMS s",
+        "XREADGROUP GROUP g c STREAMS s",
     ] {
         refuses(&rt, line, CallFault::Arity)?;
     }
@@ -155,12 +162,34 @@ fn other_forms_on_groups_are_refused(rt: HostRuntime) -> Result<(), Fail> {
         "XPENDING s g IDLE 5 -",
         "XPENDING s g IDLE 5 - +",
         "XPENDING s g - + 10 c d",
+    ] {
+        refuses(&rt, line, CallFault::Syntax)?;
+    }
+    Ok(())
+}
+
+#[test]
+fn other_forms_of_reads_are_refused(rt: HostRuntime) -> Result<(), Fail> {
+    for line in [
         "XREAD STREAMS s t 0",
         "XREAD STREAMS s t s 0 0 0",
         "XREAD COUNT 5 STREAMS",
         "XREAD COUNT 1 COUNT 2 STREAMS s 0",
         "XREAD s 0 STREAMS",
-        "XREAD BLOCK 0 STREAMS s 0",
+        "XREAD BLOCK STREAMS s 0",
+        "XREAD BLOCK 0 COUNT 1 BLOCK 0 STREAMS s 0",
+        "XREAD NOACK STREAMS s 0",
+        "XREADGROUP COUNT 1 NOACK STREAMS s >",
+        "XREADGROUP COUNT x NOACK STREAMS s >",
+        "XREADGROUP GROUP g c GROUP g c STREAMS s >",
+        "XREADGROUP NOACK GROUP g c NOACK STREAMS s >",
+        "XREADGROUP GROUP g c STREAMS s t >",
+        "XREADGROUP GROUP g c STREAMS s s > >",
+        "XREADGROUP GROUP g STREAMS s t > >",
+        "XREADGROUP STREAMS s > GROUP g c",
+        "XREADGROUP GROUP g c FOO STREAMS s >",
+        "XREADGROUP GROUP g c BLOCK 0 BLOCK 0 STREAMS s >",
+        "XREADGROUP BLOCK GROUP g c STREAMS s >",
     ] {
         refuses(&rt, line, CallFault::Syntax)?;
     }
@@ -189,6 +218,11 @@ fn number_is_refused_before_id(rt: HostRuntime) -> Result<(), Fail> {
         "XPENDING s g ! + x",
         "XPENDING s g IDLE x ! + 1",
         "XREAD COUNT STREAMS STREAMS s !",
+        "XREAD BLOCK -1 STREAMS s !",
+        "XREAD BLOCK 9223372036854775808 STREAMS s 0",
+        "XREADGROUP GROUP g c COUNT x STREAMS s !",
+        "XREADGROUP GROUP g c BLOCK -1 STREAMS s >",
+        "XREADGROUP COUNT 1.5 GROUP g c STREAMS s >",
     ] {
         refuses(&rt, line, CallFault::Number)?;
     }
@@ -225,460 +259,13 @@ fn other_ids_are_refused(rt: HostRuntime) -> Result<(), Fail> {
         "XPENDING s g - (- 1",
         "XREAD STREAMS s t 0 >",
         "XREAD STREAMS s t $ -",
+        "XREADGROUP GROUP g c STREAMS s $",
+        "XREADGROUP GROUP g c STREAMS s t > -",
+        "XREADGROUP GROUP g c STREAMS s +",
+        "XREADGROUP GROUP g c STREAMS s (5",
+        "XREADGROUP GROUP g c STREAMS s >>",
     ] {
         refuses(&rt, line, CallFault::BadId)?;
-    }
-    Ok(())
-}
-
-#[test]
-fn ping_is_read(rt: HostRuntime) -> Result<(), Fail> {
-    for line in ["PING", "ping"] {
-        match &call(&rt, line)? {
-            Call::Ping { message } => assert!(rt; message.is_none(), "{line}"),
-            _ => assert!(rt; false, "{line}"),
-        }
-    }
-    match &call(&rt, "PiNg hello")? {
-        Call::Ping {
-            message: Some(message),
-        } => assert!(rt; is_text(message, b"hello")),
-        _ => assert!(rt; false),
-    }
-    Ok(())
-}
-
-#[test]
-fn length_is_read(rt: HostRuntime) -> Result<(), Fail> {
-    match &call(&rt, "xlen s")? {
-        Call::Xlen { key } => assert!(rt; is_text(key, b"s")),
-        _ => assert!(rt; false),
-    }
-    Ok(())
-}
-
-#[test]
-fn range_is_read(rt: HostRuntime) -> Result<(), Fail> {
-    for (line, from, until, want) in [
-        ("XRANGE s - +", (0, 0), (u64::MAX, u64::MAX), None),
-        (
-            "xRaNgE s - + COUNT 0",
-            (0, 0),
-            (u64::MAX, u64::MAX),
-            Some(0),
-        ),
-        ("XRANGE s 5-1 (7-3 count -7", (5, 1), (7, 2), Some(-7)),
-        ("XRANGE s 5 7 Count 007", (5, 0), (7, u64::MAX), Some(7)),
-    ] {
-        match &call(&rt, line)? {
-            Call::Xrange {
-                key,
-                start,
-                end,
-                count,
-            } => {
-                assert!(rt; is_text(key, b"s"), "{line}");
-                assert_eq!(rt; (start.ms, start.seq), from, "{line}");
-                assert_eq!(rt; (end.ms, end.seq), until, "{line}");
-                assert_eq!(rt; *count, want, "{line}");
-            }
-            _ => assert!(rt; false, "{line}"),
-        }
-    }
-    Ok(())
-}
-
-#[test]
-fn reverse_range_names_its_end_first(rt: HostRuntime) -> Result<(), Fail> {
-    match &call(&rt, "XREVRANGE s + - COUNT 1")? {
-        Call::Xrevrange {
-            key,
-            end,
-            start,
-            count,
-        } => {
-            assert!(rt; is_text(key, b"s"));
-            assert_eq!(rt; (end.ms, end.seq), (u64::MAX, u64::MAX));
-            assert_eq!(rt; (start.ms, start.seq), (0, 0));
-            assert_eq!(rt; *count, Some(1));
-        }
-        _ => assert!(rt; false),
-    }
-    Ok(())
-}
-
-#[test]
-fn fields_are_read_in_order(rt: HostRuntime) -> Result<(), Fail> {
-    match &call(&rt, "XADD s 5 a 1 b 2")? {
-        Call::Xadd {
-            key,
-            id,
-            fields,
-            ..
-        } => {
-            assert!(rt; is_text(key, b"s"));
-            assert_eq!(rt; *id, Spec::Written(Id { ms: 5, seq: 0 }));
-            assert!(rt; are_texts(fields, &[(b"a", b"1"), (b"b", b"2")]));
-        }
-        _ => assert!(rt; false),
-    }
-    Ok(())
-}
-
-#[test]
-fn options_of_xadd_are_read(rt: HostRuntime) -> Result<(), Fail> {
-    let first = Spec::Written(Id { ms: 1, seq: 1 });
-    for (line, want_make, want_trim, want_id) in [
-        ("XADD s * a b", true, None, Spec::Auto),
-        ("XADD s 5-* a b", true, None, Spec::Ms(5)),
-        (
-            "xadd s nomkstream maxlen ~ 10 limit 3 1-1 a b",
-            false,
-            Some(Trim {
-                by: TrimBy::MaxLen(10),
-                limit: 3,
-            }),
-            first,
-        ),
-        (
-            "XADD s MINID = 5 NOMKSTREAM * a b",
-            false,
-            Some(Trim {
-                by: TrimBy::MinId(Id { ms: 5, seq: 0 }),
-                limit: 0,
-            }),
-            Spec::Auto,
-        ),
-        (
-            "XADD s MAXLEN ~ 0 LIMIT 0 1-1 a b",
-            true,
-            Some(Trim {
-                by: TrimBy::MaxLen(0),
-                limit: 0,
-            }),
-            first,
-        ),
-    ] {
-        match &call(&rt, line)? {
-            Call::Xadd {
-                key,
-                make,
-                trim,
-                id,
-                fields,
-            } => {
-                assert!(rt; is_text(key, b"s"), "{line}");
-                assert_eq!(rt; *make, want_make, "{line}");
-                assert_eq!(rt; *trim, want_trim, "{line}");
-                assert_eq!(rt; *id, want_id, "{line}");
-                assert!(rt; are_texts(fields, &[(b"a", b"b")]), "{line}");
-            }
-            _ => assert!(rt; false, "{line}"),
-        }
-    }
-    Ok(())
-}
-
-#[test]
-fn removals_are_read(rt: HostRuntime) -> Result<(), Fail> {
-    match &call(&rt, "XTRIM s MAXLEN 007")? {
-        Call::Xtrim { key, trim } => {
-            assert!(rt; is_text(key, b"s"));
-            assert_eq!(rt; trim.by, TrimBy::MaxLen(7));
-            assert_eq!(rt; trim.limit, 0);
-        }
-        _ => assert!(rt; false),
-    }
-    match &call(&rt, "XDEL s 1-1 5 1-1")? {
-        Call::Xdel { key, ids } => {
-            let first = Id { ms: 1, seq: 1 };
-            assert!(rt; is_text(key, b"s"));
-            assert!(rt; ids.as_slice() == [first, Id { ms: 5, seq: 0 }, first].as_slice());
-        }
-        _ => assert!(rt; false),
-    }
-    Ok(())
-}
-
-#[test]
-fn acknowledged_ids_are_read(rt: HostRuntime) -> Result<(), Fail> {
-    match &call(&rt, "XACK s g 1-1 5 1-1")? {
-        Call::Xack { key, group, ids } => {
-            let first = Id { ms: 1, seq: 1 };
-            assert!(rt; is_text(key, b"s"));
-            assert!(rt; is_text(group, b"g"));
-            assert!(rt; ids.as_slice() == [first, Id { ms: 5, seq: 0 }, first].as_slice());
-        }
-        _ => assert!(rt; false),
-    }
-    Ok(())
-}
-
-#[test]
-fn place_of_a_group_is_read(rt: HostRuntime) -> Result<(), Fail> {
-    let written = Position::At(Id { ms: 5, seq: 0 });
-    for (line, want_from, want_make) in [
-        ("XGROUP CREATE s g $", Position::Last, false),
-        ("xgroup create s g $ mkstream", Position::Last, true),
-        ("XGROUP CREATE s g 5 MkStream", written, true),
-    ] {
-        match &call(&rt, line)? {
-            Call::XgroupCreate {
-                key,
-                group,
-                from,
-                make,
-            } => {
-                assert!(rt; is_text(key, b"s"), "{line}");
-                assert!(rt; is_text(group, b"g"), "{line}");
-                assert_eq!(rt; *from, want_from, "{line}");
-                assert_eq!(rt; *make, want_make, "{line}");
-            }
-            _ => assert!(rt; false, "{line}"),
-        }
-    }
-    for (line, want) in [
-        ("XGROUP SETID s g $", Position::Last),
-        ("XGROUP SETID s g 5-0", written),
-    ] {
-        match &call(&rt, line)? {
-            Call::XgroupSetId { key, group, from } => {
-                assert!(rt; is_text(key, b"s"), "{line}");
-                assert!(rt; is_text(group, b"g"), "{line}");
-                assert_eq!(rt; *from, want, "{line}");
-            }
-            _ => assert!(rt; false, "{line}"),
-        }
-    }
-    Ok(())
-}
-
-/// Which of the commands that only name things a call is, with the names.
-fn named(call: &Call) -> Option<(&'static str, &Name, &Name, &Name)> {
-    match call {
-        Call::XgroupDestroy { key, group } => Some(("destroy", key, group, group)),
-        Call::XgroupCreateConsumer {
-            key,
-            group,
-            consumer,
-        } => Some(("create", key, group, consumer)),
-        Call::XgroupDelConsumer {
-            key,
-            group,
-            consumer,
-        } => Some(("delete", key, group, consumer)),
-        Call::XinfoStream { key } => Some(("stream", key, key, key)),
-        Call::XinfoGroups { key } => Some(("groups", key, key, key)),
-        Call::XinfoConsumers { key, group } => Some(("consumers", key, group, group)),
-        _ => None,
-    }
-}
-
-#[test]
-fn names_are_read_in_order(rt: HostRuntime) -> Result<(), Fail> {
-    for (line, want, second, third) in [
-        ("XGROUP DESTROY s g", "destroy", "g", "g"),
-        ("XGROUP CREATECONSUMER s g c", "create", "g", "c"),
-        ("xGroup delConsumer s g c", "delete", "g", "c"),
-        ("XINFO STREAM s", "stream", "s", "s"),
-        ("XINFO GROUPS s", "groups", "s", "s"),
-        ("XINFO CONSUMERS s g", "consumers", "g", "g"),
-    ] {
-        let call = call(&rt, line)?;
-        match named(&call) {
-            Some((found, key, group, consumer)) => {
-                assert!(rt; found == want, "{line}");
-                assert!(rt; is_text(key, b"s"), "{line}");
-                assert!(rt; is_text(group, second.as_bytes()), "{line}");
-                assert!(rt; is_text(consumer, third.as_bytes()), "{line}");
-            }
-            None => assert!(rt; false, "{line}"),
-        }
-    }
-    Ok(())
-}
-
-#[test]
-fn automatic_claims_are_read(rt: HostRuntime) -> Result<(), Fail> {
-    for (line, want_idle, want_start, want_count, want_ids) in [
-        (
-            "XAUTOCLAIM s g c 3600000 0-0",
-            3_600_000,
-            (0, 0),
-            None,
-            false,
-        ),
-        (
-            "xautoclaim s g c -1 (5 justid Count 25",
-            -1,
-            (5, 1),
-            Some(25),
-            true,
-        ),
-    ] {
-        match &call(&rt, line)? {
-            Call::Xautoclaim {
-                key,
-                group,
-                consumer,
-                least_idle,
-                start,
-                count,
-                just_ids,
-            } => {
-                assert!(rt; is_text(key, b"s"), "{line}");
-                assert!(rt; is_text(group, b"g"), "{line}");
-                assert!(rt; is_text(consumer, b"c"), "{line}");
-                assert_eq!(rt; *least_idle, want_idle, "{line}");
-                assert_eq!(rt; (start.ms, start.seq), want_start, "{line}");
-                assert_eq!(rt; *count, want_count, "{line}");
-                assert_eq!(rt; *just_ids, want_ids, "{line}");
-            }
-            _ => assert!(rt; false, "{line}"),
-        }
-    }
-    Ok(())
-}
-
-#[test]
-fn claims_are_read(rt: HostRuntime) -> Result<(), Fail> {
-    for (line, want_time, want_count, want_ids) in [
-        ("XCLAIM s g c 9 1-1 5", TimeAsked::Now, None, false),
-        (
-            "xclaim s g c 9 1-1 5 idle 7 retrycount 3 time 8 justid",
-            TimeAsked::At(8),
-            Some(3),
-            true,
-        ),
-        (
-            "XCLAIM s g c 9 1-1 5 TIME 8 IDLE 7",
-            TimeAsked::Idle(7),
-            None,
-            false,
-        ),
-    ] {
-        match &call(&rt, line)? {
-            Call::Xclaim {
-                key,
-                group,
-                consumer,
-                least_idle,
-                ids,
-                time,
-                count,
-                just_ids,
-            } => {
-                let wanted = [Id { ms: 1, seq: 1 }, Id { ms: 5, seq: 0 }];
-                assert!(rt; is_text(key, b"s"), "{line}");
-                assert!(rt; is_text(group, b"g"), "{line}");
-                assert!(rt; is_text(consumer, b"c"), "{line}");
-                assert_eq!(rt; *least_idle, 9, "{line}");
-                assert!(rt; ids.as_slice() == wanted.as_slice(), "{line}");
-                assert_eq!(rt; *time, want_time, "{line}");
-                assert_eq!(rt; *count, want_count, "{line}");
-                assert_eq!(rt; *just_ids, want_ids, "{line}");
-            }
-            _ => assert!(rt; false, "{line}"),
-        }
-    }
-    Ok(())
-}
-
-/// The listing that XPENDING asks for: least idle time, start, end, count, and whether it is of the consumer `c`.
-fn listing(call: &Call) -> Option<(Option<i64>, (u64, u64), (u64, u64), i64, bool)> {
-    let Call::Xpending {
-        key,
-        group,
-        listing: Some(listing),
-    } = call
-    else {
-        return None;
-    };
-    if !is_text(key, b"s") || !is_text(group, b"g") {
-        return None;
-    }
-    let of_consumer = match &listing.consumer {
-        None => false,
-        Some(consumer) => is_text(consumer, b"c"),
-    };
-    let start = (listing.start.ms, listing.start.seq);
-    let end = (listing.end.ms, listing.end.seq);
-    Some((listing.least_idle, start, end, listing.count, of_consumer))
-}
-
-#[test]
-fn listings_are_read(rt: HostRuntime) -> Result<(), Fail> {
-    for (line, want_idle, want_end, want_count, want_consumer) in [
-        ("XPENDING s g 5 + 10", None, (u64::MAX, u64::MAX), 10, false),
-        ("XPENDING s g 5 7 -1 c", None, (7, u64::MAX), -1, true),
-        (
-            "xpending s g idle 9000 5 7-3 10",
-            Some(9000),
-            (7, 3),
-            10,
-            false,
-        ),
-        (
-            "XPENDING s g IDLE -2 5 7-3 10 c",
-            Some(-2),
-            (7, 3),
-            10,
-            true,
-        ),
-    ] {
-        match listing(&call(&rt, line)?) {
-            Some(found) => {
-                let want = (want_idle, (5, 0), want_end, want_count, want_consumer);
-                assert!(rt; found == want, "{line}");
-            }
-            None => assert!(rt; false, "{line}"),
-        }
-    }
-    match &call(&rt, "XPENDING s g")? {
-        Call::Xpending {
-            key,
-            group,
-            listing,
-        } => {
-            assert!(rt; is_text(key, b"s"));
-            assert!(rt; is_text(group, b"g"));
-            assert!(rt; listing.is_none());
-        }
-        _ => assert!(rt; false),
-    }
-    Ok(())
-}
-
-/// Whether the words are these.
-fn are_words(words: &Words, wanted: &[&[u8]]) -> bool {
-    let mut left = words.unread();
-    for word in wanted {
-        match left.next() {
-            Some(found) if found == *word => {}
-            _ => return false,
-        }
-    }
-    left.is_empty()
-}
-
-#[test]
-fn streams_are_read_with_their_ids(rt: HostRuntime) -> Result<(), Fail> {
-    let written = Position::At(Id { ms: 5, seq: 0 });
-    for (line, want_count) in [
-        ("XREAD STREAMS s STREAMS $ 5", None),
-        ("xread count -1 streams s STREAMS $ 5-0", Some(-1)),
-    ] {
-        match &call(&rt, line)? {
-            Call::Xread { count, keys, from } => {
-                assert_eq!(rt; *count, want_count, "{line}");
-                assert!(rt; are_words(keys, &[b"s", b"STREAMS"]), "{line}");
-                assert!(rt;
-                    from.as_slice() == [Position::Last, written].as_slice(),
-                    "{line}"
-                );
-            }
-            _ => assert!(rt; false, "{line}"),
-        }
     }
     Ok(())
 }

@@ -1,10 +1,11 @@
 ghost use Rattle.std.specs.Prelude.{◌≡◌, ◌↔◌, map, take, IsTrue, IfOk, IfSome, IfNone};
 ghost use Rattle.sr_args.specs.Place.{strict_id, spelled, HasIds};
 ghost use Rattle.sr_args.specs.Form.{AreIds};
-ghost use Rattle.sr_args.specs.Position.{SpellsPosition};
+ghost use Rattle.sr_args.specs.Position.{SpellsPosition, SpellsRead};
 ghost use Rattle.sr_args.specs.declared.call.Position as positions;
+ghost use Rattle.sr_args.specs.declared.reads.ReadAsked as reads;
 
-use crate::Position;
+use crate::{Position, ReadAsked};
 use sr_bytes::{Name, Unread};
 use sr_ids::{Ids, parse_strict};
 use std::alloc::{AllocError, Global};
@@ -25,6 +26,17 @@ pub(crate) fn read_position(word: &[u8]) -> Option<Position>
         return Some(Position::Last);
     }
     Some(Position::At(parse_strict(word)?))
+}
+
+/// Which entries of a stream a consumer of a group reads, by a word of XREADGROUP.
+pub(crate) fn read_asked(word: &[u8]) -> Option<ReadAsked>
+    ensures found { IfSome result (SpellsRead word.now) }
+    ensures none { IfNone result ((asked : reads.ReadAsked) → SpellsRead word.now asked → ⊥) }
+{
+    if word == b">".as_slice() {
+        return Some(ReadAsked::New);
+    }
+    Some(ReadAsked::PendingAfter(parse_strict(word)?))
 }
 
 /// Whether each word spells an id.

@@ -5,9 +5,9 @@ use Rattle.std.specs.Prelude.{◌≡◌, ℕ, max, min, Option, Some, None, Resu
 use Rattle.sr_resp.specs.Reply.{Answer}
 use Rattle.sr_args.specs.declared.call.Call.{Call}
 use Rattle.sr_space.specs.Keys.{Keys}
-use Rattle.sr_space.specs.Effect.{executed}
-use Rattle.sr_space.specs.declared.outcome.Outcome.{Outcome}
-use Rattle.sr_space.specs.declared.outcome.Outcome.TheVariants.{Reply}
+use Rattle.sr_space.specs.Effect.{at_once}
+use Rattle.sr_space.specs.declared.outcome.Answered.{Answered}
+use Rattle.sr_space.specs.declared.outcome.Answered.TheVariants.{Reply}
 use Rattle.sr_session.specs.declared.desk.DeskFault.{DeskFault}
 
 -- the server as a desk shows it: the moment of its last call, and its keys
@@ -19,7 +19,7 @@ abbrev pub shown : ℕ → Keys → Served
 shown moment keys = record { moment = moment; keys = keys }
 
 -- the reply that an outcome sends
-abbrev pub sent_of : Outcome → Answer
+abbrev pub sent_of : Answered → Answer
 sent_of (Reply send keep) = send
 
 -- a call comes at the moment that is told, but not before the last one, and at most at 2 ^ 63 - 1
@@ -30,7 +30,7 @@ moment_after last told = max last (min told 0x7fff_ffff_ffff_ffff)
 abbrev pub Steps : Served → ℕ → Call → Result Answer DeskFault → Served → Type 0
 Steps old told call (Ok reply) new =
     let moment = moment_after old.moment told in
-    let effect = executed old.keys moment call in
+    let effect = at_once old.keys moment call in
     (reply ≡ sent_of effect.outcome) × (new ≡ shown moment effect.keys)
 Steps old told call (Err fault) new = new ≡ old
 

@@ -1,11 +1,11 @@
 ghost use Rattle.std.specs.Prelude.{◌≡◌, ℕ, Option, Some, false, OnOk, OnErr, IfOk};
 ghost use Rattle.sr_resp.specs.Reply.{Answer};
-ghost use Rattle.sr_space.specs.Effect.{executed};
+ghost use Rattle.sr_space.specs.Effect.{at_once};
 ghost use Rattle.sr_session.specs.Desk.{Served, StepsAt, moment_after, sent_of, shown};
 
 use sr_args::Call;
 use sr_resp::Reply;
-use sr_space::{Outcome, Space};
+use sr_space::{Answered, Space};
 use std::alloc::{AllocError, Global};
 
 /// Why a desk did not carry out a call.
@@ -71,21 +71,21 @@ impl<'a> Desk for PlainDesk<'a> {
 
 /// Carries out a call at a moment.
 fn carry_out(alloc: Global, space: &mut Space, moment: u64, call: &Call) -> Result<Reply, DeskFault>
-    ensures keys { OnOk result (space.new ≡ (executed space.old moment call.now).keys) }
-    ensures reply { IfOk result (λ reply. reply ≡ sent_of (executed space.old moment call.now).outcome) }
+    ensures keys { OnOk result (space.new ≡ (at_once space.old moment call.now).keys) }
+    ensures reply { IfOk result (λ reply. reply ≡ sent_of (at_once space.old moment call.now).outcome) }
     ensures err { OnErr result (space.new ≡ space.old) }
 {
-    match space.exec(alloc, moment, call) {
+    match space.at_once(alloc, moment, call) {
         Ok(outcome) => Ok(sent_reply(outcome)),
         Err(AllocError) => Err(DeskFault::Memory),
     }
 }
 
 /// The reply that is sent.
-fn sent_reply(outcome: Outcome) -> Reply
-    ensures { (send keep : Answer) → outcome ≡ Outcome.Reply send keep → result ≡ send }
+fn sent_reply(outcome: Answered) -> Reply
+    ensures { (send keep : Answer) → outcome ≡ Answered.Reply send keep → result ≡ send }
 {
     match outcome {
-        Outcome::Reply { send, keep: _ } => send,
+        Answered::Reply { send, keep: _ } => send,
     }
 }

@@ -15,6 +15,8 @@ use std::process::Abort;
 use std::random::RandomSource;
 use std::test::Fail;
 
+mod groups;
+mod pages;
 mod sessions;
 
 /// `XLEN s`

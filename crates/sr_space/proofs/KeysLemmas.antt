@@ -1,14 +1,12 @@
 -- What a write through a look-up and an insertion leave of the keys as they are shown: what `at_key` says, for any command.
-use Rattle.std.proofs.Common.{◌≡◌, Bool, true, false, cond, List, [], ◌∷◌, Option, Some, None, nat_eq, refl, ap, sym, ◌∙◌}
+use Rattle.std.proofs.Common.{◌≡◌, Bool, true, false, cond, [], ◌∷◌, Option, Some, None, nat_eq, refl, ap, sym, ◌∙◌}
 use Rattle.std.specs.Cmp.Lexicographic.{pointwise}
 use Rattle.std.specs.Map.{lookup, set_value}
 use Rattle.indexmap.specs.IndexMap.{insert_entry}
 use Rattle.sr_stream.specs.Stream.{StreamState, KeptStream}
 use Rattle.sr_space.specs.Keys.{Key, Keys, stream_at, with_stream, shown_of, shown_keys}
 use Rattle.sr_space.specs.Touched.{Touched, left_of, left_at, at_key}
-
-abbrev pub Stored : Type 0
-Stored = List (Key × KeptStream)
+pub use Rattle.sr_space.specs.steps.Reading.{Stored}
 
 -- a look-up in what is shown
 pub stream_at-shown : (stored : Stored) (key : Key) → stream_at (shown_keys stored) key ≡ shown_of (lookup (pointwise nat_eq key) stored)

@@ -1,98 +1,19 @@
--- One stream changed: what each key has then; and what every command leaves.
-use Rattle.std.proofs.Common.{◌≡◌, ◌≢◌, ℕ, Bool, true, false, cond, [], ◌∷◌, Option, Some, None, nat_eq, refl, ap, sym, ◌∙◌, true≢false}
-use Rattle.std.specs.Prelude.{IfSome, IsSome}
-use Rattle.std.specs.Cmp.Lexicographic.{pointwise, bytes_decides}
+-- What every command leaves.
+use Rattle.std.proofs.Common.{◌≡◌, ℕ}
+use Rattle.std.specs.Prelude.{IsSome}
 use Rattle.sr_resp.specs.declared.code.ErrCode.{ErrCode}
 use Rattle.sr_resp.specs.Reply.{error_reply}
 use Rattle.sr_args.specs.declared.call.Call.{Call}
-use Rattle.sr_stream.specs.Stream.{StreamState, IsStream}
-use Rattle.sr_space.specs.Keys.{Key, Keys, stream_at, with_stream, AreStreams}
-use Rattle.sr_space.specs.Touched.{Executed, reply_of, left_at}
-use Rattle.sr_space.specs.Effect.{executed}
-use Rattle.sr_space.proofs.CommandLaws.{executed-applied}
+use Rattle.sr_space.specs.Keys.{Key, Keys, stream_at, AreStreams}
+use Rattle.sr_space.specs.Touched.{reply_of}
+use Rattle.sr_space.specs.Effect.{at_once}
+use Rattle.sr_space.proofs.CommandLaws.{at_once-keeps}
 
-other_key : (a b : Key) → a ≢ b → pointwise nat_eq a b ≡ false
-other_key a b apart = by (pointwise nat_eq a b) refl
-  where
-    by : (test : Bool) → pointwise nat_eq a b ≡ test → test ≡ false
-    by true e = absurd (apart ((bytes_decides a b).0 e))
-    by false e = refl
+pub AreStreams-at_once : (keys : Keys) (moment : ℕ) (call : Call) → AreStreams keys → AreStreams (at_once keys moment call).keys
+AreStreams-at_once keys moment call = (at_once-keeps keys moment call).sound
 
--- the changed stream is at its key
-pub stream_at-with_stream : (keys : Keys) (key : Key) (stream : StreamState) → stream_at (with_stream keys key stream) key ≡ Some stream
-stream_at-with_stream [] key stream = rw ((bytes_decides key key).1 refl)
-stream_at-with_stream (k ∷ keys) key stream = by (stream_at-with_stream keys key stream) (pointwise nat_eq key k.0) refl
-  where
-    by : stream_at (with_stream keys key stream) key ≡ Some stream → (test : Bool) → pointwise nat_eq key k.0 ≡ test → stream_at (with_stream (k ∷ keys) key stream) key ≡ Some stream
-    by rest true e = simp e
-    by rest false e = simp e rest
+pub at_once-error : (keys : Keys) (moment : ℕ) (call : Call) (code : ErrCode) → (at_once keys moment call).outcome ≡ reply_of (error_reply code) → (at_once keys moment call).keys ≡ keys
+at_once-error keys moment call = (at_once-keeps keys moment call).errors
 
--- and each other stream is as it was
-pub stream_at-with_stream_other : (keys : Keys) (key other : Key) (stream : StreamState) → other ≢ key → stream_at (with_stream keys key stream) other ≡ stream_at keys other
-stream_at-with_stream_other [] key other stream apart = rw (other_key other key apart)
-stream_at-with_stream_other (k ∷ keys) key other stream apart = by (stream_at-with_stream_other keys key other stream apart) (pointwise nat_eq key k.0) refl
-  where
-    by : stream_at (with_stream keys key stream) other ≡ stream_at keys other → (test : Bool) → pointwise nat_eq key k.0 ≡ test → stream_at (with_stream (k ∷ keys) key stream) other ≡ stream_at (k ∷ keys) other
-    by rest true e =
-        let key_is : key ≡ k.0 = (bytes_decides key k.0).0 e in
-        let not_here : pointwise nat_eq other k.0 ≡ false = other_key other k.0 (λ same. apart (same ∙ sym key_is)) in
-        simp (e, not_here)
-    by rest false e = simp e (ap (cond (pointwise nat_eq other k.0) (Some k.1)) rest)
-
--- all streams are sound if the changed one is
-AreStreams-with_stream : (keys : Keys) (key : Key) (changed : StreamState) → AreStreams keys → IsStream changed → AreStreams (with_stream keys key changed)
-AreStreams-with_stream keys key changed all is other stream here = by (pointwise nat_eq other key) refl
-  where
-    by : (test : Bool) → pointwise nat_eq other key ≡ test → IsStream stream
-    by true e =
-        let key_is : other ≡ key = (bytes_decides other key).0 e in
-        let there : stream_at (with_stream keys key changed) key ≡ Some stream = rw key_is at here in
-        let same : changed ≡ stream = cc (stream_at-with_stream keys key changed, there) in
-        rw (sym same) is
-    by false e =
-        let apart : other ≢ key = λ same. true≢false (sym ((bytes_decides other key).1 same) ∙ e) in
-        all other stream (sym (stream_at-with_stream_other keys key other changed apart) ∙ here)
-
-AreStreams-left_at : (keys : Keys) (key : Key) (written : Option StreamState) → AreStreams keys → IfSome written IsStream → AreStreams (left_at keys key written)
-AreStreams-left_at keys key None all is = all
-AreStreams-left_at keys key (Some changed) all is = AreStreams-with_stream keys key changed all is
-
-found-sound : (keys : Keys) (key : Key) (found : Option StreamState) → AreStreams keys → stream_at keys key ≡ found → IfSome found IsStream
-found-sound keys key None all at = tt
-found-sound keys key (Some stream) all at = all key stream at
-
--- a key that is there is there after a change
-IsSome-with_stream : (keys : Keys) (key other : Key) (changed : StreamState) → IsSome (stream_at keys other) → IsSome (stream_at (with_stream keys key changed) other)
-IsSome-with_stream keys key other changed there = by (pointwise nat_eq other key) refl
-  where
-    by : (test : Bool) → pointwise nat_eq other key ≡ test → IsSome (stream_at (with_stream keys key changed) other)
-    by true e =
-        let key_is : other ≡ key = (bytes_decides other key).0 e in
-        rw (key_is, stream_at-with_stream keys key changed) refl
-    by false e =
-        let apart : other ≢ key = λ same. true≢false (sym ((bytes_decides other key).1 same) ∙ e) in
-        rw (stream_at-with_stream_other keys key other changed apart) there
-
-IsSome-left_at : (keys : Keys) (key other : Key) (written : Option StreamState) → IsSome (stream_at keys other) → IsSome (stream_at (left_at keys key written) other)
-IsSome-left_at keys key other None there = there
-IsSome-left_at keys key other (Some changed) there = IsSome-with_stream keys key other changed there
-
--- and so for every command
-pub AreStreams-executed : (keys : Keys) (moment : ℕ) (call : Call) → AreStreams keys → AreStreams (executed keys moment call).keys
-AreStreams-executed keys moment call all =
-    let applied = executed-applied keys moment call in
-    let found = stream_at keys applied.key in
-    rw applied.is (AreStreams-left_at keys applied.key (applied.f found).written all (applied.lawful.sound found (found-sound keys applied.key found all refl)))
-
-pub executed-error : (keys : Keys) (moment : ℕ) (call : Call) (code : ErrCode) → (executed keys moment call).outcome ≡ reply_of (error_reply code) → (executed keys moment call).keys ≡ keys
-executed-error keys moment call code e =
-    let applied = executed-applied keys moment call in
-    let found = stream_at keys applied.key in
-    let error : (applied.f found).outcome ≡ reply_of (error_reply code) = sym (ap (λ (x : Executed). x.outcome) applied.is) ∙ e in
-    ap (λ (x : Executed). x.keys) applied.is ∙ ap (left_at keys applied.key) (applied.lawful.errors found code error)
-
-pub IsSome-executed : (keys : Keys) (moment : ℕ) (call : Call) (key : Key) → IsSome (stream_at keys key) → IsSome (stream_at (executed keys moment call).keys key)
-IsSome-executed keys moment call key there =
-    let applied = executed-applied keys moment call in
-    let found = stream_at keys applied.key in
-    rw applied.is (IsSome-left_at keys applied.key key (applied.f found).written there)
+pub IsSome-at_once : (keys : Keys) (moment : ℕ) (call : Call) (key : Key) → IsSome (stream_at keys key) → IsSome (stream_at (at_once keys moment call).keys key)
+IsSome-at_once keys moment call = (at_once-keeps keys moment call).stay

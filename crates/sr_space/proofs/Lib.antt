@@ -3,6 +3,9 @@ pub mod ArrayLemmas
 pub mod PendingLemmas
 pub mod ClaimLemmas
 pub mod GroupLaws
+pub mod KeyLaws
+pub mod ReadGroupLaws
+pub mod NoAckLaws
 pub mod GroupedLemmas
 pub mod KeysLemmas
 pub mod CommandLaws
@@ -10,3 +13,6 @@ pub mod LawLemmas
 pub mod ReplyLemmas
 pub mod InfoLemmas
 pub mod ReadingLemmas
+pub mod ReadGroupLemmas
+pub mod WaitingLemmas
+pub mod WaitingLaws

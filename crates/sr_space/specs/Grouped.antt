@@ -10,13 +10,13 @@ use Rattle.sr_stream.specs.Groups.{group_with, with_group}
 use Rattle.sr_stream.specs.Stream.{StreamState, with_groups}
 use Rattle.sr_space.specs.declared.grouped.Missing.{Missing}
 use Rattle.sr_space.specs.declared.grouped.Missing.TheVariants.{Zero, NoGroup, NoKey}
-use Rattle.sr_space.specs.declared.outcome.Outcome.{Outcome}
+use Rattle.sr_space.specs.declared.outcome.Answered.{Answered}
 use Rattle.sr_space.specs.Touched.{Touched, replies, reply_of}
 
 -- what a command writes in the place of its group, if anything, and what it leads to
 pub record Regrouped : Type 0 where
   pub written : Option GroupState
-  pub outcome : Outcome
+  pub outcome : Answered
 
 -- the group is changed, and this is replied
 abbrev pub regroups : GroupState → Answer → Regrouped

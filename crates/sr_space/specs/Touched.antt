@@ -4,22 +4,22 @@ use Rattle.std.specs.Prelude.{ℕ, Option, Some, None, pos}
 use Rattle.sr_resp.specs.Reply.{Answer, error_reply, integer}
 use Rattle.sr_resp.specs.declared.code.ErrCode.{ErrCode}
 use Rattle.sr_stream.specs.Stream.{StreamState}
-use Rattle.sr_space.specs.declared.outcome.Outcome.{Outcome}
-use Rattle.sr_space.specs.declared.outcome.Outcome.TheVariants.{Reply}
+use Rattle.sr_space.specs.declared.outcome.Answered.{Answered}
+use Rattle.sr_space.specs.declared.outcome.Answered.TheVariants.{Reply}
 use Rattle.sr_space.specs.Keys.{Key, Keys, stream_at, with_stream}
 
 -- the keys that a command leaves, and what it leads to
 pub record Executed : Type 0 where
   pub keys : Keys
-  pub outcome : Outcome
+  pub outcome : Answered
 
 -- what a command on one stream writes at its key, if anything, and what it leads to
 pub record Touched : Type 0 where
   pub written : Option StreamState
-  pub outcome : Outcome
+  pub outcome : Answered
 
 -- a reply: one to send, and an equal one to keep
-abbrev pub reply_of : Answer → Outcome
+abbrev pub reply_of : Answer → Answered
 reply_of answer = Reply answer answer
 
 -- no key changes, and this is replied

@@ -5,6 +5,7 @@ pub mod Xdel
 pub mod Xlen
 pub mod Xrange
 pub mod Xread
+pub mod Xreadgroup
 pub mod Xack
 pub mod Xgroup
 pub mod Xinfo

@@ -2,7 +2,7 @@ ghost use Rattle.std.specs.Prelude.{◌≡◌};
 ghost use Rattle.sr_space.specs.Grouped.{for_missing_group, for_missing_key, in_group};
 ghost use Rattle.sr_space.specs.Touched.{reply_of};
 
-use crate::Outcome;
+use crate::Answered;
 use crate::outcome::{numbered, refused};
 use crate::touch::{Made, Touch, unmade};
 use sr_bytes::Name;
@@ -39,7 +39,7 @@ pub(crate) trait TouchGroup {
         alloc: Global,
         entries: &Entries,
         group: &mut Group,
-    ) -> Result<Outcome, AllocError>
+    ) -> Result<Answered, AllocError>
         ensures group { OnOk result (group.new.shown
             ≡ group_left group.old.shown (regroups self.now entries.now.entries group.old.shown).written) }
         ensures outcome { IfOk result (λ outcome.
@@ -58,7 +58,7 @@ pub(crate) struct InGroup<'a, T> {
 impl<'a, T: TouchGroup> Touch for InGroup<'a, T> {
     ghost touches = { λ c. in_group c.missing (T.regroups c.command) c.name.now };
 
-    fn at_stream(&self, alloc: Global, stream: &mut Stream) -> Result<Outcome, AllocError> {
+    fn at_stream(&self, alloc: Global, stream: &mut Stream) -> Result<Answered, AllocError> {
         if !stream.has_group(self.name) {
             return Ok(without_group(alloc, self.missing));
         }
@@ -73,7 +73,7 @@ impl<'a, T: TouchGroup> Touch for InGroup<'a, T> {
 }
 
 /// The reply where there is no such key. It takes no memory.
-fn without_key(alloc: Global, missing: Missing) -> Outcome
+fn without_key(alloc: Global, missing: Missing) -> Answered
     ensures { result ≡ reply_of (for_missing_key missing) }
 {
     match missing {
@@ -84,7 +84,7 @@ fn without_key(alloc: Global, missing: Missing) -> Outcome
 }
 
 /// The reply where the key has no such group. It takes no memory.
-fn without_group(alloc: Global, missing: Missing) -> Outcome
+fn without_group(alloc: Global, missing: Missing) -> Answered
     ensures { result ≡ reply_of (for_missing_group missing) }
 {
     match missing {

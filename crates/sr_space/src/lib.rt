@@ -1,6 +1,7 @@
 //! The keys of a server with their streams, and what each command does to them.
 #![tactic(auto)]
 
+mod blocking;
 mod bounds;
 mod commands;
 mod grouped;
@@ -12,6 +13,10 @@ mod space;
 mod tests;
 mod touch;
 
-pub use laws::{errors_change_nothing, keys_stay, one_stream_changes, streams_stay_sound};
-pub use outcome::Outcome;
+pub use blocking::Outcome;
+pub use laws::{
+    errors_change_nothing, keys_stay, noack_keeps_pending, nothing_is_the_null_array,
+    one_stream_changes, streams_stay_sound, waiting_finds_nothing, waiting_leaves_the_same,
+};
+pub use outcome::Answered;
 pub use space::Space;

@@ -1,6 +1,6 @@
 ghost use Rattle.std.specs.Prelude.{◌≡◌, None};
 
-use crate::Outcome;
+use crate::Answered;
 use sr_stream::Stream;
 use std::alloc::{AllocError, Global};
 
@@ -9,7 +9,7 @@ use std::alloc::{AllocError, Global};
 pub(crate) struct Made {
     /// The stream for the key, if the command makes the key.
     pub(crate) stream: Option<Stream>,
-    pub(crate) outcome: Outcome,
+    pub(crate) outcome: Answered,
 }
 
 /// A command that changes the stream at one key.
@@ -23,7 +23,7 @@ pub(crate) trait Touch {
     ghost touches: { Self → Option StreamState → Touched };
 
     /// Carries the command out on a stream. After an `Err` the stream shows what it showed.
-    fn at_stream(&self, alloc: Global, stream: &mut Stream) -> Result<Outcome, AllocError>
+    fn at_stream(&self, alloc: Global, stream: &mut Stream) -> Result<Answered, AllocError>
         ensures stream { OnOk result
             (stream.new.shown ≡ left_of stream.old.shown (touches self.now (Some stream.old.shown)).written) }
         ensures outcome { IfOk result (λ outcome. outcome ≡ (touches self.now (Some stream.old.shown)).outcome) }
@@ -37,7 +37,7 @@ pub(crate) trait Touch {
 }
 
 /// An outcome that makes no key.
-pub(crate) fn unmade(outcome: Outcome) -> Made
+pub(crate) fn unmade(outcome: Answered) -> Made
     ensures stream { result.stream ≡ None }
     ensures outcome { result.outcome ≡ outcome }
 {

@@ -1,6 +1,7 @@
--- XREAD [COUNT number] STREAMS key [key ..] id [id ..]
+-- XREAD [COUNT int] [BLOCK number] STREAMS key [key ..] id [id ..]
 -- Source: Redis documentation, command XREAD.
 
+use Rattle.std.specs.List.{zip}
 use Rattle.sr_args.specs.declared.call.Call.{Call}
 use Rattle.sr_args.specs.declared.call.Call.TheVariants as calls
 use Rattle.sr_args.specs.declared.options.OptionSet.TheVariants as sets
@@ -11,4 +12,4 @@ abbrev pub form : Form
 form = options sets.Xread (streams position)
 
 abbrev pub call : Values form → Call
-call (chosen, (keys, from)) = calls.Xread chosen.count keys from
+call (chosen, (keys, from)) = calls.Xread chosen.count chosen.block (zip keys from)

@@ -8,6 +8,8 @@ use Rattle.std.specs.Option.{option_copied}
 use Rattle.sr_args.specs.declared.fault.CallFault.{CallFault}
 use Rattle.sr_args.specs.declared.fault.CallFault.TheVariants as calls
 use Rattle.sr_args.specs.declared.options.Choice.{Choice}
+use Rattle.sr_args.specs.declared.options.Given.{Given}
+use Rattle.sr_args.specs.declared.options.GroupWords.{GroupWords}
 use Rattle.sr_args.specs.declared.options.OptionWords.{OptionWords}
 use Rattle.sr_args.specs.declared.options.OptionWords.TheVariants as words
 use Rattle.sr_args.specs.declared.options.TrimWords.{TrimWords}
@@ -26,7 +28,7 @@ use Rattle.sr_args.specs.declared.name.Sign.TheVariants.{Nearly}
 use Rattle.sr_args.specs.Name.{IsSameName, option_text, sign_text}
 use Rattle.sr_args.specs.Place.{Word, Place, Fits, HasNumber, HasNumbers, HasId, HasIds}
 use Rattle.sr_args.specs.Options.{TrimReading, Written, count, no_make, make_key, ids_only, idle, since, deliveries}
-use Rattle.sr_args.specs.Options.{trimming, operand_places, sign_places}
+use Rattle.sr_args.specs.Options.{named_group, no_ack, block, trimming, operand_places, sign_places, group_in}
 use Rattle.sr_args.specs.Options.{bound_place, option_places, first_name, kind, IsIn}
 use Rattle.sr_args.specs.Options.{IsTrimFit, IsOptionFit, AreOptionsFit, IsUnnamed, IsPast, Chosen, Choose, Sets}
 use Rattle.sr_args.specs.Options.{IsBound, IsTrim, nothing}
@@ -96,6 +98,9 @@ IsOptionEnd ids_only places = ⊤
 IsOptionEnd (idle word) places = ⊤
 IsOptionEnd (since word) places = ⊤
 IsOptionEnd (deliveries word) places = ⊤
+IsOptionEnd (named_group group consumer) places = ⊤
+IsOptionEnd no_ack places = ⊤
+IsOptionEnd (block wait) places = ⊤
 IsOptionEnd (trimming trim) places = IsUnlimited places
 
 -- the other options are those written and a tail, which the words left begin with
@@ -138,6 +143,9 @@ written_of words.JustId = ids_only
 written_of (words.Idle word) = idle word.now
 written_of (words.Time word) = since word.now
 written_of (words.RetryCount word) = deliveries word.now
+written_of (words.Group named) = named_group named.group.now named.consumer.now
+written_of words.NoAck = no_ack
+written_of (words.Block word) = block word.now
 written_of (words.Trim trim) = trimming (trim_reading trim)
 
 abbrev pub chosen_of : Choice → Chosen
@@ -149,7 +157,14 @@ chosen_of choice = record {
   just_ids = choice.just_ids;
   time = choice.time;
   delivered = choice.delivered;
+  no_ack = choice.no_ack;
+  block = choice.block;
 }
+
+-- the words of a group and a consumer, if there are any
+abbrev pub named_by : Option GroupWords → Option (Word × Word)
+named_by None = None
+named_by (Some words) = Some (words.group.now, words.consumer.now)
 
 -- what the options ask for, or the first fault of their words: a number that is missing comes before an id that is
 abbrev pub AreJudged : List Written → Result Choice ValueFault → Type 0
@@ -186,6 +201,9 @@ index_of kinds.JustId = 4
 index_of kinds.Idle = 5
 index_of kinds.Time = 6
 index_of kinds.RetryCount = 7
+index_of kinds.Group = 8
+index_of kinds.NoAck = 9
+index_of kinds.Block = 10
 
 abbrev pub fault_of : ValueFault → CallFault
 fault_of faults.Number = calls.Number
@@ -193,14 +211,20 @@ fault_of faults.BadId = calls.BadId
 
 -- the kinds of the options written are those that were seen
 pub record AreSeen (seen : List Bool) (written : List Written) : Type 0 where
-  pub many : length seen ≡ 8
+  pub many : length seen ≡ 11
   pub yes : (k : OptionKind) → get_or seen (index_of k) false ≡ true → IsIn k (map kind written)
   pub no : (k : OptionKind) → get_or seen (index_of k) false ≡ false → IsIn k (map kind written) → ⊥
 
 -- the loop over options between two of them
 pub record IsUnderway (set : OptionSet) (words left : List Word) (seen : List Bool)
-    (judged : Result Choice ValueFault) : Type 0 where
+    (judged : Result Choice ValueFault) (group : Option GroupWords) : Type 0 where
   pub written : List Written
   pub begins : BeginsOptions set words written left
   pub seen_are : AreSeen seen written
   pub judged_are : AreJudged written judged
+  pub group_is : named_by group ≡ group_in written
+
+-- what reading the options leaves: what they ask for, and whom they name
+pub record IsGiven (written : List Written) (given : Given) : Type 0 where
+  pub judged_are : AreJudged written given.judged
+  pub group_is : named_by given.group ≡ group_in written

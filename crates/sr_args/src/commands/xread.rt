@@ -1,17 +1,17 @@
-ghost use Rattle.std.specs.Prelude.{◌↔◌, map, IsTrue, IfOk};
-ghost use Rattle.sr_args.specs.Form.{AreIds};
+ghost use Rattle.std.specs.Prelude.{◌↔◌, ◌≤◌, map, length, IsTrue, IfOk};
 ghost use Rattle.sr_args.specs.Place.{position, spelled, HasIds};
 ghost use Rattle.sr_args.specs.commands.Xread as xread_form;
 ghost use Rattle.sr_args.specs.steps.Gives.{Gives};
+ghost use Rattle.sr_args.specs.steps.Streams.{AreStreams};
 
 use crate::options::OptionSet;
-use crate::streams::{copy_words, read_words};
-use crate::value::read_position;
-use crate::{Call, CallFault, Positions};
-use sr_bytes::Unread;
+use crate::streams::read_words;
+use crate::value::{copy_word, read_position};
+use crate::{Call, CallFault, Position, Streams};
+use sr_bytes::{Name, Unread};
 use std::alloc::{AllocError, Global};
 
-/// `XREAD [COUNT number] STREAMS key [key ..] id [id ..]`
+/// `XREAD [COUNT int] [BLOCK number] STREAMS key [key ..] id [id ..]`
 pub(crate) fn read_xread(alloc: Global, words: Unread<'_>) -> Result<Call, CallFault>
     ensures { Gives xread_form.form xread_form.call words.entry result }
 {
@@ -23,12 +23,11 @@ pub(crate) fn read_xread(alloc: Global, words: Unread<'_>) -> Result<Call, CallF
     if !are_positions(streams.ids.again()) {
         return Err(CallFault::BadId);
     }
-    let from = copy_positions(alloc, streams.ids)?;
-    let keys = copy_words(alloc, streams.from_keys, streams.keys)?;
+    let list = copy_streams(alloc, streams.from_keys, streams.ids)?;
     Ok(Call::Xread {
         count: choice.count,
-        keys,
-        from,
+        block: choice.block,
+        streams: Streams::new(list),
     })
 }
 
@@ -44,15 +43,21 @@ fn are_positions(mut words: Unread<'_>) -> bool
     true
 }
 
-/// From where streams are read, by words each of which says so.
-fn copy_positions(alloc: Global, mut words: Unread<'_>) -> Result<Positions, AllocError>
-    requires { HasIds (map (spelled position) words) }
-    ensures { IfOk result (AreIds position words.entry) }
+/// The streams with the first of these keys, each with what the word in its place says.
+fn copy_streams(
+    alloc: Global,
+    mut keys: Unread<'_>,
+    mut words: Unread<'_>,
+) -> Result<Vec<(Name, Position)>, AllocError>
+    requires positions { HasIds (map (spelled position) words) }
+    requires enough { length words ≤ length keys }
+    ensures { IfOk result (λ list. AreStreams position keys.entry words.entry list.items) }
 {
     let mut list = Vec::with_capacity(alloc, words.len())?;
     while let Some(word) = words.next() {
+        let key = copy_word(alloc, keys.next().unwrap())?;
         let from = read_position(word).unwrap();
-        list.push(from)?;
+        list.push((key, from))?;
     }
-    Ok(Positions::new(list))
+    Ok(list)
 }

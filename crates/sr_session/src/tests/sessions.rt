@@ -1,7 +1,12 @@
 // Sessions as a person types them, each command with its reply as redis-cli prints it. The replies were worked by hand.
-use super::{Pieces, spelled, talk};
-use crate::End;
+ghost use Rattle.std.specs.Prelude.{true};
+
+use super::{Kept, Pieces, spelled};
+use crate::{Clock, End, PlainDesk, run_session};
+use sr_space::Space;
 use std::alloc::{AllocError, Global};
+use std::cell::Cell;
+use std::hash::RandomState;
 use std::process::Abort;
 use std::random::RandomSource;
 use std::test::Fail;
@@ -109,21 +114,45 @@ fn shown(alloc: Global, replies: &str) -> Result<String, Fail> {
     Ok(screen.text)
 }
 
-/// A session: its commands, one a line, and the replies that it shows.
+/// Tells these moments one after the other.
+#[derive(Drop)]
+struct Hands<'a> {
+    moments: &'a [u64],
+    told: Cell<usize>,
+}
+
+impl Clock for Hands<'_> {
+    ghost may_tell = { λ _ _. true };
+
+    fn now(&self) -> u64 {
+        let told = self.told.get();
+        self.told.set(told.saturating_add(1));
+        *self.moments.get(told).unwrap_or(&0)
+    }
+}
+
+/// A session: its commands, one a line, the moment of each, and the replies that it shows.
 #[derive(Drop)]
 struct Session {
     commands: String,
+    moments: Vec<u64>,
     replies: String,
 }
 
-/// Reads a session: a line that begins with `> ` is a command, and the lines after it are its reply.
+/// Reads a session: a line that begins with `> ` is a command, and the lines after it are its reply. A line that begins with `@ `
+/// is the moment from there on, in milliseconds since 1970. It is 5 before. The words of a session that tells moments are all calls.
 fn read_session(alloc: Global, text: &str) -> Result<Session, Fail> {
     let mut session = Session {
         commands: String::new(alloc),
+        moments: Vec::new(alloc),
         replies: String::new(alloc),
     };
+    let mut moment = 5;
     for line in text.lines() {
-        if let Some(command) = line.strip_prefix("> ") {
+        if let Some(told) = line.strip_prefix("@ ") {
+            moment = told.parse::<u64>().unwrap_or(0);
+        } else if let Some(command) = line.strip_prefix("> ") {
+            session.moments.push(moment)?;
             if !session.commands.is_empty() {
                 session.commands.push_str("\n")?;
             }
@@ -136,13 +165,34 @@ fn read_session(alloc: Global, text: &str) -> Result<Session, Fail> {
     Ok(session)
 }
 
+/// How a session ends at a server without keys, and what it wrote.
+fn talk(
+    rt: &(impl AllocGlobal + RandomSource),
+    requests: &[u8],
+    moments: &[u64],
+) -> Result<(End, Vec<u8>), Fail> {
+    let alloc = rt.alloc();
+    let mut space = Space::new(alloc, RandomState::new(rt)?);
+    let mut desk = PlainDesk::new(&mut space);
+    let mut reader = Pieces::new(requests, 4096, 4096);
+    let mut writer = Kept::with_room(alloc, 8192)?;
+    let clock = Hands {
+        moments,
+        told: Cell::new(0),
+    };
+    let end = run_session(alloc, &mut reader, &mut writer, &mut desk, &clock, 256);
+    Ok((end, writer.bytes))
+}
+
 /// Plays sessions, each at a server without keys, and compares what they show.
-fn play(rt: &(impl AllocGlobal + RandomSource + Abort), sessions: &[&str]) -> Result<(), Fail> {
+pub(super) fn play(
+    rt: &(impl AllocGlobal + RandomSource + Abort),
+    sessions: &[&str],
+) -> Result<(), Fail> {
     for text in sessions {
         let session = read_session(rt.alloc(), text)?;
         let requests = spelled(rt.alloc(), session.commands.as_str())?;
-        let reader = Pieces::new(requests.as_slice(), 4096, 4096);
-        let (end, written) = talk(rt, reader, 4096, 256)?;
+        let (end, written) = talk(rt, requests.as_slice(), session.moments.as_slice())?;
         let replies = shown(rt.alloc(), std::str::from_utf8(written.as_slice())?)?;
         assert_eq!(rt; end, End::Closed, "{text}");
         assert_eq!(rt; replies.as_str(), session.replies.as_str(), "{text}");
@@ -497,180 +547,6 @@ fn streams_are_read(rt: HostRuntime) -> Result<(), Fail> {
    2) 1) 1) "2-1"
          2) 1) "a"
             2) "c"
-"#,
-        ],
-    )
-}
-
-#[test]
-fn groups(rt: HostRuntime) -> Result<(), Fail> {
-    play(
-        &rt,
-        &[
-            r#"
-> XINFO STREAM s
-(error) ERR no such key
-> XADD s NOMKSTREAM 1-1 a b
-(nil)
-> XGROUP CREATE s g 0
-(error) ERR no such key
-> XGROUP CREATE s g 0 MKSTREAM
-OK
-> XGROUP CREATE s g 0 MKSTREAM
-(error) BUSYGROUP Consumer Group name already exists
-> XGROUP CREATECONSUMER s g C
-(integer) 1
-> XGROUP CREATECONSUMER s g C
-(integer) 0
-> XGROUP DESTROY s h
-(integer) 0
-> XACK s g 1-1
-(integer) 0
-> XINFO STREAM s
- 1) "length"
- 2) (integer) 0
- 3) "last-generated-id"
- 4) "0-0"
- 5) "entries-added"
- 6) (integer) 0
- 7) "groups"
- 8) (integer) 1
- 9) "first-entry"
-10) (nil)
-11) "last-entry"
-12) (nil)
-"#,
-            r#"
-> XADD s 7-1 a b
-"7-1"
-> XGROUP CREATE s h $
-OK
-> XGROUP CREATE s G 3
-OK
-> XGROUP CREATECONSUMER s h b
-(integer) 1
-> XGROUP CREATECONSUMER s h a
-(integer) 1
-> XINFO GROUPS s
-1) 1) "name"
-   2) "G"
-   3) "consumers"
-   4) (integer) 0
-   5) "pending"
-   6) (integer) 0
-   7) "last-delivered-id"
-   8) "3-0"
-2) 1) "name"
-   2) "h"
-   3) "consumers"
-   4) (integer) 2
-   5) "pending"
-   6) (integer) 0
-   7) "last-delivered-id"
-   8) "7-1"
-> XINFO CONSUMERS s h
-1) 1) "name"
-   2) "a"
-   3) "pending"
-   4) (integer) 0
-   5) "idle"
-   6) (integer) 0
-2) 1) "name"
-   2) "b"
-   3) "pending"
-   4) (integer) 0
-   5) "idle"
-   6) (integer) 0
-> XGROUP SETID s h 0
-OK
-> XGROUP DELCONSUMER s h a
-(integer) 0
-> XGROUP DESTROY s G
-(integer) 1
-> XINFO GROUPS s
-1) 1) "name"
-   2) "h"
-   3) "consumers"
-   4) (integer) 1
-   5) "pending"
-   6) (integer) 0
-   7) "last-delivered-id"
-   8) "0-0"
-"#,
-            r#"
-> XGROUP SETID s g 0
-(error) ERR no such key
-> XGROUP CREATECONSUMER s g C
-(error) ERR no such key
-> XGROUP DELCONSUMER s g C
-(error) ERR no such key
-> XGROUP DESTROY s g
-(error) ERR no such key
-> XINFO GROUPS s
-(error) ERR no such key
-> XINFO CONSUMERS s g
-(error) ERR no such key
-> XACK s g 1-1
-(integer) 0
-> XADD s 1-1 a b
-"1-1"
-> XGROUP SETID s g 0
-(error) NOGROUP no such key or consumer group
-> XGROUP CREATECONSUMER s g C
-(error) NOGROUP no such key or consumer group
-> XGROUP DELCONSUMER s g C
-(error) NOGROUP no such key or consumer group
-> XINFO GROUPS s
-(empty array)
-> XINFO CONSUMERS s g
-(error) NOGROUP no such key or consumer group
-> XACK s g 1-1
-(integer) 0
-> XGROUP
-(error) ERR wrong number of arguments
-> XGROUP FOO s
-(error) ERR unknown command
-"#,
-            r#"
-> XGROUP CREATE s g 0 MKSTREAM
-OK
-> XPENDING s g - + 10
-(empty array)
-> XPENDING s g IDLE 5 - + 10 A
-(empty array)
-> XCLAIM s g A 0 1-1
-(empty array)
-> XAUTOCLAIM s g B 0 0 COUNT 2 JUSTID
-1) "0-0"
-2) (empty array)
-3) (empty array)
-> XINFO CONSUMERS s g
-1) 1) "name"
-   2) "A"
-   3) "pending"
-   4) (integer) 0
-   5) "idle"
-   6) (integer) 0
-2) 1) "name"
-   2) "B"
-   3) "pending"
-   4) (integer) 0
-   5) "idle"
-   6) (integer) 0
-> XPENDING s h
-(error) NOGROUP no such key or consumer group
-> XPENDING t g - + 1
-(error) NOGROUP no such key or consumer group
-> XCLAIM t g A 0 1-1
-(error) NOGROUP no such key or consumer group
-> XAUTOCLAIM s h A 0 0
-(error) NOGROUP no such key or consumer group
-> XAUTOCLAIM s g A 0 0 COUNT 0
-(error) ERR value is not an integer or out of range
-> XCLAIM s g A 0 1-1 FORCE
-(error) ERR syntax error
-> XPENDING s g IDLE 5 - +
-(error) ERR syntax error
 "#,
         ],
     )

@@ -2,7 +2,7 @@ ghost use Rattle.std.specs.Prelude.{◌≡◌, IfOk};
 ghost use Rattle.sr_space.specs.Touched.{reply_of};
 ghost use Rattle.sr_space.specs.commands.Ping.{ping};
 
-use crate::Outcome;
+use crate::Answered;
 use crate::outcome::replied;
 use sr_bytes::Name;
 use sr_resp::{Reply, Word};
@@ -11,7 +11,7 @@ use std::alloc::{AllocError, Global};
 /// PONG, or the message.
 ///
 /// Source: Redis documentation, command PING.
-pub(crate) fn answer_ping(alloc: Global, message: &Option<Name>) -> Result<Outcome, AllocError>
+pub(crate) fn answer_ping(alloc: Global, message: &Option<Name>) -> Result<Answered, AllocError>
     ensures { IfOk result (λ outcome. outcome ≡ reply_of (ping message.now)) }
 {
     match message {

@@ -1,6 +1,6 @@
 ghost use Rattle.sr_space.specs.commands.Xack.{acknowledged};
 
-use crate::Outcome;
+use crate::Answered;
 use crate::grouped::TouchGroup;
 use crate::outcome::numbered;
 use sr_entries::Entries;
@@ -22,7 +22,7 @@ impl TouchGroup for Acknowledge<'_> {
         alloc: Global,
         _entries: &Entries,
         group: &mut Group,
-    ) -> Result<Outcome, AllocError> {
+    ) -> Result<Answered, AllocError> {
         let pending = group.ack(self.ids);
         Ok(numbered(alloc, pending))
     }

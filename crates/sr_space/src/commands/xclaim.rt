@@ -5,7 +5,7 @@ ghost use Rattle.sr_space.specs.Bounds as bounds;
 ghost use Rattle.sr_space.specs.commands.Xclaim.{autoclaimed, claim_of, claimed, count_or_100 as or_100};
 ghost use Rattle.sr_space.specs.commands.Xclaim.{claimed_answer, claimed_reply as claimed_items, deleted_answer};
 
-use crate::Outcome;
+use crate::Answered;
 use crate::bounds::in_63_bits;
 use crate::commands::xpending::at_least_0;
 use crate::grouped::TouchGroup;
@@ -46,7 +46,7 @@ impl TouchGroup for ClaimEntries<'_> {
         alloc: Global,
         entries: &Entries,
         group: &mut Group,
-    ) -> Result<Outcome, AllocError> {
+    ) -> Result<Answered, AllocError> {
         let moment = in_63_bits(self.moment);
         let claim = claim_as(self.asked);
         let shown = group.claim(alloc, self.consumer, self.ids, claim, moment, entries)?;
@@ -76,7 +76,7 @@ impl TouchGroup for ScanEntries<'_> {
         alloc: Global,
         entries: &Entries,
         group: &mut Group,
-    ) -> Result<Outcome, AllocError> {
+    ) -> Result<Answered, AllocError> {
         let moment = in_63_bits(self.moment);
         let claim = claim_as(self.asked);
         let scan = group.autoclaim(

@@ -5,7 +5,7 @@ ghost use Rattle.sr_space.specs.Bounds as bounds;
 ghost use Rattle.sr_space.specs.Touched.{left_of, reply_of};
 ghost use Rattle.sr_space.specs.commands.Xgroup.{consumer_made, consumer_removed, id_of as position_of, made_in, xgroup_create, xgroup_destroy, xgroup_set_id, yes_or_no};
 
-use crate::Outcome;
+use crate::Answered;
 use crate::bounds::in_63_bits;
 use crate::grouped::TouchGroup;
 use crate::outcome::{numbered, refused};
@@ -30,7 +30,7 @@ pub(crate) struct CreateGroup<'a> {
 impl Touch for CreateGroup<'_> {
     ghost touches = { λ command. xgroup_create command.group.now command.from command.make };
 
-    fn at_stream(&self, alloc: Global, stream: &mut Stream) -> Result<Outcome, AllocError> {
+    fn at_stream(&self, alloc: Global, stream: &mut Stream) -> Result<Answered, AllocError> {
         create(alloc, stream, self.group, self.from)
     }
 
@@ -57,7 +57,7 @@ pub(crate) struct SetGroupId<'a> {
 impl Touch for SetGroupId<'_> {
     ghost touches = { λ command. xgroup_set_id command.group.now command.from };
 
-    fn at_stream(&self, alloc: Global, stream: &mut Stream) -> Result<Outcome, AllocError> {
+    fn at_stream(&self, alloc: Global, stream: &mut Stream) -> Result<Answered, AllocError> {
         let id = id_of(self.from, stream);
         if stream.set_group_id(self.group, id) {
             Ok(done(alloc))
@@ -80,7 +80,7 @@ pub(crate) struct DestroyGroup<'a> {
 impl Touch for DestroyGroup<'_> {
     ghost touches = { λ command. xgroup_destroy command.group.now };
 
-    fn at_stream(&self, alloc: Global, stream: &mut Stream) -> Result<Outcome, AllocError> {
+    fn at_stream(&self, alloc: Global, stream: &mut Stream) -> Result<Answered, AllocError> {
         let was_there = stream.destroy_group(self.group);
         Ok(answered(alloc, was_there))
     }
@@ -105,7 +105,7 @@ impl TouchGroup for CreateConsumer<'_> {
         alloc: Global,
         _entries: &Entries,
         group: &mut Group,
-    ) -> Result<Outcome, AllocError> {
+    ) -> Result<Answered, AllocError> {
         let made = group.add_consumer(alloc, self.consumer, in_63_bits(self.moment))?;
         Ok(answered(alloc, made))
     }
@@ -125,7 +125,7 @@ impl TouchGroup for DeleteConsumer<'_> {
         alloc: Global,
         _entries: &Entries,
         group: &mut Group,
-    ) -> Result<Outcome, AllocError> {
+    ) -> Result<Answered, AllocError> {
         let pending = group.del_consumer(self.consumer);
         Ok(numbered(alloc, pending))
     }
@@ -137,7 +137,7 @@ fn create(
     stream: &mut Stream,
     group: &Name,
     from: Position,
-) -> Result<Outcome, AllocError>
+) -> Result<Answered, AllocError>
     ensures stream { OnOk result (stream.new.shown ≡ left_of stream.old.shown (made_in group.now from stream.old.shown).written) }
     ensures outcome { IfOk result (λ outcome. outcome ≡ (made_in group.now from stream.old.shown).outcome) }
     ensures err { OnErr result (stream.new.shown ≡ stream.old.shown) }
@@ -161,17 +161,17 @@ fn id_of(from: Position, stream: &Stream) -> Id
 }
 
 /// OK as the reply, twice. It takes no memory.
-fn done(alloc: Global) -> Outcome
+fn done(alloc: Global) -> Answered
     ensures { result ≡ reply_of (simple_string words.Ok) }
 {
-    Outcome::Reply {
+    Answered::Reply {
         send: Reply::simple(alloc, Word::Ok),
         keep: Reply::simple(alloc, Word::Ok),
     }
 }
 
 /// 1 for yes and 0 for no as the reply, twice. It takes no memory.
-fn answered(alloc: Global, yes: bool) -> Outcome
+fn answered(alloc: Global, yes: bool) -> Answered
     ensures { result ≡ reply_of (yes_or_no yes) }
 {
     if yes {

@@ -6,7 +6,7 @@ ghost use Rattle.sr_space.specs.Bounds as bounds;
 ghost use Rattle.sr_space.specs.commands.Xinfo.{consumer_line, consumers_answer, entry_or_null as entry_reply_or_null, group_answer, stream_answer};
 ghost use Rattle.sr_space.specs.commands.Xinfo.{xinfo_consumers, xinfo_groups, xinfo_stream};
 
-use crate::Outcome;
+use crate::Answered;
 use crate::bounds::in_63_bits;
 use crate::outcome::{refused, replied};
 use crate::reply::{entry_reply, id_reply, number_reply};
@@ -18,7 +18,7 @@ use sr_stream::{NamedGroup, Stream};
 use std::alloc::{AllocError, Global};
 
 /// XINFO STREAM of the stream at a key, if the key is there.
-pub(crate) fn tell_stream(alloc: Global, stream: Option<&Stream>) -> Result<Outcome, AllocError>
+pub(crate) fn tell_stream(alloc: Global, stream: Option<&Stream>) -> Result<Answered, AllocError>
     ensures { IfOk result (λ outcome. outcome ≡ reply_of (xinfo_stream (shown_of (option_copied stream.entry)))) }
 {
     match stream {
@@ -28,7 +28,7 @@ pub(crate) fn tell_stream(alloc: Global, stream: Option<&Stream>) -> Result<Outc
 }
 
 /// XINFO GROUPS of the stream at a key, if the key is there.
-pub(crate) fn tell_groups(alloc: Global, stream: Option<&Stream>) -> Result<Outcome, AllocError>
+pub(crate) fn tell_groups(alloc: Global, stream: Option<&Stream>) -> Result<Answered, AllocError>
     ensures { IfOk result (λ outcome. outcome ≡ reply_of (xinfo_groups (shown_of (option_copied stream.entry)))) }
 {
     match stream {
@@ -43,7 +43,7 @@ pub(crate) fn tell_consumers(
     stream: Option<&Stream>,
     group: &Name,
     moment: u64,
-) -> Result<Outcome, AllocError>
+) -> Result<Answered, AllocError>
     ensures { IfOk result (λ outcome. outcome
         ≡ reply_of (xinfo_consumers (bounds.in_63_bits moment) group.now (shown_of (option_copied stream.entry)))) }
 {

@@ -3,13 +3,13 @@ ghost use Rattle.std.specs.Option.{option_copied};
 ghost use Rattle.sr_space.specs.{reply_of, shown_of};
 ghost use Rattle.sr_space.specs.commands.Xlen.{xlen};
 
-use crate::Outcome;
+use crate::Answered;
 use crate::outcome::numbered;
 use sr_stream::Stream;
 use std::alloc::Global;
 
 /// XLEN of the stream at a key, if the key is there. It takes no memory.
-pub(crate) fn count_entries(alloc: Global, stream: Option<&Stream>) -> Outcome
+pub(crate) fn count_entries(alloc: Global, stream: Option<&Stream>) -> Answered
     ensures { result ≡ reply_of (xlen (shown_of (option_copied stream.entry))) }
 {
     let entries = stream.map_or(0, Stream::len);

@@ -8,7 +8,7 @@ ghost use Rattle.sr_space.specs.commands.Xpending.{at_least_0 as not_below_0, id
 ghost use Rattle.sr_space.specs.commands.Xpending.{listing_answer, listing_of, nack_answer, xpending};
 ghost use Rattle.sr_space.specs.commands.Xpending.{share_answer, share_of, shares_of, summary_answer};
 
-use crate::Outcome;
+use crate::Answered;
 use crate::bounds::in_63_bits;
 use crate::outcome::{refused, replied};
 use crate::reply::{id_reply, number_reply};
@@ -28,7 +28,7 @@ pub(crate) fn tell_pending(
     group: &Name,
     listing: Option<&PendingAsked>,
     moment: u64,
-) -> Result<Outcome, AllocError>
+) -> Result<Answered, AllocError>
     ensures { IfOk result (λ outcome. outcome
         ≡ reply_of (xpending (bounds.in_63_bits moment) group.now (option_copied listing.entry)
         (shown_of (option_copied stream.entry)))) }

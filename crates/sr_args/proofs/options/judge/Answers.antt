@@ -56,3 +56,16 @@ pub returns-in_ok-delivered-in-RetryCount : goal.returns-in_ok-delivered-in-Retr
 returns-in_ok-delivered-in-RetryCount c =
     let found = rw c.in_ok-delivered-in-RetryCount.ensures.ok_part at c.read_nat-in-RetryCount.ensures.found in
     rw c.in-RetryCount.is (c.in_ok-delivered-in-RetryCount.delivered, found, refl)
+
+pub returns-in_err-wait-in-Block : goal.returns-in_err-wait-in-Block
+returns-in_err-wait-in-Block c =
+    let p = err_from_is_err_and c.from_residual-in_err-wait-in-Block.result c.from_residual-in_err-wait-in-Block.ensures.1 in
+    let none = rw c.in_err-wait-in-Block.ensures.ok_part at c.read_nat-in-Block.ensures.none in
+    let same = rw c.in_err-wait-in-Block.ensures.ok_part at c.in_err-wait-in-Block.ensures.value in
+    let fault : c.in_err-wait-in-Block.field-0.0 ≡ Number = cc same in
+    rw (p.1, p.2, fault, c.in-Block.is) (λ has. none has.1.0.0 has.1.0.1)
+
+pub returns-in_ok-wait-in-Block : goal.returns-in_ok-wait-in-Block
+returns-in_ok-wait-in-Block c =
+    let found = rw c.in_ok-wait-in-Block.ensures.ok_part at c.read_nat-in-Block.ensures.found in
+    rw c.in-Block.is (c.in_ok-wait-in-Block.wait, found, refl)

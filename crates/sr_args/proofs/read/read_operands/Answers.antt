@@ -59,3 +59,6 @@ returns-in-Xpending c = rw c.in-Xpending.is c.read_xpending.ensures
 
 pub returns-in-Xread : goal.returns-in-Xread
 returns-in-Xread c = rw c.in-Xread.is c.read_xread.ensures
+
+pub returns-in-Xreadgroup : goal.returns-in-Xreadgroup
+returns-in-Xreadgroup c = rw c.in-Xreadgroup.is c.read_xreadgroup.ensures

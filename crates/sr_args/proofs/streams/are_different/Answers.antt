@@ -1,5 +1,5 @@
 use Rattle.std.proofs.Common.{◌<◌, ◌-◌, take, arith, rules}
-use Rattle.sr_args.specs.Form.{IsAmong}
+use Rattle.sr_args.specs.Different.{IsAmong}
 use Rattle.sr_args.proofs.StreamsLemmas.{AreDifferent-next, AreDifferent-with}
 use Rattle.sr_args.proofs.streams.are_different.Goals as goal
 

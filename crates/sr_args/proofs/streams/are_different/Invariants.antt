@@ -1,5 +1,5 @@
 use Rattle.std.proofs.Common.{take}
-use Rattle.sr_args.specs.Form.{AreDifferent}
+use Rattle.sr_args.specs.Different.{AreDifferent}
 use Rattle.sr_args.proofs.streams.are_different.Given as goal
 
 abbrev pub invariant-loop-left : goal.invariant-loop-left

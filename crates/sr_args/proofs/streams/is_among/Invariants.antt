@@ -1,5 +1,5 @@
 use Rattle.std.proofs.Common.{take}
-use Rattle.sr_args.specs.Form.{IsAmong}
+use Rattle.sr_args.specs.Different.{IsAmong}
 use Rattle.sr_args.proofs.streams.is_among.Given as goal
 
 abbrev pub invariant-loop-left : goal.invariant-loop-left

@@ -1,7 +1,7 @@
 use Rattle.std.proofs.Common.{◌≡◌, ◌/◌, ◌%◌, ℕ, ap, length, take, arith, rules}
 use Rattle.sr_args.specs.declared.name.OptionName.TheVariants.{Streams}
 use Rattle.sr_args.specs.Name.{IsSameName, option_text}
-use Rattle.sr_args.specs.Form.{AreDifferent}
+use Rattle.sr_args.specs.Different.{AreDifferent}
 use Rattle.sr_args.proofs.StreamsLemmas.{halves, no_halves-none, no_halves-odd, no_halves-twice, streams-reads}
 use Rattle.sr_args.proofs.streams.streams_words.Goals as goal
 

@@ -1,5 +1,5 @@
-use Rattle.sr_space.proofs.LawLemmas.{executed-error}
+use Rattle.sr_space.proofs.LawLemmas.{at_once-error}
 use Rattle.sr_space.proofs.laws.errors_change_nothing.Goals as goal
 
 pub returns : goal.returns
-returns c = executed-error
+returns c = at_once-error

@@ -1,4 +1,4 @@
-use Rattle.sr_space.proofs.LawLemmas.{stream_at-with_stream, stream_at-with_stream_other}
+use Rattle.sr_space.proofs.KeyLaws.{stream_at-with_stream, stream_at-with_stream_other}
 use Rattle.sr_space.proofs.laws.one_stream_changes.Goals as goal
 
 pub returns : goal.returns

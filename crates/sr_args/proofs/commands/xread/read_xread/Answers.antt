@@ -1,4 +1,5 @@
-use Rattle.std.proofs.Common.{◌≡◌, List, map, take, Ok, Err, refl, rules}
+use Rattle.std.proofs.Common.{List, map, take, Ok, Err, refl, rules}
+use Rattle.std.specs.List.{zip}
 use Rattle.std.proofs.lemmas.Result.{err_from_is_err_and}
 use Rattle.sr_args.specs.declared.call.Call.TheVariants.{Xread}
 use Rattle.sr_args.specs.declared.call.Position.{Position}
@@ -13,14 +14,16 @@ use Rattle.sr_args.specs.steps.Options.{AreJudged, chosen_of}
 use Rattle.sr_args.specs.steps.Streams.{streams_reading}
 use Rattle.sr_args.proofs.FormLemmas.{AreIds-exist}
 use Rattle.sr_args.proofs.ReadLemmas.{read-fault, read-numbers, read-ids}
+use Rattle.sr_args.proofs.StreamsLemmas.{enough-keys, zipped}
 use Rattle.sr_args.proofs.commands.xread.read_xread.Goals as goal
 
-gives : (words : List Word) (written : List Written) (keys ids copy : List Word) (list : List Position) (choice : Choice) → Reads form words (streams_reading sets.Xread position written keys ids) → copy ≡ keys → AreIds position ids list → AreJudged written (Ok choice) → GivesCall form call words (Xread choice.count copy list)
-gives words written keys ids copy list choice reads same are judged = record {
+-- the call of these words
+gives : (words : List Word) (written : List Written) (keys ids : List Word) (from : List Position) (choice : Choice) → Reads form words (streams_reading sets.Xread position written keys ids) → AreIds position ids from → AreJudged written (Ok choice) → GivesCall form call words (Xread choice.count choice.block (zip keys from))
+gives words written keys ids from choice reads are judged = record {
   reading = streams_reading sets.Xread position written keys ids;
   reads = reads;
-  values = (chosen_of choice, (copy, list));
-  means = (judged, (same, are));
+  values = (chosen_of choice, (keys, from));
+  means = (judged, (refl, are));
   is = refl;
 }
 
@@ -40,27 +43,30 @@ returns-then-not-are_positions c =
     let unspelled : HasIds (map (spelled position) read.streams.ids) → ⊥ = search rules in
     (streams_reading sets.Xread position found.0 (take read.streams.keys read.streams.from_keys) read.streams.ids, found.2 position, read-numbers sets.Xread position found.0 (take read.streams.keys read.streams.from_keys) read.streams.ids c.in_ok-choice.choice judged, λ h. unspelled (read-ids sets.Xread position found.0 (take read.streams.keys read.streams.from_keys) read.streams.ids h))
 
-pub returns-in_err-from : goal.returns-in_err-from
-returns-in_err-from c =
-    let p = err_from_is_err_and c.from_residual-in_err-from.result c.from_residual-in_err-from.ensures.1 in
+pub copy_streams-requires-clause-enough : goal.copy_streams-requires-clause-enough
+copy_streams-requires-clause-enough c =
+    let streams = c.in-Some.read.streams in
+    enough-keys streams.keys streams.from_keys streams.ids (c.in-Some.ensures.found.2 position).fit.2
+
+pub returns-in_err-list : goal.returns-in_err-list
+returns-in_err-list c =
+    let p = err_from_is_err_and c.from_residual-in_err-list.result c.from_residual-in_err-list.ensures.1 in
     let read = c.in-Some.read in
     let found = c.in-Some.ensures.found in
     let judged : AreJudged found.0 (Ok c.in_ok-choice.choice) = rw c.in_ok-choice.was at found.1 in
     let all : HasIds (map (spelled position) read.streams.ids) = search rules in
-    let list = AreIds-exist position read.streams.ids all in
-    rw (p.1, p.2) (_, gives c.args.words found.0 (take read.streams.keys read.streams.from_keys) read.streams.ids (take read.streams.keys read.streams.from_keys) list.0 c.in_ok-choice.choice (found.2 position) refl list.1 judged)
+    let from = AreIds-exist position read.streams.ids all in
+    rw (p.1, p.2) (_, gives c.args.words found.0 (take read.streams.keys read.streams.from_keys) read.streams.ids from.0 c.in_ok-choice.choice (found.2 position) from.1 judged)
 
-pub returns-in_err-keys : goal.returns-in_err-keys
-returns-in_err-keys c =
-    let p = err_from_is_err_and c.from_residual-in_err-keys.result c.from_residual-in_err-keys.ensures.1 in
-    let read = c.in-Some.read in
-    let found = c.in-Some.ensures.found in
-    let judged : AreJudged found.0 (Ok c.in_ok-choice.choice) = rw c.in_ok-choice.was at found.1 in
-    rw (p.1, p.2) (_, gives c.args.words found.0 (take read.streams.keys read.streams.from_keys) read.streams.ids (take read.streams.keys read.streams.from_keys) c.in_ok-from.from c.in_ok-choice.choice (found.2 position) refl c.in_ok-from.ensures judged)
+pub new-requires : goal.new-requires
+new-requires c =
+    let streams = c.in-Some.read.streams in
+    (zipped position streams.keys streams.from_keys streams.ids c.in_ok-list.list.items (c.in-Some.ensures.found.2 position).fit.2 c.in_ok-list.ensures).once
 
 pub returns : goal.returns
 returns c =
     let read = c.in-Some.read in
     let found = c.in-Some.ensures.found in
     let judged : AreJudged found.0 (Ok c.in_ok-choice.choice) = rw c.in_ok-choice.was at found.1 in
-    gives c.args.words found.0 (take read.streams.keys read.streams.from_keys) read.streams.ids c.in_ok-keys.keys c.in_ok-from.from c.in_ok-choice.choice (found.2 position) c.in_ok-keys.ensures c.in_ok-from.ensures judged
+    let list = zipped position read.streams.keys read.streams.from_keys read.streams.ids c.in_ok-list.list.items (found.2 position).fit.2 c.in_ok-list.ensures in
+    rw (c.new.ensures, list.is) (gives c.args.words found.0 (take read.streams.keys read.streams.from_keys) read.streams.ids list.asked c.in_ok-choice.choice (found.2 position) list.are judged)

@@ -1,0 +1,115 @@
+-- Reads that wait: when a read waits for entries, as which call, and until when.
+-- Source: Redis documentation, the pages of XREAD and XREADGROUP, "BLOCK".
+
+use Rattle.std.specs.Prelude.{ℕ, zero, suc, ◌+◌, ◌^◌, ◌&&◌, nat_lt, Bool, true, false, if◌then◌else◌}
+use Rattle.std.specs.Prelude.{List, [], ◌∷◌, map, Option, Some, None}
+use Rattle.sr_args.specs.declared.call.Call.{Call}
+use Rattle.sr_args.specs.declared.call.Call.TheVariants as calls
+use Rattle.sr_args.specs.declared.call.Position.{Position}
+use Rattle.sr_args.specs.declared.call.Position.TheVariants.{At}
+use Rattle.sr_args.specs.Blocking.{block_of}
+use Rattle.sr_space.specs.declared.blocking.Outcome.{Outcome}
+use Rattle.sr_space.specs.declared.blocking.Outcome.TheVariants as outcomes
+use Rattle.sr_space.specs.declared.outcome.Answered.{Answered}
+use Rattle.sr_space.specs.declared.outcome.Answered.TheVariants as answers
+use Rattle.sr_space.specs.Bounds.{in_63_bits}
+use Rattle.sr_space.specs.Effect.{at_once}
+use Rattle.sr_space.specs.Keys.{Key, Keys, stream_at}
+use Rattle.sr_space.specs.Touched.{Executed}
+use Rattle.sr_space.specs.commands.Xread.{count_of, read_from, read_streams}
+use Rattle.sr_space.specs.commands.Xreadgroup.{have_group, listed_of_all}
+
+-- what a call leaves, and what it leads to: a reply, or a read that waits
+pub record Called : Type 0 where
+  pub keys : Keys
+  pub outcome : Outcome
+
+-- nothing is listed
+abbrev pub is_nothing : {X : Type 0} → List X → Bool
+is_nothing [] = true
+is_nothing (x ∷ xs) = false
+
+-- the call is a read, and finds nothing. A read whose key or group is missing has an answer: the refusal.
+abbrev pub finds_nothing : Keys → ℕ → Call → Bool
+finds_nothing keys moment (calls.Xread count block streams) = is_nothing (read_streams count keys streams)
+finds_nothing keys moment (calls.Xreadgroup group consumer count block no_ack streams) =
+    have_group group keys streams
+    && is_nothing (listed_of_all (in_63_bits moment) group consumer (count_of count) no_ack keys streams)
+finds_nothing keys moment (calls.Ping message) = false
+finds_nothing keys moment (calls.Xadd key make trim spec fields) = false
+finds_nothing keys moment (calls.Xtrim key trim) = false
+finds_nothing keys moment (calls.Xdel key ids) = false
+finds_nothing keys moment (calls.Xlen key) = false
+finds_nothing keys moment (calls.Xrange key start end count) = false
+finds_nothing keys moment (calls.Xrevrange key end start count) = false
+finds_nothing keys moment (calls.Xack key group ids) = false
+finds_nothing keys moment (calls.XgroupCreate key group from make) = false
+finds_nothing keys moment (calls.XgroupSetId key group from) = false
+finds_nothing keys moment (calls.XgroupDestroy key group) = false
+finds_nothing keys moment (calls.XgroupCreateConsumer key group consumer) = false
+finds_nothing keys moment (calls.XgroupDelConsumer key group consumer) = false
+finds_nothing keys moment (calls.XinfoStream key) = false
+finds_nothing keys moment (calls.XinfoGroups key) = false
+finds_nothing keys moment (calls.XinfoConsumers key group) = false
+finds_nothing keys moment (calls.Xpending key group listing) = false
+finds_nothing keys moment (calls.Xclaim key group consumer least_idle ids time count just_ids) = false
+finds_nothing keys moment (calls.Xautoclaim key group consumer least_idle start count just_ids) = false
+
+-- a stream that is read after `$`: after the last id that it has given now
+abbrev pub fixed_position : Keys → Key × Position → Key × Position
+fixed_position keys (key, from) = (key, At (read_from from (stream_at keys key)))
+
+-- the call as which a read waits: without BLOCK, and each `$` the last id at the call
+abbrev pub waiting_as : Keys → Call → Call
+waiting_as keys (calls.Xread count block streams) = calls.Xread count None (map (fixed_position keys) streams)
+waiting_as keys (calls.Xreadgroup group consumer count block no_ack streams) =
+    calls.Xreadgroup group consumer count None no_ack streams
+waiting_as keys (calls.Ping message) = calls.Ping message
+waiting_as keys (calls.Xadd key make trim spec fields) = calls.Xadd key make trim spec fields
+waiting_as keys (calls.Xtrim key trim) = calls.Xtrim key trim
+waiting_as keys (calls.Xdel key ids) = calls.Xdel key ids
+waiting_as keys (calls.Xlen key) = calls.Xlen key
+waiting_as keys (calls.Xrange key start end count) = calls.Xrange key start end count
+waiting_as keys (calls.Xrevrange key end start count) = calls.Xrevrange key end start count
+waiting_as keys (calls.Xack key group ids) = calls.Xack key group ids
+waiting_as keys (calls.XgroupCreate key group from make) = calls.XgroupCreate key group from make
+waiting_as keys (calls.XgroupSetId key group from) = calls.XgroupSetId key group from
+waiting_as keys (calls.XgroupDestroy key group) = calls.XgroupDestroy key group
+waiting_as keys (calls.XgroupCreateConsumer key group consumer) = calls.XgroupCreateConsumer key group consumer
+waiting_as keys (calls.XgroupDelConsumer key group consumer) = calls.XgroupDelConsumer key group consumer
+waiting_as keys (calls.XinfoStream key) = calls.XinfoStream key
+waiting_as keys (calls.XinfoGroups key) = calls.XinfoGroups key
+waiting_as keys (calls.XinfoConsumers key group) = calls.XinfoConsumers key group
+waiting_as keys (calls.Xpending key group listing) = calls.Xpending key group listing
+waiting_as keys (calls.Xclaim key group consumer least_idle ids time count just_ids) =
+    calls.Xclaim key group consumer least_idle ids time count just_ids
+waiting_as keys (calls.Xautoclaim key group consumer least_idle start count just_ids) =
+    calls.Xautoclaim key group consumer least_idle start count just_ids
+
+-- until when a read waits that blocks for this many milliseconds: 0 has no end, nor has what lies after the greatest moment
+abbrev pub deadline_of : ℕ → ℕ → Option ℕ
+deadline_of moment zero = None
+deadline_of moment (suc wait) = if nat_lt (moment + suc wait) (2 ^ 63) then Some (moment + suc wait) else None
+
+-- what was answered at once
+abbrev pub outcome_of : Answered → Outcome
+outcome_of (answers.Reply send keep) = outcomes.Reply send keep
+
+abbrev pub answered : Executed → Called
+answered done = record { keys = done.keys; outcome = outcome_of done.outcome }
+
+-- a read that waits: it has made its consumers, and they were seen
+abbrev pub waits : Keys → ℕ → Call → ℕ → Called
+waits keys moment call wait = record {
+  keys = (at_once keys moment call).keys;
+  outcome = outcomes.Blocked (waiting_as keys call) (deadline_of (in_63_bits moment) wait);
+}
+
+abbrev pub answered_or_waits : Option ℕ → Bool → Keys → ℕ → Call → Called
+answered_or_waits None nothing keys moment call = answered (at_once keys moment call)
+answered_or_waits (Some wait) false keys moment call = answered (at_once keys moment call)
+answered_or_waits (Some wait) true keys moment call = waits keys moment call wait
+
+-- a call at a moment: a read with BLOCK that finds nothing waits, and every other call is answered at once
+abbrev pub executed : Keys → ℕ → Call → Called
+executed keys moment call = answered_or_waits (block_of call) (finds_nothing keys moment call) keys moment call

@@ -1,0 +1,172 @@
+ghost use Rattle.std.specs.Prelude.{◌≡◌, ◌^◌, ◌<◌};
+ghost use Rattle.sr_space.specs.Blocking as waits;
+
+use crate::bounds::in_63_bits;
+use crate::commands::xread::any_after;
+use crate::commands::xreadgroup::{have_group, lists_any};
+use crate::{Answered, Space};
+use sr_args::{Call, Position, Streams};
+use sr_bytes::Name;
+use sr_ids::Id;
+use sr_resp::Reply;
+use std::alloc::{AllocError, Global};
+
+/// What a call leads to.
+#[derive(Drop)]
+pub enum Outcome {
+    /// A reply, made twice before the effect: one to send, and an equal one for the record of the call.
+    Reply { send: Reply, keep: Reply },
+    /// A read that waits: the call to be tried again, without BLOCK and with an id in the place of each `$`, and the
+    /// moment at which it is answered in any case, in milliseconds since 1970, if there is one.
+    Blocked { call: Call, deadline: Option<u64> },
+}
+
+impl Space {
+    ghost use Rattle.std.specs.Prelude.{◌≡◌, ℕ, not, map, OnOk, OnErr, IfOk};
+    ghost use Rattle.sr_space.specs.Keys.{stream_at};
+    ghost use Rattle.sr_space.specs.Effect.{at_once};
+    ghost use Rattle.sr_space.specs.Blocking.{answered, executed, finds_nothing, fixed_position, waiting_as, waits};
+    ghost use Rattle.sr_space.specs.commands.Xread.{read_from};
+
+    /// Whether a read has an answer now; any other call has one. Takes no memory.
+    ///
+    /// Source: Redis documentation, commands XREAD and XREADGROUP, "BLOCK".
+    pub fn ready(&self, call: &Call) -> bool
+        ensures { (moment : ℕ) → result ≡ not (finds_nothing self.now moment call.now) }
+    {
+        match call {
+            Call::Xread { streams, .. } => any_after(self, streams.as_slice()),
+            Call::Xreadgroup { group, streams, .. } => {
+                let streams = streams.as_slice();
+                if !have_group(self, group, streams) {
+                    return true;
+                }
+                lists_any(self, group, streams)
+            }
+            Call::Ping { .. }
+            | Call::Xadd { .. }
+            | Call::Xtrim { .. }
+            | Call::Xdel { .. }
+            | Call::Xlen { .. }
+            | Call::Xrange { .. }
+            | Call::Xrevrange { .. }
+            | Call::Xack { .. }
+            | Call::XgroupCreate { .. }
+            | Call::XgroupSetId { .. }
+            | Call::XgroupDestroy { .. }
+            | Call::XgroupCreateConsumer { .. }
+            | Call::XgroupDelConsumer { .. }
+            | Call::XinfoStream { .. }
+            | Call::XinfoGroups { .. }
+            | Call::XinfoConsumers { .. }
+            | Call::Xpending { .. }
+            | Call::Xclaim { .. }
+            | Call::Xautoclaim { .. } => true,
+        }
+    }
+
+    /// Carries out a call at a moment, in milliseconds since 1970: a read with BLOCK that finds nothing waits, and
+    /// every other call is answered at once. An `Err` leaves every key as it was.
+    ///
+    /// Source: Redis documentation, the page of each command.
+    pub fn exec(&mut self, alloc: Global, moment: u64, call: &Call) -> Result<Outcome, AllocError>
+        ensures keys { OnOk result (self.new ≡ (executed self.old moment call.now).keys) }
+        ensures outcome { IfOk result (λ outcome. outcome ≡ (executed self.old moment call.now).outcome) }
+        ensures err { OnErr result (self.new ≡ self.old) }
+    {
+        match call.block() {
+            Some(wait) if !self.ready(call) => self.begin_waiting(alloc, moment, call, wait),
+            _ => self.answer(alloc, moment, call),
+        }
+    }
+
+    /// Answers a call at once.
+    fn answer(&mut self, alloc: Global, moment: u64, call: &Call) -> Result<Outcome, AllocError>
+        ensures keys { OnOk result (self.new ≡ (answered (at_once self.old moment call.now)).keys) }
+        ensures outcome { IfOk result (λ outcome. outcome ≡ (answered (at_once self.old moment call.now)).outcome) }
+        ensures err { OnErr result (self.new ≡ self.old) }
+    {
+        let Answered::Reply { send, keep } = self.at_once(alloc, moment, call)?;
+        Ok(Outcome::Reply { send, keep })
+    }
+
+    /// Lets a read wait for that many milliseconds; 0 is without end. Its reply, that it found nothing, is dropped.
+    fn begin_waiting(
+        &mut self,
+        alloc: Global,
+        moment: u64,
+        call: &Call,
+        wait: u64,
+    ) -> Result<Outcome, AllocError>
+        ensures keys { OnOk result (self.new ≡ (waits self.old moment call.now wait).keys) }
+        ensures outcome { IfOk result (λ outcome. outcome ≡ (waits self.old moment call.now wait).outcome) }
+        ensures err { OnErr result (self.new ≡ self.old) }
+    {
+        let again = self.waiting_as(alloc, call)?;
+        let _nothing = self.at_once(alloc, moment, call)?;
+        Ok(Outcome::Blocked {
+            call: again,
+            deadline: deadline_of(in_63_bits(moment), wait),
+        })
+    }
+
+    /// The call as which a read waits: without BLOCK, and each `$` the last id of its stream.
+    fn waiting_as(&self, alloc: Global, call: &Call) -> Result<Call, AllocError>
+        ensures { IfOk result (λ again. again ≡ waiting_as self.now call.now) }
+    {
+        match call {
+            Call::Xread { count, streams, .. } => {
+                let list = self.fixed(alloc, streams.as_slice())?;
+                Ok(Call::Xread {
+                    count: *count,
+                    block: None,
+                    streams: Streams::new(list),
+                })
+            }
+            _ => {
+                let again = call.copy(alloc)?;
+                Ok(again.without_block())
+            }
+        }
+    }
+
+    /// The streams of a read, each after an id.
+    fn fixed(
+        &self,
+        alloc: Global,
+        streams: &[(Name, Position)],
+    ) -> Result<Vec<(Name, Position)>, AllocError>
+        ensures { IfOk result (λ list. list.items ≡ map (fixed_position self.now) streams.now) }
+    {
+        let mut list = Vec::with_capacity(alloc, streams.len())?;
+        for (key, from) in streams {
+            let id = self.read_from(key, *from);
+            list.push((key.copy(alloc)?, Position::At(id)))?;
+        }
+        Ok(list)
+    }
+
+    /// The id after which a stream is read.
+    fn read_from(&self, key: &Name, from: Position) -> Id
+        ensures { result ≡ read_from from (stream_at self.now key.now) }
+    {
+        match from {
+            Position::At(id) => id,
+            Position::Last => match self.stream(key) {
+                None => Id { ms: 0, seq: 0 },
+                Some(stream) => stream.last_id(),
+            },
+        }
+    }
+}
+
+/// Until when a read waits that began at this moment and waits for that many milliseconds; 0 is without end.
+fn deadline_of(moment: u64, wait: u64) -> Option<u64>
+    requires { moment < 2 ^ 63 }
+    ensures { result ≡ waits.deadline_of moment wait }
+{
+    if wait == 0 || wait > i64::MAX as u64 - moment {
+        return None;
+    }
+    Some(moment + wait)
+}
