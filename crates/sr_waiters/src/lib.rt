@@ -1,0 +1,9 @@
+//! Reads that wait for entries, in the order in which they blocked.
+#![tactic(auto)]
+
+mod waiters;
+
+pub use waiters::Waiters;
+
+#[cfg(test)]
+mod tests;

@@ -1,0 +1,178 @@
+use indexmap::IndexMap;
+use sr_args::Call;
+use std::alloc::{AllocError, Global};
+use std::hash::RandomState;
+use std::marker::Model;
+
+/// A call that waits, and when it is answered whatever is there.
+#[derive(Drop)]
+struct Blocked {
+    call: Call,
+    deadline: Option<u64>,
+}
+
+impl Blocked {
+    ghost use Rattle.std.specs.Prelude.{◌≡◌};
+    ghost use Rattle.sr_waiters.specs.Waiters.{is_reached};
+
+    /// Whether the deadline is reached.
+    fn is_due(&self, moment: u64) -> bool
+        ensures { result ≡ is_reached self.now.deadline moment }
+    {
+        match self.deadline {
+            None => false,
+            Some(deadline) => deadline <= moment,
+        }
+    }
+}
+
+/// Reads that wait for entries, in the order in which they blocked, each session once.
+#[derive(Drop)]
+pub struct Waiters {
+    reads: IndexMap<u64, Blocked, RandomState>,
+}
+
+impl Model for Waiters {
+    ghost use Rattle.std.specs.Prelude.{nat_eq};
+    ghost use Rattle.indexmap.specs.IndexMap.{IsUnique, spare};
+    ghost use Rattle.sr_waiters.specs.Waiters.{WaitersState};
+    ghost use Rattle.sr_waiters.specs.Layout.{shown_reads};
+
+    ghost Value = { WaitersState };
+
+    ghost view = { λ w. record { list = shown_reads w.reads.entries; room = spare w.reads } };
+
+    ghost invariant = { λ w. IsUnique nat_eq w.reads };
+}
+
+impl Waiters {
+    ghost use Rattle.std.specs.Prelude.{◌≡◌, ◌+◌, ◌<◌, ◌≤◌, ◌++◌, [], ◌∷◌, Bool, false, OnOk, OnErr};
+    ghost use Rattle.std.specs.Prelude.{length, slice_get};
+    ghost use Rattle.std.specs.List.{list_any};
+    ghost use Rattle.std.specs.Option.{option_copied};
+    ghost use Rattle.sr_args.specs.declared.call.Call as calls;
+    ghost use Rattle.sr_waiters.specs.Calls.{ComputesTest};
+    ghost use Rattle.sr_waiters.specs.Waiters.{AreOnce, has_session, is_due, due_at, first_that, without_session};
+    ghost use Rattle.sr_waiters.specs.Waiters.{call_of, read_of, session_of};
+
+    /// No reads. Takes no memory.
+    pub fn new(alloc: Global, hasher: RandomState) -> Waiters
+        ensures { result.list ≡ [] }
+    {
+        Waiters {
+            reads: IndexMap::with_hasher(alloc, hasher),
+        }
+    }
+
+    /// How many reads wait.
+    pub fn len(&self) -> usize
+        ensures { result ≡ length self.now.list }
+    {
+        self.reads.len()
+    }
+
+    /// Makes room for more reads, the only step of a `join` that can fail.
+    pub fn reserve(&mut self, additional: usize) -> Result<(), AllocError>
+        ensures list { self.new.list ≡ self.old.list }
+        ensures room { OnOk result (additional ≤ self.new.room) }
+        ensures keeps { self.old.room ≤ self.new.room }
+        ensures full { OnErr result (self.old.room < additional) }
+    {
+        self.reads.reserve(additional)
+    }
+
+    /// The read goes last. Takes no memory.
+    #[tactic(auto, using(crate::proofs::ReadLemmas::shown_joined))]
+    pub fn join(&mut self, session: u64, call: Call, deadline: Option<u64>)
+        requires room { 0 < self.old.room }
+        requires absent { has_session session self.old.list ≡ false }
+        ensures list { self.new.list ≡
+            self.old.list ++ record { session = session; call = call; deadline = deadline } ∷ [] }
+        ensures room { self.old.room ≤ self.new.room + 1 }
+    {
+        let read = Blocked { call, deadline };
+        drop(self.reads.insert(session, read).unwrap());
+    }
+
+    /// Takes the session's read away, and answers whether it waited. Takes no memory.
+    #[tactic(auto, using(crate::proofs::ReadLemmas::has_session_shown, crate::proofs::ReadLemmas::shown_left))]
+    pub fn leave(&mut self, session: u64) -> bool
+        ensures there { result ≡ has_session session self.old.list }
+        ensures list { self.new.list ≡ without_session session self.old.list }
+        ensures room { self.old.room ≤ self.new.room }
+    {
+        match self.reads.shift_remove(&session) {
+            None => false,
+            Some(read) => {
+                drop(read);
+                true
+            }
+        }
+    }
+
+    /// Whether the session waits.
+    #[tactic(auto, using(crate::proofs::ReadLemmas::has_session_shown))]
+    pub fn has(&self, session: u64) -> bool
+        ensures { result ≡ has_session session self.now.list }
+    {
+        self.reads.contains_key(&session)
+    }
+
+    /// The call that the session waits with.
+    #[tactic(auto, using(crate::proofs::ReadLemmas::call_of_shown))]
+    pub fn call_of(&self, session: u64) -> Option<&Call>
+        ensures { option_copied result ≡ call_of (read_of session self.now.list) }
+    {
+        match self.reads.get(&session) {
+            None => None,
+            Some(read) => Some(&read.call),
+        }
+    }
+
+    /// The session of the first read, in order of blocking, whose call passes the test.
+    ///
+    /// The clause is for each test that the closure computes. After `|call| keys.is_ready(call)` it is the one that the
+    /// clause of `is_ready` says.
+    #[tactic(auto, using(crate::proofs::ReadLemmas::search_by_call))]
+    pub fn first_where<F: Fn(&Call) -> bool>(&self, passes: F) -> Option<u64>
+        requires { F.IsAlwaysCallable passes }
+        ensures { (test : calls.Call → Bool) → ComputesTest F.Fn test passes
+            → result ≡ session_of (first_that test self.now.list) }
+    {
+        for (session, read) in self.reads.iter() {
+            if passes(&read.call) {
+                return Some(*session);
+            }
+        }
+        None
+    }
+
+    /// Whether the deadline of a read is reached.
+    #[tactic(auto, using(crate::proofs::ReadLemmas::is_some_first_due))]
+    pub fn due(&self, moment: u64) -> bool
+        ensures { result ≡ list_any (is_due moment) self.now.list }
+    {
+        self.first_due(moment).is_some()
+    }
+
+    /// The session of the first read whose deadline is reached.
+    #[tactic(auto, using(crate::proofs::ReadLemmas::search_by_deadline))]
+    pub fn first_due(&self, moment: u64) -> Option<u64>
+        ensures { result ≡ session_of (slice_get (due_at moment self.now.list) 0) }
+    {
+        for (session, read) in self.reads.iter() {
+            if read.is_due(moment) {
+                return Some(*session);
+            }
+        }
+        None
+    }
+
+    /// Law: each session waits once at most. Calling this has no effect.
+    #[tactic(auto, using(crate::proofs::ReadLemmas::once_shown))]
+    pub fn once(&self)
+        ensures { AreOnce self.now.list }
+    {
+        let _ = &self.reads;
+    }
+}
