@@ -1,0 +1,4 @@
+pub mod Concluded
+pub mod Layout
+pub mod Server
+pub mod Taken
