@@ -1,0 +1,4 @@
+pub mod MovesLemmas
+pub mod VerdictLemmas
+pub mod ArrayLemmas
+pub mod PlanReplyLemmas

@@ -1,0 +1,4 @@
+pub mod Calls
+pub mod PlanReply
+pub mod Verdict
+pub mod steps

@@ -1,0 +1,14 @@
+//! The verdict on a snapshot: a cheapest plan with prices that show it, or a shortage that shows that there is none.
+#![tactic(auto)]
+
+mod calls;
+mod moves;
+mod places;
+mod reply;
+mod verdict;
+
+pub use moves::{Moves, Shortage};
+pub use verdict::Verdict;
+
+#[cfg(test)]
+mod tests;
