@@ -38,6 +38,7 @@ bench:
 	@cd crates/sr_server && rt run -- --stdio < /dev/null
 	@python3 bench/streams.py crates/sr_server/out/sr_server
 	@python3 bench/claims.py crates/sr_server/out/sr_server
+	@python3 bench/groups.py crates/sr_server/out/sr_server
 
 # Times the solver on the families of problems of docs/BENCH.md, by turns with LEMON's network simplex on the same problems if its
 # headers are installed (Debian: liblemon-dev), and alone if not.

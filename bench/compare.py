@@ -4,11 +4,11 @@ usage: compare.py SR_SERVER [ROUNDS [SEED]]
 
 It starts `redis-server` (Debian: redis-server) on a socket of its own. Each round has 40 commands on two keys, of which the first
 exists from the start. Replies count as the same if both are errors, both are empty lists of either kind, or both are ids that the
-clock gave, since the texts of errors and the moments are each server's own. Commands whose replies differ by decision
+clock gave, since the texts of errors and the moments are each server's own, and if idle times are both short or both long. Commands whose replies differ by decision
 (docs/DECISIONS.md) are left out: `~`, an option given twice, numbers with a leading zero and `-0`, ids that begin with a sign or
 a space, and XDEL and XACK of a bad id if the key or the group may be missing; IDLE and TIME below 0; the greatest COUNT of XAUTOCLAIM; `-` and
-`+` as ids of XGROUP; and XINFO, which tells other things. A claim that claims nothing makes its consumer here and not in Redis, so the one that
-claims is never made otherwise. The status is 1 if anything differs.
+`+` as ids of XGROUP; the greatest id in XREADGROUP; and XINFO, which tells other things. A claim that claims nothing and a read that delivers nothing make their consumer
+here and not in Redis, so those that claim and read are never made otherwise. The status is 1 if anything differs.
 """
 
 import os
@@ -24,6 +24,8 @@ BAD_IDS = ["", "-", "+", "x", "1-", "-1", "1-1-1", f"{LAST + 1}", f"1-{LAST + 1}
            "1 ", "0-0", "0", "(-", "(+", "(0-0", f"({LAST}-{LAST}"]
 NUMBERS = ["0", "1", "2", "3", "5", "100", "-1", "x", "", "1.5", f"{2**63 - 1}", f"{2**63}", f"-{2**63}", "1 "]
 COUNTS = ["0", "1", "2", "5", "100", "x", ""]
+LONG = 100_000  # milliseconds: longer than a round takes, and less than the time since a delivery at TIME 0 to 100
+IDLES = ["0", "0", "0", f"{LONG}", "-1", "x", ""]
 COMMANDS_A_ROUND = 40
 
 
@@ -53,6 +55,13 @@ def comparable(text):
     """A text, or `now` for an id of the clock."""
     milliseconds = text.partition("-")[0]
     return "now" if milliseconds.isdigit() and 10**12 < int(milliseconds) < 10**15 else text
+
+
+def without_idle(words, reply):
+    """A reply in which the idle times of XPENDING count as the same if they are of about the same length."""
+    if words[0].upper() != "XPENDING" or not isinstance(reply, list):
+        return reply
+    return [[*row[:2], int(row[2][1:]) < LONG, row[3]] if isinstance(row, list) and len(row) == 4 else row for row in reply]
 
 
 def replies_of_ours(program, commands):
@@ -119,6 +128,17 @@ class Commands:
         places = ["$" if self.likely(0.1) else self.id() for _ in keys]
         return [self.in_some_case("XREAD"), *self.option("COUNT", NUMBERS), self.in_some_case("STREAMS"), *keys, *places[self.likely(0.05):]]
 
+    def read_group(self):
+        """XREADGROUP of one key or of both, its options in any order."""
+        keys = self.random.choice([["s"], ["s"], ["t"], ["s", "t"], ["t", "s"]])
+        places = [">" if self.likely(0.6) else self.random.choice(["0", "0", self.id()]) for _ in keys]
+        places = ["0" if place == f"{LAST}-{LAST}" else place for place in places]
+        options = [["GROUP", self.random.choice("gggh"), self.random.choice("RS")], self.option("COUNT", NUMBERS), self.option("NOACK")]
+        self.random.shuffle(options)
+        if self.likely(0.03):
+            options.pop()
+        return [self.in_some_case("XREADGROUP"), *sum(options, []), self.in_some_case("STREAMS"), *keys, *places[self.likely(0.05):]]
+
     def groups(self, key):
         """XGROUP in its five forms."""
         group, consumer = self.random.choice("ggh"), self.random.choice("AB")
@@ -129,7 +149,7 @@ class Commands:
             ["SETID", key, group, place],
             ["DESTROY", key, group],
             ["CREATECONSUMER", key, group, consumer],
-            ["DELCONSUMER", key, group, consumer],
+            ["DELCONSUMER", key, group, self.random.choice("ARSC")],
             ["CREATE", key, group],
         ])
         return [self.in_some_case("XGROUP"), self.in_some_case(rest[0]), *rest[1:]]
@@ -138,8 +158,9 @@ class Commands:
         """What is done to the pending entries of a group."""
         group, consumer = self.random.choice("ggh"), self.random.choice("AB")
         ids = [self.id(0) for _ in range(self.random.randrange(1, 4))]
-        listing = [*self.option("IDLE", NUMBERS), self.end(), self.end(), self.number(), *self.random.choice([[], [consumer]])]
-        claim = [group, "C", self.number()]
+        consumer = self.random.choice("ARSC")
+        listing = [*self.option("IDLE", IDLES), self.end(), self.end(), self.number(), *self.random.choice([[], [consumer]])]
+        claim = [group, "C", self.random.choice(IDLES)]
         return self.random.choice([
             ["XACK", key, group, *ids],
             ["XPENDING", key, group],
@@ -166,6 +187,7 @@ class Commands:
             (10, lambda: self.read()),
             (12, lambda: self.groups(key)),
             (12, lambda: self.pending(key)),
+            (20, lambda: self.read_group()),
             (3, lambda: self.random.choice(others)),
         ]
         weights, choices = zip(*makers)
@@ -178,7 +200,7 @@ def compare(program, path, seed):
     sent = [["XADD", "s", "0-1", "f", "v"]] + [commands.one() for _ in range(COMMANDS_A_ROUND - 1)]
     same, errors = 0, 0
     for words, ours, theirs in zip(sent, replies_of_ours(program, sent), replies_of_redis(path, sent)):
-        if ours != theirs:
+        if without_idle(words, ours) != without_idle(words, theirs):
             print(f"round {seed}: {' '.join(words)}\n    sr_server {ours}\n    Redis     {theirs}")
             break
         same, errors = same + 1, errors + (ours == "error")
