@@ -1,2 +1,3 @@
 pub mod FileLemmas
+pub mod PolicyLemmas
 pub mod ProblemLemmas

@@ -1,5 +1,6 @@
 pub mod Bounds
 pub mod Rules
+pub mod Policy
 pub mod File
 pub mod Snapshot
 pub mod Problem

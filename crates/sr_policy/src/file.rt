@@ -1,6 +1,6 @@
-ghost use Rattle.std.specs.Prelude.{◌≡◌, IfOk};
+ghost use Rattle.std.specs.Prelude.{◌≡◌, IfOk, true};
 ghost use Rattle.toml.specs.View.{table_view};
-ghost use Rattle.sr_policy.specs.File.{rules_of as rules_of_file, rates_of as rates_in_table};
+ghost use Rattle.sr_policy.specs.File.{is_in_range as is_file_in_range, rules_of as rules_of_file, rates_of as rates_in_table};
 
 use crate::Policy;
 use crate::numbers::{Numbers, numbers_of};
@@ -53,6 +53,7 @@ impl Policy {
 
 /// The policy of a file that has the shape of one and is in range.
 fn policy_of(alloc: Global, file: &Table) -> Result<Policy, AllocError>
+    requires { is_file_in_range (table_view file.now) ≡ true }
     ensures { IfOk result (λ policy. policy ≡ rules_of_file (table_view file.now)) }
 {
     let class_field = match text_at(file, "class_field") {

@@ -22,19 +22,21 @@ pub struct Policy {
 
 impl Model for Policy {
     ghost use Rattle.std.specs.Prelude.{◌≡◌, map};
-    ghost use Rattle.sr_bytes.specs.Order.{AreInOrder, ComesBefore};
+    ghost use Rattle.sr_policy.specs.Policy.{IsPolicy};
     ghost use Rattle.sr_policy.specs.Rules.{Rules};
 
     ghost Value = { Rules };
 
     ghost view = { λ p. record { class_field = p.class_field; limits = p.limits; rates = p.rates.items } };
 
-    ghost invariant = { λ p. (p.consumers.items ≡ map (λ limit. limit.0) p.limits) × AreInOrder ComesBefore p.consumers.items };
+    ghost invariant = { λ p. (p.consumers.items ≡ map (λ limit. limit.0) p.limits)
+        × IsPolicy (record { class_field = p.class_field; limits = p.limits; rates = p.rates.items }) };
 }
 
 impl Policy {
-    ghost use Rattle.std.specs.Prelude.{◌≡◌, IfOk, map, option_map};
+    ghost use Rattle.std.specs.Prelude.{◌≡◌, IfOk, option_map};
     ghost use Rattle.sr_bytes.specs.Order.{AreInOrder, ComesBefore};
+    ghost use Rattle.sr_policy.specs.Policy.{IsPolicy};
     ghost use Rattle.sr_policy.specs.Rules.{no_rules, value_at, consumers_of, limit_of, live_of, rate_of, classed_by as classed_in, class_of as class_by};
 
     /// The policy without consumers and rates, under which no entry can be given to anybody. It takes no memory.
@@ -56,7 +58,7 @@ impl Policy {
         limits: Numbers,
         rates: Vec<(Name, Numbers)>,
     ) -> Result<Policy, AllocError>
-        requires order { AreInOrder ComesBefore (map (λ limit. limit.0) limits) }
+        requires { IsPolicy (record { class_field = class_field; limits = limits; rates = rates.items }) }
         ensures { IfOk result (λ policy. policy ≡ record { class_field = class_field; limits = limits; rates = rates.items }) }
     {
         let consumers = names_of(alloc, limits.as_slice())?;
@@ -66,6 +68,13 @@ impl Policy {
             limits,
             rates,
         })
+    }
+
+    /// Law: the consumers are in order, no list is too long, and no number too great. Calling this has no effect.
+    pub fn sound(&self)
+        ensures { IsPolicy self.now }
+    {
+        let _ = &self.rates;
     }
 
     /// The consumers, in byte order.
