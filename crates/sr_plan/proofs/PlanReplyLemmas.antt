@@ -15,7 +15,7 @@ use Rattle.sr_policy.specs.Problem.{problem_of, room_at}
 use Rattle.sr_policy.specs.Rules.{Text}
 use Rattle.sr_policy.specs.Snapshot.{Shown}
 use Rattle.sr_plan.specs.Verdict.{id_at, short}
-use Rattle.sr_plan.specs.PlanReply.{id_answer, move_answer, share_answer, reached_from, verdict_answer}
+use Rattle.sr_check.specs.PlanReply.{id_answer, move_answer, share_answer, reached_from, verdict_answer}
 use Rattle.sr_plan.proofs.ArrayLemmas.{map-written, HasLeft, left-after, left-none}
 
 -- each item of a verdict's arrays is a reply

@@ -1,4 +1,3 @@
 pub mod Calls
-pub mod PlanReply
 pub mod Verdict
 pub mod steps

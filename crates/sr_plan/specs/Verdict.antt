@@ -1,34 +1,12 @@
 -- A verdict on a snapshot: a cheapest plan with the prices that show it, or a shortage that shows that there is none.
 -- Source: docs/RECOVERY.md.
 
-use Rattle.std.specs.Prelude.{ℕ, List, [], map, Option, Some, None, slice_index_or}
-use Rattle.std.specs.List.{zip}
+use Rattle.std.specs.Prelude.{ℕ, List, map, Option, Some, None}
 use Rattle.sr_ids.specs.declared.id.Id.{Id}
-use Rattle.sr_policy.specs.declared.live.Live.{Live}
-use Rattle.sr_policy.specs.declared.stranded.Stranded.{Stranded}
 use Rattle.sr_policy.specs.Problem.{problem_of}
 use Rattle.sr_policy.specs.Rules.{Text}
 use Rattle.sr_policy.specs.Snapshot.{Shown, IsSnapshot}
-use Rattle.sr_transport.specs.Assignment.{IsAssignment, IsCheapest, HasNoAssignment}
-use Rattle.sr_transport.specs.Certificate.{IsShortage}
-use Rattle.sr_transport.specs.Problem.{Transport}
-use Rattle.sr_transport.specs.Solved.{IsBest}
-
--- what is answered to a snapshot's problem: which consumer each entry goes to, with a price for each consumer and the total
--- cost; or entries for which there are too few places. Entries and consumers are counted from 0, as the snapshot lists them.
-pub data Answer : Type 0 where
-  best : (assign prices : List ℕ) (total : ℕ) → Answer
-  short : (set : List ℕ) → Answer
-
--- the answer shows that it is right: the prices that no assignment costs less, or the entries that there is none
-abbrev pub IsShown : Transport → Answer → Type 0
-IsShown p (best assign prices total) = IsBest p assign prices total
-IsShown p (short set) = IsShortage p set
-
--- what the answer is worth: no assignment costs less, or none exists
-abbrev pub IsWorth : Transport → Answer → Type 0
-IsWorth p (best assign prices total) = IsAssignment p assign × IsCheapest p assign
-IsWorth p (short set) = HasNoAssignment p
+pub use Rattle.sr_check.specs.Answer.{Answer, best, short, IsShown, IsWorth, name_at, id_at, moves_of}
 
 -- a snapshot, and an answer to its problem
 pub record Judged : Type 0 where
@@ -39,18 +17,6 @@ pub record Judged : Type 0 where
 pub record IsVerdict (judged : Judged) : Type 0 where
   pub snapshot : IsSnapshot judged.snapshot
   pub shown : IsShown (problem_of judged.snapshot) judged.answer
-
--- the name of the consumer with this number
-abbrev pub name_at : List Live → ℕ → Text
-name_at live c = slice_index_or (map (λ consumer. consumer.name) live) c []
-
--- the id of the stranded entry with this number
-abbrev pub id_at : List Stranded → ℕ → Id
-id_at stranded i = slice_index_or (map (λ entry. entry.id) stranded) i (record { ms = 0; seq = 0 })
-
--- each stranded entry with the consumer that it goes to, by id
-abbrev pub moves_of : Shown → List ℕ → List (Id × Text)
-moves_of shown assign = zip (map (λ entry. entry.id) shown.stranded) (map (name_at shown.live) assign)
 
 -- what a verdict says: a plan has moves, a total and prices, and a shortage has its entries' ids
 abbrev pub moves_in : Shown → Answer → Option (List (Id × Text))

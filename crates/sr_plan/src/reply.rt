@@ -5,8 +5,8 @@ ghost use Rattle.sr_transport.specs.Solved.{IsBest};
 ghost use Rattle.sr_policy.specs.Problem.{problem_of};
 ghost use Rattle.sr_resp.specs.Reply.{array_of, integer};
 ghost use Rattle.sr_plan.specs.Verdict.{best, short};
-ghost use Rattle.sr_plan.specs.PlanReply.{id_answer, move_answer, share_answer};
-ghost use Rattle.sr_plan.specs.PlanReply.{plan_word, reached_from, verdict_answer};
+ghost use Rattle.sr_check.specs.PlanReply.{id_answer, move_answer, share_answer};
+ghost use Rattle.sr_check.specs.PlanReply.{plan_word, reached_from, verdict_answer};
 
 use crate::moves::{Moves, Shortage};
 use crate::places::{is_reached, places_of};

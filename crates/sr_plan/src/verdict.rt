@@ -2,7 +2,7 @@ ghost use Rattle.std.specs.Prelude.{◌≡◌, IfOk};
 ghost use Rattle.std.specs.Option.{option_copied};
 ghost use Rattle.sr_policy.specs.Problem.{problem_of};
 ghost use Rattle.sr_plan.specs.Calls.{claim_calls};
-ghost use Rattle.sr_plan.specs.PlanReply.{verdict_answer};
+ghost use Rattle.sr_check.specs.PlanReply.{verdict_answer};
 ghost use Rattle.sr_plan.specs.Verdict.{IsVerdict, IsWorth, total_in, prices_in, moves_in, shortage_in};
 
 use crate::calls::calls_of;

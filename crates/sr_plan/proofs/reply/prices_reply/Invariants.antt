@@ -1,7 +1,7 @@
 use Rattle.std.proofs.Common.{◌≡◌, ◌++◌, length, drop, map}
 use Rattle.std.specs.List.{flat_map, zip}
 use Rattle.sr_resp.specs.Reply.{array_header}
-use Rattle.sr_plan.specs.PlanReply.{share_answer}
+use Rattle.sr_check.specs.PlanReply.{share_answer}
 use Rattle.sr_plan.proofs.reply.prices_reply.Given as goal
 
 abbrev pub invariant-loop-i : goal.invariant-loop-i

@@ -12,7 +12,7 @@ use Rattle.sr_policy.specs.Snapshot.{Shown}
 use Rattle.sr_resp.specs.Reply.{Answer as ReplyParts, array_of, bulk_string, integer}
 use Rattle.sr_transport.specs.Certificate.{is_reached, places_of}
 use Rattle.sr_transport.specs.Problem.{Transport}
-use Rattle.sr_plan.specs.Verdict.{Answer, best, short, id_at, moves_of}
+use Rattle.sr_check.specs.Answer.{Answer, best, short, id_at, moves_of}
 
 abbrev pub id_answer : Id → ReplyParts
 id_answer id = bulk_string (spelling id)

@@ -1,0 +1,10 @@
+pub mod ReadLemmas
+pub mod BeginsLemmas
+pub mod AreReadLemmas
+pub mod OrderLemmas
+pub mod MoveLemmas
+pub mod ChosenLemmas
+pub mod ListLemmas
+pub mod PlanLemmas
+pub mod ShortageLemmas
+pub mod JudgeLemmas

@@ -1,0 +1,4 @@
+pub mod Answer
+pub mod PlanReply
+pub mod Verified
+pub mod steps

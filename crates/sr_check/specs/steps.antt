@@ -1,0 +1,2 @@
+-- What only private clauses cite: how a reply is read.
+pub mod Read

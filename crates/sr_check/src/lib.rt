@@ -1,0 +1,14 @@
+//! A checker of recovery plans, which trusts nothing of the server that made them.
+#![tactic(auto)]
+
+mod expect;
+mod judge;
+mod places;
+mod plan;
+mod read;
+mod shortage;
+
+pub use judge::{Reason, Verified, accepts};
+
+#[cfg(test)]
+mod tests;
