@@ -210,6 +210,13 @@ impl Group {
         Idle::new(rest, least_idle, moment, count)
     }
 
+    /// The pending entries, by rising id. Takes no memory.
+    pub fn pending(&self) -> Nacks<'_>
+        ensures { result ≡ self.now.shown.nacks }
+    {
+        self.pending.all()
+    }
+
     /// When the consumer's pending entry that was delivered longest ago was delivered. None if it has none.
     pub fn oldest(&self, consumer: &Name) -> Option<u64>
         ensures { result ≡ oldest_of (owned_by consumer.now self.now.shown.nacks) }

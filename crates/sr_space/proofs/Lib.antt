@@ -16,3 +16,7 @@ pub mod ReadingLemmas
 pub mod ReadGroupLemmas
 pub mod WaitingLemmas
 pub mod WaitingLaws
+pub mod RisingLemmas
+pub mod NameOrderLemmas
+pub mod SnapLemmas
+pub mod CommitLemmas

@@ -8,6 +8,8 @@ pub mod commands
 pub mod steps
 pub mod Effect
 pub mod Blocking
+pub mod Commit
+pub mod Snap
 pub use Rattle.sr_space.specs.Blocking.{executed, Called}
 pub use Rattle.sr_space.specs.Effect.{at_once, Executed, reply_of}
 pub use Rattle.sr_space.specs.Keys.{stream_at, entries_of, shown_of, with_stream}

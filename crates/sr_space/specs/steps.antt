@@ -1,2 +1,4 @@
+pub mod Claiming
 pub mod Reading
+pub mod Snapping
 pub mod Waiting

@@ -4,10 +4,12 @@
 mod blocking;
 mod bounds;
 mod commands;
+mod commit;
 mod grouped;
 mod laws;
 mod outcome;
 mod reply;
+mod snap;
 mod space;
 #[cfg(test)]
 mod tests;
@@ -19,4 +21,5 @@ pub use laws::{
     one_stream_changes, streams_stay_sound, waiting_finds_nothing, waiting_leaves_the_same,
 };
 pub use outcome::Answered;
+pub use snap::SnapFault;
 pub use space::Space;

@@ -108,7 +108,7 @@ pub(crate) fn count_or_100(count: Option<i64>) -> u64
 }
 
 /// The claim that is asked for.
-fn claim_as(asked: ClaimAsked) -> Claim
+pub(crate) fn claim_as(asked: ClaimAsked) -> Claim
     ensures value { result ≡ claim_of asked.least_idle asked.time asked.count asked.just_ids }
     ensures count { IfSome result.count (λ count. count < 2 ^ 63) }
 {

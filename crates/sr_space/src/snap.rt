@@ -1,0 +1,163 @@
+ghost use Rattle.std.specs.Prelude.{◌≡◌, ◌≤◌, Ok, IfOk, IfErr, length, nat_lt};
+ghost use Rattle.std.specs.Option.{option_copied};
+ghost use Rattle.sr_policy.specs.Bounds.{most_stranded};
+ghost use Rattle.sr_policy.specs.Snapshot.{IsSnapshot};
+ghost use Rattle.sr_space.specs.Keys.{shown_of};
+ghost use Rattle.sr_space.specs.Snap.{IsSnapFault, in_order, shown_with, snapped, snapped_stream, stranded_in};
+ghost use Rattle.sr_space.specs.steps.Snapping.{left_in};
+
+mod names;
+mod parts;
+
+use crate::Space;
+use names::{is_among, names_in_order};
+use parts::{gone_entries, is_there, live_consumers, rates_by_class, stranded_entries};
+use sr_bytes::Name;
+use sr_group::Group;
+use sr_ids::Id;
+use sr_policy::{Live, Policy, Rates, Snapshot, Stranded};
+use sr_stream::Stream;
+use std::alloc::{AllocError, Global};
+
+/// How many stranded entries a snapshot has at most.
+const MAX_STRANDED: usize = 4096;
+
+/// Why no snapshot of a group was taken. The first that holds is told: no group, too many, memory.
+#[derive(Clone, Copy, Debug, PartialEq, Eq)]
+pub enum SnapFault {
+    /// There is no such key, or it has no such group.
+    NoGroup,
+    /// More entries are stranded than a snapshot may have.
+    TooMany,
+    /// A failed allocation.
+    Memory,
+}
+
+impl Space {
+    /// What the dead consumers of a group have left, and which other consumers of the policy could take it. A name may stand
+    /// more than once among the dead.
+    ///
+    /// Source: docs/RECOVERY.md.
+    pub fn snap(
+        &self,
+        alloc: Global,
+        key: &Name,
+        group: &Name,
+        dead: &[Name],
+        policy: &Policy,
+    ) -> Result<Snapshot, SnapFault>
+        ensures ok { IfOk result (λ snapshot. snapped policy.now self.now key.now group.now dead.now ≡ Ok snapshot) }
+        ensures err { IfErr result (IsSnapFault (snapped policy.now self.now key.now group.now dead.now)) }
+    {
+        snap_stream(alloc, self.stream(key), key, group, dead, policy)
+    }
+}
+
+/// The snapshot of a group of a stream, if the stream and the group are there.
+fn snap_stream(
+    alloc: Global,
+    stream: Option<&Stream>,
+    key: &Name,
+    name: &Name,
+    dead: &[Name],
+    policy: &Policy,
+) -> Result<Snapshot, SnapFault>
+    ensures ok { IfOk result (λ snapshot.
+        snapped_stream policy.now key.now name.now dead.now (shown_of (option_copied stream.entry)) ≡ Ok snapshot) }
+    ensures err { IfErr result (IsSnapFault
+        (snapped_stream policy.now key.now name.now dead.now (shown_of (option_copied stream.entry)))) }
+{
+    let Some(stream) = stream else {
+        return Err(SnapFault::NoGroup);
+    };
+    let Some(group) = stream.group(name) else {
+        return Err(SnapFault::NoGroup);
+    };
+    // Too many are told before memory is asked for.
+    if are_too_many(stream, group, dead) {
+        return Err(SnapFault::TooMany);
+    }
+    match snap_group(alloc, stream, group, key, name, dead, policy) {
+        Ok(snapshot) => Ok(snapshot),
+        Err(_) => Err(SnapFault::Memory),
+    }
+}
+
+/// Whether more entries are stranded than a snapshot may have. It takes no memory.
+fn are_too_many(stream: &Stream, group: &Group, dead: &[Name]) -> bool
+    ensures { result ≡ nat_lt most_stranded
+        (length (left_in dead.now stream.now.shown.entries group.now.shown.nacks)) }
+{
+    let mut nacks = group.pending();
+    let mut room = MAX_STRANDED;
+    while let Some(nack) = nacks.next() {
+        if is_among(dead, &nack.owner) && is_there(stream, nack.id) {
+            if room == 0 {
+                return true;
+            }
+            room -= 1;
+        }
+    }
+    false
+}
+
+/// The snapshot of a group in which not too many entries are stranded.
+fn snap_group(
+    alloc: Global,
+    stream: &Stream,
+    group: &Group,
+    key: &Name,
+    name: &Name,
+    dead: &[Name],
+    policy: &Policy,
+) -> Result<Snapshot, AllocError>
+    requires few { length (left_in dead.now stream.now.shown.entries group.now.shown.nacks) ≤ most_stranded }
+    ensures { IfOk result (λ snapshot. snapshot
+        ≡ shown_with policy.now key.now name.now (in_order dead.now) stream.now.shown.entries group.now.shown.nacks) }
+{
+    policy.sound();
+    group.sound();
+    let dead = names_in_order(alloc, dead)?;
+    let stranded = stranded_entries(alloc, policy, dead.as_slice(), stream, group)?;
+    let gone = gone_entries(alloc, dead.as_slice(), stream, group)?;
+    let live = live_consumers(alloc, policy, dead.as_slice(), group)?;
+    let rates = rates_by_class(alloc, policy, live.as_slice(), stranded.as_slice())?;
+    let key = key.copy(alloc)?;
+    let name = name.copy(alloc)?;
+    Ok(snapshot_of(key, name, dead, stranded, gone, live, rates))
+}
+
+/// The snapshot of parts that make one.
+fn snapshot_of(
+    key: Name,
+    group: Name,
+    dead: Vec<Name>,
+    stranded: Vec<Stranded>,
+    gone: Vec<(Id, Name)>,
+    live: Vec<Live>,
+    rates: Vec<(Name, Rates)>,
+) -> Snapshot
+    requires { IsSnapshot (record {
+      key = key;
+      group = group;
+      dead = dead.items;
+      stranded = stranded.items;
+      gone = gone.items;
+      live = live.items;
+      rates = rates.items;
+    }) }
+    ensures { result ≡ record {
+      key = key;
+      group = group;
+      dead = dead.items;
+      stranded = stranded.items;
+      gone = gone.items;
+      live = live.items;
+      rates = rates.items;
+    } }
+{
+    match Snapshot::new(key, group, dead, stranded, gone, live, rates) {
+        Some(snapshot) => snapshot,
+        None => unreachable!(),
+    }
+}

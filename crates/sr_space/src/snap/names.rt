@@ -1,0 +1,83 @@
+//! Names in byte order, each once.
+ghost use Rattle.std.specs.Prelude.{◌≡◌, ◌≤◌, IfOk, OnOk, length, map, vec_len};
+ghost use Rattle.std.specs.List.{insert};
+ghost use Rattle.sr_bytes.specs.Order.{AreInOrder, ComesBefore};
+ghost use Rattle.sr_policy.specs.Snapshot.{is_among as among};
+ghost use Rattle.sr_space.specs.Snap.{in_order, with_name};
+ghost use Rattle.sr_space.specs.steps.Snapping.{count_before};
+
+use sr_bytes::Name;
+use sr_policy::Stranded;
+use std::alloc::{AllocError, Global};
+
+/// Whether a name is one of the names.
+pub(super) fn is_among(names: &[Name], name: &Name) -> bool
+    ensures { result ≡ among names.now name.now }
+{
+    names.iter().any(|other| *other == *name)
+}
+
+/// Copies of the names in byte order, each once.
+pub(super) fn names_in_order(alloc: Global, names: &[Name]) -> Result<Vec<Name>, AllocError>
+    ensures { IfOk result (λ list. list.items ≡ in_order names.now) }
+{
+    let mut list = Vec::new(alloc);
+    for place in (0..names.len()).rev() {
+        add_name(&mut list, alloc, &names[place])?;
+    }
+    Ok(list)
+}
+
+/// The classes of the entries in byte order, each once.
+pub(super) fn classes_of(alloc: Global, entries: &[Stranded]) -> Result<Vec<Name>, AllocError>
+    ensures { IfOk result (λ list. list.items ≡ in_order (map (λ entry. entry.class) entries.now)) }
+{
+    let mut list = Vec::new(alloc);
+    for place in (0..entries.len()).rev() {
+        add_name(&mut list, alloc, &entries[place].class)?;
+    }
+    Ok(list)
+}
+
+/// Adds a copy of the name at its place among names in byte order, unless it is there.
+fn add_name(names: &mut Vec<Name>, alloc: Global, name: &Name) -> Result<(), AllocError>
+    requires { AreInOrder ComesBefore names.old.items }
+    ensures { OnOk result (names.new.items ≡ with_name name.now names.old.items) }
+{
+    let place = place_for(names.as_slice(), name);
+    if is_at(names.as_slice(), place, name) {
+        return Ok(());
+    }
+    let name = name.copy(alloc)?;
+    put_at(names, place, name)
+}
+
+/// How many names come before this one, found by binary search.
+fn place_for(names: &[Name], name: &Name) -> usize
+    requires { AreInOrder ComesBefore names.now }
+    ensures value { result ≡ count_before name.now names.now }
+    ensures bound { result ≤ length names.now }
+{
+    names.partition_point(|other| other.comes_before(name))
+}
+
+/// Whether the name is at its place.
+fn is_at(names: &[Name], place: usize, name: &Name) -> bool
+    requires order { AreInOrder ComesBefore names.now }
+    requires place { place ≡ count_before name.now names.now }
+    ensures { result ≡ among names.now name.now }
+{
+    match names.get(place) {
+        None => false,
+        Some(other) => *other == *name,
+    }
+}
+
+/// Puts the name at this place.
+fn put_at(names: &mut Vec<Name>, place: usize, name: Name) -> Result<(), AllocError>
+    requires { place ≤ vec_len names.old }
+    ensures { OnOk result (names.new.items ≡ insert names.old.items place name) }
+{
+    names.insert(place, name)?;
+    Ok(())
+}
