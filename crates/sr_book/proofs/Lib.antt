@@ -1,7 +1,10 @@
 pub mod ActLemmas
+pub mod BookLemmas
 pub mod DueLemmas
 pub mod FreshLemmas
+pub mod LegalLemmas
 pub mod OpenLemmas
 pub mod ServeLemmas
+pub mod SessionLaws
 pub mod SessionLemmas
 pub mod TwiceLemmas

@@ -1,10 +1,10 @@
 -- Open sessions by rising number: where binary search finds one, and that they still rise after each change.
-use Rattle.std.proofs.Common.{◌≡◌, ◌==◌, ℕ, zero, suc, ◌+◌, ◌<◌, ◌≤◌, Bool, true, false, cond, not, ◌||◌, nat_lt, List, [], ◌∷◌, ◌++◌, length, get_or, set, take, drop, slice_get, Option, Some, inl, inr, refl, ap, sym, ◌∙◌, subst, arith}
+use Rattle.std.proofs.Common.{◌≡◌, ◌==◌, ℕ, zero, suc, ◌+◌, ◌<◌, ◌≤◌, Bool, true, false, cond, not, ◌||◌, nat_lt, List, [], ◌∷◌, ◌++◌, length, get_or, set, take, drop, slice_get, Option, Some, None, inl, inr, refl, ap, sym, ◌∙◌, subst, arith}
 use Rattle.std.proofs.lemmas.Bool.{cases_lt, eqb-true, eqb-false, eq-eqb, ne_eqb, ltb-true, ltb-false, lt-ltb}
 use Rattle.std.specs.List.Sorted.{IsPartitionedBy}
 use Rattle.sr_pending.proofs.Splitting.{Splits}
 use Rattle.sr_book.specs.Layout.{AreAbove, AreRising}
-use Rattle.sr_book.specs.Server.{AreBelow, Given, Session, is_open, with_letter, without}
+use Rattle.sr_book.specs.Server.{AreBelow, Given, Session, is_open, letter_of, with_letter, without}
 
 -- two numbers that differ, as a test
 pub differs-below : (a b : ℕ) → a < b → (a == b) ≡ false
@@ -66,6 +66,12 @@ with_letter-none number letter (x ∷ xs) none =
     let parts = is_open-not_first number x xs none in
     rw parts.0 (ap (λ (l : List Session). x ∷ l) (with_letter-none number letter xs parts.1))
 
+pub letter_of-none : (number : ℕ) (xs : List Session) → is_open number xs ≡ false → letter_of number xs ≡ None
+letter_of-none number [] none = refl
+letter_of-none number (x ∷ xs) none =
+    let parts = is_open-not_first number x xs none in
+    rw parts.0 (letter_of-none number xs parts.1)
+
 -- ---- a session that is there
 
 pub is_open-place : (number : ℕ) (xs : List Session) (i : ℕ) (x : Session) → slice_get xs i ≡ Some x → x.number ≡ number → is_open number xs ≡ true
@@ -117,6 +123,15 @@ with_letter-set number letter (y ∷ ys) zero x rising here same =
     rw test (ap (λ (l : List Session). given ∷ l) (sym (with_letter-none number letter ys (is_open-above number ys above))))
 with_letter-set number letter (y ∷ ys) (suc i) x rising here same =
     rw (before_place number y ys i x rising.0 here same) (ap (λ (l : List Session). y ∷ l) (with_letter-set number letter ys i x rising.1 here same))
+
+pub letter_of-place : (number : ℕ) (xs : List Session) (i : ℕ) (x : Session) → AreRising xs → slice_get xs i ≡ Some x → x.number ≡ number → letter_of number xs ≡ x.letter
+letter_of-place number [] i x rising here same = absurd (cc)
+letter_of-place number (y ∷ ys) zero x rising here same =
+    let first : y ≡ x = cc in
+    let test : (y.number == number) ≡ true = eq-eqb y.number number (ap (λ (s : Session). s.number) first ∙ same) in
+    rw test (ap (λ (s : Session). s.letter) first)
+letter_of-place number (y ∷ ys) (suc i) x rising here same =
+    rw (before_place number y ys i x rising.0 here same) (letter_of-place number ys i x rising.1 here same)
 
 -- ---- what binary search finds
 

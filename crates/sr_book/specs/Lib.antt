@@ -1,4 +1,6 @@
 pub mod Concluded
 pub mod Layout
+pub mod Records
 pub mod Server
+pub mod Settled
 pub mod Taken

@@ -1,13 +1,21 @@
-//! The one-thread server, event by event.
+//! The one-thread server, event by event, and the book of what happened to it.
 #![tactic(auto)]
 
+mod answer;
+mod book;
 mod conclude;
 mod due;
 mod effect;
 mod event;
 mod machine;
+mod record;
 mod sessions;
+#[cfg(test)]
+mod tests;
 
+pub use answer::{Answer, Letter, Status, StepFault};
+pub use book::Book;
 pub use effect::{Acted, Served};
-pub use event::{BookFault, Event, Out};
+pub use event::{Act, BookFault, Event, Out};
 pub use machine::Machine;
+pub use record::Record;

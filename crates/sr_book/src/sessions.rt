@@ -1,5 +1,6 @@
 ghost use Rattle.std.specs.Prelude.{◌≡◌, IfSome, IfNone, false};
-ghost use Rattle.sr_book.specs.Server.{is_open, with_letter, without};
+ghost use Rattle.std.specs.Option.{option_copied};
+ghost use Rattle.sr_book.specs.Server.{is_open, letter_of, with_letter, without};
 ghost use Rattle.sr_book.specs.Layout.{AreRising, IsPlace, below};
 
 use sr_resp::Reply;
@@ -38,12 +39,20 @@ impl Model for OpenSession {
 
 impl OpenSession {
     ghost use Rattle.std.specs.Prelude.{◌≡◌, ◌==◌, nat_lt};
+    ghost use Rattle.std.specs.Option.{option_copied};
 
     /// Whether the session's number is lower.
     fn comes_before(&self, number: u64) -> bool
         ensures { result ≡ nat_lt self.now.number number }
     {
         self.number < number
+    }
+
+    /// The session's letter, if it has one.
+    fn letter(&self) -> Option<&GivenReply>
+        ensures { option_copied result ≡ self.now.letter }
+    {
+        self.letter.as_ref()
     }
 
     /// Whether this is the session's number.
@@ -74,7 +83,8 @@ impl Model for Sessions {
 
 impl Sessions {
     ghost use Rattle.std.specs.Prelude.{◌≡◌, ◌++◌, [], ◌∷◌, None, OnOk, OnErr};
-    ghost use Rattle.sr_book.specs.Server.{AreBelow, is_open, with_letter, without};
+    ghost use Rattle.std.specs.Option.{option_copied};
+    ghost use Rattle.sr_book.specs.Server.{AreBelow, is_open, letter_of, with_letter, without};
 
     /// No sessions. Takes no memory.
     pub(crate) fn new(alloc: Global) -> Sessions
@@ -90,6 +100,13 @@ impl Sessions {
         ensures { result ≡ is_open number self.now }
     {
         is_there(self.list.as_slice(), number)
+    }
+
+    /// The letter of the session, if it is open and has one.
+    pub(crate) fn letter(&self, number: u64) -> Option<&GivenReply>
+        ensures { option_copied result ≡ letter_of number self.now }
+    {
+        letter_in(self.list.as_slice(), number)
     }
 
     /// Opens a session without a letter.
@@ -156,6 +173,17 @@ fn is_there(sessions: &[OpenSession], number: u64) -> bool
     match place_of(sessions, number) {
         Some(_place) => true,
         None => false,
+    }
+}
+
+/// The letter of the session with this number, if it is there and has one.
+fn letter_in(sessions: &[OpenSession], number: u64) -> Option<&GivenReply>
+    requires { AreRising sessions.now }
+    ensures { option_copied result ≡ letter_of number sessions.now }
+{
+    match place_of(sessions, number) {
+        None => None,
+        Some(place) => sessions[place].letter(),
     }
 }
 

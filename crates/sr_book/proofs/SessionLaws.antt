@@ -1,0 +1,385 @@
+-- Laws of one session at the book: what each of its events leaves, and that the servings that follow leave it alone.
+use Rattle.std.proofs.Common.{◌≡◌, ◌==◌, ℕ, ◌+◌, ◌^◌, Bool, true, false, cond, not, nat_lt, List, [], ◌∷◌, ◌++◌, length, drop, Option, Some, None, Err, refl, ap, sym, ◌∙◌, subst, arith, true≢false}
+use Rattle.std.proofs.Math.Seq.{drop-append_seam}
+use Rattle.std.proofs.lemmas.Bool.{eq-eqb, ne_eqb}
+use Rattle.std.proofs.lemmas.List.Folds.{list_any-append}
+use Rattle.std.proofs.lemmas.Map.Views.{any-filter_same}
+use Rattle.sr_args.specs.Blocking.{block_of, without_block}
+use Rattle.sr_args.specs.declared.call.Call.{Call}
+use Rattle.sr_args.specs.declared.call.Call.TheVariants as calls
+use Rattle.sr_resp.specs.Reply.{Answer as ReplyParts}
+use Rattle.sr_space.specs.Blocking.{answered_or_waits, executed, finds_nothing, outcome_of}
+use Rattle.sr_space.specs.Effect.{at_once}
+use Rattle.sr_space.specs.Keys.{Keys}
+use Rattle.sr_space.specs.declared.blocking.Outcome.{Outcome}
+use Rattle.sr_space.specs.declared.blocking.Outcome.TheVariants as outcomes
+use Rattle.sr_space.specs.declared.outcome.Answered.{Answered}
+use Rattle.sr_space.specs.declared.outcome.Answered.TheVariants as answers
+use Rattle.sr_waiters.specs.Waiters.{Waiting, first_that, has_session, session_of}
+use Rattle.sr_book.specs.Records.{AreServings, BookState, IsHistory, IsRefusal, IsStepped, LeadsBy, Legal, Recorded, Steps, addressed, event_record, event_server, is_serving, next_index, next_moment, to_session}
+use Rattle.sr_book.specs.Server.{AreBelow, AreOpen, Server, Serving, Session, acted, called, empty_server, is_open, refusal, served as served_as, serving, without}
+use Rattle.sr_book.specs.declared.answer.Answer.{Answer}
+use Rattle.sr_book.specs.declared.event.Act.{Act}
+use Rattle.sr_book.specs.declared.event.Act.TheVariants as acts
+use Rattle.sr_book.specs.declared.event.BookFault.{BookFault}
+use Rattle.sr_book.specs.declared.event.BookFault.TheVariants as faults
+use Rattle.sr_book.specs.declared.event.Event.{Event}
+use Rattle.sr_book.specs.declared.event.Event.TheVariants as events
+use Rattle.sr_book.specs.declared.event.Out.TheVariants as outs
+use Rattle.sr_book.proofs.ActLemmas.{called_server, not_busy, speaker_is_open}
+use Rattle.sr_book.proofs.DueLemmas.{absent-without}
+use Rattle.sr_book.proofs.FreshLemmas.{AreBelow-acted, AreBelow-served}
+use Rattle.sr_book.proofs.OpenLemmas.{is_open-with_letter, open-called, open-expired, open-joined, open-left, open-served}
+use Rattle.sr_book.proofs.ServeLemmas.{first_that-waits}
+use Rattle.sr_book.proofs.SessionLemmas.{differs-below}
+use Rattle.sr_book.proofs.TwiceLemmas.{IsTwice, at_once-twice}
+
+-- the session is open and does not wait
+abbrev pub IsIdleIn : ℕ → Server → Type 0
+IsIdleIn session server = (is_open session server.sessions ≡ true) × (has_session session server.waiting ≡ false)
+
+-- ---- a read that is served
+
+-- the read that was served waited, and this is what serving it gave
+record IsServedRead (server : Server) (index : ℕ) (given : Serving) : Type 0 where
+  pub read : Waiting
+  pub waits : has_session read.session server.waiting ≡ true
+  pub result : given ≡ served_as index server read (at_once server.keys server.last read.call)
+
+serving-read : (server : Server) (index : ℕ) (given : Serving) → serving server index ≡ Some given → IsServedRead server index given
+serving-read server index given is = by (first_that (λ (call : Call). not (finds_nothing server.keys server.last call)) server.waiting) refl
+  where
+    by : (found : Option Waiting) → first_that (λ (call : Call). not (finds_nothing server.keys server.last call)) server.waiting ≡ found → IsServedRead server index given
+    by None e = absurd (let none = rw e at is in cc)
+    by (Some read) e =
+        let found = rw e at is in
+        let one : Some (served_as index server read (at_once server.keys server.last read.call)) ≡ Some given = found in
+        record {
+          read = read;
+          waits = first_that-waits (λ (call : Call). not (finds_nothing server.keys server.last call)) read.session server.waiting (sym (ap session_of e));
+          result = cc;
+        }
+
+module _ (session index : ℕ) (server : Server) (given : Serving) (next : serving server index ≡ Some given) where
+  serving-open : is_open session given.server.sessions ≡ is_open session server.sessions
+  serving-open =
+      let its = serving-read server index given next in
+      ap (λ (s : Serving). is_open session s.server.sessions) its.result ∙ is_open-with_letter session its.read.session _ server.sessions
+
+  serving-absent : has_session session server.waiting ≡ false → has_session session given.server.waiting ≡ false
+  serving-absent absent =
+      let its = serving-read server index given next in
+      ap (λ (s : Serving). has_session session s.server.waiting) its.result ∙ absent-without session its.read.session server.waiting absent
+
+  serving-other : has_session session server.waiting ≡ false → (given.session == session) ≡ false
+  serving-other absent =
+      let its = serving-read server index given next in
+      let apart : (its.read.session == session) ≡ false = ne_eqb its.read.session session (λ same. true≢false (sym its.waits ∙ rw same absent)) in
+      ap (λ (s : Serving). s.session == session) its.result ∙ apart
+
+  serving-waiting_open : AreOpen server.waiting server.sessions → AreOpen given.server.waiting given.server.sessions
+  serving-waiting_open all =
+      let its = serving-read server index given next in
+      let HasOpen : Serving → Type 0 = λ s. AreOpen s.server.waiting s.server.sessions in
+      subst HasOpen (sym its.result) (open-served its.read.session _ server.sessions server.waiting all)
+
+-- ---- the servings after an event
+
+module _ (session index moment : ℕ) (replies : List (ℕ × ReplyParts)) (old new : Server) where
+  led-open : (act : Act) → is_serving act ≡ true → LeadsBy act index moment replies old new → is_open session new.sessions ≡ is_open session old.sessions
+  led-open (acts.Event event) is leads = absurd (cc)
+  led-open (acts.Serve other) is leads = serving-open session index old (record { session = other; reply = leads.reply; server = new }) leads.next
+
+  led-absent : (act : Act) → is_serving act ≡ true → LeadsBy act index moment replies old new → has_session session old.waiting ≡ false → has_session session new.waiting ≡ false
+  led-absent (acts.Event event) is leads absent = absurd (cc)
+  led-absent (acts.Serve other) is leads absent = serving-absent session index old (record { session = other; reply = leads.reply; server = new }) leads.next absent
+
+  led-silent : (act : Act) → is_serving act ≡ true → LeadsBy act index moment replies old new → has_session session old.waiting ≡ false → to_session session replies ≡ []
+  led-silent (acts.Event event) is leads absent = absurd (cc)
+  led-silent (acts.Serve other) is leads absent =
+      let apart : (other == session) ≡ false = serving-other session index old (record { session = other; reply = leads.reply; server = new }) leads.next absent in
+      ap (to_session session) leads.sends ∙ rw apart refl
+
+-- sessions stay open, and closed
+pub servings-open : (session index : ℕ) (old : Server) (records : List Recorded) (new : Server) → AreServings records → Legal index old records new
+    → is_open session new.sessions ≡ is_open session old.sessions
+servings-open session index old [] new all legal = ap (λ (s : Server). is_open session s.sessions) legal
+servings-open session index old (first ∷ others) new all legal =
+    servings-open session (index + 1) legal.0 others new all.1 legal.2
+    ∙ led-open session index first.moment first.replies old legal.0 first.act all.0 legal.1.1
+
+-- a session that does not wait goes on not waiting
+pub servings-absent : (session index : ℕ) (old : Server) (records : List Recorded) (new : Server) → AreServings records → Legal index old records new
+    → has_session session old.waiting ≡ false → has_session session new.waiting ≡ false
+servings-absent session index old [] new all legal absent = ap (λ (s : Server). has_session session s.waiting) legal ∙ absent
+servings-absent session index old (first ∷ others) new all legal absent =
+    servings-absent session (index + 1) legal.0 others new all.1 legal.2
+    (led-absent session index first.moment first.replies old legal.0 first.act all.0 legal.1.1 absent)
+
+-- so one that is open and does not wait goes on so
+pub servings-idle : (session index : ℕ) (old : Server) (records : List Recorded) (new : Server) → AreServings records → Legal index old records new
+    → IsIdleIn session old → IsIdleIn session new
+servings-idle session index old records new all legal idle = (
+  servings-open session index old records new all legal ∙ idle.0,
+  servings-absent session index old records new all legal idle.1,
+)
+
+-- and it is sent nothing
+pub servings-silent : (session index : ℕ) (old : Server) (records : List Recorded) (new : Server) → AreServings records → Legal index old records new
+    → has_session session old.waiting ≡ false → addressed session records ≡ []
+servings-silent session index old [] new all legal absent = refl
+servings-silent session index old (first ∷ others) new all legal absent =
+    let here : to_session session first.replies ≡ [] = led-silent session index first.moment first.replies old legal.0 first.act all.0 legal.1.1 absent in
+    let later : has_session session legal.0.waiting ≡ false = led-absent session index first.moment first.replies old legal.0 first.act all.0 legal.1.1 absent in
+    rw here (servings-silent session (index + 1) legal.0 others new all.1 legal.2 later)
+
+-- ---- a session opens
+
+is_open-below : (number : ℕ) (sessions : List Session) → AreBelow number sessions → is_open number sessions ≡ false
+is_open-below number [] below = refl
+is_open-below number (x ∷ xs) below = rw (differs-below x.number number below.0) (is_open-below number xs below.1)
+
+absent-below : (number : ℕ) (sessions : List Session) (waiting : List Waiting) → AreBelow number sessions → AreOpen waiting sessions → has_session number waiting ≡ false
+absent-below number sessions waiting below all = by (has_session number waiting) refl
+  where
+    by : (waits : Bool) → has_session number waiting ≡ waits → waits ≡ false
+    by true there = absurd (true≢false (sym (all number there) ∙ is_open-below number sessions below))
+    by false absent = refl
+
+is_open-joined : (number : ℕ) (sessions : List Session) → AreBelow number sessions → is_open number (sessions ++ record { number = number; letter = None } ∷ []) ≡ true
+is_open-joined number sessions below =
+    rw (list_any-append (λ (x : Session). x.number == number) sessions (record { number = number; letter = None } ∷ []), is_open-below number sessions below, eq-eqb number number refl) refl
+
+-- a session that joins gets the number of its record, is open and does not wait
+pub joined-idle : (old : BookState) (told : ℕ) (answer : Answer) (new : BookState) → IsStepped old told events.Join answer new
+    → AreBelow (next_index old) old.server.sessions → AreOpen old.server.waiting old.server.sessions
+    → (answer.out ≡ outs.Joined (next_index old)) × IsIdleIn (next_index old) new.server
+joined-idle old told answer new stepped below all = (
+  stepped.out,
+  servings-idle (next_index old) (next_index old + 1) (event_server old told events.Join) stepped.servings new.server
+      stepped.served stepped.legal (
+        is_open-joined (next_index old) old.server.sessions below,
+        absent-below (next_index old) old.server.sessions old.server.waiting below all,
+      ),
+)
+
+-- ---- a session calls
+
+-- a call that was answered
+module _ (session moment : ℕ) (server : Server) (keys : Keys) (reply : ReplyParts) where
+  called-open : (outcome : Outcome) → is_open session (called session moment server keys outcome).server.sessions ≡ is_open session server.sessions
+  called-open (outcomes.Reply send keep) = is_open-with_letter session session None server.sessions
+  called-open (outcomes.Blocked call deadline) = is_open-with_letter session session None server.sessions
+
+  called-absent : (outcome : Outcome) → (called session moment server keys outcome).out ≡ outs.Reply reply → has_session session server.waiting ≡ false
+      → has_session session (called session moment server keys outcome).server.waiting ≡ false
+  called-absent (outcomes.Reply send keep) out absent = absent
+  called-absent (outcomes.Blocked call deadline) out absent = absurd (cc)
+
+-- the session of an accepted call is open and does not wait
+pub accepted-idle : (server : Server) (index session : ℕ) (call : Call) → refusal server index (events.Call session call) ≡ None → IsIdleIn session server
+accepted-idle server index session call accepted =
+    (speaker_is_open server index session (events.Call session call) accepted refl, not_busy server index (events.Call session call) accepted)
+
+-- right after a call that was answered, before the servings that follow
+answered-idle : (old : BookState) (told session : ℕ) (call : Call) (answer : Answer) (new : BookState) (reply : ReplyParts) → IsStepped old told (events.Call session call) answer new
+    → answer.out ≡ outs.Reply reply → IsIdleIn session (event_server old told (events.Call session call))
+answered-idle old told session call answer new reply stepped out =
+    let before = accepted-idle old.server (next_index old) session call stepped.accepted in
+    let done = executed old.server.keys (next_moment old told) call in (
+      called-open session (next_moment old told) old.server done.keys reply done.outcome ∙ before.0,
+      called-absent session (next_moment old told) old.server done.keys reply done.outcome (sym stepped.out ∙ out) before.1,
+    )
+
+-- a session whose call is answered is open and does not wait
+pub called-idle : (old : BookState) (told session : ℕ) (call : Call) (answer : Answer) (new : BookState) (reply : ReplyParts) → IsStepped old told (events.Call session call) answer new
+    → answer.out ≡ outs.Reply reply → IsIdleIn session new.server
+called-idle old told session call answer new reply stepped out =
+    servings-idle session (next_index old + 1) (event_server old told (events.Call session call)) stepped.servings new.server
+    stepped.served stepped.legal (answered-idle old told session call answer new reply stepped out)
+
+-- the reply that is kept is the one that is sent
+abbrev AreAlike : Outcome → Type 0
+AreAlike (outcomes.Reply send keep) = send ≡ keep
+AreAlike (outcomes.Blocked call deadline) = Unit {0}
+
+alike-at_once : (done : Answered) → IsTwice done → AreAlike (outcome_of done)
+alike-at_once (answers.Reply send keep) same = same
+
+executed-alike : (keys : Keys) (moment : ℕ) (call : Call) → AreAlike (executed keys moment call).outcome
+executed-alike keys moment call = by (block_of call) (finds_nothing keys moment call)
+  where
+    by : (block : Option ℕ) (nothing : Bool) → AreAlike (answered_or_waits block nothing keys moment call).outcome
+    by None nothing = alike-at_once (at_once keys moment call).outcome (at_once-twice keys moment call)
+    by (Some wait) false = alike-at_once (at_once keys moment call).outcome (at_once-twice keys moment call)
+    by (Some wait) true = tt
+
+to_session-own : (session : ℕ) (keep : ReplyParts) → to_session session ((session, keep) ∷ []) ≡ keep ∷ []
+to_session-own session keep = rw (eq-eqb session session refl) refl
+
+called-sends : (session moment : ℕ) (server : Server) (keys : Keys) (reply : ReplyParts) (outcome : Outcome) → AreAlike outcome
+    → (called session moment server keys outcome).out ≡ outs.Reply reply → to_session session (called session moment server keys outcome).sent ≡ reply ∷ []
+called-sends session moment server keys reply (outcomes.Reply send keep) alike out =
+    let told : send ≡ reply = let it : outs.Reply send ≡ outs.Reply reply = out in cc in
+    to_session-own session keep ∙ ap (λ (r : ReplyParts). r ∷ []) (sym alike ∙ told)
+called-sends session moment server keys reply (outcomes.Blocked call deadline) alike out = absurd (cc)
+
+-- what a call is answered is the one reply that the new records address to the session
+pub called-addressed : (old : BookState) (told session : ℕ) (call : Call) (answer : Answer) (new : BookState) (reply : ReplyParts) → IsStepped old told (events.Call session call) answer new
+    → answer.out ≡ outs.Reply reply → addressed session (drop (length old.records) new.records) ≡ reply ∷ []
+called-addressed old told session call answer new reply stepped out =
+    let idle = answered-idle old told session call answer new reply stepped out in
+    let done = executed old.server.keys (next_moment old told) call in
+    let own : Recorded = event_record old told (events.Call session call) in
+    let added : drop (length old.records) new.records ≡ own ∷ stepped.servings =
+    ap (drop (length old.records)) stepped.grown ∙ drop-append_seam old.records (own ∷ stepped.servings) in
+    let first : to_session session own.replies ≡ reply ∷ [] =
+    called-sends session (next_moment old told) old.server done.keys reply done.outcome (executed-alike old.server.keys (next_moment old told) call) (sym stepped.out ∙ out) in
+    let others : addressed session stepped.servings ≡ [] =
+    servings-silent session (next_index old + 1) (event_server old told (events.Call session call)) stepped.servings new.server stepped.served stepped.legal idle.1 in
+    ap (addressed session) added ∙ ap (λ (l : List ReplyParts). l ++ addressed session stepped.servings) first ∙ ap (λ (l : List ReplyParts). reply ∷ l) others
+
+-- ---- a call without BLOCK
+
+block_of-without_block : (call : Call) → block_of (without_block call) ≡ None
+block_of-without_block (calls.Ping message) = refl
+block_of-without_block (calls.Xadd key make trim id fields) = refl
+block_of-without_block (calls.Xtrim key trim) = refl
+block_of-without_block (calls.Xdel key ids) = refl
+block_of-without_block (calls.Xlen key) = refl
+block_of-without_block (calls.Xrange key start until count) = refl
+block_of-without_block (calls.Xrevrange key until start count) = refl
+block_of-without_block (calls.Xread count block streams) = refl
+block_of-without_block (calls.Xreadgroup group consumer count block no_ack streams) = refl
+block_of-without_block (calls.Xack key group ids) = refl
+block_of-without_block (calls.XgroupCreate key group from make) = refl
+block_of-without_block (calls.XgroupSetId key group from) = refl
+block_of-without_block (calls.XgroupDestroy key group) = refl
+block_of-without_block (calls.XgroupCreateConsumer key group consumer) = refl
+block_of-without_block (calls.XgroupDelConsumer key group consumer) = refl
+block_of-without_block (calls.XinfoStream key) = refl
+block_of-without_block (calls.XinfoGroups key) = refl
+block_of-without_block (calls.XinfoConsumers key group) = refl
+block_of-without_block (calls.Xpending key group listing) = refl
+block_of-without_block (calls.Xclaim key group consumer least_idle ids time count just_ids) = refl
+block_of-without_block (calls.Xautoclaim key group consumer least_idle start count just_ids) = refl
+
+called-replies : (session moment : ℕ) (server : Server) (keys : Keys) (done : Answered) → (reply : ReplyParts) × ((called session moment server keys (outcome_of done)).out ≡ outs.Reply reply)
+called-replies session moment server keys (answers.Reply send keep) = (send, refl)
+
+executed-unblocked : (keys : Keys) (moment : ℕ) (call : Call) → block_of call ≡ None → (executed keys moment call).outcome ≡ outcome_of (at_once keys moment call).outcome
+executed-unblocked keys moment call none = rw none refl
+
+-- a call without BLOCK is answered
+pub unblocked-replies : (old : BookState) (told session : ℕ) (call : Call) (answer : Answer) (new : BookState) → IsStepped old told (events.Call session (without_block call)) answer new
+    → (reply : ReplyParts) × (answer.out ≡ outs.Reply reply)
+unblocked-replies old told session call answer new stepped =
+    let moment : ℕ = next_moment old told in
+    let taken : Call = without_block call in
+    let keys : Keys = (executed old.server.keys moment taken).keys in
+    let at_once_is = executed-unblocked old.server.keys moment taken (block_of-without_block call) in
+    let one = called-replies session moment old.server keys (at_once old.server.keys moment taken).outcome in
+    (one.0, stepped.out ∙ ap (λ (o : Outcome). (called session moment old.server keys o).out) at_once_is ∙ one.1)
+
+-- ---- a session leaves
+
+is_open-without : (number : ℕ) (sessions : List Session) → is_open number (without number sessions) ≡ false
+is_open-without number sessions =
+    any-filter_same (λ (x : Session). x.number == number) (λ (x : Session). not (x.number == number)) false (λ x same. ap not same) sessions
+
+-- a session that leaves is closed
+pub left-closed : (old : BookState) (told session : ℕ) (answer : Answer) (new : BookState) → IsStepped old told (events.Leave session) answer new
+    → (answer.out ≡ outs.Left) × (is_open session new.server.sessions ≡ false)
+left-closed old told session answer new stepped = (
+  stepped.out,
+  servings-open session (next_index old + 1) (event_server old told (events.Leave session)) stepped.servings new.server stepped.served stepped.legal
+      ∙ is_open-without session old.server.sessions,
+)
+
+-- ---- refusals
+
+-- the call of a session that is open and does not wait is refused only if no index is left
+pub refused-not-idle : (server : Server) (index session : ℕ) (call : Call) → IsIdleIn session server
+    → (refusal server index (events.Call session call) ≡ Some faults.NoSession → ⊥) × (refusal server index (events.Call session call) ≡ Some faults.Busy → ⊥)
+refused-not-idle server index session call idle = (
+  (λ is. by_closed (nat_lt index (2 ^ 63)) (rw (idle.0, idle.1) at is)),
+  (λ is. by_busy (nat_lt index (2 ^ 63)) (rw (idle.0, idle.1) at is)),
+)
+  where
+    by_closed : (fits : Bool) → cond fits None (Some faults.Full) ≡ Some faults.NoSession → ⊥
+    by_closed true is = cc
+    by_closed false is = cc
+
+    by_busy : (fits : Bool) → cond fits None (Some faults.Full) ≡ Some faults.Busy → ⊥
+    by_busy true is = cc
+    by_busy false is = cc
+
+-- so no book answers it with NoSession or Busy
+pub steps-not-idle : (old : BookState) (told session : ℕ) (call : Call) (fault : BookFault) (new : BookState) → IsIdleIn session old.server
+    → Steps old told (events.Call session call) (Err fault) new → (fault ≡ faults.NoSession → ⊥) × (fault ≡ faults.Busy → ⊥)
+steps-not-idle old told session call fault new idle stepped =
+    let neither = refused-not-idle old.server (next_index old) session call idle in
+    by (refusal old.server (next_index old) (events.Call session call)) neither.0 neither.1 stepped.0
+  where
+    by : (reason : Option BookFault) → (reason ≡ Some faults.NoSession → ⊥) → (reason ≡ Some faults.Busy → ⊥) → IsRefusal reason fault
+        → (fault ≡ faults.NoSession → ⊥) × (fault ≡ faults.Busy → ⊥)
+    by None not_closed not_busy is = ((λ closed. cc), (λ busy. cc))
+    by (Some reason) not_closed not_busy is = ((λ closed. not_closed (ap Some (sym is ∙ closed))), (λ busy. not_busy (ap Some (sym is ∙ busy))))
+
+-- ---- every state that a history leads to
+
+led-below : (index moment : ℕ) (replies : List (ℕ × ReplyParts)) (old new : Server) (act : Act) → LeadsBy act index moment replies old new
+    → AreBelow index old.sessions → AreBelow (index + 1) new.sessions
+led-below index moment replies old new (acts.Event event) leads below =
+    let IsFresh : Server → Type 0 = λ s. AreBelow (index + 1) s.sessions in
+    subst IsFresh (sym leads.leaves) (AreBelow-acted old index moment event below)
+led-below index moment replies old new (acts.Serve session) leads below =
+    AreBelow-served old index (record { session = session; reply = leads.reply; server = new }) leads.next below
+
+-- the next index lies above the number of each open session
+pub legal-below : (index : ℕ) (old : Server) (records : List Recorded) (new : Server) → Legal index old records new → AreBelow index old.sessions → AreBelow (index + length records) new.sessions
+legal-below index old [] new legal below =
+    let IsFresh : Server → Type 0 = λ s. AreBelow (index + 0) s.sessions in
+    let same : index + 0 ≡ index = omega arith in
+    subst IsFresh (sym legal) (rw same below)
+legal-below index old (first ∷ others) new legal below =
+    let next = led-below index first.moment first.replies old legal.0 first.act legal.1.1 below in
+    let IsFresh : ℕ → Type 0 = λ n. AreBelow n new.sessions in
+    let same : (index + 1) + length others ≡ index + length (first ∷ others) = omega arith in
+    subst IsFresh same (legal-below (index + 1) legal.0 others new legal.2 next)
+
+pub history-below : (book : BookState) → IsHistory book → AreBelow (next_index book) book.server.sessions
+history-below book history =
+    let IsFresh : ℕ → Type 0 = λ n. AreBelow n book.server.sessions in
+    let same : 1 + length book.records ≡ next_index book = omega arith in
+    subst IsFresh same (legal-below 1 empty_server book.records book.server history tt)
+
+acted-open : (server : Server) (index moment : ℕ) (event : Event) → refusal server index event ≡ None → AreOpen server.waiting server.sessions
+    → AreOpen (acted server index moment event).server.waiting (acted server index moment event).server.sessions
+acted-open server index moment events.Join accepted all = open-joined server.sessions (record { number = index; letter = None }) server.waiting all
+acted-open server index moment (events.Call session call) accepted all =
+    let done = executed server.keys moment call in
+    let HasOpen : Server → Type 0 = λ s. AreOpen s.waiting s.sessions in
+    let before = accepted-idle server index session call accepted in
+    subst HasOpen (sym (called_server session moment server done.keys done.outcome)) (open-called session done.outcome server.sessions server.waiting before.0 all)
+acted-open server index moment events.Expire accepted all = open-expired index moment server.sessions server.waiting all
+acted-open server index moment (events.Leave session) accepted all = open-left session server.sessions server.waiting all
+
+led-waiting_open : (index moment : ℕ) (replies : List (ℕ × ReplyParts)) (old new : Server) (act : Act) → LeadsBy act index moment replies old new
+    → AreOpen old.waiting old.sessions → AreOpen new.waiting new.sessions
+led-waiting_open index moment replies old new (acts.Event event) leads all =
+    let HasOpen : Server → Type 0 = λ s. AreOpen s.waiting s.sessions in
+    subst HasOpen (sym leads.leaves) (acted-open old index moment event leads.accepted all)
+led-waiting_open index moment replies old new (acts.Serve session) leads all =
+    serving-waiting_open session index old (record { session = session; reply = leads.reply; server = new }) leads.next all
+
+-- each session that waits is open
+pub legal-open : (index : ℕ) (old : Server) (records : List Recorded) (new : Server) → Legal index old records new → AreOpen old.waiting old.sessions → AreOpen new.waiting new.sessions
+legal-open index old [] new legal all =
+    let HasOpen : Server → Type 0 = λ s. AreOpen s.waiting s.sessions in
+    subst HasOpen (sym legal) all
+legal-open index old (first ∷ others) new legal all =
+    legal-open (index + 1) legal.0 others new legal.2 (led-waiting_open index first.moment first.replies old legal.0 first.act legal.1.1 all)
+
+pub history-open : (book : BookState) → IsHistory book → AreOpen book.server.waiting book.server.sessions
+history-open book history = legal-open 1 empty_server book.records book.server history (λ session waits. absurd (true≢false (sym waits)))
