@@ -1,11 +1,11 @@
 -- What the program makes of its policy and of the end of its session: a line of text, if anything went wrong, and a status.
 
 use Rattle.std.specs.Prelude.{◌≡◌, ℕ, Bool, List, [], ◌⊎◌, Option, Some, Result, Ok, Err, true, false}
-use Rattle.sr_session.specs.Answered.{Answers}
-use Rattle.sr_session.specs.Desk.{Served, shown}
-use Rattle.sr_session.specs.Session.{EndsAs}
+use Rattle.sr_book.specs.Records.{BookState, empty_book}
+use Rattle.sr_session.specs.Whole.{RunsAs}
 use Rattle.sr_session.specs.declared.run.End.{End}
 use Rattle.sr_session.specs.declared.run.End.TheVariants as ends
+use Rattle.sr_session.specs.declared.run.Ended.{Ended}
 use Rattle.sr_server.specs.declared.fault.Fault.{Fault}
 use Rattle.sr_server.specs.declared.fault.Fault.TheVariants as faults
 use Rattle.sr_server.specs.Policy.{Loads}
@@ -19,22 +19,20 @@ outcome_of ends.ReadFault = Err faults.Read
 outcome_of (ends.SendFault sent) = Err faults.Write
 outcome_of ends.Turns = Err faults.Turns
 outcome_of ends.Memory = Err faults.SessionMemory
+outcome_of ends.Desk = Err faults.Desk
 
 -- the status of the program: 0 if nothing went wrong, and otherwise 1
 abbrev pub status_of : Result (Unit {0}) Fault → ℕ
 status_of (Ok done) = 0
 status_of (Err fault) = 1
 
--- a server without keys, before its first call
-abbrev pub without_keys : Option Served
-without_keys = Some (shown 0 [])
-
--- the bytes written are what a session that starts without keys writes for the bytes taken, and its end has this outcome
+-- the bytes written are what a session that starts with an empty book writes for the bytes taken, with BLOCK as not given, and
+-- its end has this outcome
 pub record Serves (may_tell : ℕ → Bool) (taken written : List ℕ) (outcome : Result (Unit {0}) Fault) : Type 0 where
-  pub end : End
-  pub now : Option Served
-  pub session : EndsAs (Answers may_tell) without_keys taken written now end
-  pub told : outcome ≡ outcome_of end
+  pub ended : Ended
+  pub now : Option BookState
+  pub session : RunsAs may_tell false (Some empty_book) taken written ended now
+  pub told : outcome ≡ outcome_of ended.end
 
 -- the program loads rules and serves a session with this outcome; or it does not come to one, and takes and writes nothing
 pub data Runs (may_tell : ℕ → Bool) (may_hold : List ℕ → Option (List ℕ) → Bool) (policy : Option (List ℕ))
@@ -60,6 +58,7 @@ is_of_session faults.Read = true
 is_of_session faults.Write = true
 is_of_session faults.Turns = true
 is_of_session faults.SessionMemory = true
+is_of_session faults.Desk = true
 
 -- the system's clock may tell any moment
 abbrev pub any_moment : ℕ → Bool

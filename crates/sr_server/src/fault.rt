@@ -33,6 +33,8 @@ pub(crate) enum Fault {
     Turns,
     #[error("session: out of memory")]
     SessionMemory,
+    #[error("session: desk fault")]
+    Desk,
 }
 
 /// What went wrong with a text that is not a policy.
@@ -59,5 +61,6 @@ pub(crate) fn outcome(end: End) -> Result<(), Fault>
         End::SendFault { sent: _ } => Err(Fault::Write),
         End::Turns => Err(Fault::Turns),
         End::Memory => Err(Fault::SessionMemory),
+        End::Desk => Err(Fault::Desk),
     }
 }

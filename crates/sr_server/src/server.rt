@@ -3,28 +3,29 @@ ghost use Rattle.sr_server.specs.Policy.{Loads};
 
 use crate::fault::{Fault, policy_fault};
 use crate::text_files::{TextFault, TextFiles};
+use sr_book::Book;
 use sr_policy::Policy;
-use sr_space::Space;
 use std::alloc::Global;
 use std::hash::RandomState;
 
-/// What the server keeps while it runs: its keys, and the policy that says who may take a dead consumer's entries.
+/// What the server keeps while it runs: its book, and the policy that says who may take a dead consumer's entries.
 #[derive(Drop)]
 pub(crate) struct Server {
-    pub(crate) space: Space,
+    pub(crate) book: Book,
     pub(crate) policy: Policy,
 }
 
 impl Server {
-    ghost use Rattle.std.specs.Prelude.{◌≡◌, []};
+    ghost use Rattle.std.specs.Prelude.{◌≡◌};
+    ghost use Rattle.sr_book.specs.Records.{empty_book};
 
-    /// A server without keys.
+    /// A server to which nothing has happened.
     pub(crate) fn new(alloc: Global, hasher: RandomState, policy: Policy) -> Server
-        ensures keys { result.space ≡ [] }
+        ensures book { result.book ≡ empty_book }
         ensures policy { result.policy ≡ policy }
     {
         Server {
-            space: Space::new(alloc, hasher),
+            book: Book::new(alloc, hasher),
             policy,
         }
     }

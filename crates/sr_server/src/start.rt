@@ -1,6 +1,7 @@
 ghost use Rattle.std.specs.Prelude.{◌≡◌, ◌≤◌, ◌↔◌, ◌⊎◌, ℕ, List, [], ◌∷◌, map, true, false, Option, option_map, Result, IsOk, IfErr, IsErrOf};
 ghost use Rattle.std.specs.Io.KnownBytes.{Appends, Consumes};
 ghost use Rattle.sr_server.specs.Fault.{Serves, Runs, any_moment, is_of_session, status_of};
+ghost use Rattle.sr_book.specs.Records.{empty_book};
 ghost use Rattle.sr_server.specs.Options.{AsksFor};
 
 use crate::clock::SystemClock;
@@ -10,7 +11,7 @@ use crate::report::{refuse, report};
 use crate::server::{Server, load_policy};
 use crate::text_files::TextFiles;
 use sr_resp::Sink;
-use sr_session::{Clock, PlainDesk, Source, run_session};
+use sr_session::{Clock, NoGate, PlainDesk, Source, run_session};
 use std::alloc::Global;
 use std::convert::AsStr;
 use std::hash::RandomState;
@@ -20,6 +21,9 @@ use std::rt;
 
 /// The number of reads after which a session ends.
 const TURNS: u64 = 1 << 40;
+
+/// Whether a read may wait: nobody else could answer it over standard input and output.
+const BLOCKING: bool = false;
 
 /// Runs the program: reads the command line, whose first word is the program's name, and the policy file that it names, and
 /// serves one connection.
@@ -118,7 +122,7 @@ fn serve<C: Clock, I: Source, O: Sink>(
 ) -> Result<(), Fault>
     requires unread { (I.ended reader.old ≡ false) × (I.failed reader.old ≡ false) }
     requires unwritten { O.failed writer.old ≡ false }
-    requires keys { server.old.space ≡ [] }
+    requires book { server.old.book ≡ empty_book }
 
     // what was taken from the reader, and written to the writer
     ensures served { (taken written : List ℕ)
@@ -132,7 +136,9 @@ fn serve<C: Clock, I: Source, O: Sink>(
     ensures write { IsErrOf result Fault.Write ↔ (O.failed writer.new ≡ true) }
     ensures session { IfErr result (λ fault. is_of_session fault ≡ true) }
 {
-    let mut desk = PlainDesk::new(&mut server.space);
-    let end = run_session(alloc, reader, writer, &mut desk, clock, TURNS);
-    outcome(end)
+    let mut desk = PlainDesk::new(&mut server.book);
+    let ended = run_session(
+        alloc, reader, writer, &mut desk, clock, &NoGate, BLOCKING, TURNS,
+    );
+    outcome(ended.end)
 }

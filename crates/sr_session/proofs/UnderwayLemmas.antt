@@ -4,8 +4,8 @@ use Rattle.std.proofs.lemmas.List.{append-nil, take-append-drop, length-append, 
 use Rattle.sr_resp.specs.Request.{Words}
 use Rattle.sr_resp.specs.Stream.{Progress, Stands, Advances, Splits, IsPartial, IsFault}
 use Rattle.sr_session.specs.declared.run.End.{End}
-use Rattle.sr_session.specs.Session.{AreAnswered, IsAnswered, IsBroken, IsStopped, IsCutOff, IsFront, EndsAs, protocol_text}
-use Rattle.sr_session.specs.steps.Gathered.{Moves, stay, go, BreaksOff, Gathers, Stops, silent, breaks, counted}
+use Rattle.sr_session.specs.Session.{AreAnswered, IsAnswered, IsBroken, IsStopped, IsCutOff, IsFront, IsHeld, EndsAs, protocol_text}
+use Rattle.sr_session.specs.steps.Gathered.{Moves, stay, go, BreaksOff, Gathers, Stops, silent, breaks, waits, counted}
 use Rattle.sr_session.specs.steps.Underway.{IsAnswering, GoesOn, IsPieceEnd}
 use Rattle.sr_session.proofs.AnsweredLemmas.{AreAnswered-push, AreAnswered-append}
 
@@ -86,21 +86,6 @@ module _ {S : Type 0} (Answers : S → Words → List ℕ → S → Type 0) wher
         count = m.count;
       }
 
-  -- the writer fails before it has all replies
-  pub EndsAs-broken_off : (found : S) (taken written gathered gets : List ℕ) (sent : ℕ) (now : S) (end : End)
-      → IsStopped Answers found taken (written ++ gathered) now ⊎ IsBroken Answers found taken (written ++ gathered) now
-      → sent ≡ min (length written) 0xffff_ffff_ffff_ffff → BreaksOff gathered sent gets end → EndsAs Answers found taken (written ++ gets) now end
-  EndsAs-broken_off found taken written gathered gets sent now end whole count b =
-      let joined : written ++ gathered ≡ (written ++ gets) ++ drop b.count gathered =
-      ap (λ (x : List ℕ). written ++ x) (sym (take-append-drop b.count gathered)) ∙ sym (append_assoc written (take b.count gathered) (drop b.count gathered)) ∙ ap (λ (x : List ℕ). (written ++ x) ++ drop b.count gathered) (sym b.part) in
-      let front : IsFront Answers found taken (written ++ gets) now (counted sent b.count) = record {
-        lacking = drop b.count gathered;
-        some_lack = λ none. absurd (omega (arith, b.short, length-drop b.count gathered, ap (length {A = ℕ}) none));
-        whole = subst (λ (x : List ℕ). IsStopped Answers found taken x now ⊎ IsBroken Answers found taken x now) joined whole;
-        count = omega (arith, count, b.short, length-append written gets, ap (length {A = ℕ}) b.part, length-take b.count gathered);
-      } in
-      subst (EndsAs Answers found taken (written ++ gets) now) (sym b.told) front
-
   -- the answers to the requests so far are whole, and those that wait are passed over
   pub IsStopped-from_answering : (found : S) (taken written gathered : List ℕ) (sent : ℕ) (progress : Progress) (now : S)
       → IsAnswering Answers found taken written gathered sent progress now → IsStopped Answers found taken (written ++ gathered) now
@@ -126,18 +111,6 @@ module _ {S : Type 0} (Answers : S → Words → List ℕ → S → Type 0) wher
     afterwards = record { unsent = gathered; carried_out = a.kept };
   }
 
-  -- the session ends at a request
-  pub EndsAs-stopped : (found : S) (taken written gathered gets : List ℕ) (sent : ℕ) (old next : Progress) (before after : S) (words : Words) (end : End)
-      → ((taken : List ℕ) (given : List Words) → Stands taken given old → Stands taken (given ++ words ∷ []) next)
-      → Stops Answers gathered sent before words gets end after
-      → IsAnswering Answers found taken written gathered sent old before → EndsAs Answers found taken (written ++ gets) after end
-  EndsAs-stopped found taken written gathered gets sent old next before after words end hands_out (silent left total text moves answers is_memory) a =
-      let one : Gathers Answers gathered sent before words gets (left ++ text) total after = record { left = left; text = text; moves = moves; answers = answers; appended = refl } in
-      let now = IsAnswering-next found taken written gathered gets (left ++ text) sent total old next before after words hands_out one a in
-      subst (EndsAs Answers found taken (written ++ gets) after) (sym is_memory) (IsCutOff-from_answering found taken (written ++ gets) (left ++ text) total next after now)
-  EndsAs-stopped found taken written gathered gets sent old next before after words end hands_out (breaks b unchanged) a =
-      subst (λ (s : S). EndsAs Answers found taken (written ++ gets) s end) (sym unchanged) (EndsAs-broken_off found taken written gathered gets sent before end (inl (IsStopped-from_answering found taken written gathered sent old before a)) a.count b)
-
   -- the same after others, whose answers went out as far as these bytes
   pub IsAnswering-more : (found : S) (taken written so_far gathered gets new : List ℕ) (sent total : ℕ) (old next : Progress) (before after : S) (words : Words)
       → ((taken : List ℕ) (given : List Words) → Stands taken given old → Stands taken (given ++ words ∷ []) next)
@@ -145,17 +118,6 @@ module _ {S : Type 0} (Answers : S → Words → List ℕ → S → Type 0) wher
       → IsAnswering Answers found taken (written ++ so_far) gathered sent old before → IsAnswering Answers found taken (written ++ (so_far ++ gets)) new total next after
   IsAnswering-more found taken written so_far gathered gets new sent total old next before after words hands_out one a =
       subst (λ (w : List ℕ). IsAnswering Answers found taken w new total next after) (append_assoc written so_far gets) (IsAnswering-next found taken (written ++ so_far) gathered gets new sent total old next before after words hands_out one a)
-
-  pub EndsAs-more : (found : S) (taken written so_far gathered gets : List ℕ) (sent : ℕ) (old next : Progress) (before after : S) (words : Words) (end : End)
-      → ((taken : List ℕ) (given : List Words) → Stands taken given old → Stands taken (given ++ words ∷ []) next)
-      → Stops Answers gathered sent before words gets end after
-      → IsAnswering Answers found taken (written ++ so_far) gathered sent old before → EndsAs Answers found taken (written ++ (so_far ++ gets)) after end
-  EndsAs-more found taken written so_far gathered gets sent old next before after words end hands_out stop a =
-      subst (λ (w : List ℕ). EndsAs Answers found taken w after end) (append_assoc written so_far gets) (EndsAs-stopped found taken (written ++ so_far) gathered gets sent old next before after words end hands_out stop a)
-
-  pub IsPieceEnd-from_stops : (gathered gets : List ℕ) (sent : ℕ) (before after : S) (words : Words) (end : End) → Stops Answers gathered sent before words gets end after → IsPieceEnd end
-  IsPieceEnd-from_stops gathered gets sent before after words end (silent left total text moves answers is_memory) = subst IsPieceEnd (sym is_memory) tt
-  IsPieceEnd-from_stops gathered gets sent before after words end (breaks b unchanged) = subst IsPieceEnd (sym b.told) tt
 
   -- a piece is taken
   pub IsAnswering-begin : (found : S) (taken written piece gathered : List ℕ) (sent : ℕ) (old new : Progress) (now : S)
@@ -199,12 +161,6 @@ module _ {S : Type 0} (Answers : S → Words → List ℕ → S → Type 0) wher
     count = omega (arith, counts, a.count, length-append (written ++ so_far) gathered, ap (length {A = ℕ}) (append_assoc written so_far gathered));
   }
 
-  -- the writer fails with some of them
-  pub EndsAs-unsent : (found : S) (taken written so_far gathered gets : List ℕ) (sent : ℕ) (progress : Progress) (now : S) (end : End)
-      → BreaksOff gathered sent gets end → IsAnswering Answers found taken (written ++ so_far) gathered sent progress now → EndsAs Answers found taken (written ++ (so_far ++ gets)) now end
-  EndsAs-unsent found taken written so_far gathered gets sent progress now end b a =
-      subst (λ (w : List ℕ). EndsAs Answers found taken w now end) (append_assoc written so_far gets) (EndsAs-broken_off found taken (written ++ so_far) gathered gets sent now end (inl (IsStopped-from_answering found taken (written ++ so_far) gathered sent progress now a)) a.count b)
-
   -- the stream went wrong, and the error for it is the last reply
   pub IsBroken-from_answering : (found : S) (taken written gathered whole : List ℕ) (sent : ℕ) (progress : Progress) (now : S)
       → progress.waiting ≡ [] → progress.failed ≡ true → whole ≡ gathered ++ protocol_text
@@ -226,13 +182,6 @@ module _ {S : Type 0} (Answers : S → Words → List ℕ → S → Type 0) wher
   IsBroken-sent found taken written so_far gathered whole sent progress now none broken is a =
       subst (λ (w : List ℕ). IsBroken Answers found taken w now) (append_assoc written so_far whole) (IsBroken-from_answering found taken (written ++ so_far) gathered whole sent progress now none broken is a)
 
-  -- the writer fails with some of it
-  pub EndsAs-broken_unsent : (found : S) (taken written so_far gathered whole gets : List ℕ) (sent total : ℕ) (progress : Progress) (now : S) (end : End)
-      → progress.waiting ≡ [] → progress.failed ≡ true → whole ≡ gathered ++ protocol_text → total ≡ sent
-      → BreaksOff whole total gets end → IsAnswering Answers found taken (written ++ so_far) gathered sent progress now → EndsAs Answers found taken (written ++ (so_far ++ gets)) now end
-  EndsAs-broken_unsent found taken written so_far gathered whole gets sent total progress now end none broken is same b a =
-      subst (λ (w : List ℕ). EndsAs Answers found taken w now end) (append_assoc written so_far gets) (EndsAs-broken_off found taken (written ++ so_far) whole gets total now end (inr (IsBroken-from_answering found taken (written ++ so_far) gathered whole sent progress now none broken is a)) (same ∙ a.count) b)
-
   -- between two pieces every request of the bytes taken is answered
   pub IsAnswered-from_goes_on : (found : S) (taken written : List ℕ) (sent : ℕ) (progress : Progress) (now : S)
       → GoesOn Answers found taken written sent progress now → IsAnswered Answers found taken written now
@@ -243,3 +192,73 @@ module _ {S : Type 0} (Answers : S → Words → List ℕ → S → Type 0) wher
     partial = IsPartial-from_stands taken goes.requests progress goes.stands goes.sound;
     answered = goes.answered;
   }
+
+module _ {S : Type 0} (Answers : S → Words → List ℕ → S → Type 0) (Holds : S → Words → S → Type 0) where
+  -- the writer fails before it has all replies
+  pub EndsAs-broken_off : (found : S) (taken written gathered gets : List ℕ) (sent : ℕ) (now : S) (end : End)
+      → IsStopped Answers found taken (written ++ gathered) now ⊎ IsBroken Answers found taken (written ++ gathered) now
+      → sent ≡ min (length written) 0xffff_ffff_ffff_ffff → BreaksOff gathered sent gets end → EndsAs Answers Holds found taken (written ++ gets) now end
+  EndsAs-broken_off found taken written gathered gets sent now end whole count b =
+      let joined : written ++ gathered ≡ (written ++ gets) ++ drop b.count gathered =
+      ap (λ (x : List ℕ). written ++ x) (sym (take-append-drop b.count gathered)) ∙ sym (append_assoc written (take b.count gathered) (drop b.count gathered)) ∙ ap (λ (x : List ℕ). (written ++ x) ++ drop b.count gathered) (sym b.part) in
+      let front : IsFront Answers found taken (written ++ gets) now (counted sent b.count) = record {
+        lacking = drop b.count gathered;
+        some_lack = λ none. absurd (omega (arith, b.short, length-drop b.count gathered, ap (length {A = ℕ}) none));
+        whole = subst (λ (x : List ℕ). IsStopped Answers found taken x now ⊎ IsBroken Answers found taken x now) joined whole;
+        count = omega (arith, count, b.short, length-append written gets, ap (length {A = ℕ}) b.part, length-take b.count gathered);
+      } in
+      subst (EndsAs Answers Holds found taken (written ++ gets) now) (sym b.told) front
+
+  -- the session ends at a request
+  pub EndsAs-stopped : (found : S) (taken written gathered gets : List ℕ) (sent : ℕ) (old next : Progress) (before after : S) (words : Words) (end : End)
+      → ((taken : List ℕ) (given : List Words) → Stands taken given old → Stands taken (given ++ words ∷ []) next)
+      → Stops Answers Holds gathered sent before words gets end after
+      → IsAnswering Answers found taken written gathered sent old before → EndsAs Answers Holds found taken (written ++ gets) after end
+  EndsAs-stopped found taken written gathered gets sent old next before after words end hands_out (silent left total text moves answers is_memory) a =
+      let one : Gathers Answers gathered sent before words gets (left ++ text) total after = record { left = left; text = text; moves = moves; answers = answers; appended = refl } in
+      let now = IsAnswering-next Answers found taken written gathered gets (left ++ text) sent total old next before after words hands_out one a in
+      subst (EndsAs Answers Holds found taken (written ++ gets) after) (sym is_memory) (IsCutOff-from_answering Answers found taken (written ++ gets) (left ++ text) total next after now)
+  EndsAs-stopped found taken written gathered gets sent old next before after words end hands_out (waits left total moves held is_desk) a =
+      let now = IsAnswering-moved Answers found taken written gathered gets left sent total old before a moves in
+      let stands = hands_out taken (now.told ++ now.held) now.stands in
+      let one : IsHeld Answers Holds found taken (written ++ gets) after = record {
+        requests = now.told;
+        silent = now.held;
+        words = words;
+        passed_over = next.waiting;
+        rest = stands.rest;
+        between = now.between;
+        behind = before;
+        stream = stands.stream;
+        answered = now.answered;
+        afterwards = record { unsent = left; carried_out = now.kept };
+        held = held;
+      } in
+      subst (EndsAs Answers Holds found taken (written ++ gets) after) (sym is_desk) one
+  EndsAs-stopped found taken written gathered gets sent old next before after words end hands_out (breaks b unchanged) a =
+      subst (λ (s : S). EndsAs Answers Holds found taken (written ++ gets) s end) (sym unchanged) (EndsAs-broken_off found taken written gathered gets sent before end (inl (IsStopped-from_answering Answers found taken written gathered sent old before a)) a.count b)
+
+  pub EndsAs-more : (found : S) (taken written so_far gathered gets : List ℕ) (sent : ℕ) (old next : Progress) (before after : S) (words : Words) (end : End)
+      → ((taken : List ℕ) (given : List Words) → Stands taken given old → Stands taken (given ++ words ∷ []) next)
+      → Stops Answers Holds gathered sent before words gets end after
+      → IsAnswering Answers found taken (written ++ so_far) gathered sent old before → EndsAs Answers Holds found taken (written ++ (so_far ++ gets)) after end
+  EndsAs-more found taken written so_far gathered gets sent old next before after words end hands_out stop a =
+      subst (λ (w : List ℕ). EndsAs Answers Holds found taken w after end) (append_assoc written so_far gets) (EndsAs-stopped found taken (written ++ so_far) gathered gets sent old next before after words end hands_out stop a)
+
+  pub IsPieceEnd-from_stops : (gathered gets : List ℕ) (sent : ℕ) (before after : S) (words : Words) (end : End) → Stops Answers Holds gathered sent before words gets end after → IsPieceEnd end
+  IsPieceEnd-from_stops gathered gets sent before after words end (silent left total text moves answers is_memory) = subst IsPieceEnd (sym is_memory) tt
+  IsPieceEnd-from_stops gathered gets sent before after words end (waits left total moves held is_desk) = subst IsPieceEnd (sym is_desk) tt
+  IsPieceEnd-from_stops gathered gets sent before after words end (breaks b unchanged) = subst IsPieceEnd (sym b.told) tt
+
+  -- the writer fails with some of them
+  pub EndsAs-unsent : (found : S) (taken written so_far gathered gets : List ℕ) (sent : ℕ) (progress : Progress) (now : S) (end : End)
+      → BreaksOff gathered sent gets end → IsAnswering Answers found taken (written ++ so_far) gathered sent progress now → EndsAs Answers Holds found taken (written ++ (so_far ++ gets)) now end
+  EndsAs-unsent found taken written so_far gathered gets sent progress now end b a =
+      subst (λ (w : List ℕ). EndsAs Answers Holds found taken w now end) (append_assoc written so_far gets) (EndsAs-broken_off found taken (written ++ so_far) gathered gets sent now end (inl (IsStopped-from_answering Answers found taken (written ++ so_far) gathered sent progress now a)) a.count b)
+
+  -- the writer fails with some of it
+  pub EndsAs-broken_unsent : (found : S) (taken written so_far gathered whole gets : List ℕ) (sent total : ℕ) (progress : Progress) (now : S) (end : End)
+      → progress.waiting ≡ [] → progress.failed ≡ true → whole ≡ gathered ++ protocol_text → total ≡ sent
+      → BreaksOff whole total gets end → IsAnswering Answers found taken (written ++ so_far) gathered sent progress now → EndsAs Answers Holds found taken (written ++ (so_far ++ gets)) now end
+  EndsAs-broken_unsent found taken written so_far gathered whole gets sent total progress now end none broken is same b a =
+      subst (λ (w : List ℕ). EndsAs Answers Holds found taken w now end) (append_assoc written so_far gets) (EndsAs-broken_off found taken (written ++ so_far) whole gets total now end (inr (IsBroken-from_answering Answers found taken (written ++ so_far) gathered whole sent progress now none broken is a)) (same ∙ a.count) b)

@@ -1,41 +1,53 @@
--- What a call does at a desk that shows its state, and what little is known at one that shows nothing.
--- Source: Redis documentation, the pages of the commands.
+-- What an event does at a desk that shows its book, and what little is known at one that shows none.
+-- Source: Redis documentation, the pages of the commands; docs/DEFINITIONS.md, "The one-thread server".
 
-use Rattle.std.specs.Prelude.{◌≡◌, ℕ, max, min, Option, Some, None, Result, Ok, Err}
-use Rattle.sr_resp.specs.Reply.{Answer}
-use Rattle.sr_args.specs.declared.call.Call.{Call}
-use Rattle.sr_space.specs.Keys.{Keys}
-use Rattle.sr_space.specs.Effect.{at_once}
-use Rattle.sr_space.specs.declared.outcome.Answered.{Answered}
-use Rattle.sr_space.specs.declared.outcome.Answered.TheVariants.{Reply}
+use Rattle.std.specs.Prelude.{⊤, ◌≡◌, ℕ, true, false, Option, Some, None, IsSome, Result, Ok, Err}
+use Rattle.sr_waiters.specs.Waiters.{has_session}
+use Rattle.sr_book.specs.Server.{is_open}
+use Rattle.sr_book.specs.Records.{BookState, Steps, letter_for}
+use Rattle.sr_book.specs.declared.answer.Answer.{Answer}
+use Rattle.sr_book.specs.declared.answer.Letter.{Letter}
+use Rattle.sr_book.specs.declared.event.BookFault.TheVariants as book
+use Rattle.sr_book.specs.declared.event.Event.{Event}
 use Rattle.sr_session.specs.declared.desk.DeskFault.{DeskFault}
+use Rattle.sr_session.specs.declared.desk.DeskFault.TheVariants as faults
 
--- the server as a desk shows it: the moment of its last call, and its keys
-pub record Served : Type 0 where
-  pub moment : ℕ
-  pub keys : Keys
-
-abbrev pub shown : ℕ → Keys → Served
-shown moment keys = record { moment = moment; keys = keys }
-
--- the reply that an outcome sends
-abbrev pub sent_of : Answered → Answer
-sent_of (Reply send keep) = send
-
--- a call comes at the moment that is told, but not before the last one, and at most at 2 ^ 63 - 1
-abbrev pub moment_after : ℕ → ℕ → ℕ
-moment_after last told = max last (min told 0x7fff_ffff_ffff_ffff)
-
--- the call is carried out and answered; if the desk refuses it, nothing changes
-abbrev pub Steps : Served → ℕ → Call → Result Answer DeskFault → Served → Type 0
-Steps old told call (Ok reply) new =
-    let moment = moment_after old.moment told in
-    let effect = at_once old.keys moment call in
-    (reply ≡ sent_of effect.outcome) × (new ≡ shown moment effect.keys)
-Steps old told call (Err fault) new = new ≡ old
+-- an event at a moment that is handed in: what the book makes of it. A desk that shows its book refuses an event for the book's
+-- reasons alone
+abbrev pub StepsTo : BookState → ℕ → Event → Result Answer DeskFault → BookState → Type 0
+StepsTo old told event (Ok answer) new = Steps old told event (Ok answer) new
+StepsTo old told event (Err faults.Memory) new = Steps old told event (Err book.Memory) new
+StepsTo old told event (Err faults.Busy) new = Steps old told event (Err book.Busy) new
+StepsTo old told event (Err faults.Full) new = Steps old told event (Err book.Full) new
+StepsTo old told event (Err faults.NoSession) new = Steps old told event (Err book.NoSession) new
+StepsTo old told event (Err (faults.Regress index)) new = ⊥
+StepsTo old told event (Err faults.Idle) new = ⊥
+StepsTo old told event (Err faults.Unread) new = ⊥
 
 -- the same of what a desk shows; one that shows nothing goes on showing nothing
-abbrev pub StepsAt : Option Served → ℕ → Call → Result Answer DeskFault → Option Served → Type 0
-StepsAt None told call result new = new ≡ None
-StepsAt (Some old) told call result None = ⊥
-StepsAt (Some old) told call result (Some new) = Steps old told call result new
+abbrev pub StepsAt : Option BookState → ℕ → Event → Result Answer DeskFault → Option BookState → Type 0
+StepsAt None told event result new = new ≡ None
+StepsAt (Some old) told event result None = ⊥
+StepsAt (Some old) told event result (Some new) = StepsTo old told event result new
+
+-- what a session that waited was given: its letter. Idle says that there is none, and memory is wanted for one that is there
+abbrev pub AwaitsTo : BookState → ℕ → Result Letter DeskFault → Type 0
+AwaitsTo state session (Ok letter) = letter_for session state.server ≡ Some letter
+AwaitsTo state session (Err faults.Memory) = IsSome (letter_for session state.server)
+AwaitsTo state session (Err faults.Busy) = ⊥
+AwaitsTo state session (Err faults.Full) = ⊥
+AwaitsTo state session (Err faults.NoSession) = ⊥
+AwaitsTo state session (Err (faults.Regress index)) = ⊥
+AwaitsTo state session (Err faults.Idle) = letter_for session state.server ≡ None
+AwaitsTo state session (Err faults.Unread) = ⊥
+
+-- the same of what a desk shows, which stays
+abbrev pub AwaitsAt : Option BookState → ℕ → Result Letter DeskFault → Option BookState → Type 0
+AwaitsAt None session result new = new ≡ None
+AwaitsAt (Some old) session result new = AwaitsTo old session result × (new ≡ Some old)
+
+-- the session may call: where the book is shown, the session is open and does not wait
+abbrev pub IsIdle : ℕ → Option BookState → Type 0
+IsIdle session None = ⊤
+IsIdle session (Some state) =
+    (is_open session state.server.sessions ≡ true) × (has_session session state.server.waiting ≡ false)

@@ -1,7 +1,7 @@
 -- A whole session: what was written for the bytes that were taken, and how it ended.
 --
 -- What answers a request is left open: it is any relation from a state and the words of a request to a text and the next
--- state.
+-- state. So is what holds a request: any relation from a state and the words of a request to the next state.
 -- Source: RESP2 protocol specification, "Sending commands to a Redis server" and "Multiple commands and pipelining".
 
 use Rattle.std.specs.Prelude.{◌≡◌, ◌≢◌, ℕ, ◌⊎◌, List, [], ◌∷◌, ◌++◌, length, min}
@@ -10,7 +10,7 @@ use Rattle.sr_resp.specs.Stream.{Splits, IsPartial, IsFault}
 use Rattle.sr_resp.specs.Reply.{error_reply, reply_text}
 use Rattle.sr_resp.specs.declared.code.ErrCode.TheVariants as errors
 use Rattle.sr_session.specs.declared.run.End.{End}
-use Rattle.sr_session.specs.declared.run.End.TheVariants.{Closed, Protocol, ReadFault, SendFault, Turns, Memory}
+use Rattle.sr_session.specs.declared.run.End.TheVariants.{Closed, Protocol, ReadFault, SendFault, Turns, Memory, Desk}
 
 -- the error that answers bytes that are not requests
 abbrev pub protocol_text : List ℕ
@@ -73,11 +73,28 @@ module _ {S : Type 0} (Answers : S → Words → List ℕ → S → Type 0) wher
     pub whole : IsStopped found taken (written ++ lacking) now ⊎ IsBroken found taken (written ++ lacking) now
     pub count : sent ≡ min (length written) 0xffff_ffff_ffff_ffff
 
+module _ {S : Type 0} (Answers : S → Words → List ℕ → S → Type 0) (Holds : S → Words → S → Type 0) where
+  -- the first requests of the bytes taken are answered; the next ones were carried out, but their answers were not sent; the
+  -- one after them is held; and those after it were not carried out
+  pub record IsHeld (found : S) (taken written : List ℕ) (now : S) : Type 0 where
+    pub requests : List Words
+    pub silent : List Words
+    pub words : Words
+    pub passed_over : List Words
+    pub rest : List ℕ
+    pub between : S
+    pub behind : S
+    pub stream : Splits taken (((requests ++ silent) ++ words ∷ []) ++ passed_over) rest
+    pub answered : AreAnswered Answers found requests written between
+    pub afterwards : AreUnsent Answers between silent behind
+    pub held : Holds behind words now
+
   -- what is known at each end of a session
   abbrev pub EndsAs : S → List ℕ → List ℕ → S → End → Type 0
-  EndsAs found taken written now Closed = IsAnswered found taken written now
-  EndsAs found taken written now Protocol = IsBroken found taken written now
-  EndsAs found taken written now ReadFault = IsAnswered found taken written now
-  EndsAs found taken written now (SendFault sent) = IsFront found taken written now sent
-  EndsAs found taken written now Turns = IsAnswered found taken written now
-  EndsAs found taken written now Memory = IsCutOff found taken written now
+  EndsAs found taken written now Closed = IsAnswered Answers found taken written now
+  EndsAs found taken written now Protocol = IsBroken Answers found taken written now
+  EndsAs found taken written now ReadFault = IsAnswered Answers found taken written now
+  EndsAs found taken written now (SendFault sent) = IsFront Answers found taken written now sent
+  EndsAs found taken written now Turns = IsAnswered Answers found taken written now
+  EndsAs found taken written now Memory = IsCutOff Answers found taken written now
+  EndsAs found taken written now Desk = IsHeld found taken written now

@@ -1,3 +1,4 @@
 -- What only private clauses cite: a session between two of its steps.
+pub mod Calling
 pub mod Gathered
 pub mod Underway

@@ -1,91 +1,125 @@
-ghost use Rattle.std.specs.Prelude.{◌≡◌, ℕ, Option, Some, false, OnOk, OnErr, IfOk};
-ghost use Rattle.sr_resp.specs.Reply.{Answer};
-ghost use Rattle.sr_space.specs.Effect.{at_once};
-ghost use Rattle.sr_session.specs.Desk.{Served, StepsAt, moment_after, sent_of, shown};
+ghost use Rattle.std.specs.Prelude.{◌≡◌, ℕ, Option, Some, IsSome, IfOk};
+ghost use Rattle.sr_book.specs.Records.{BookState, letter_for};
+ghost use Rattle.sr_session.specs.Desk.{AwaitsAt, AwaitsTo, IsIdle, StepsAt, StepsTo};
+ghost use Rattle.sr_session.specs.steps.Calling.{fault_of};
 
-use sr_args::Call;
-use sr_resp::Reply;
-use sr_space::{Answered, Space};
+use sr_book::{Answer, Book, BookFault, Event, Letter, Out, Status};
 use std::alloc::{AllocError, Global};
 
-/// Why a desk did not carry out a call.
+/// Why a desk did not carry out an event, or has no letter to hand out.
 #[derive(Clone, Copy, Debug, PartialEq, Eq)]
 pub enum DeskFault {
     /// A failed allocation. Nothing changed.
     Memory,
+    /// The session waits.
+    Busy,
+    /// No index is left for a record.
+    Full,
+    /// The session is not open.
+    NoSession,
+    /// The last record has this index, and a later one was seen before.
+    Regress { index: u64 },
+    /// The session was given nothing.
+    Idle,
+    /// A failed allocation after a call was carried out: its reply is lost.
+    Unread,
 }
 
-/// What stands between a session and the keys: it carries out one call after another.
+/// What stands between a session and the server: it carries out one event after another.
 pub trait Desk {
-    /// The server as the desk shows it, if it shows it.
-    ghost shows: { Self → Option Served };
+    /// The book as the desk shows it, if it shows it.
+    ghost shows: { Self → Option BookState };
 
     /// The ghost name of what the desk borrows, or any number if it borrows nothing.
     ghost borrows: { Self → ℕ };
 
-    /// Whether the call may wait at this desk. A session sends the replies before such a call first.
-    fn may_wait(&self, call: &Call) -> bool;
+    /// Carries out an event. The moment is what a clock told, in milliseconds since 1970. A refused event is dropped.
+    fn step(&mut self, alloc: Global, moment: u64, event: Event) -> Result<Answer, DeskFault>
+        ensures step { StepsAt (shows self.old) moment event result (shows self.new) }
+        ensures joined { IfOk result (λ answer. (session : ℕ) → event ≡ Event.Join → answer.out ≡ Out.Joined session
+            → IsIdle session (shows self.new)) }
+        ensures same { borrows self.new ≡ borrows self.old };
 
-    /// Carries out a call. The moment is what a clock told, in milliseconds since 1970.
-    fn step(&mut self, alloc: Global, moment: u64, call: &Call) -> Result<Reply, DeskFault>
-        ensures step { StepsAt (shows self.old) moment call.now result (shows self.new) }
+    /// What the session was given while it waited. A desk may wait until there is something.
+    fn await_reply(&mut self, alloc: Global, session: u64) -> Result<Letter, DeskFault>
+        ensures letter { AwaitsAt (shows self.old) session result (shows self.new) }
         ensures same { borrows self.new ≡ borrows self.old };
 }
 
-/// A desk over keys of its own. It shows them, and none of its calls waits.
+/// A desk over a book of its own, which it shows. It never waits.
 #[derive(Drop)]
 pub struct PlainDesk<'a> {
-    space: &'a mut Space,
-    /// The moment of the last call.
-    moment: u64,
+    book: &'a mut Book,
 }
 
 impl<'a> PlainDesk<'a> {
-    /// A desk over these keys, at moment 0.
-    pub fn new(space: &'a mut Space) -> PlainDesk<'a>
-        ensures shows { ⟦<PlainDesk<'a> as Desk>⟧.shows result ≡ Some (shown 0 space.old) }
-        ensures borrows { ⟦<PlainDesk<'a> as Desk>⟧.borrows result ≡ space.entry.ghost_name }
+    /// A desk over this book.
+    pub fn new(book: &'a mut Book) -> PlainDesk<'a>
+        ensures shows { ⟦<PlainDesk<'a> as Desk>⟧.shows result ≡ Some book.old }
+        ensures borrows { ⟦<PlainDesk<'a> as Desk>⟧.borrows result ≡ book.entry.ghost_name }
     {
-        PlainDesk { space, moment: 0 }
+        PlainDesk { book }
     }
 }
 
 impl<'a> Desk for PlainDesk<'a> {
-    ghost shows = { λ d. Some (shown d.moment d.space.now) };
+    ghost shows = { λ d. Some d.book.now };
 
-    ghost borrows = { λ d. d.space.ghost_name };
+    ghost borrows = { λ d. d.book.ghost_name };
 
-    fn may_wait(&self, _: &Call) -> bool
-        ensures never { result ≡ false }
-    {
-        false
+    fn step(&mut self, alloc: Global, moment: u64, event: Event) -> Result<Answer, DeskFault> {
+        step_book(self.book, alloc, moment, event)
     }
 
-    fn step(&mut self, alloc: Global, moment: u64, call: &Call) -> Result<Reply, DeskFault> {
-        let moment = self.moment.max(moment.min(i64::MAX as u64));
-        let reply = carry_out(alloc, self.space, moment, call)?;
-        self.moment = moment;
-        Ok(reply)
+    fn await_reply(&mut self, alloc: Global, session: u64) -> Result<Letter, DeskFault> {
+        letter_in(self.book, alloc, session)
     }
 }
 
-/// Carries out a call at a moment.
-fn carry_out(alloc: Global, space: &mut Space, moment: u64, call: &Call) -> Result<Reply, DeskFault>
-    ensures keys { OnOk result (space.new ≡ (at_once space.old moment call.now).keys) }
-    ensures reply { IfOk result (λ reply. reply ≡ sent_of (at_once space.old moment call.now).outcome) }
-    ensures err { OnErr result (space.new ≡ space.old) }
+/// Carries out an event in the book.
+fn step_book(book: &mut Book, alloc: Global, moment: u64, event: Event) -> Result<Answer, DeskFault>
+    ensures step { StepsTo book.old moment event result book.new }
+    ensures joined { IfOk result (λ answer. (session : ℕ) → event ≡ Event.Join → answer.out ≡ Out.Joined session
+        → IsIdle session (Some book.new)) }
 {
-    match space.at_once(alloc, moment, call) {
-        Ok(outcome) => Ok(sent_reply(outcome)),
+    book.legal();
+    match book.step(alloc, moment, event) {
+        Ok(answer) => Ok(answer),
+        Err(refused) => Err(desk_fault(refused.fault)),
+    }
+}
+
+/// The same reason, as a desk gives it.
+fn desk_fault(fault: BookFault) -> DeskFault
+    ensures { result ≡ fault_of fault }
+{
+    match fault {
+        BookFault::Memory => DeskFault::Memory,
+        BookFault::Busy => DeskFault::Busy,
+        BookFault::Full => DeskFault::Full,
+        BookFault::NoSession => DeskFault::NoSession,
+    }
+}
+
+/// The letter of a session.
+fn letter_in(book: &Book, alloc: Global, session: u64) -> Result<Letter, DeskFault>
+    ensures { AwaitsTo book.now session result }
+{
+    book.legal();
+    match book.status(session) {
+        Status::Letter => take_letter(book, alloc, session),
+        Status::Closed | Status::Idle | Status::Waiting => Err(DeskFault::Idle),
+    }
+}
+
+/// The letter of a session that has one.
+fn take_letter(book: &Book, alloc: Global, session: u64) -> Result<Letter, DeskFault>
+    requires { IsSome (letter_for session book.now.server) }
+    ensures { AwaitsTo book.now session result }
+{
+    match book.collect(alloc, session) {
+        Ok(Some(letter)) => Ok(letter),
+        Ok(None) => Err(DeskFault::Idle),
         Err(AllocError) => Err(DeskFault::Memory),
-    }
-}
-
-/// The reply that is sent.
-fn sent_reply(outcome: Answered) -> Reply
-    ensures { (send keep : Answer) → outcome ≡ Answered.Reply send keep → result ≡ send }
-{
-    match outcome {
-        Answered::Reply { send, keep: _ } => send,
     }
 }

@@ -1,16 +1,20 @@
 //! One connection: the requests of its bytes, each answered in turn.
 #![tactic(auto)]
 
-mod answer;
+mod calling;
 mod clock;
 mod desk;
+mod gate;
 mod replies;
+mod request;
 mod run;
 mod source;
 #[cfg(test)]
 mod tests;
 
+pub use calling::answer;
 pub use clock::Clock;
 pub use desk::{Desk, DeskFault, PlainDesk};
-pub use run::{End, run_session};
+pub use gate::{Gate, NoGate};
+pub use run::{End, Ended, run_session};
 pub use source::{ReadFailed, ReadFrom, Source};

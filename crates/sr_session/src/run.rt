@@ -1,17 +1,22 @@
 ghost use Rattle.std.specs.Prelude.{◌≡◌, ◌≢◌, ◌+◌, ◌≤◌, ℕ, List, [], ◌++◌, Option, true, false, IfOk, IfErr, OnOk, OnErr};
 ghost use Rattle.std.specs.Io.KnownBytes.{Appends, Consumes};
 ghost use Rattle.sr_resp.specs.Stream.{Advances};
-ghost use Rattle.sr_session.specs.Answered.{Answers};
-ghost use Rattle.sr_session.specs.Desk.{Served};
+ghost use Rattle.sr_book.specs.Records.{BookState};
+ghost use Rattle.sr_book.specs.declared.answer.Answer.{Answer};
+ghost use Rattle.sr_session.specs.Answered.{Answers, Holds};
+ghost use Rattle.sr_session.specs.Desk.{IsIdle, StepsAt};
 ghost use Rattle.sr_session.specs.Session.{EndsAs};
 ghost use Rattle.sr_session.specs.Source.{CountsReads};
+ghost use Rattle.sr_session.specs.Whole.{EndsUnjoined, HasJoined, HasLeft, RunsAs};
+ghost use Rattle.sr_session.specs.steps.Calling.{FailsToJoin, IsDeskEnd};
 ghost use Rattle.sr_session.specs.steps.Gathered.{IsNoted};
 ghost use Rattle.sr_session.specs.steps.Underway.{IsAnswering, GoesOn, IsPieceEnd};
 ghost use Rattle.sr_session.specs.declared.run.End.TheVariants.{Memory};
 
-use crate::answer::answer_request;
 use crate::replies::Replies;
-use crate::{Clock, Desk, ReadFailed, Source};
+use crate::request::answer_request;
+use crate::{Clock, Desk, DeskFault, Gate, ReadFailed, Source};
+use sr_book::{Event, Out};
 use sr_resp::{ErrCode, ReadFault, Reader, Sink};
 use std::alloc::{AllocError, Global};
 
@@ -33,6 +38,17 @@ pub enum End {
     Turns,
     /// A failed allocation.
     Memory,
+    /// The desk refused the session, or has no reply to a call that waits.
+    Desk,
+}
+
+/// How a session ended.
+#[derive(Clone, Copy, Debug, PartialEq, Eq)]
+pub struct Ended {
+    /// Why it ended.
+    pub end: End,
+    /// Whether it joined, and its leave was carried out.
+    pub left: bool,
 }
 
 impl From<AllocError> for End {
@@ -43,20 +59,23 @@ impl From<AllocError> for End {
     }
 }
 
-/// Serves one connection: reads requests, and writes the reply to each, in order.
+/// Serves one connection: joins, reads requests and writes the reply to each, in order, and leaves at every end.
 ///
 /// It reads at most 4,096 bytes at a time, at most `turns` times, and writes the replies to the requests of one read
-/// together, except that those before a call that may wait go out before it.
+/// together, except that those before a call that may wait go out before it. Without `blocking` a call is taken as if BLOCK
+/// was not given. A session that cannot join reads nothing.
 ///
 /// Source: RESP2 protocol specification, "Sending commands to a Redis server" and "Multiple commands and pipelining".
-pub fn run_session<R: Source, W: Sink, D: Desk, C: Clock>(
+pub fn run_session<R: Source, W: Sink, D: Desk, C: Clock, G: Gate>(
     alloc: Global,
     reader: &mut R,
     writer: &mut W,
     desk: &mut D,
     clock: &C,
+    gate: &G,
+    blocking: bool,
     turns: u64,
-) -> End
+) -> Ended
     requires unread { (R.ended reader.old ≡ false) × (R.failed reader.old ≡ false) }
     requires unwritten { W.failed writer.old ≡ false }
 
@@ -64,13 +83,100 @@ pub fn run_session<R: Source, W: Sink, D: Desk, C: Clock>(
     ensures session { (taken written : List ℕ)
         × Consumes (R.remaining reader.old) (R.remaining reader.new) taken
         × Appends (W.contents writer.old) (W.contents writer.new) written
-        × EndsAs (Answers (C.may_tell clock.now)) (D.shows desk.old) taken written (D.shows desk.new) result }
+        × RunsAs (C.may_tell clock.now) blocking (D.shows desk.old) taken written result (D.shows desk.new) }
     ensures reads { (reads : ℕ) × (reads ≤ turns) × CountsReads (R.reads reader.old) (R.reads reader.new) reads
-        × (result ≡ End.Turns → reads ≡ turns) }
+        × (result.end ≡ End.Turns → reads ≡ turns) }
     ensures same { D.borrows desk.new ≡ D.borrows desk.old }
 
     // Each end has its cause, and no cause is passed over. The two together pin the loop: a session that stops early, or
     // goes on after a fault, breaks one of them, whatever it wrote.
+    ensures closed { result.end ≡ End.Closed → R.ended reader.new ≡ true }
+    ensures read_fault { result.end ≡ End.ReadFault → R.failed reader.new ≡ true }
+    ensures send_fault { (sent : ℕ) → result.end ≡ End.SendFault sent → W.failed writer.new ≡ true }
+    ensures heeds_end { result.end ≢ End.Closed → R.ended reader.new ≡ R.ended reader.old }
+    ensures heeds_read_fault { result.end ≢ End.ReadFault → R.failed reader.new ≡ R.failed reader.old }
+    ensures heeds_send_fault { ((sent : ℕ) → result.end ≢ End.SendFault sent)
+        → W.failed writer.new ≡ W.failed writer.old }
+{
+    match join(alloc, desk, clock) {
+        Ok(session) => {
+            let end = serve_requests(
+                alloc, reader, writer, desk, clock, gate, blocking, session, turns,
+            );
+            let left = leave(alloc, desk, clock, session);
+            Ended { end, left }
+        }
+        Err(end) => Ended { end, left: false },
+    }
+}
+
+/// Opens a session, and answers its number; or says how a session ends that cannot join.
+fn join<D: Desk, C: Clock>(alloc: Global, desk: &mut D, clock: &C) -> Result<u64, End>
+    ensures ok { IfOk result (λ session.
+        HasJoined (C.may_tell clock.now) session (D.shows desk.old) (D.shows desk.new)) }
+    ensures idle { IfOk result (λ session. IsIdle session (D.shows desk.new)) }
+    ensures err { IfErr result (λ end.
+        FailsToJoin (C.may_tell clock.now) (D.shows desk.old) end (D.shows desk.new)) }
+    ensures end { IfErr result IsDeskEnd }
+    ensures same { D.borrows desk.new ≡ D.borrows desk.old }
+{
+    match desk.step(alloc, clock.now(), Event::Join) {
+        Ok(answer) => match answer.out {
+            Out::Joined(session) => Ok(session),
+            Out::Reply(_) | Out::Blocked | Out::Expired(_) | Out::Left => Err(End::Desk),
+        },
+        Err(fault) => Err(unjoined_end(fault)),
+    }
+}
+
+/// How a session ends whose join is refused.
+fn unjoined_end(fault: DeskFault) -> End
+    ensures unjoined { EndsUnjoined (Err fault) result }
+    ensures end { IsDeskEnd result }
+{
+    match fault {
+        DeskFault::Memory => End::Memory,
+        DeskFault::Busy
+        | DeskFault::Full
+        | DeskFault::NoSession
+        | DeskFault::Regress { .. }
+        | DeskFault::Idle
+        | DeskFault::Unread => End::Desk,
+    }
+}
+
+/// Closes a session, and says whether that was carried out.
+fn leave<D: Desk, C: Clock>(alloc: Global, desk: &mut D, clock: &C, session: u64) -> bool
+    ensures left { HasLeft (C.may_tell clock.now) session result (D.shows desk.old) (D.shows desk.new) }
+    ensures same { D.borrows desk.new ≡ D.borrows desk.old }
+{
+    let left = desk.step(alloc, clock.now(), Event::Leave { session });
+    left.is_ok()
+}
+
+/// Reads requests of an open session, and writes the reply to each.
+fn serve_requests<R: Source, W: Sink, D: Desk, C: Clock, G: Gate>(
+    alloc: Global,
+    reader: &mut R,
+    writer: &mut W,
+    desk: &mut D,
+    clock: &C,
+    gate: &G,
+    blocking: bool,
+    session: u64,
+    turns: u64,
+) -> End
+    requires unread { (R.ended reader.old ≡ false) × (R.failed reader.old ≡ false) }
+    requires unwritten { W.failed writer.old ≡ false }
+    requires idle { IsIdle session (D.shows desk.old) }
+    ensures session { (taken written : List ℕ)
+        × Consumes (R.remaining reader.old) (R.remaining reader.new) taken
+        × Appends (W.contents writer.old) (W.contents writer.new) written
+        × EndsAs (Answers (C.may_tell clock.now) blocking session) (Holds (C.may_tell clock.now) blocking session)
+        (D.shows desk.old) taken written (D.shows desk.new) result }
+    ensures reads { (reads : ℕ) × (reads ≤ turns) × CountsReads (R.reads reader.old) (R.reads reader.new) reads
+        × (result ≡ End.Turns → reads ≡ turns) }
+    ensures same { D.borrows desk.new ≡ D.borrows desk.old }
     ensures closed { result ≡ End.Closed → R.ended reader.new ≡ true }
     ensures read_fault { result ≡ End.ReadFault → R.failed reader.new ≡ true }
     ensures send_fault { (sent : ℕ) → result ≡ End.SendFault sent → W.failed writer.new ≡ true }
@@ -94,6 +200,9 @@ pub fn run_session<R: Source, W: Sink, D: Desk, C: Clock>(
             writer,
             desk,
             clock,
+            gate,
+            blocking,
+            session,
             piece,
             &mut replies,
         ) {
@@ -105,33 +214,40 @@ pub fn run_session<R: Source, W: Sink, D: Desk, C: Clock>(
 }
 
 /// Takes the next piece of the bytes, answers each request that is whole now, and sends the replies.
-fn take_piece<W: Sink, D: Desk, C: Clock>(
+fn take_piece<W: Sink, D: Desk, C: Clock, G: Gate>(
     alloc: Global,
     requests: &mut Reader,
     writer: &mut W,
     desk: &mut D,
     clock: &C,
+    gate: &G,
+    blocking: bool,
+    session: u64,
     piece: &[u8],
     replies: &mut Replies,
 ) -> Result<(), End>
     requires sound { W.failed writer.old ≡ false }
     requires none_gathered { replies.old.gathered.items ≡ [] }
+    requires idle { IsIdle session (D.shows desk.old) }
     ensures gathered { OnOk result (replies.new.gathered.items ≡ []) }
     ensures ok { OnOk result ((gets : List ℕ) × Appends (W.contents writer.old) (W.contents writer.new) gets
-        × ((found : Option Served) (taken written : List ℕ)
-        → GoesOn (Answers (C.may_tell clock.now)) found taken written replies.old.sent requests.old (D.shows desk.old)
-        → GoesOn (Answers (C.may_tell clock.now)) found (taken ++ piece.now) (written ++ gets) replies.new.sent
+        × ((found : Option BookState) (taken written : List ℕ)
+        → GoesOn (Answers (C.may_tell clock.now) blocking session) found taken written replies.old.sent requests.old (D.shows desk.old)
+        → GoesOn (Answers (C.may_tell clock.now) blocking session) found (taken ++ piece.now) (written ++ gets) replies.new.sent
         requests.new (D.shows desk.new))) }
+    ensures idle { OnOk result (IsIdle session (D.shows desk.new)) }
     ensures err { IfErr result (λ end. (gets : List ℕ) × Appends (W.contents writer.old) (W.contents writer.new) gets
-        × ((found : Option Served) (taken written : List ℕ)
-        → GoesOn (Answers (C.may_tell clock.now)) found taken written replies.old.sent requests.old (D.shows desk.old)
-        → EndsAs (Answers (C.may_tell clock.now)) found (taken ++ piece.now) (written ++ gets) (D.shows desk.new) end)) }
+        × ((found : Option BookState) (taken written : List ℕ)
+        → GoesOn (Answers (C.may_tell clock.now) blocking session) found taken written replies.old.sent requests.old (D.shows desk.old)
+        → EndsAs (Answers (C.may_tell clock.now) blocking session) (Holds (C.may_tell clock.now) blocking session) found (taken ++ piece.now) (written ++ gets) (D.shows desk.new) end)) }
     ensures end { IfErr result IsPieceEnd }
     ensures noted { IsNoted result (W.failed writer.old) (W.failed writer.new) }
     ensures same { D.borrows desk.new ≡ D.borrows desk.old }
 {
     let broken = feed(alloc, requests, piece)?;
-    answer_waiting(alloc, requests, writer, desk, clock, replies)?;
+    answer_waiting(
+        alloc, requests, writer, desk, clock, gate, blocking, session, replies,
+    )?;
     if broken {
         replies.gather_error(alloc, ErrCode::Protocol)?;
         replies.send(writer)?;
@@ -141,34 +257,41 @@ fn take_piece<W: Sink, D: Desk, C: Clock>(
 }
 
 /// Answers the requests that wait. Their replies are gathered; some may have been sent.
-fn answer_waiting<W: Sink, D: Desk, C: Clock>(
+fn answer_waiting<W: Sink, D: Desk, C: Clock, G: Gate>(
     alloc: Global,
     requests: &mut Reader,
     writer: &mut W,
     desk: &mut D,
     clock: &C,
+    gate: &G,
+    blocking: bool,
+    session: u64,
     replies: &mut Replies,
 ) -> Result<(), End>
-    requires { W.failed writer.old ≡ false }
+    requires sound { W.failed writer.old ≡ false }
+    requires idle { IsIdle session (D.shows desk.old) }
     ensures ok { OnOk result ((gets : List ℕ) × Appends (W.contents writer.old) (W.contents writer.new) gets
-        × ((found : Option Served) (taken written : List ℕ)
-        → IsAnswering (Answers (C.may_tell clock.now)) found taken written replies.old.gathered.items replies.old.sent
+        × ((found : Option BookState) (taken written : List ℕ)
+        → IsAnswering (Answers (C.may_tell clock.now) blocking session) found taken written replies.old.gathered.items replies.old.sent
         requests.old (D.shows desk.old)
-        → IsAnswering (Answers (C.may_tell clock.now)) found taken (written ++ gets) replies.new.gathered.items
+        → IsAnswering (Answers (C.may_tell clock.now) blocking session) found taken (written ++ gets) replies.new.gathered.items
         replies.new.sent requests.new (D.shows desk.new))) }
     ensures none_wait { OnOk result (requests.new.waiting ≡ []) }
     ensures failed { requests.new.failed ≡ requests.old.failed }
+    ensures idle { OnOk result (IsIdle session (D.shows desk.new)) }
     ensures err { IfErr result (λ end. (gets : List ℕ) × Appends (W.contents writer.old) (W.contents writer.new) gets
-        × ((found : Option Served) (taken written : List ℕ)
-        → IsAnswering (Answers (C.may_tell clock.now)) found taken written replies.old.gathered.items replies.old.sent
+        × ((found : Option BookState) (taken written : List ℕ)
+        → IsAnswering (Answers (C.may_tell clock.now) blocking session) found taken written replies.old.gathered.items replies.old.sent
         requests.old (D.shows desk.old)
-        → EndsAs (Answers (C.may_tell clock.now)) found taken (written ++ gets) (D.shows desk.new) end)) }
+        → EndsAs (Answers (C.may_tell clock.now) blocking session) (Holds (C.may_tell clock.now) blocking session) found taken (written ++ gets) (D.shows desk.new) end)) }
     ensures end { IfErr result IsPieceEnd }
     ensures noted { IsNoted result (W.failed writer.old) (W.failed writer.new) }
     ensures same { D.borrows desk.new ≡ D.borrows desk.old }
 {
     while let Some(words) = requests.next_request() {
-        answer_request(alloc, writer, desk, clock, &words, replies)?;
+        answer_request(
+            alloc, writer, desk, clock, gate, blocking, session, &words, replies,
+        )?;
     }
     Ok(())
 }

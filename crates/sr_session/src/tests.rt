@@ -2,10 +2,9 @@
 // writes, how often it asks the clock, and that a failed allocation changes no answer.
 ghost use Rattle.std.specs.Prelude.{◌≡◌, ◌≤◌, None, true, false, IfOk};
 
-use crate::{Clock, Desk, DeskFault, End, PlainDesk, ReadFailed, ReadFrom, Source, run_session};
-use sr_args::Call;
-use sr_resp::{Reply, Sink, WriteFailed, WriteTo};
-use sr_space::Space;
+use crate::{Clock, End, NoGate, PlainDesk, ReadFailed, ReadFrom, Source, run_session};
+use sr_book::Book;
+use sr_resp::{Sink, WriteFailed, WriteTo};
 use std::alloc::{AllocError, Global};
 use std::cell::Cell;
 use std::hash::RandomState;
@@ -15,6 +14,7 @@ use std::process::Abort;
 use std::random::RandomSource;
 use std::test::Fail;
 
+mod desks;
 mod groups;
 mod pages;
 mod sessions;
@@ -156,12 +156,21 @@ fn talk(
     turns: u64,
 ) -> Result<(End, Vec<u8>), Fail> {
     let alloc = rt.alloc();
-    let mut space = Space::new(alloc, RandomState::new(rt)?);
-    let mut desk = PlainDesk::new(&mut space);
+    let mut book = Book::new(alloc, RandomState::new(rt)?);
+    let mut desk = PlainDesk::new(&mut book);
     let mut reader = reader.unread();
     let mut writer = Kept::with_room(alloc, room)?;
-    let end = run_session(alloc, &mut reader, &mut writer, &mut desk, &Stopped, turns);
-    Ok((end, writer.bytes))
+    let ended = run_session(
+        alloc,
+        &mut reader,
+        &mut writer,
+        &mut desk,
+        &Stopped,
+        &NoGate,
+        false,
+        turns,
+    );
+    Ok((ended.end, writer.bytes))
 }
 
 /// Whether a session with room and turns enough ends so, and writes this.
@@ -313,8 +322,8 @@ impl Read for Interrupted<'_> {
 #[test]
 fn an_interrupted_read_is_tried_again(rt: HostRuntime) -> Result<(), Fail> {
     for (fails, end) in [(false, End::Closed), (true, End::ReadFault)] {
-        let mut space = Space::new(rt.alloc(), RandomState::new(&rt)?);
-        let mut desk = PlainDesk::new(&mut space);
+        let mut book = Book::new(rt.alloc(), RandomState::new(&rt)?);
+        let mut desk = PlainDesk::new(&mut book);
         let mut written = Vec::new(rt.alloc());
         let mut reader = ReadFrom::new(Interrupted {
             bytes: RUN,
@@ -322,8 +331,17 @@ fn an_interrupted_read_is_tried_again(rt: HostRuntime) -> Result<(), Fail> {
             fails,
         });
         let mut writer = WriteTo::new(&mut written);
-        let ended = run_session(rt.alloc(), &mut reader, &mut writer, &mut desk, &Stopped, 9);
-        assert_eq!(rt; ended, end);
+        let ended = run_session(
+            rt.alloc(),
+            &mut reader,
+            &mut writer,
+            &mut desk,
+            &Stopped,
+            &NoGate,
+            false,
+            9,
+        );
+        assert_eq!(rt; ended.end, end);
         assert!(rt; written.as_slice() == REPLIES.as_slice());
     }
     Ok(())
@@ -382,102 +400,33 @@ impl Clock for Counting<'_> {
     }
 }
 
-/// The clock is asked once for each call, and not for a request that is refused.
+/// The clock is asked once for each call, and not for a request that is refused; and once each to join and to leave.
 #[test]
 fn a_call_asks_the_clock_once(rt: HostRuntime) -> Result<(), Fail> {
     for (lines, calls) in [
-        ("PING", 1),
-        ("PING\nXADD s * a b\nXLEN s\nXRANGE s - +", 4),
-        ("FOO\nPING a b\nXADD s x a b", 0),
-        ("XADD s 0-0 a b\nFOO\nXADD s 1-1 a b\nXADD s 1-1 a b", 3),
+        ("PING", 3),
+        ("PING\nXADD s * a b\nXLEN s\nXRANGE s - +", 6),
+        ("FOO\nPING a b\nXADD s x a b", 2),
+        ("XADD s 0-0 a b\nFOO\nXADD s 1-1 a b\nXADD s 1-1 a b", 5),
     ] {
         let bytes = spelled(rt.alloc(), lines)?;
         let asked = Cell::new(0);
-        let mut space = Space::new(rt.alloc(), RandomState::new(&rt)?);
-        let mut desk = PlainDesk::new(&mut space);
+        let mut book = Book::new(rt.alloc(), RandomState::new(&rt)?);
+        let mut desk = PlainDesk::new(&mut book);
         let mut writer = Kept::with_room(rt.alloc(), 512)?;
         let mut reader = Pieces::new(bytes.as_slice(), 4096, 4096);
-        let end = run_session(
+        let ended = run_session(
             rt.alloc(),
             &mut reader,
             &mut writer,
             &mut desk,
             &Counting { asked: &asked },
+            &NoGate,
+            false,
             9,
         );
-        assert_eq!(rt; end, End::Closed, "{lines}");
+        assert_eq!(rt; ended.end, End::Closed, "{lines}");
         assert_eq!(rt; asked.get(), calls, "{lines}");
-    }
-    Ok(())
-}
-
-/// Keeps what it gets, and tells others how much.
-#[derive(Drop)]
-struct Told<'a> {
-    bytes: Vec<u8>,
-    count: &'a Cell<usize>,
-}
-
-impl Sink for Told<'_> {
-    ghost contents = { λ _. None };
-
-    ghost failed = { λ _. false };
-
-    fn write(&mut self, bytes: &[u8]) -> Result<usize, WriteFailed> {
-        if self.bytes.extend_from_slice(bytes).is_err() {
-            return Ok(bytes.len());
-        }
-        self.count.set(self.bytes.len());
-        Ok(bytes.len())
-    }
-}
-
-/// Answers each call by the number of bytes that were written before it. XLEN may wait here.
-#[derive(Drop)]
-struct Noting<'a> {
-    count: &'a Cell<usize>,
-}
-
-impl Desk for Noting<'_> {
-    ghost shows = { λ _. None };
-
-    ghost borrows = { λ _. 0 };
-
-    fn may_wait(&self, call: &Call) -> bool {
-        matches!(call, Call::Xlen { .. })
-    }
-
-    fn step(&mut self, alloc: Global, _: u64, _: &Call) -> Result<Reply, DeskFault> {
-        let count = i64::try_from(self.count.get()).unwrap_or(i64::MAX);
-        Ok(Reply::int(alloc, count))
-    }
-}
-
-/// Replies that are gathered go out before a call that may wait, and otherwise after the whole piece.
-#[test]
-fn gathered_replies_are_sent_before_a_call_that_may_wait(rt: HostRuntime) -> Result<(), Fail> {
-    for (lines, replies) in [
-        ("PING\nPING\nPING", ":0\r\n:0\r\n:0\r\n"),
-        ("PING\nPING\nXLEN s\nPING", ":0\r\n:0\r\n:8\r\n:8\r\n"),
-        ("XLEN s\nXLEN s\nPING\nXLEN s", ":0\r\n:4\r\n:4\r\n:12\r\n"),
-    ] {
-        let bytes = spelled(rt.alloc(), lines)?;
-        let count = Cell::new(0);
-        let mut writer = Told {
-            bytes: Vec::new(rt.alloc()),
-            count: &count,
-        };
-        let mut reader = Pieces::new(bytes.as_slice(), 4096, 4096);
-        let end = run_session(
-            rt.alloc(),
-            &mut reader,
-            &mut writer,
-            &mut Noting { count: &count },
-            &Stopped,
-            9,
-        );
-        assert_eq!(rt; end, End::Closed, "{lines}");
-        assert!(rt; writer.bytes.as_slice() == replies.as_bytes(), "{lines}");
     }
     Ok(())
 }

@@ -3,7 +3,7 @@
 use Rattle.std.specs.Prelude.{◌≡◌, ℕ, ◌+◌, ◌<◌, List, [], ◌++◌, length, take, min, Bool, true, Result, Ok, Err}
 use Rattle.sr_resp.specs.Request.{Words}
 use Rattle.sr_session.specs.declared.run.End.{End}
-use Rattle.sr_session.specs.declared.run.End.TheVariants.{Closed, Protocol, ReadFault, SendFault, Turns, Memory}
+use Rattle.sr_session.specs.declared.run.End.TheVariants.{Closed, Protocol, ReadFault, SendFault, Turns, Memory, Desk}
 
 -- a count of bytes and then more bytes; a number beyond a word is the greatest one
 abbrev pub counted : ℕ → ℕ → ℕ
@@ -30,6 +30,7 @@ IsNoted (Err Protocol) old new = new ≡ old
 IsNoted (Err ReadFault) old new = new ≡ old
 IsNoted (Err Turns) old new = new ≡ old
 IsNoted (Err Memory) old new = new ≡ old
+IsNoted (Err Desk) old new = new ≡ old
 
 -- the answer to a request is gathered; the replies before it may have gone to the writer, which got these bytes
 pub record Gathers {S : Type 0} (Answers : S → Words → List ℕ → S → Type 0) (old : List ℕ) (sent : ℕ) (before : S) (words : Words) (gets new : List ℕ) (total : ℕ) (after : S) : Type 0 where
@@ -39,8 +40,9 @@ pub record Gathers {S : Type 0} (Answers : S → Words → List ℕ → S → Ty
   pub answers : Answers before words text after
   pub appended : new ≡ left ++ text
 
--- the session ends at a request: it was carried out, and memory is lacking for its reply; or it was not carried out,
--- since the writer failed
-pub data Stops {S : Type 0} (Answers : S → Words → List ℕ → S → Type 0) (gathered : List ℕ) (sent : ℕ) (before : S) (words : Words) (gets : List ℕ) (end : End) (after : S) : Type 0 where
-  silent : (left : List ℕ) (total : ℕ) (text : List ℕ) → Moves gathered sent gets left total → Answers before words text after → end ≡ Memory → Stops Answers gathered sent before words gets end after
-  breaks : BreaksOff gathered sent gets end → after ≡ before → Stops Answers gathered sent before words gets end after
+-- the session ends at a request: it was carried out, and memory is lacking for its reply; it was not carried out, since the
+-- writer failed; or it is held
+pub data Stops {S : Type 0} (Answers : S → Words → List ℕ → S → Type 0) (Holds : S → Words → S → Type 0) (gathered : List ℕ) (sent : ℕ) (before : S) (words : Words) (gets : List ℕ) (end : End) (after : S) : Type 0 where
+  silent : (left : List ℕ) (total : ℕ) (text : List ℕ) → Moves gathered sent gets left total → Answers before words text after → end ≡ Memory → Stops Answers Holds gathered sent before words gets end after
+  breaks : BreaksOff gathered sent gets end → after ≡ before → Stops Answers Holds gathered sent before words gets end after
+  waits : (left : List ℕ) (total : ℕ) → Moves gathered sent gets left total → Holds before words after → end ≡ Desk → Stops Answers Holds gathered sent before words gets end after

@@ -5,7 +5,7 @@ use Rattle.sr_resp.specs.Request.{Words}
 use Rattle.sr_resp.specs.Stream.{Progress, Stands}
 use Rattle.sr_session.specs.Session.{AreAnswered}
 use Rattle.sr_session.specs.declared.run.End.{End}
-use Rattle.sr_session.specs.declared.run.End.TheVariants.{Closed, Protocol, ReadFault, SendFault, Turns, Memory}
+use Rattle.sr_session.specs.declared.run.End.TheVariants.{Closed, Protocol, ReadFault, SendFault, Turns, Memory, Desk}
 
 -- an end that comes while a piece is answered
 abbrev pub IsPieceEnd : End → Type 0
@@ -15,6 +15,7 @@ IsPieceEnd ReadFault = ⊥
 IsPieceEnd (SendFault sent) = Unit {0}
 IsPieceEnd Turns = ⊥
 IsPieceEnd Memory = Unit {0}
+IsPieceEnd Desk = Unit {0}
 
 module _ {S : Type 0} (Answers : S → Words → List ℕ → S → Type 0) where
   -- the requests handed out so far were carried out: the answers to the first of them were written, those to the others

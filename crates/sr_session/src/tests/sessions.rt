@@ -2,8 +2,8 @@
 ghost use Rattle.std.specs.Prelude.{true};
 
 use super::{Kept, Pieces, spelled};
-use crate::{Clock, End, PlainDesk, run_session};
-use sr_space::Space;
+use crate::{Clock, End, NoGate, PlainDesk, run_session};
+use sr_book::Book;
 use std::alloc::{AllocError, Global};
 use std::cell::Cell;
 use std::hash::RandomState;
@@ -131,7 +131,7 @@ impl Clock for Hands<'_> {
     }
 }
 
-/// A session: its commands, one a line, the moment of each, and the replies that it shows.
+/// A session: its commands, one a line, the moment at which it joins and that of each command, and the replies that it shows.
 #[derive(Drop)]
 struct Session {
     commands: String,
@@ -147,6 +147,7 @@ fn read_session(alloc: Global, text: &str) -> Result<Session, Fail> {
         moments: Vec::new(alloc),
         replies: String::new(alloc),
     };
+    session.moments.push(0)?;
     let mut moment = 5;
     for line in text.lines() {
         if let Some(told) = line.strip_prefix("@ ") {
@@ -172,16 +173,25 @@ fn talk(
     moments: &[u64],
 ) -> Result<(End, Vec<u8>), Fail> {
     let alloc = rt.alloc();
-    let mut space = Space::new(alloc, RandomState::new(rt)?);
-    let mut desk = PlainDesk::new(&mut space);
+    let mut book = Book::new(alloc, RandomState::new(rt)?);
+    let mut desk = PlainDesk::new(&mut book);
     let mut reader = Pieces::new(requests, 4096, 4096);
     let mut writer = Kept::with_room(alloc, 8192)?;
     let clock = Hands {
         moments,
         told: Cell::new(0),
     };
-    let end = run_session(alloc, &mut reader, &mut writer, &mut desk, &clock, 256);
-    Ok((end, writer.bytes))
+    let ended = run_session(
+        alloc,
+        &mut reader,
+        &mut writer,
+        &mut desk,
+        &clock,
+        &NoGate,
+        false,
+        256,
+    );
+    Ok((ended.end, writer.bytes))
 }
 
 /// Plays sessions, each at a server without keys, and compares what they show.

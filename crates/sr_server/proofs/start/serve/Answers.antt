@@ -1,10 +1,9 @@
 use Rattle.std.proofs.Common.{◌∙◌, ap, Some}
-use Rattle.sr_session.specs.Desk.{shown}
 use Rattle.sr_server.proofs.ServeLemmas.{served_from}
 use Rattle.sr_server.proofs.start.serve.Goals as goal
 
 pub returns-clause-served : goal.returns-clause-served
 returns-clause-served g c =
-    let s = c.run_session-end.ensures.session in
-    let starts = c.new-desk.ensures.shows ∙ ap (λ keys. Some (shown 0 keys)) c.requires.keys in
+    let s = c.run_session-ended.ensures.session in
+    let starts = c.new-desk.ensures.shows ∙ ap Some c.requires.book in
     (s.0, s.1, s.2, s.3, served_from _ _ _ _ _ _ _ starts s.4 c.outcome.ensures.value)

@@ -9,6 +9,7 @@ pub loop-words-init : goal.loop-words-init
 loop-words-init g c = record {
   so_far = ([], Appends-nil _, λ found taken written start. IsAnswering-start _ found taken written _ _ _ _ start);
   failed = refl;
+  idle = c.requires.idle;
   noted = refl;
   same = refl;
 }
@@ -20,6 +21,7 @@ loop-words-preserved g c =
     record {
       so_far = (i.so_far.0 ++ one.0, Appends-trans _ _ _ i.so_far.0 one.0 i.so_far.1 one.1, λ found taken written start. IsAnswering-more _ found taken written i.so_far.0 _ one.0 _ _ _ _ _ _ _ _ c.in-Some.ensures.given one.2 (i.so_far.2 found taken written start));
       failed = sym (ap (λ (p : Progress). p.failed) c.in-Some.ensures.some) ∙ i.failed;
+      idle = c.in_ok-answer_request.ensures.idle;
       noted = c.in_ok-answer_request.ensures.noted ∙ i.noted;
       same = c.answer_request.ensures.same ∙ i.same;
     }
@@ -29,10 +31,10 @@ returns-in_err-answer_request-clause-err g c =
     let i = c.loop-words.invariant in
     let one = c.in_err-answer_request.ensures.err in
     let p = err_from_is_err_and c.from_residual.result c.from_residual.ensures.1 in
-    rw (p.1, p.2) (i.so_far.0 ++ one.0, Appends-trans _ _ _ i.so_far.0 one.0 i.so_far.1 one.1, λ found taken written start. EndsAs-more _ found taken written i.so_far.0 _ one.0 _ _ _ _ _ _ _ c.in-Some.ensures.given one.2 (i.so_far.2 found taken written start))
+    rw (p.1, p.2) (i.so_far.0 ++ one.0, Appends-trans _ _ _ i.so_far.0 one.0 i.so_far.1 one.1, λ found taken written start. EndsAs-more _ _ found taken written i.so_far.0 _ one.0 _ _ _ _ _ _ _ c.in-Some.ensures.given one.2 (i.so_far.2 found taken written start))
 
 pub returns-in_err-answer_request-clause-end : goal.returns-in_err-answer_request-clause-end
 returns-in_err-answer_request-clause-end g c =
     let one = c.in_err-answer_request.ensures.err in
     let p = err_from_is_err_and c.from_residual.result c.from_residual.ensures.1 in
-    rw (p.1, p.2) (IsPieceEnd-from_stops _ _ _ _ _ _ _ _ one.2)
+    rw (p.1, p.2) (IsPieceEnd-from_stops _ _ _ _ _ _ _ _ _ one.2)

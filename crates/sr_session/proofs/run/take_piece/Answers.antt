@@ -28,7 +28,7 @@ returns-in_err-send-clause-err g c =
     let part = c.in_err-send.ensures.err in
     let p = err_from_is_err_and c.from_residual-in_err-send.result c.from_residual-in_err-send.ensures.1 in
     let broken = c.answer_waiting.ensures.failed ∙ sym c.in_ok-broken.ensures.ok ∙ c.if-broken.true in
-    rw (p.1, p.2) (one.0 ++ part.0, Appends-trans _ _ _ one.0 part.0 one.1 part.1, λ found taken written start. EndsAs-broken_unsent _ found (taken ++ c.args.piece.now) written one.0 _ _ part.0 _ _ _ _ _ c.in_ok-answer_waiting.ensures.none_wait broken c.in_ok-gather_error.ensures.ok c.gather_error.ensures.sent part.2 (one.2 found (taken ++ c.args.piece.now) written (IsAnswering-begin _ found taken written c.args.piece.now _ _ _ _ _ c.requires.none_gathered c.in_ok-broken.ensures.advances start)))
+    rw (p.1, p.2) (one.0 ++ part.0, Appends-trans _ _ _ one.0 part.0 one.1 part.1, λ found taken written start. EndsAs-broken_unsent _ _ found (taken ++ c.args.piece.now) written one.0 _ _ part.0 _ _ _ _ _ c.in_ok-answer_waiting.ensures.none_wait broken c.in_ok-gather_error.ensures.ok c.gather_error.ensures.sent part.2 (one.2 found (taken ++ c.args.piece.now) written (IsAnswering-begin _ found taken written c.args.piece.now _ _ _ _ _ c.requires.none_gathered c.in_ok-broken.ensures.advances start)))
 
 pub returns-then-broken-clause-err : goal.returns-then-broken-clause-err
 returns-then-broken-clause-err g c =
@@ -48,4 +48,4 @@ returns-clause-ok g c =
 pub returns-clause-err : goal.returns-clause-err
 returns-clause-err g c =
     let one = c.in_ok-answer_waiting.ensures.ok in
-    IfErr-weaker c.send-2.result _ _ (λ end part. (one.0 ++ part.0, Appends-trans _ _ _ one.0 part.0 one.1 part.1, λ found taken written start. EndsAs-unsent _ found (taken ++ c.args.piece.now) written one.0 _ part.0 _ _ _ end part.2 (one.2 found (taken ++ c.args.piece.now) written (IsAnswering-begin _ found taken written c.args.piece.now _ _ _ _ _ c.requires.none_gathered c.in_ok-broken.ensures.advances start)))) c.send-2.ensures.err
+    IfErr-weaker c.send-2.result _ _ (λ end part. (one.0 ++ part.0, Appends-trans _ _ _ one.0 part.0 one.1 part.1, λ found taken written start. EndsAs-unsent _ _ found (taken ++ c.args.piece.now) written one.0 _ part.0 _ _ _ end part.2 (one.2 found (taken ++ c.args.piece.now) written (IsAnswering-begin _ found taken written c.args.piece.now _ _ _ _ _ c.requires.none_gathered c.in_ok-broken.ensures.advances start)))) c.send-2.ensures.err

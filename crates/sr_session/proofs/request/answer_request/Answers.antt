@@ -6,7 +6,7 @@ use Rattle.sr_args.specs.Command.{IsCommand}
 use Rattle.sr_session.specs.Answered.{refuses}
 use Rattle.sr_session.specs.steps.Gathered.{stay, silent}
 use Rattle.sr_session.proofs.GatheredLemmas.{Gathers-made}
-use Rattle.sr_session.proofs.answer.answer_request.Goals as goal
+use Rattle.sr_session.proofs.request.answer_request.Goals as goal
 
 pub returns-in-Ok-clause-ok : goal.returns-in-Ok-clause-ok
 returns-in-Ok-clause-ok g c =

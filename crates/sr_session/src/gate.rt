@@ -1,0 +1,18 @@
+/// Where a worker may be held, so that a test can let others go first.
+pub trait Gate {
+    /// Before a call of the session.
+    fn before_call(&self, session: u64);
+
+    /// Between two rounds of a recovery that the session asked for.
+    fn between(&self, session: u64);
+}
+
+/// A gate that holds nobody.
+#[derive(Clone, Copy, Debug, PartialEq, Eq)]
+pub struct NoGate;
+
+impl Gate for NoGate {
+    fn before_call(&self, _: u64) {}
+
+    fn between(&self, _: u64) {}
+}

@@ -1,0 +1,178 @@
+ghost use Rattle.std.specs.Prelude.{◌≡◌, ℕ, ◌<◌, List, length, false, OnOk, IfOk, IfErr};
+ghost use Rattle.std.specs.Io.KnownBytes.{Appends};
+ghost use Rattle.sr_resp.specs.Request.{Words};
+ghost use Rattle.sr_resp.specs.Reply.{reply_text};
+ghost use Rattle.sr_args.specs.Command.{IsCall};
+ghost use Rattle.sr_session.specs.Answered.{Answers, Holds, code_of, taken_as};
+ghost use Rattle.sr_session.specs.Desk.{IsIdle};
+ghost use Rattle.sr_session.specs.steps.Calling.{Fails, IsDeskEnd, made_of};
+ghost use Rattle.sr_session.specs.steps.Gathered.{Moves, BreaksOff, Gathers, Stops, IsNoted};
+
+use crate::calling::{answer, call_of};
+use crate::replies::Replies;
+use crate::{Clock, Desk, DeskFault, End, Gate};
+use sr_args::{Call, CallFault, Command, read_call};
+use sr_bytes::Words;
+use sr_resp::{ErrCode, Reply, Sink};
+use std::alloc::Global;
+
+/// The error that says why words are not a command.
+fn code_of_fault(fault: CallFault) -> ErrCode
+    ensures { result ≡ code_of fault }
+{
+    match fault {
+        CallFault::Unknown => ErrCode::Unknown,
+        CallFault::Arity => ErrCode::Arity,
+        CallFault::Syntax => ErrCode::Syntax,
+        CallFault::Number => ErrCode::Number,
+        CallFault::BadId => ErrCode::BadId,
+        CallFault::Memory => ErrCode::Memory,
+    }
+}
+
+/// Answers one request of an open session that does not wait: its reply is gathered. Replies that were gathered before a
+/// call that may wait are sent first.
+pub(crate) fn answer_request<W: Sink, D: Desk, C: Clock, G: Gate>(
+    alloc: Global,
+    writer: &mut W,
+    desk: &mut D,
+    clock: &C,
+    gate: &G,
+    blocking: bool,
+    session: u64,
+    words: &Words,
+    replies: &mut Replies,
+) -> Result<(), End>
+    requires words { 0 < length words.now }
+    requires sound { W.failed writer.old ≡ false }
+    requires idle { IsIdle session (D.shows desk.old) }
+    ensures ok { OnOk result ((gets : List ℕ) × Appends (W.contents writer.old) (W.contents writer.new) gets
+        × Gathers (Answers (C.may_tell clock.now) blocking session) replies.old.gathered.items replies.old.sent
+        (D.shows desk.old) words.now gets replies.new.gathered.items replies.new.sent (D.shows desk.new)) }
+    ensures idle { OnOk result (IsIdle session (D.shows desk.new)) }
+    ensures err { IfErr result (λ end. (gets : List ℕ) × Appends (W.contents writer.old) (W.contents writer.new) gets
+        × Stops (Answers (C.may_tell clock.now) blocking session) (Holds (C.may_tell clock.now) blocking session)
+        replies.old.gathered.items replies.old.sent (D.shows desk.old) words.now gets end (D.shows desk.new)) }
+    ensures noted { IsNoted result (W.failed writer.old) (W.failed writer.new) }
+    ensures same { D.borrows desk.new ≡ D.borrows desk.old }
+{
+    match read_call(alloc, words) {
+        Ok(command) => answer_call(
+            alloc,
+            writer,
+            desk,
+            clock,
+            gate,
+            blocking,
+            session,
+            call_of(command),
+            replies,
+        ),
+        Err(fault) => {
+            replies.gather_error(alloc, code_of_fault(fault))?;
+            Ok(())
+        }
+    }
+}
+
+/// Answers one call in the same way.
+fn answer_call<W: Sink, D: Desk, C: Clock, G: Gate>(
+    alloc: Global,
+    writer: &mut W,
+    desk: &mut D,
+    clock: &C,
+    gate: &G,
+    blocking: bool,
+    session: u64,
+    call: Call,
+    replies: &mut Replies,
+) -> Result<(), End>
+    requires sound { W.failed writer.old ≡ false }
+    requires idle { IsIdle session (D.shows desk.old) }
+    ensures ok { OnOk result ((gets : List ℕ) × Appends (W.contents writer.old) (W.contents writer.new) gets
+        × ((words : Words) → IsCall words call → Gathers (Answers (C.may_tell clock.now) blocking session)
+        replies.old.gathered.items replies.old.sent (D.shows desk.old) words
+        gets replies.new.gathered.items replies.new.sent (D.shows desk.new))) }
+    ensures idle { OnOk result (IsIdle session (D.shows desk.new)) }
+    ensures err { IfErr result (λ end. (gets : List ℕ) × Appends (W.contents writer.old) (W.contents writer.new) gets
+        × ((words : Words) → IsCall words call → Stops (Answers (C.may_tell clock.now) blocking session)
+        (Holds (C.may_tell clock.now) blocking session)
+        replies.old.gathered.items replies.old.sent (D.shows desk.old) words gets end (D.shows desk.new))) }
+    ensures noted { IsNoted result (W.failed writer.old) (W.failed writer.new) }
+    ensures same { D.borrows desk.new ≡ D.borrows desk.old }
+{
+    send_before(writer, blocking, &call, replies)?;
+    let reply = reply_to(alloc, desk, clock, gate, blocking, session, call)?;
+    replies.gather(&reply)?;
+    Ok(())
+}
+
+/// Sends what is gathered, if the call may wait.
+fn send_before<W: Sink>(
+    writer: &mut W,
+    blocking: bool,
+    call: &Call,
+    replies: &mut Replies,
+) -> Result<(), End>
+    requires { W.failed writer.old ≡ false }
+    ensures ok { OnOk result ((gets : List ℕ) × Appends (W.contents writer.old) (W.contents writer.new) gets
+        × Moves replies.old.gathered.items replies.old.sent gets replies.new.gathered.items replies.new.sent) }
+    ensures err { IfErr result (λ end. (gets : List ℕ) × Appends (W.contents writer.old) (W.contents writer.new) gets
+        × BreaksOff replies.old.gathered.items replies.old.sent gets end) }
+    ensures noted { IsNoted result (W.failed writer.old) (W.failed writer.new) }
+{
+    if blocking && call.block().is_some() {
+        replies.send(writer)
+    } else {
+        Ok(())
+    }
+}
+
+/// The reply to a call: that of its server, or the error that says that nothing changed.
+fn reply_to<D: Desk, C: Clock, G: Gate>(
+    alloc: Global,
+    desk: &mut D,
+    clock: &C,
+    gate: &G,
+    blocking: bool,
+    session: u64,
+    call: Call,
+) -> Result<Reply, End>
+    requires { IsIdle session (D.shows desk.old) }
+    ensures ok { IfOk result (λ reply. (words : Words) → IsCall words call → Answers (C.may_tell clock.now) blocking session
+        (D.shows desk.old) words (reply_text reply) (D.shows desk.new)) }
+    ensures idle { OnOk result (IsIdle session (D.shows desk.new)) }
+    ensures err { IfErr result (λ end. (words : Words) → IsCall words call
+        → Fails (Answers (C.may_tell clock.now) blocking session) (Holds (C.may_tell clock.now) blocking session)
+        (D.shows desk.old) words end (D.shows desk.new)) }
+    ensures end { IfErr result IsDeskEnd }
+    ensures same { D.borrows desk.new ≡ D.borrows desk.old }
+{
+    let command = Command::Call(taken(blocking, call));
+    match answer(alloc, desk, clock, gate, session, command) {
+        Ok(reply) => Ok(reply),
+        Err(fault) => reply_to_fault(alloc, fault),
+    }
+}
+
+/// The error that says that a call was refused and nothing changed, or the end that another fault brings.
+fn reply_to_fault(alloc: Global, fault: DeskFault) -> Result<Reply, End>
+    ensures made { result ≡ made_of fault }
+    ensures end { IfErr result IsDeskEnd }
+{
+    match fault {
+        DeskFault::Memory => Ok(Reply::error(alloc, ErrCode::Memory)),
+        DeskFault::Full => Ok(Reply::error(alloc, ErrCode::Full)),
+        DeskFault::Unread => Err(End::Memory),
+        DeskFault::Busy | DeskFault::NoSession | DeskFault::Regress { .. } | DeskFault::Idle => {
+            Err(End::Desk)
+        }
+    }
+}
+
+/// The call as a session takes it.
+fn taken(blocking: bool, call: Call) -> Call
+    ensures { result ≡ taken_as blocking call }
+{
+    if blocking { call } else { call.without_block() }
+}
