@@ -1,22 +1,28 @@
 # All that is needed is the Rattle toolchain, whose command is `rt`, and the python3 that it runs on.
 
-.PHONY: run test replay check memory compare bench bench-solver check-solver
+.PHONY: run test replay histories check memory compare bench bench-solver check-solver
 
 # Builds the server and sends it the commands of examples/first.session as a client spells them.
 run:
 	@cd crates/sr_server && rt run -- --stdio < stdin
 
 # The whole gate: every proof from nothing, the must-fail edits, the tests and the program's stored run. Then the program that
-# was proved replays the sessions of the README and of examples/, and reads policy files.
+# was proved replays the sessions of the README and of examples/, and reads policy files, and histories are replayed.
 test:
 	rt ci
 	@scripts/replay crates/sr_server/out/sr_server README.md examples/*.session
 	@scripts/policies crates/sr_server/out/sr_server examples/policies/*.toml
+	@scripts/histories crates/book_driver/out/book_driver examples/histories/*.history
 
 # The sessions alone.
 replay:
 	@cd crates/sr_server && rt run -- --stdio < /dev/null
 	@scripts/replay crates/sr_server/out/sr_server README.md examples/*.session
+
+# The histories alone: events handed to a book, with their answers.
+histories:
+	@cd crates/book_driver && rt run -- < /dev/null
+	@scripts/histories crates/book_driver/out/book_driver examples/histories/*.history
 
 # One crate while it is written: make check C=sr_ids
 check:
@@ -39,6 +45,7 @@ bench:
 	@python3 bench/streams.py crates/sr_server/out/sr_server
 	@python3 bench/claims.py crates/sr_server/out/sr_server
 	@python3 bench/groups.py crates/sr_server/out/sr_server
+	@python3 bench/records.py crates/sr_server/out/sr_server
 
 # Times the solver on the families of problems of docs/BENCH.md, by turns with LEMON's network simplex on the same problems if its
 # headers are installed (Debian: liblemon-dev), and alone if not.
