@@ -1,0 +1,220 @@
+//! What no clause says: that calls succeed while there is memory, and histories that were worked out by hand.
+ghost use Rattle.std.specs.Prelude.{◌≡◌, ◌<◌, ◌⊎◌};
+
+use crate::{Held, HoldFault, Seat, SeatFault, hold};
+use sr_args::{Call, Command, read_call};
+use sr_book::{Book, Event};
+use sr_bytes::Words;
+use std::alloc::Global;
+use std::hash::RandomState;
+use std::marker::Brand;
+use std::process::Abort;
+use std::random::RandomSource;
+use std::sync::ledger::{Blank, Ledger};
+use std::test::Fail;
+
+/// What a test goes through.
+#[derive(Clone, Copy)]
+enum History {
+    Serving,
+    Deadline,
+    Regress,
+}
+
+/// The call that a line is.
+fn call(alloc: Global, line: &str) -> Result<Call, Fail> {
+    let mut words = Words::new(alloc);
+    for word in line.split(' ') {
+        words.add(word.as_bytes())?;
+    }
+    if words.len() == 0 {
+        return Err(Fail::new("no words"));
+    }
+    let Command::Call(call) = read_call(alloc, &words)?;
+    Ok(call)
+}
+
+fn empty_book(rt: &(impl AllocGlobal + RandomSource)) -> Result<Book, Fail> {
+    Ok(Book::new(rt.alloc(), RandomState::new(rt)?))
+}
+
+/// Has this many sessions join at 10. Their numbers count from 1.
+fn join<L: Ledger, R: AllocGlobal + Abort>(
+    rt: &R,
+    held: &mut Held<L>,
+    seat: &mut Seat<L>,
+    count: u64,
+) -> Result<(), Fail> {
+    for number in 0..count {
+        match held.act(rt.alloc(), seat, 10, Event::Join) {
+            Ok(answer) => assert!(rt; answer.index == number.saturating_add(1)),
+            Err(refused) => assert!(rt; false, "{:?}", refused.fault),
+        }
+    }
+    Ok(())
+}
+
+/// Makes a call of a session at 10. Its record has this index.
+fn exchange<L: Ledger, R: AllocGlobal + Abort>(
+    rt: &R,
+    held: &mut Held<L>,
+    seat: &mut Seat<L>,
+    session: u64,
+    line: &str,
+    index: u64,
+) -> Result<(), Fail> {
+    let call = call(rt.alloc(), line)?;
+    let receipt = held.exchange(rt.alloc(), seat, 10, session, &call)?;
+    assert_eq!(rt; receipt.index, index, "{line}");
+    Ok(())
+}
+
+/// The index of the letter that a session has, or 0 if it waits.
+fn look<L: Ledger>(
+    alloc: Global,
+    held: &Held<L>,
+    seat: &mut Seat<L>,
+    session: u64,
+) -> Result<u64, SeatFault> {
+    match held.look(alloc, seat, session)? {
+        Some(letter) => Ok(letter.index),
+        None => Ok(0),
+    }
+}
+
+/// Two readers of a group wait, and one entry comes.
+fn serving<L: Ledger, R: AllocGlobal + Abort>(
+    rt: &R,
+    held: &mut Held<L>,
+    maker: &mut Seat<L>,
+    looker: &mut Seat<L>,
+) -> Result<(), Fail> {
+    join(rt, held, maker, 3)?;
+    for (session, line, index) in [
+        (3, "XGROUP CREATE s g $ MKSTREAM", 4),
+        (1, "XREADGROUP GROUP g A BLOCK 0 STREAMS s >", 5),
+        (2, "XREADGROUP GROUP g B BLOCK 0 STREAMS s >", 6),
+        (3, "XADD s 1-1 a b", 7),
+    ] {
+        exchange(rt, held, maker, session, line, index)?;
+    }
+    for (session, want, front) in [
+        (2, Ok(0), 0),
+        (1, Ok(8), 8),
+        (3, Err(SeatFault::Idle), 8),
+        (9, Err(SeatFault::NoSession), 8),
+    ] {
+        let found = look(rt.alloc(), held, looker, session);
+        assert!(rt; found == want, "{session}");
+        assert_eq!(rt; looker.front(), front, "{session}");
+    }
+    Ok(())
+}
+
+/// A read waits from 10 on for 100 milliseconds.
+fn deadline<L: Ledger, R: AllocGlobal + Abort>(
+    rt: &R,
+    held: &mut Held<L>,
+    maker: &mut Seat<L>,
+    looker: &mut Seat<L>,
+) -> Result<(), Fail> {
+    join(rt, held, maker, 1)?;
+    exchange(rt, held, maker, 1, "XREAD BLOCK 100 STREAMS s $", 2)?;
+    for (told, want, letter) in [(109, false, 0), (110, true, 3), (111, false, 3)] {
+        let due = held.tick(rt.alloc(), maker, told)?;
+        assert!(rt; due == want, "{told}");
+        let found = look(rt.alloc(), held, looker, 1);
+        assert!(rt; found == Ok(letter), "{told}");
+    }
+    Ok(())
+}
+
+/// A seat has seen a record that the book does not have.
+fn regress<L: Ledger, R: AllocGlobal + Abort>(
+    rt: &R,
+    held: &mut Held<L>,
+    maker: &mut Seat<L>,
+    ahead: &mut Seat<L>,
+) -> Result<(), Fail> {
+    let alloc = rt.alloc();
+    join(rt, held, maker, 1)?;
+    ahead.see(2);
+    let want = SeatFault::Regress { index: 1 };
+    match held.act(alloc, ahead, 10, Event::Join) {
+        Ok(_answer) => assert!(rt; false),
+        Err(refused) => assert!(rt; refused.fault == want),
+    }
+    let due = held.tick(alloc, ahead, 10);
+    assert!(rt; due == Err(want));
+    let found = look(rt.alloc(), held, ahead, 1);
+    assert!(rt; found == Err(want));
+    assert_eq!(rt; held.book().records().len(), 1);
+    Ok(())
+}
+
+/// Goes through a history at two seats.
+fn goes_on<L: Ledger, R: AllocGlobal + Abort + RandomSource>(
+    rt: &R,
+    blank: Blank,
+    history: History,
+) -> Result<(), Fail>
+    requires name { blank.name ≡ L.name }
+    requires whole { blank.parts ≡ L.parts }
+    requires parts { blank.parts ≡ 2 }
+{
+    let book = empty_book(rt)?;
+    let (mut held, mut seats) = hold::<L>(rt.alloc(), book, 2, blank)?;
+    let (Some(mut one), Some(mut other)) = (seats.pop(), seats.pop()) else {
+        return Err(Fail::new("two seats"));
+    };
+    match history {
+        History::Serving => serving(rt, &mut held, &mut one, &mut other),
+        History::Deadline => deadline(rt, &mut held, &mut one, &mut other),
+        History::Regress => regress(rt, &mut held, &mut one, &mut other),
+    }
+}
+
+fn goes_through<R: AllocGlobal + Abort + RandomSource>(
+    rt: &R,
+    history: History,
+) -> Result<(), Fail> {
+    goes_on::<Brand, R>(rt, Blank::new(2), history)
+}
+
+#[test]
+fn a_read_that_waits_is_served_and_seen(rt: HostRuntime) -> Result<(), Fail> {
+    goes_through(&rt, History::Serving)
+}
+
+#[test]
+fn a_deadline_is_reached_at_its_moment(rt: HostRuntime) -> Result<(), Fail> {
+    goes_through(&rt, History::Deadline)
+}
+
+#[test]
+fn a_book_that_went_back_is_told(rt: HostRuntime) -> Result<(), Fail> {
+    goes_through(&rt, History::Regress)
+}
+
+/// Fails the test unless that number of seats is refused.
+fn refuses<L: Ledger, R: AllocGlobal + Abort + RandomSource>(
+    rt: &R,
+    blank: Blank,
+    n: usize,
+) -> Result<(), Fail>
+    requires name { blank.name ≡ L.name }
+    requires whole { blank.parts ≡ L.parts }
+    requires wrong { (n ≡ 0) ⊎ (65 < n) }
+{
+    match hold::<L>(rt.alloc(), empty_book(rt)?, n, blank) {
+        Ok(_made) => assert!(rt; false),
+        Err(fault) => assert!(rt; fault == HoldFault::Count),
+    }
+    Ok(())
+}
+
+#[test]
+fn wrong_counts(rt: HostRuntime) -> Result<(), Fail> {
+    refuses::<Brand, HostRuntime>(&rt, Blank::new(0), 0)?;
+    refuses::<Brand, HostRuntime>(&rt, Blank::new(66), 66)
+}
