@@ -1,15 +1,13 @@
--- Words have one right answer: each fault is of words that come less far on their way to a call.
-use Rattle.std.proofs.Common.{◌≡◌, ◌≢◌, ℕ, ◌<◌, List, Result, Ok, Err, inl, inr, ◌⊎◌, refl, sym, ap, subst, arith}
+-- Words have one right answer: each fault is of words that come less far on their way to a command.
+use Rattle.std.proofs.Common.{◌≡◌, ◌≢◌, ℕ, ◌<◌, List, Result, Ok, Err, IfOk, IfErr, inl, inr, ◌⊎◌, refl, sym, ap, subst, arith}
 use Rattle.sr_args.specs.declared.table.CommandName.{CommandName}
-use Rattle.sr_args.specs.declared.call.Call.{Call}
 use Rattle.sr_args.specs.declared.call.Command.{Command}
-use Rattle.sr_args.specs.declared.call.Command.TheVariants as command
 use Rattle.sr_args.specs.declared.fault.CallFault.{CallFault}
 use Rattle.sr_args.specs.declared.fault.CallFault.TheVariants.{Unknown, Arity, Syntax, Number, BadId, Memory}
 use Rattle.sr_args.specs.Place.{Word, HasNumbers, HasIds}
 use Rattle.sr_args.specs.Table.{IsHalfNamed}
 use Rattle.sr_args.specs.Form.{Reading, Values, places, Reads, Means}
-use Rattle.sr_args.specs.Command.{form_of, call_of, IsWellCounted, IsRead, places_of, IsCall, IsCommandNamed, IsCommandCounted, Refuses, Answers}
+use Rattle.sr_args.specs.Command.{form_of, command_of, IsWellCounted, IsRead, places_of, IsCommand, IsCommandNamed, IsCommandCounted, Refuses, Answers}
 use Rattle.sr_args.specs.steps.Gives.{GivesCall, Gives}
 use Rattle.sr_args.proofs.FormLemmas.{Reads-one, Means-one, HasNumbers-from_means, HasIds-from_means}
 use Rattle.sr_args.proofs.NameLemmas.{IsNamed-one, operands-one, IsCut-unnamed}
@@ -39,12 +37,12 @@ same_read P words r s x =
     let reads = subst (λ (ws : List Word). Reads (form_of r.name) ws r.reading) operands r.reads in
     carried_at P s.operands r.name s.name name r.reading s.reading reads s.reads x
 
--- a call's numbers and ids
-call_numbers : (words : List Word) (call : Call) (c : IsCall words call) → HasNumbers (places_of words c.read)
-call_numbers words call c = HasNumbers-from_means (form_of c.read.name) c.read.reading c.values c.means
+-- a command's numbers and ids
+command_numbers : (words : List Word) (asked : Command) (c : IsCommand words asked) → HasNumbers (places_of words c.read)
+command_numbers words asked c = HasNumbers-from_means (form_of c.read.name) c.read.reading c.values c.means
 
-call_ids : (words : List Word) (call : Call) (c : IsCall words call) → HasIds (places_of words c.read)
-call_ids words call c = HasIds-from_means (form_of c.read.name) c.read.reading c.values c.means
+command_ids : (words : List Word) (asked : Command) (c : IsCommand words asked) → HasIds (places_of words c.read)
+command_ids words asked c = HasIds-from_means (form_of c.read.name) c.read.reading c.values c.means
 
 counted_of : (words : List Word) → IsRead words → IsCommandCounted words
 counted_of words read = record { name = read.name; operands = read.operands; counted = read.counted }
@@ -61,7 +59,7 @@ pass_count words (Err Syntax) lt x = x.0
 pass_count words (Err Number) lt x = counted_of words x.0
 pass_count words (Err BadId) lt x = counted_of words x.0
 pass_count words (Err Memory) lt x = counted_of words x.1.read
-pass_count words (Ok (command.Call call)) lt x = counted_of words x.read
+pass_count words (Ok asked) lt x = counted_of words x.read
 
 pass_name : (words : List Word) (b : Result Command CallFault) → 0 < rank b → Answers words b → IsCommandNamed words ⊎ IsHalfNamed words
 unfolding rank
@@ -72,7 +70,7 @@ pass_name words (Err Syntax) lt x = inl (named_of words x.0)
 pass_name words (Err Number) lt x = inl (named_of words (counted_of words x.0))
 pass_name words (Err BadId) lt x = inl (named_of words (counted_of words x.0))
 pass_name words (Err Memory) lt x = inl (named_of words (counted_of words x.1.read))
-pass_name words (Ok (command.Call call)) lt x = inl (named_of words (counted_of words x.read))
+pass_name words (Ok asked) lt x = inl (named_of words (counted_of words x.read))
 
 pass_form : (words : List Word) (b : Result Command CallFault) → 2 < rank b → Answers words b → IsRead words
 unfolding rank
@@ -82,7 +80,7 @@ pass_form words (Err Syntax) lt x = absurd (omega arith)
 pass_form words (Err Number) lt x = x.0
 pass_form words (Err BadId) lt x = x.0
 pass_form words (Err Memory) lt x = x.1.read
-pass_form words (Ok (command.Call call)) lt x = x.read
+pass_form words (Ok asked) lt x = x.read
 
 pass_numbers : (words : List Word) (b : Result Command CallFault) → 3 < rank b → Answers words b → (read : IsRead words) × HasNumbers (places_of words read)
 unfolding rank
@@ -91,8 +89,8 @@ pass_numbers words (Err Arity) lt x = absurd (omega arith)
 pass_numbers words (Err Syntax) lt x = absurd (omega arith)
 pass_numbers words (Err Number) lt x = absurd (omega arith)
 pass_numbers words (Err BadId) lt x = (x.0, x.1)
-pass_numbers words (Err Memory) lt x = (x.1.read, call_numbers words x.0 x.1)
-pass_numbers words (Ok (command.Call call)) lt x = (x.read, call_numbers words call x)
+pass_numbers words (Err Memory) lt x = (x.1.read, command_numbers words x.0 x.1)
+pass_numbers words (Ok asked) lt x = (x.read, command_numbers words asked x)
 
 pass_ids : (words : List Word) (b : Result Command CallFault) → 4 < rank b → Answers words b → (read : IsRead words) × HasIds (places_of words read)
 unfolding rank
@@ -101,8 +99,8 @@ pass_ids words (Err Arity) lt x = absurd (omega arith)
 pass_ids words (Err Syntax) lt x = absurd (omega arith)
 pass_ids words (Err Number) lt x = absurd (omega arith)
 pass_ids words (Err BadId) lt x = absurd (omega arith)
-pass_ids words (Err Memory) lt x = (x.1.read, call_ids words x.0 x.1)
-pass_ids words (Ok (command.Call call)) lt x = (x.read, call_ids words call x)
+pass_ids words (Err Memory) lt x = (x.1.read, command_ids words x.0 x.1)
+pass_ids words (Ok asked) lt x = (x.read, command_ids words asked x)
 
 -- words that a fault refuses have no answer after it
 refuse_named : (words : List Word) → Refuses words Unknown → IsCommandNamed words ⊎ IsHalfNamed words → ⊥
@@ -134,11 +132,11 @@ refuse_ids words b lt x y =
     let p = pass_ids words b lt y in
     x.2 (same_read (λ c r. HasIds (places (form_of c) r)) words p.0 x.0 p.1)
 
-IsCall-one : (words : List Word) (a b : Call) → IsCall words a → IsCall words b → a ≡ b
-IsCall-one words a b x y =
+IsCommand-one : (words : List Word) (a b : Command) → IsCommand words a → IsCommand words b → a ≡ b
+IsCommand-one words a b x y =
     let at_x = λ (w : Values (form_of x.read.name)) (m : Means (form_of x.read.name) x.read.reading w).
-    ap (call_of x.read.name) (Means-one (form_of x.read.name) x.read.reading x.values w x.means m) in
-    let at_y = same_read (λ c r. (w : Values (form_of c)) → Means (form_of c) r w → call_of x.read.name x.values ≡ call_of c w) words x.read y.read at_x y.values y.means in
+    ap (command_of x.read.name) (Means-one (form_of x.read.name) x.read.reading x.values w x.means m) in
+    let at_y = same_read (λ c r. (w : Values (form_of c)) → Means (form_of c) r w → command_of x.read.name x.values ≡ command_of c w) words x.read y.read at_x y.values y.means in
     let left = x.is in
     let right = y.is in
     cc
@@ -162,7 +160,7 @@ Answers-one words a (Err Number) m n x y = absurd (refuse_numbers words a (omega
 Answers-one words (Err BadId) (Err BadId) m n x y = refl
 Answers-one words (Err BadId) b m n x y = absurd (refuse_ids words b (omega arith) x y)
 Answers-one words a (Err BadId) m n x y = absurd (refuse_ids words a (omega arith) y x)
-Answers-one words (Ok (command.Call a)) (Ok (command.Call b)) m n x y = ap (λ (call : Call). Ok (command.Call call)) (IsCall-one words a b x y)
+Answers-one words (Ok a) (Ok b) m n x y = ap (λ (asked : Command). Ok asked) (IsCommand-one words a b x y)
 
 -- a right answer is the one, or memory ran out
 pub Answers-only : (words : List Word) (result answer : Result Command CallFault) → Answers words result → answer ≢ Err Memory → Answers words answer → (result ≡ answer) ⊎ (result ≡ Err Memory)
@@ -175,8 +173,8 @@ Answers-only words (Err BadId) answer x n y = inl (Answers-one words (Err BadId)
 Answers-only words (Ok c) answer x n y = inl (Answers-one words (Ok c) answer (λ e. cc) n x y)
 
 -- what the reader of a command answers is right, once the words are named and counted
-pub IsCall-from_gives : (words operands : List Word) (command : CommandName) (call : Call) → IsWellCounted words command operands → GivesCall (form_of command) (call_of command) operands call → IsCall words call
-IsCall-from_gives words operands command call counted g = record {
+IsCommand-from_gives : (words operands : List Word) (command : CommandName) (asked : Command) → IsWellCounted words command operands → GivesCall (form_of command) (command_of command) operands asked → IsCommand words asked
+IsCommand-from_gives words operands command asked counted g = record {
   read = record { name = command; operands = operands; counted = counted; reading = g.reading; reads = g.reads };
   values = g.values;
   means = g.means;
@@ -193,7 +191,7 @@ no_read words operands command counted none read =
     let at = read_at words operands command counted read in
     subst (λ (c : CommandName). (r : Reading (form_of c)) → Reads (form_of c) operands r → ⊥) at.1 none read.reading (subst (λ (ws : List Word). Reads (form_of read.name) ws read.reading) (sym at.0) read.reads)
 
-pub Refuses-from_gives : (words operands : List Word) (command : CommandName) (fault : CallFault) → IsWellCounted words command operands → Gives (form_of command) (call_of command) operands (Err fault) → Refuses words fault
+Refuses-from_gives : (words operands : List Word) (command : CommandName) (fault : CallFault) → IsWellCounted words command operands → Gives (form_of command) (command_of command) operands (Err fault) → Refuses words fault
 Refuses-from_gives words operands command Unknown counted g = absurd g
 Refuses-from_gives words operands command Arity counted g = absurd g
 Refuses-from_gives words operands command Syntax counted g =
@@ -202,4 +200,16 @@ Refuses-from_gives words operands command Number counted g =
     (record { name = command; operands = operands; counted = counted; reading = g.0; reads = g.1 }, g.2)
 Refuses-from_gives words operands command BadId counted g =
     (record { name = command; operands = operands; counted = counted; reading = g.0; reads = g.1 }, g.2, g.3)
-Refuses-from_gives words operands command Memory counted g = (g.0, IsCall-from_gives words operands command g.0 counted g.1)
+Refuses-from_gives words operands command Memory counted g = (g.0, IsCommand-from_gives words operands command g.0 counted g.1)
+
+pub Answers-from_gives : (words operands : List Word) (command : CommandName) (result : Result Command CallFault) → IsWellCounted words command operands → Gives (form_of command) (command_of command) operands result → Answers words result
+Answers-from_gives words operands command (Ok asked) counted g = IsCommand-from_gives words operands command asked counted g
+Answers-from_gives words operands command (Err fault) counted g = Refuses-from_gives words operands command fault counted g
+
+pub IsCommand-from_answers : (words : List Word) (result : Result Command CallFault) → Answers words result → IfOk result (IsCommand words)
+IsCommand-from_answers words (Ok asked) x = x
+IsCommand-from_answers words (Err fault) x = tt
+
+pub Refuses-from_answers : (words : List Word) (result : Result Command CallFault) → Answers words result → IfErr result (Refuses words)
+Refuses-from_answers words (Ok asked) x = tt
+Refuses-from_answers words (Err fault) x = x

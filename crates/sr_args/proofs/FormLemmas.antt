@@ -9,8 +9,8 @@ use Rattle.sr_ids.proofs.EndLemmas.{IsEnd-one}
 use Rattle.sr_args.specs.Options.{Written, AreOptionsFit, IsUnnamed, is_of, first_name, nothing, option_places}
 use Rattle.sr_args.specs.declared.name.OptionName.{OptionName}
 use Rattle.sr_args.specs.declared.options.OptionSet.{OptionSet}
-use Rattle.sr_args.specs.Place.{Word, Place, Range, int, nat, from_one, Number, Writes, IdForm, strict_id, range_start, range_end, new_id, position, read_id, IdOf, Spells, Fits, HasNumbers, HasIds, spelled}
-use Rattle.sr_args.specs.Form.{Form, end, text, id, number, optional_text, ids, pairs, options, grouped, trim, before, maybe, ids_before, streams, barring, named_places, IsNamedFirst, AreUnnamed, IsMaybeNumber, Reading, Values, places, pair_places, IsFit, Reads, AreIds, Means}
+use Rattle.sr_args.specs.Place.{Word, Place, Range, int, nat, from_one, tries, Number, Writes, IdForm, strict_id, range_start, range_end, new_id, position, read_id, IdOf, Spells, Fits, HasNumbers, HasIds, any, spelled}
+use Rattle.sr_args.specs.Form.{Form, end, text, id, number, optional_text, ids, pairs, options, grouped, trim, before, maybe, ids_before, streams, texts_after, barring, named_places, IsNamedFirst, AreUnnamed, IsMaybeNumber, Reading, Values, places, pair_places, IsFit, Reads, AreIds, Means}
 use Rattle.sr_args.proofs.ChoiceLemmas.{HasNumbers-append, HasIds-append, Choose-one, Choose-numbers, Choose-ids, IsTrim-one, trim-numbers, trim-ids}
 use Rattle.sr_args.proofs.NumberLemmas.{IsInt-one, IsNat-one}
 use Rattle.sr_args.proofs.OptionLemmas.{GoOn, IsPast-end, head-of_set, options-one, trim-one}
@@ -41,6 +41,14 @@ ids-one spelling (w ∷ words) [] (b ∷ s) f g = absurd f
 ids-one spelling [] (a ∷ r) s f g = absurd f
 ids-one spelling (w ∷ words) (a ∷ r) [] f g = absurd g
 ids-one spelling (w ∷ words) (a ∷ r) (b ∷ s) f g = same_cons a b r s (sym f.0 ∙ g.0) (ids-one spelling words r s f.1 g.1)
+
+texts-one : (words r s : List Word) → Fits words (map any r) → Fits words (map any s) → r ≡ s
+texts-one words [] [] f g = refl
+texts-one [] [] (b ∷ s) f g = absurd g
+texts-one (w ∷ words) [] (b ∷ s) f g = absurd f
+texts-one [] (a ∷ r) s f g = absurd f
+texts-one (w ∷ words) (a ∷ r) [] f g = absurd g
+texts-one (w ∷ words) (a ∷ r) (b ∷ s) f g = same_cons a b r s (sym f.0 ∙ g.0) (texts-one words r s f.1 g.1)
 
 pairs-one : (words : List Word) (r s : List (Word × Word)) → Fits words (flat_map pair_places r) → Fits words (flat_map pair_places s) → r ≡ s
 pairs-one words [] [] f g = refl
@@ -119,6 +127,8 @@ reading-one (ids_before set) words r s f g p q =
 reading-one (streams spelling) words r s f g p q =
     let one = streams-one spelling words r.0 r.1 s.0 s.1 p q f g in
     same_pair r s one.0 one.1
+reading-one (texts_after name) [] r s f g p q = absurd f
+reading-one (texts_after name) (w ∷ words) r s f g p q = texts-one words r s f.1 g.1
 reading-one (barring names form) words r s f g p q = reading-one form words r s f g p.1 q.1
 
 pub Reads-one : (form : Form) (words : List Word) (r s : Reading form) → Reads form words r → Reads form words s → r ≡ s
@@ -138,6 +148,7 @@ Writes-one : (range : Range) (word : Word) (m n : Number range) → Writes range
 Writes-one int word m n p q = IsInt-one word m n p q
 Writes-one nat word m n p q = IsNat-one word m n p q
 Writes-one from_one word m n p q = IsInt-one word m n p.0 q.0
+Writes-one tries word m n p q = IsNat-one word m n p.0 q.0
 
 maybe_number-one : (range : Range) (word : Option Word) (m n : Option (Number range)) → IsMaybeNumber range word m → IsMaybeNumber range word n → m ≡ n
 maybe_number-one range None None None p q = refl
@@ -178,6 +189,7 @@ Means-one (maybe form) (Some reading) (Some v) None p q = absurd q
 Means-one (maybe form) (Some reading) (Some v) (Some w) p q = ap Some (Means-one form reading v w p q)
 Means-one (ids_before set) reading v w p q = same_pair v w (AreIds-one strict_id reading.0 v.0 w.0 p.0 q.0) (Choose-one reading.1 nothing v.1 w.1 p.1 q.1)
 Means-one (streams spelling) reading v w p q = same_pair v w (p.0 ∙ sym q.0) (AreIds-one spelling reading.1 v.1 w.1 p.1 q.1)
+Means-one (texts_after name) reading v w p q = p ∙ sym q
 Means-one (barring names form) reading v w p q = Means-one form reading v w p q
 
 -- what means something has its numbers and its ids
@@ -189,6 +201,14 @@ pairs-numbers (pair ∷ fields) = (tt, (tt, pairs-numbers fields))
 pub pairs-ids : (fields : List (Word × Word)) → HasIds (flat_map pair_places fields)
 pairs-ids [] = tt
 pairs-ids (pair ∷ fields) = (tt, (tt, pairs-ids fields))
+
+pub texts-numbers : (words : List Word) → HasNumbers (map any words)
+texts-numbers [] = tt
+texts-numbers (word ∷ words) = (tt, texts-numbers words)
+
+texts-ids : (words : List Word) → HasIds (map any words)
+texts-ids [] = tt
+texts-ids (word ∷ words) = (tt, texts-ids words)
 
 pub ids-numbers : (spelling : IdForm) (words : List Word) → HasNumbers (map (spelled spelling) words)
 ids-numbers spelling [] = tt
@@ -237,6 +257,7 @@ HasNumbers-from_means (maybe form) (Some r) (Some v) p = HasNumbers-from_means f
 HasNumbers-from_means (ids_before set) r v p =
     HasNumbers-append (map (spelled strict_id) r.0) (flat_map option_places r.1) (ids-numbers strict_id r.0) (Choose-numbers r.1 nothing v.1 p.1)
 HasNumbers-from_means (streams spelling) r v p = (tt, keys-numbers r.0 (map (spelled spelling) r.1) (ids-numbers spelling r.1))
+HasNumbers-from_means (texts_after name) r v p = (tt, texts-numbers r)
 HasNumbers-from_means (barring names form) r v p = HasNumbers-from_means form r v p
 
 pub HasIds-from_means : (form : Form) (reading : Reading form) (values : Values form) → Means form reading values → HasIds (places form reading)
@@ -260,12 +281,22 @@ HasIds-from_means (maybe form) (Some r) (Some v) p = HasIds-from_means form r v 
 HasIds-from_means (ids_before set) r v p =
     HasIds-append (map (spelled strict_id) r.0) (flat_map option_places r.1) (HasIds-from_are strict_id r.0 v.0 p.0) (Choose-ids r.1 nothing v.1 p.1)
 HasIds-from_means (streams spelling) r v p = (tt, keys-ids r.0 (map (spelled spelling) r.1) (HasIds-from_are spelling r.1 v.1 p.1))
+HasIds-from_means (texts_after name) r v p = (tt, texts-ids r)
 HasIds-from_means (barring names form) r v p = HasIds-from_means form r v p
 
 -- words are the ids that they are
 pub Fits-ids : (spelling : IdForm) (words : List Word) → Fits words (map (spelled spelling) words)
 Fits-ids spelling [] = tt
 Fits-ids spelling (word ∷ words) = (refl, Fits-ids spelling words)
+
+-- words are the texts that they are
+pub Fits-texts : (words : List Word) → Fits words (map any words)
+Fits-texts [] = tt
+Fits-texts (word ∷ words) = (refl, Fits-texts words)
+
+-- words in the places of texts are these texts
+pub texts-from_fits : (words texts : List Word) → Fits words (map any texts) → words ≡ texts
+texts-from_fits words texts f = texts-one words words texts (Fits-texts words) f
 
 -- words that spell ids spell a list of them
 pub AreIds-exist : (spelling : IdForm) (words : List Word) → HasIds (map (spelled spelling) words) → (list : List (IdOf spelling)) × AreIds spelling words list

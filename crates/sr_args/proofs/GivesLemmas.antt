@@ -51,6 +51,19 @@ text_fault form f g make words rest word call_faults.BadId e made gives =
 text_fault form f g make words rest word call_faults.Memory e made gives =
     (make word gives.0, text_call form f g make words rest word word gives.0 e refl made gives.1)
 
+-- two words more before a form: a key and a group
+pub in_group_call : {A B : Type 0} (form : Form) (f : Values form → A) (g : Values (text (text form)) → B) (make : Word → Word → A → B) (words after rest : List Word) (key group key′ group′ : Word) (a : A)
+    → ((key group : Word) (values : Values form) → g (key, (group, values)) ≡ make key group (f values)) → words ≡ key ∷ after → after ≡ group ∷ rest → key′ ≡ key → group′ ≡ group → GivesCall form f rest a → GivesCall (text (text form)) g words (make key′ group′ a)
+in_group_call {A} {B} form f g make words after rest key group key′ group′ a made d e same_key same_group gives =
+    text_call (text form) (λ (v : Values (text form)). (v.0, f v.1)) g (λ (k : Word) (p : Word × A). make k p.0 p.1) words after key key′ (group′, a) d same_key (λ k v. made k v.0 v.1)
+    (text_call form f (λ (v : Values (text form)). (v.0, f v.1)) (λ (k : Word) (x : A). (k, x)) after rest group group′ a e same_group (λ k v. refl) gives)
+
+pub in_group_fault : {A B : Type 0} (form : Form) (f : Values form → A) (g : Values (text (text form)) → B) (make : Word → Word → A → B) (words after rest : List Word) (key group : Word) (fault : CallFault)
+    → ((key group : Word) (values : Values form) → g (key, (group, values)) ≡ make key group (f values)) → words ≡ key ∷ after → after ≡ group ∷ rest → Gives form f rest (Err fault) → Gives (text (text form)) g words (Err fault)
+in_group_fault {A} {B} form f g make words after rest key group fault made d e gives =
+    text_fault (text form) (λ (v : Values (text form)). (v.0, f v.1)) g (λ (k : Word) (p : Word × A). make k p.0 p.1) words after key fault d (λ k v. made k v.0 v.1)
+    (text_fault form f (λ (v : Values (text form)). (v.0, f v.1)) (λ (k : Word) (x : A). (k, x)) after rest group fault e (λ k v. refl) gives)
+
 -- a form that may be left out, if there is a word
 some_place : (words : List Word) (ps : List Place) → words ≢ [] → Fits words ps → ps ≢ []
 some_place [] ps some f none = some refl

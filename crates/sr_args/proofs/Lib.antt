@@ -15,6 +15,7 @@ pub mod PendingLemmas
 pub mod PositionLemmas
 pub mod RangeLemmas
 pub mod ReadLemmas
+pub mod RoundsLemmas
 pub mod StreamsLemmas
 pub mod XaddLemmas
 pub mod XtrimLemmas

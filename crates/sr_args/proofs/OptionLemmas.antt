@@ -8,7 +8,7 @@ use Rattle.std.proofs.lemmas.Option.{same_Some}
 use Rattle.sr_args.specs.declared.name.Measure.{Measure}
 use Rattle.sr_args.specs.declared.name.Measure.TheVariants as measures
 use Rattle.sr_args.specs.declared.name.OptionName.{OptionName}
-use Rattle.sr_args.specs.declared.name.OptionName.TheVariants.{Count, NoMkStream, MaxLen, MinId, Limit, MkStream, JustId, Idle, Time, RetryCount, Group, NoAck, Block, Force, LastId, Streams}
+use Rattle.sr_args.specs.declared.name.OptionName.TheVariants.{Count, NoMkStream, MaxLen, MinId, Limit, MkStream, JustId, Idle, Time, RetryCount, Group, NoAck, Block, Force, LastId, Streams, Tries, Dead}
 use Rattle.sr_args.specs.declared.name.Sign.{Sign}
 use Rattle.sr_args.specs.declared.name.Sign.TheVariants.{Exact, Nearly}
 use Rattle.sr_args.specs.declared.options.OptionKind.{OptionKind}
@@ -41,7 +41,9 @@ option_at text =
     (cond (bytes_eq text (codes "force")) (Some Force)
     (cond (bytes_eq text (codes "lastid")) (Some LastId)
     (cond (bytes_eq text (codes "streams")) (Some Streams)
-    None)))))))))))))))
+    (cond (bytes_eq text (codes "tries")) (Some Tries)
+    (cond (bytes_eq text (codes "dead")) (Some Dead)
+    None)))))))))))))))))
 
 option_at-text : (name : OptionName) → option_at (map to_ascii_lowercase (option_text name)) ≡ Some name
 option_at-text Count = refl

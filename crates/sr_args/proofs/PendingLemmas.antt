@@ -10,8 +10,9 @@ use Rattle.sr_args.specs.Place.{Word, Place, Fits, HasNumbers, HasIds, int, nume
 use Rattle.sr_args.specs.Form.{Reading, Reads, places, optional_text, named_places}
 use Rattle.sr_args.specs.commands.Xpending.{listing, asked}
 use Rattle.sr_args.specs.steps.Gives.{GivesCall}
+use Rattle.sr_args.specs.steps.Numbers.{IsAnyWord}
 use Rattle.sr_args.specs.steps.Options.{Begins}
-use Rattle.sr_args.specs.steps.Pending.{listing_reading, IsAnyWord, IsBeforeStart, IsMaybeInt}
+use Rattle.sr_args.specs.steps.Pending.{listing_reading, IsBeforeStart, IsMaybeInt}
 use Rattle.sr_args.proofs.ChoiceLemmas.{HasNumbers-append, HasNumbers-front, HasNumbers-back, HasIds-back, count-back}
 
 -- a word too many

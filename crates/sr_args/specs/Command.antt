@@ -4,7 +4,6 @@
 use Rattle.std.specs.Prelude.{◌≡◌, ◌⊎◌, List, length, Result, Ok, Err}
 use Rattle.sr_args.specs.declared.table.CommandName.{CommandName}
 use Rattle.sr_args.specs.declared.table.CommandName.TheVariants as commands
-use Rattle.sr_args.specs.declared.call.Call.{Call}
 use Rattle.sr_args.specs.declared.call.Command.{Command}
 use Rattle.sr_args.specs.declared.call.Command.TheVariants as command
 use Rattle.sr_args.specs.declared.fault.CallFault.{CallFault}
@@ -33,6 +32,9 @@ use Rattle.sr_args.specs.commands.Xclaim as xclaim
 use Rattle.sr_args.specs.commands.Xpending as xpending
 use Rattle.sr_args.specs.commands.Xread as xread
 use Rattle.sr_args.specs.commands.Xreadgroup as xreadgroup
+use Rattle.sr_args.specs.commands.RecoverPlan as recover_plan
+use Rattle.sr_args.specs.commands.RecoverRun as recover_run
+use Rattle.sr_args.specs.commands.RecoverBoard as recover_board
 
 -- the form of each command, after its name
 abbrev pub form_of : CommandName → Form
@@ -57,30 +59,36 @@ form_of commands.Xclaim = xclaim.form
 form_of commands.Xpending = xpending.form
 form_of commands.Xread = xread.form
 form_of commands.Xreadgroup = xreadgroup.form
+form_of commands.RecoverPlan = recover_plan.form
+form_of commands.RecoverRun = recover_run.form
+form_of commands.RecoverBoard = recover_board.form
 
--- the call that the values in a command's form are
-abbrev pub call_of : (command : CommandName) → Values (form_of command) → Call
-call_of commands.Ping values = ping.call values
-call_of commands.Xadd values = xadd.call values
-call_of commands.Xtrim values = xtrim.call values
-call_of commands.Xdel values = xdel.call values
-call_of commands.Xlen values = xlen.call values
-call_of commands.Xrange values = xrange.call values
-call_of commands.Xrevrange values = xrevrange.call values
-call_of commands.Xack values = xack.call values
-call_of commands.XgroupCreate values = xgroup_create.call values
-call_of commands.XgroupSetId values = xgroup_set_id.call values
-call_of commands.XgroupDestroy values = xgroup_destroy.call values
-call_of commands.XgroupCreateConsumer values = xgroup_create_consumer.call values
-call_of commands.XgroupDelConsumer values = xgroup_del_consumer.call values
-call_of commands.XinfoStream values = xinfo_stream.call values
-call_of commands.XinfoGroups values = xinfo_groups.call values
-call_of commands.XinfoConsumers values = xinfo_consumers.call values
-call_of commands.Xautoclaim values = xautoclaim.call values
-call_of commands.Xclaim values = xclaim.call values
-call_of commands.Xpending values = xpending.call values
-call_of commands.Xread values = xread.call values
-call_of commands.Xreadgroup values = xreadgroup.call values
+-- what the values in a command's form ask for
+abbrev pub command_of : (command : CommandName) → Values (form_of command) → Command
+command_of commands.Ping values = command.Call (ping.call values)
+command_of commands.Xadd values = command.Call (xadd.call values)
+command_of commands.Xtrim values = command.Call (xtrim.call values)
+command_of commands.Xdel values = command.Call (xdel.call values)
+command_of commands.Xlen values = command.Call (xlen.call values)
+command_of commands.Xrange values = command.Call (xrange.call values)
+command_of commands.Xrevrange values = command.Call (xrevrange.call values)
+command_of commands.Xack values = command.Call (xack.call values)
+command_of commands.XgroupCreate values = command.Call (xgroup_create.call values)
+command_of commands.XgroupSetId values = command.Call (xgroup_set_id.call values)
+command_of commands.XgroupDestroy values = command.Call (xgroup_destroy.call values)
+command_of commands.XgroupCreateConsumer values = command.Call (xgroup_create_consumer.call values)
+command_of commands.XgroupDelConsumer values = command.Call (xgroup_del_consumer.call values)
+command_of commands.XinfoStream values = command.Call (xinfo_stream.call values)
+command_of commands.XinfoGroups values = command.Call (xinfo_groups.call values)
+command_of commands.XinfoConsumers values = command.Call (xinfo_consumers.call values)
+command_of commands.Xautoclaim values = command.Call (xautoclaim.call values)
+command_of commands.Xclaim values = command.Call (xclaim.call values)
+command_of commands.Xpending values = command.Call (xpending.call values)
+command_of commands.Xread values = command.Call (xread.call values)
+command_of commands.Xreadgroup values = command.Call (xreadgroup.call values)
+command_of commands.RecoverPlan values = recover_plan.command values
+command_of commands.RecoverRun values = recover_run.command values
+command_of commands.RecoverBoard values = recover_board.command values
 
 -- the words name the command, these operands follow its name, and it takes that many words
 pub record IsWellCounted (words : List Word) (command : CommandName) (operands : List Word) : Type 0 where
@@ -99,12 +107,12 @@ pub record IsRead (words : List Word) : Type 0 where
 abbrev pub places_of : (words : List Word) → IsRead words → List Place
 places_of words read = places (form_of read.name) read.reading
 
--- the words are the call
-pub record IsCall (words : List Word) (call : Call) : Type 0 where
+-- the words are what the request asks for
+pub record IsCommand (words : List Word) (asked : Command) : Type 0 where
   pub read : IsRead words
   pub values : Values (form_of read.name)
   pub means : Means (form_of read.name) read.reading values
-  pub is : call ≡ call_of read.name values
+  pub is : asked ≡ command_of read.name values
 
 -- the words begin with a command's name
 pub record IsCommandNamed (words : List Word) : Type 0 where
@@ -125,10 +133,10 @@ pub record IsMiscounted (words : List Word) : Type 0 where
   pub named : IsNamed name words operands
   pub uncounted : IsCounted name (length words) → ⊥
 
--- the words are not a call, and this is the first reason: they name no command, nor the first part of one; the name is
+-- the words are not a command, and this is the first reason: they name no command, nor the first part of one; the name is
 -- cut short, or its command takes another number of words; the words do not fit its form, whatever is in the places of
 -- numbers and ids; they fit it, and some number's place does not hold a number; or all numbers are there, and some id's
--- place does not hold an id. Memory runs out for calls alone.
+-- place does not hold an id. Memory runs out for commands alone.
 abbrev pub Refuses : List Word → CallFault → Type 0
 Refuses words faults.Unknown = (IsCommandNamed words → ⊥) × (IsHalfNamed words → ⊥)
 Refuses words faults.Arity = IsMiscounted words ⊎ IsHalfNamed words
@@ -136,11 +144,7 @@ Refuses words faults.Syntax = IsCommandCounted words × (IsRead words → ⊥)
 Refuses words faults.Number = (read : IsRead words) × (HasNumbers (places_of words read) → ⊥)
 Refuses words faults.BadId =
     (read : IsRead words) × HasNumbers (places_of words read) × (HasIds (places_of words read) → ⊥)
-Refuses words faults.Memory = (call : Call) × IsCall words call
-
--- the words are what the request asks for
-abbrev pub IsCommand : List Word → Command → Type 0
-IsCommand words (command.Call call) = IsCall words call
+Refuses words faults.Memory = (asked : Command) × IsCommand words asked
 
 -- a right answer to the words: the command that they are, or the reason why they are not one
 abbrev pub Answers : List Word → Result Command CallFault → Type 0

@@ -44,6 +44,8 @@ pub data Form : Type 0 where
   ids_before : OptionSet → Form
   -- STREAMS key [key ..] id [id ..]
   streams : IdForm → Form
+  -- option word [word ..]
+  texts_after : OptionName → Form
   -- this form, with none of these options in any of its places
   barring : List OptionName → Form → Form
 
@@ -63,6 +65,7 @@ Reading (before name range form) = Option Word × Reading form
 Reading (maybe form) = Option (Reading form)
 Reading (ids_before set) = List Word × List Written
 Reading (streams spelling) = List Word × List Word
+Reading (texts_after name) = List Word
 Reading (barring names form) = Reading form
 
 -- what the words in the places of a form mean
@@ -81,6 +84,7 @@ Values (before name range form) = Option (Number range) × Values form
 Values (maybe form) = Option (Values form)
 Values (ids_before set) = List Id × Chosen
 Values (streams spelling) = List Word × List (IdOf spelling)
+Values (texts_after name) = List Word
 Values (barring names form) = Values form
 
 -- a field and its value
@@ -110,6 +114,7 @@ places (maybe form) None = []
 places (maybe form) (Some reading) = places form reading
 places (ids_before set) reading = map (spelled strict_id) reading.0 ++ flat_map option_places reading.1
 places (streams spelling) reading = option option_names.Streams ∷ map any reading.0 ++ map (spelled spelling) reading.1
+places (texts_after name) words = option name ∷ map any words
 places (barring names form) reading = places form reading
 
 -- a word in the first of these places does not name the option
@@ -149,7 +154,7 @@ pub record AreBarred (names : List OptionName) (places : List Place) : Type 0 wh
 -- what the places alone do not say: there is at least one id and at least one field; options are of their set, each once;
 -- the word after them names no option of it, nor does an id before them; if they are to name a group, they do; a first
 -- word that names an option is this option; a form that may be left out has a word if it is there; streams have one id
--- each, and none is named twice; and barred options are nowhere
+-- each, and none is named twice; at least one word comes after an option that words follow; and barred options are nowhere
 abbrev pub IsFit : (form : Form) → Reading form → Type 0
 IsFit end reading = ⊤
 IsFit (text form) reading = IsFit form reading.1
@@ -169,6 +174,7 @@ IsFit (maybe form) None = ⊤
 IsFit (maybe form) (Some reading) = (places form reading ≢ []) × IsFit form reading
 IsFit (ids_before set) reading = (reading.0 ≢ []) × AreUnnamed set reading.0 × AreOptionsFit set reading.1
 IsFit (streams spelling) reading = ArePaired reading.0 reading.1
+IsFit (texts_after name) words = words ≢ []
 IsFit (barring names form) reading = AreBarred names (places form reading) × IsFit form reading
 
 -- the words fit the form, with this reading
@@ -210,4 +216,5 @@ Means (maybe form) (Some reading) None = ⊥
 Means (maybe form) (Some reading) (Some values) = Means form reading values
 Means (ids_before set) reading values = AreIds strict_id reading.0 values.0 × Choose reading.1 nothing values.1
 Means (streams spelling) reading values = (values.0 ≡ reading.0) × AreIds spelling reading.1 values.1
+Means (texts_after name) words list = list ≡ words
 Means (barring names form) reading values = Means form reading values

@@ -11,4 +11,4 @@ pub mod Table
 pub mod commands
 pub mod steps
 pub use Rattle.sr_args.specs.Blocking.{block_of, without_block}
-pub use Rattle.sr_args.specs.Command.{Answers, IsCall, IsCommand, Refuses}
+pub use Rattle.sr_args.specs.Command.{Answers, IsCommand, Refuses}

@@ -6,7 +6,7 @@ use Rattle.std.specs.Char.{to_ascii_lowercase}
 use Rattle.sr_args.specs.declared.name.OptionName.{OptionName}
 use Rattle.sr_args.specs.declared.name.OptionName.TheVariants.{Count, NoMkStream, MaxLen, MinId, Limit, MkStream}
 use Rattle.sr_args.specs.declared.name.OptionName.TheVariants.{JustId, Idle, Time, RetryCount, Group, NoAck, Block}
-use Rattle.sr_args.specs.declared.name.OptionName.TheVariants.{Force, LastId, Streams}
+use Rattle.sr_args.specs.declared.name.OptionName.TheVariants.{Force, LastId, Streams, Tries, Dead}
 use Rattle.sr_args.specs.declared.name.Measure.{Measure}
 use Rattle.sr_args.specs.declared.name.Measure.TheVariants as measures
 use Rattle.sr_args.specs.declared.name.Sign.{Sign}
@@ -33,6 +33,8 @@ option_text Block = codes "BLOCK"
 option_text Force = codes "FORCE"
 option_text LastId = codes "LASTID"
 option_text Streams = codes "STREAMS"
+option_text Tries = codes "TRIES"
+option_text Dead = codes "DEAD"
 
 -- the option that begins a trim of this measure
 abbrev pub measure_name : Measure → OptionName

@@ -20,6 +20,14 @@ IsNat word n = IsInt word (pos n)
 abbrev pub IsFromOne : List ℕ → ℤ → Type 0
 IsFromOne word z = IsInt word z × (pos 1 ≤ℤ z)
 
+-- how many rounds a recovery may make at most
+abbrev pub most_tries : ℕ
+most_tries = 16
+
+-- the word writes a number of rounds: from 1 to 16
+abbrev pub IsTries : List ℕ → ℕ → Type 0
+IsTries word n = IsNat word n × (1 ≤ n) × (n ≤ most_tries)
+
 -- the word writes a number that COUNT takes
 abbrev pub IsCount : CountRange → List ℕ → ℤ → Type 0
 IsCount Any word z = IsInt word z

@@ -10,28 +10,31 @@ use Rattle.sr_args.specs.declared.call.Position.{Position}
 use Rattle.sr_args.specs.declared.reads.ReadAsked.{ReadAsked}
 use Rattle.sr_args.specs.declared.name.OptionName.{OptionName}
 use Rattle.sr_args.specs.Name.{IsSameName, option_text}
-use Rattle.sr_args.specs.Number.{IsInt, IsNat, IsFromOne}
+use Rattle.sr_args.specs.Number.{IsInt, IsNat, IsFromOne, IsTries}
 use Rattle.sr_args.specs.Position.{SpellsPosition, SpellsRead}
 
 abbrev pub Word : Type 0
 Word = List ℕ
 
--- which numbers a place takes: any of 64 bits with a sign, those that are not below 0, or those from 1 on
+-- which numbers a place takes: any of 64 bits with a sign, those that are not below 0, those from 1 on, or a number of rounds
 pub data Range : Type 0 where
   int : Range
   nat : Range
   from_one : Range
+  tries : Range
 
 abbrev pub Number : Range → Type 0
 Number int = ℤ
 Number nat = ℕ
 Number from_one = ℤ
+Number tries = ℕ
 
 -- the word writes the number
 abbrev pub Writes : (range : Range) → Word → Number range → Type 0
 Writes int word z = IsInt word z
 Writes nat word n = IsNat word n
 Writes from_one word z = IsFromOne word z
+Writes tries word n = IsTries word n
 
 -- how the id of a place is spelled: as a written id, as the start or the end of a range, as the id of a new entry, as a
 -- position in a stream, or as what a consumer of a group reads of it

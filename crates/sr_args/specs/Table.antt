@@ -8,6 +8,7 @@ use Rattle.sr_args.specs.declared.table.CommandName.TheVariants.{Xack, XgroupCre
 use Rattle.sr_args.specs.declared.table.CommandName.TheVariants.{XgroupCreateConsumer, XgroupDelConsumer}
 use Rattle.sr_args.specs.declared.table.CommandName.TheVariants.{XinfoStream, XinfoGroups, XinfoConsumers}
 use Rattle.sr_args.specs.declared.table.CommandName.TheVariants.{Xautoclaim, Xclaim, Xpending, Xread, Xreadgroup}
+use Rattle.sr_args.specs.declared.table.CommandName.TheVariants.{RecoverPlan, RecoverRun, RecoverBoard}
 use Rattle.sr_args.specs.Name.{IsSameName}
 use Rattle.sr_args.specs.Place.{Word}
 
@@ -43,6 +44,9 @@ row_of Xclaim = row (codes "XCLAIM" ∷ []) 6 None
 row_of Xpending = row (codes "XPENDING" ∷ []) 3 (Some 9)
 row_of Xread = row (codes "XREAD" ∷ []) 4 None
 row_of Xreadgroup = row (codes "XREADGROUP" ∷ []) 7 None
+row_of RecoverPlan = row (codes "RECOVER.PLAN" ∷ []) 5 None
+row_of RecoverRun = row (codes "RECOVER.RUN" ∷ []) 5 None
+row_of RecoverBoard = row (codes "RECOVER.BOARD" ∷ []) 3 (Some 3)
 
 -- the words begin with the name, in any case of its letters, and these words follow it
 abbrev pub Begins : (name : List Word) → List Word → List Word → Type 0

@@ -1,4 +1,7 @@
 pub mod Ping
+pub mod RecoverBoard
+pub mod RecoverPlan
+pub mod RecoverRun
 pub mod Xack
 pub mod Xadd
 pub mod Xautoclaim

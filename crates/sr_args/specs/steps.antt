@@ -2,8 +2,10 @@ pub mod Claims
 pub mod Gives
 pub mod Named
 pub mod Names
+pub mod Numbers
 pub mod Options
 pub mod Pairs
 pub mod Pending
 pub mod Ranges
+pub mod Rounds
 pub mod Streams

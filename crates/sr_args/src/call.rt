@@ -1,4 +1,4 @@
-use crate::{ReadAsked, Streams};
+use crate::{Names, ReadAsked, Streams};
 use sr_bytes::{Fields, Name};
 use sr_ids::{Id, Ids, Spec};
 
@@ -219,4 +219,24 @@ pub enum Call {
 pub enum Command {
     /// A call that acts on the keys.
     Call(Call),
+    /// RECOVER.BOARD: what each consumer of a group has, and of the policy.
+    ///
+    /// Source: docs/COMMANDS.md.
+    Board {
+        key: Name,
+        group: Name,
+    },
+    /// RECOVER.PLAN and RECOVER.RUN: what dead consumers of a group have left is given to others.
+    ///
+    /// Source: docs/COMMANDS.md.
+    Recover {
+        /// Whether the plan is carried out: by RECOVER.RUN.
+        apply: bool,
+        /// How many rounds are made at most, from 1 to 16.
+        tries: u64,
+        key: Name,
+        group: Name,
+        /// The consumers that are dead, in the order in which they are named.
+        dead: Names,
+    },
 }

@@ -5,6 +5,7 @@
 
 pub(crate) mod named;
 pub(crate) mod ping;
+pub(crate) mod recover;
 pub(crate) mod xack;
 pub(crate) mod xadd;
 pub(crate) mod xautoclaim;

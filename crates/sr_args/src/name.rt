@@ -38,6 +38,10 @@ pub(crate) enum OptionName {
     LastId,
     /// Keys follow, and then an id for each. It is an option of no command, and its name has a place of its own.
     Streams,
+    /// How many rounds a recovery makes at most.
+    Tries,
+    /// The dead consumers follow. Its name has a place of its own.
+    Dead,
 }
 
 /// By what a trim measures.
@@ -110,6 +114,12 @@ pub(crate) fn option_named(word: &[u8]) -> Option<OptionName>
     }
     if word.eq_ignore_ascii_case(b"STREAMS") {
         return Some(OptionName::Streams);
+    }
+    if word.eq_ignore_ascii_case(b"TRIES") {
+        return Some(OptionName::Tries);
+    }
+    if word.eq_ignore_ascii_case(b"DEAD") {
+        return Some(OptionName::Dead);
     }
     None
 }

@@ -1,7 +1,10 @@
 ghost use Rattle.std.specs.Prelude.{ℕ, ℤ, IfSome, IfNone};
-ghost use Rattle.sr_args.specs.Number.{IsInt, IsNat, IsFromOne, IsCount};
+ghost use Rattle.sr_args.specs.Number.{IsInt, IsNat, IsFromOne, IsTries, IsCount};
 
 use sr_bytes::read_decimal;
+
+/// How many rounds a recovery may make at most.
+const MAX_TRIES: u64 = 16;
 
 /// Which numbers COUNT takes.
 #[derive(Clone, Copy, Debug, PartialEq, Eq)]
@@ -40,6 +43,18 @@ fn read_from_one(word: &[u8]) -> Option<i64>
 {
     let number = read_int(word)?;
     if number < 1 {
+        return None;
+    }
+    Some(number)
+}
+
+/// The number of rounds that a word writes: from 1 to 16.
+pub(crate) fn read_tries(word: &[u8]) -> Option<u64>
+    ensures found { IfSome result (IsTries word.now) }
+    ensures none { IfNone result ((n : ℕ) → IsTries word.now n → ⊥) }
+{
+    let number = read_nat(word)?;
+    if number < 1 || number > MAX_TRIES {
         return None;
     }
     Some(number)

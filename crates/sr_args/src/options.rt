@@ -293,7 +293,12 @@ fn operand_words<'a>(
         OptionName::Block => Some(OptionWords::Block(words.next()?)),
         OptionName::MaxLen => Some(OptionWords::Trim(trim_words(Measure::MaxLen, words)?)),
         OptionName::MinId => Some(OptionWords::Trim(trim_words(Measure::MinId, words)?)),
-        OptionName::Limit | OptionName::Force | OptionName::LastId | OptionName::Streams => None,
+        OptionName::Limit
+        | OptionName::Force
+        | OptionName::LastId
+        | OptionName::Streams
+        | OptionName::Tries
+        | OptionName::Dead => None,
     }
 }
 

@@ -1,10 +1,14 @@
 ghost use Rattle.std.specs.Prelude.{◌≡◌, ◌≢◌, ℕ, ◌<◌, ◌⊎◌, List, length, Result, Err, IfOk, IfErr};
+ghost use Rattle.sr_args.specs.declared.call.Call as calls;
 ghost use Rattle.sr_args.specs.declared.call.Command as declared;
 ghost use Rattle.sr_args.specs.declared.fault.CallFault as faults;
-ghost use Rattle.sr_args.specs.Command.{IsCommand, Refuses, Answers, form_of, call_of};
+ghost use Rattle.sr_args.specs.Command.{IsCommand, Refuses, Answers, form_of, command_of};
+ghost use Rattle.sr_args.specs.Form.{Form, Values};
+ghost use Rattle.sr_args.specs.Place.{Word};
 ghost use Rattle.sr_args.specs.steps.Gives.{Gives};
 
 use crate::commands::ping::read_ping;
+use crate::commands::recover::{read_recover_board, read_recover_plan, read_recover_run};
 use crate::commands::xack::read_xack;
 use crate::commands::xadd::read_xadd;
 use crate::commands::xautoclaim::read_xautoclaim;
@@ -46,43 +50,54 @@ pub fn read_call(alloc: Global, words: &Words) -> Result<Command, CallFault>
             if !is_counted(command, words.len()) {
                 return Err(CallFault::Arity);
             }
-            let call = read_operands(alloc, command, operands)?;
-            Ok(Command::Call(call))
+            read_operands(alloc, command, operands)
         }
     }
 }
 
-/// The call that the words after a command's name write.
+/// The command that the words after its name write.
 fn read_operands(
     alloc: Global,
     command: CommandName,
     operands: Unread<'_>,
-) -> Result<Call, CallFault>
-    ensures { Gives (form_of command) (call_of command) operands.entry result }
+) -> Result<Command, CallFault>
+    ensures { Gives (form_of command) (command_of command) operands.entry result }
 {
     match command {
-        CommandName::Ping => read_ping(alloc, operands),
-        CommandName::Xadd => read_xadd(alloc, operands),
-        CommandName::Xtrim => read_xtrim(alloc, operands),
-        CommandName::Xdel => read_xdel(alloc, operands),
-        CommandName::Xlen => read_xlen(alloc, operands),
-        CommandName::Xrange => read_xrange(alloc, operands),
-        CommandName::Xrevrange => read_xrevrange(alloc, operands),
-        CommandName::Xack => read_xack(alloc, operands),
-        CommandName::XgroupCreate => read_xgroup_create(alloc, operands),
-        CommandName::XgroupSetId => read_xgroup_set_id(alloc, operands),
-        CommandName::XgroupDestroy => read_xgroup_destroy(alloc, operands),
-        CommandName::XgroupCreateConsumer => read_xgroup_create_consumer(alloc, operands),
-        CommandName::XgroupDelConsumer => read_xgroup_del_consumer(alloc, operands),
-        CommandName::XinfoStream => read_xinfo_stream(alloc, operands),
-        CommandName::XinfoGroups => read_xinfo_groups(alloc, operands),
-        CommandName::XinfoConsumers => read_xinfo_consumers(alloc, operands),
-        CommandName::Xautoclaim => read_xautoclaim(alloc, operands),
-        CommandName::Xclaim => read_xclaim(alloc, operands),
-        CommandName::Xpending => read_xpending(alloc, operands),
-        CommandName::Xread => read_xread(alloc, operands),
-        CommandName::Xreadgroup => read_xreadgroup(alloc, operands),
+        CommandName::Ping => asked(read_ping(alloc, operands)),
+        CommandName::Xadd => asked(read_xadd(alloc, operands)),
+        CommandName::Xtrim => asked(read_xtrim(alloc, operands)),
+        CommandName::Xdel => asked(read_xdel(alloc, operands)),
+        CommandName::Xlen => asked(read_xlen(alloc, operands)),
+        CommandName::Xrange => asked(read_xrange(alloc, operands)),
+        CommandName::Xrevrange => asked(read_xrevrange(alloc, operands)),
+        CommandName::Xack => asked(read_xack(alloc, operands)),
+        CommandName::XgroupCreate => asked(read_xgroup_create(alloc, operands)),
+        CommandName::XgroupSetId => asked(read_xgroup_set_id(alloc, operands)),
+        CommandName::XgroupDestroy => asked(read_xgroup_destroy(alloc, operands)),
+        CommandName::XgroupCreateConsumer => asked(read_xgroup_create_consumer(alloc, operands)),
+        CommandName::XgroupDelConsumer => asked(read_xgroup_del_consumer(alloc, operands)),
+        CommandName::XinfoStream => asked(read_xinfo_stream(alloc, operands)),
+        CommandName::XinfoGroups => asked(read_xinfo_groups(alloc, operands)),
+        CommandName::XinfoConsumers => asked(read_xinfo_consumers(alloc, operands)),
+        CommandName::Xautoclaim => asked(read_xautoclaim(alloc, operands)),
+        CommandName::Xclaim => asked(read_xclaim(alloc, operands)),
+        CommandName::Xpending => asked(read_xpending(alloc, operands)),
+        CommandName::Xread => asked(read_xread(alloc, operands)),
+        CommandName::Xreadgroup => asked(read_xreadgroup(alloc, operands)),
+        CommandName::RecoverPlan => read_recover_plan(alloc, operands),
+        CommandName::RecoverRun => read_recover_run(alloc, operands),
+        CommandName::RecoverBoard => read_recover_board(alloc, operands),
     }
+}
+
+/// The command that is a call, if its words are one.
+fn asked(read: Result<Call, CallFault>) -> Result<Command, CallFault>
+    ensures { (form : Form) (call : Values form → calls.Call) (words : List Word) → Gives form call words read →
+        Gives form (λ values. Command.Call (call values)) words result }
+{
+    let call = read?;
+    Ok(Command::Call(call))
 }
 
 /// Words have one right answer: two right answers are equal, unless one of them is for memory that ran out.

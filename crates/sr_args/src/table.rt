@@ -31,10 +31,13 @@ pub(crate) enum CommandName {
     Xpending,
     Xread,
     Xreadgroup,
+    RecoverPlan,
+    RecoverRun,
+    RecoverBoard,
 }
 
 /// The commands in the order in which a request's words are looked up.
-const COMMANDS: [CommandName; 21] = [
+const COMMANDS: [CommandName; 24] = [
     CommandName::Ping,
     CommandName::Xadd,
     CommandName::Xtrim,
@@ -56,6 +59,9 @@ const COMMANDS: [CommandName; 21] = [
     CommandName::Xpending,
     CommandName::Xread,
     CommandName::Xreadgroup,
+    CommandName::RecoverPlan,
+    CommandName::RecoverRun,
+    CommandName::RecoverBoard,
 ];
 
 /// What the table says of a command.
@@ -124,6 +130,9 @@ fn row_of(command: CommandName) -> Row
         CommandName::Xpending => table_row(b"XPENDING", None, 3, Some(9)),
         CommandName::Xread => table_row(b"XREAD", None, 4, None),
         CommandName::Xreadgroup => table_row(b"XREADGROUP", None, 7, None),
+        CommandName::RecoverPlan => table_row(b"RECOVER.PLAN", None, 5, None),
+        CommandName::RecoverRun => table_row(b"RECOVER.RUN", None, 5, None),
+        CommandName::RecoverBoard => table_row(b"RECOVER.BOARD", None, 3, Some(3)),
     }
 }
 

@@ -1,6 +1,7 @@
 mod copies;
 mod groups;
 mod reads;
+mod recover;
 mod streams;
 
 use crate::number::read_int;
@@ -19,12 +20,14 @@ fn words_of(alloc: Global, line: &str) -> Result<Words, AllocError> {
     Ok(words)
 }
 
-/// The call that a line is. A refusal fails the test, and so does memory that runs out.
+/// The call that a line is. A refusal fails the test, and so do another command and memory that runs out.
 fn call(rt: &(impl AllocGlobal + Abort), line: &str) -> Result<Call, CallFault> {
     let words = words_of(rt.alloc(), line)?;
     assert!(rt; words.len() > 0);
-    let Command::Call(call) = read_call(rt.alloc(), &words)?;
-    Ok(call)
+    match read_call(rt.alloc(), &words)? {
+        Command::Call(call) => Ok(call),
+        _ => Err(CallFault::Unknown),
+    }
 }
 
 /// Fails the test unless a line is read as a call that passes the check.
@@ -73,6 +76,8 @@ fn other_names_are_unknown(rt: HostRuntime) -> Result<(), Fail> {
         "XGROUP FOO s g",
         "XGROUPS CREATE s g $",
         "CREATE XGROUP s g $",
+        "RECOVER",
+        "RECOVER PLAN s g DEAD D",
         "XINFO CONSUMER s g",
     ] {
         refuses(&rt, line, CallFault::Unknown)?;
@@ -111,6 +116,10 @@ fn other_numbers_of_words_are_refused(rt: HostRuntime) -> Result<(), Fail> {
         "XPENDING s g IDLE 5 - + 10 c d",
         "XREAD STREAMS s",
         "XREADGROUP GROUP g c STREAMS s",
+        "RECOVER.PLAN s g DEAD",
+        "RECOVER.RUN s g D",
+        "RECOVER.BOARD s",
+        "RECOVER.BOARD s g D",
     ] {
         refuses(&rt, line, CallFault::Arity)?;
     }
@@ -162,6 +171,11 @@ fn other_forms_on_groups_are_refused(rt: HostRuntime) -> Result<(), Fail> {
         "XPENDING s g IDLE 5 -",
         "XPENDING s g IDLE 5 - +",
         "XPENDING s g - + 10 c d",
+        "RECOVER.PLAN s g TRIES 2 DEAD D",
+        "RECOVER.PLAN s g DOOD D",
+        "RECOVER.RUN s g TRIES DEAD D",
+        "RECOVER.RUN s g TRIES 2 DEAD",
+        "RECOVER.RUN s g TRIES x D DEAD",
     ] {
         refuses(&rt, line, CallFault::Syntax)?;
     }
@@ -223,6 +237,10 @@ fn number_is_refused_before_id(rt: HostRuntime) -> Result<(), Fail> {
         "XREADGROUP GROUP g c COUNT x STREAMS s !",
         "XREADGROUP GROUP g c BLOCK -1 STREAMS s >",
         "XREADGROUP COUNT 1.5 GROUP g c STREAMS s >",
+        "RECOVER.RUN s g TRIES 0 DEAD D",
+        "RECOVER.RUN s g TRIES 17 DEAD D",
+        "RECOVER.RUN s g TRIES x DEAD D",
+        "RECOVER.RUN s g TRIES DEAD DEAD D",
     ] {
         refuses(&rt, line, CallFault::Number)?;
     }

@@ -1,11 +1,15 @@
 ghost use Rattle.std.specs.Prelude.{◌≡◌, ◌↔◌, map, take, IsTrue, IfOk, IfSome, IfNone};
-ghost use Rattle.sr_args.specs.Place.{strict_id, spelled, HasIds};
-ghost use Rattle.sr_args.specs.Form.{AreIds};
+ghost use Rattle.std.specs.Option.{option_copied};
+ghost use Rattle.sr_args.specs.Place.{strict_id, spelled, HasIds, Range};
+ghost use Rattle.sr_args.specs.Form.{AreIds, IsNamedFirst, named_places};
 ghost use Rattle.sr_args.specs.Position.{SpellsPosition, SpellsRead};
 ghost use Rattle.sr_args.specs.declared.call.Position as positions;
 ghost use Rattle.sr_args.specs.declared.reads.ReadAsked as reads;
+ghost use Rattle.sr_args.specs.steps.Numbers.{IsAnyWord, IsPastNumber};
+ghost use Rattle.sr_args.specs.steps.Options.{Begins, BeginsNone};
 
-use crate::{Position, ReadAsked};
+use crate::options::is_named;
+use crate::{OptionName, Position, ReadAsked};
 use sr_bytes::{Name, Unread};
 use sr_ids::{Ids, parse_strict};
 use std::alloc::{AllocError, Global};
@@ -15,6 +19,24 @@ pub(crate) fn copy_word(alloc: Global, word: &[u8]) -> Result<Name, AllocError>
     ensures { IfOk result (λ copy. copy ≡ word.now) }
 {
     Ok(Name::new(Vec::from_slice(alloc, word)?))
+}
+
+/// `[option number]`: the word of the number, if the next word names the option.
+pub(crate) fn number_word<'a>(name: OptionName, words: &mut Unread<'a>) -> Option<Option<&'a [u8]>>
+    ensures found { IfSome result (λ read. (range : Range) →
+        Begins (named_places name range) IsAnyWord (IsNamedFirst name) words.old (option_copied read) words.new) }
+    ensures none { IfNone result ((range : Range) →
+        BeginsNone (named_places name range) IsAnyWord (IsNamedFirst name) words.old) }
+    ensures past { IfSome result (λ read. IsPastNumber name (option_copied read) words.new) }
+{
+    let Some(word) = words.peek() else {
+        return Some(None);
+    };
+    if !is_named(word, name) {
+        return Some(None);
+    }
+    words.next()?;
+    Some(Some(words.next()?))
 }
 
 /// From where a stream is read, by a word of XGROUP or of XREAD.

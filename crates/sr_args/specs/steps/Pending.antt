@@ -1,17 +1,14 @@
 -- The words of XPENDING in their places. No public clause cites this module.
 
-use Rattle.std.specs.Prelude.{◌≡◌, ℤ, List, ◌∷◌, Option, Some, None, ⊤}
+use Rattle.std.specs.Prelude.{ℤ, List, Option}
 use Rattle.sr_args.specs.declared.name.OptionName.TheVariants as names
-use Rattle.sr_args.specs.Name.{IsSameName, option_text}
 use Rattle.sr_args.specs.Place.{Word, Place, int}
 use Rattle.sr_args.specs.Form.{Reading, IsNamedFirst, IsMaybeNumber}
 use Rattle.sr_args.specs.commands.Xpending.{listing}
+use Rattle.sr_args.specs.steps.Numbers.{IsPastNumber}
 
 abbrev pub listing_reading : Option Word → (start until most : Word) → Option Word → Reading listing
 listing_reading least_idle start until most consumer = (least_idle, (start, (until, (most, consumer))))
-
-abbrev pub IsAnyWord : Option Word → Type 0
-IsAnyWord word = ⊤
 
 -- IDLE does not name the first of these places if it is left out
 abbrev pub IsBeforeStart : Option Word → List Place → Type 0
@@ -19,9 +16,7 @@ IsBeforeStart word places = IsNamedFirst names.Idle word places
 
 -- nor does it name the next word then
 abbrev pub IsPastIdle : Option Word → List Word → Type 0
-IsPastIdle None left =
-    (word : Word) (rest : List Word) → left ≡ word ∷ rest → IsSameName word (option_text names.Idle) → ⊥
-IsPastIdle (Some word) left = ⊤
+IsPastIdle word left = IsPastNumber names.Idle word left
 
 abbrev pub IsMaybeInt : Option Word → Option ℤ → Type 0
 IsMaybeInt word z = IsMaybeNumber int word z

@@ -4,12 +4,12 @@ ghost use Rattle.sr_args.specs.Form.{Reading, Reads, maybe, named_places};
 ghost use Rattle.sr_args.specs.Place.{int};
 ghost use Rattle.sr_args.specs.commands.Xpending as xpending_form;
 ghost use Rattle.sr_args.specs.steps.Gives.{Gives};
+ghost use Rattle.sr_args.specs.steps.Numbers.{IsAnyWord};
 ghost use Rattle.sr_args.specs.steps.Options.{Begins, BeginsNone};
-ghost use Rattle.sr_args.specs.steps.Pending.{listing_reading, IsAnyWord, IsBeforeStart, IsPastIdle, IsMaybeInt};
+ghost use Rattle.sr_args.specs.steps.Pending.{listing_reading, IsBeforeStart, IsPastIdle, IsMaybeInt};
 
 use crate::number::read_int;
-use crate::options::is_named;
-use crate::value::copy_word;
+use crate::value::{copy_word, number_word};
 use crate::{Call, CallFault, OptionName, PendingAsked};
 use sr_bytes::{Name, Unread};
 use sr_ids::{parse_end, parse_start};
@@ -117,14 +117,7 @@ fn idle_word<'a>(words: &mut Unread<'a>) -> Option<Option<&'a [u8]>>
     ensures none { IfNone result (BeginsNone (named_places OptionName.Idle int) IsAnyWord IsBeforeStart words.old) }
     ensures past { IfSome result (λ read. IsPastIdle (option_copied read) words.new) }
 {
-    let Some(word) = words.peek() else {
-        return Some(None);
-    };
-    if !is_named(word, OptionName::Idle) {
-        return Some(None);
-    }
-    words.next()?;
-    Some(Some(words.next()?))
+    number_word(OptionName::Idle, words)
 }
 
 /// The number that a word writes, if there is a word.

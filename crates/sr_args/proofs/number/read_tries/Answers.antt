@@ -1,0 +1,4 @@
+use Rattle.sr_args.proofs.number.read_tries.Goals as goal
+
+pub returns-in_err-number-clause-none : goal.returns-in_err-number-clause-none
+returns-in_err-number-clause-none c = rw c.from_residual.ensures (λ n i. c.in_err-number.ensures.none n i.0)
