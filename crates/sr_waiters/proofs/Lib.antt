@@ -1,1 +1,2 @@
+mod CopyLemmas
 pub mod ReadLemmas

@@ -159,3 +159,40 @@ fn a_read_is_due_at_its_deadline_and_not_before(rt: HostRuntime) -> Result<(), F
     }
     Ok(())
 }
+
+/// Three reads, the second with a deadline.
+fn three_reads(rt: &HostRuntime) -> Result<Waiters, Fail> {
+    let mut waiters = no_reads(rt)?;
+    let _ = join(&mut waiters, 5, ping(), None)?;
+    let _ = join(&mut waiters, 9, length_of(rt.alloc(), "s")?, Some(100))?;
+    let _ = join(&mut waiters, 1, length_of(rt.alloc(), "t")?, None)?;
+    Ok(waiters)
+}
+
+#[test]
+fn a_copy_serves_alone(rt: HostRuntime) -> Result<(), Fail> {
+    let mut waiters = three_reads(&rt)?;
+    let mut copy = waiters.copy(rt.alloc())?;
+    assert_eq!(rt; copy.first_due(100), Some(9));
+    assert!(rt; copy.leave(9));
+    assert!(rt; join(&mut copy, 7, ping(), None)?);
+    assert!(rt; waiters.leave(5));
+    assert!(rt; matches!(waiters.call_of(9), Some(Call::Xlen { .. })));
+    let left = leave_all(&mut waiters, rt.alloc())?;
+    assert!(rt; left.as_slice() == [9, 1].as_slice());
+    let copied = leave_all(&mut copy, rt.alloc())?;
+    assert!(rt; copied.as_slice() == [5, 1, 7].as_slice());
+    Ok(())
+}
+
+#[test]
+fn a_refused_copy_leaves_the_reads(rt: HostRuntime) -> Result<(), Fail> {
+    let mut waiters = three_reads(&rt)?;
+    let copy = waiters.copy(rt.alloc());
+    assert_eq!(rt; waiters.len(), 3);
+    assert_eq!(rt; waiters.first_due(100), Some(9));
+    let left = leave_all(&mut waiters, rt.alloc())?;
+    assert!(rt; left.as_slice() == [5, 9, 1].as_slice());
+    assert_eq!(rt; copy?.len(), 3);
+    Ok(())
+}

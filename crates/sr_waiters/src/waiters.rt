@@ -46,7 +46,7 @@ impl Model for Waiters {
 }
 
 impl Waiters {
-    ghost use Rattle.std.specs.Prelude.{◌≡◌, ◌+◌, ◌<◌, ◌≤◌, ◌++◌, [], ◌∷◌, Bool, false, OnOk, OnErr};
+    ghost use Rattle.std.specs.Prelude.{◌≡◌, ◌+◌, ◌<◌, ◌≤◌, ◌++◌, [], ◌∷◌, Bool, false, IfOk, OnOk, OnErr};
     ghost use Rattle.std.specs.Prelude.{length, slice_get};
     ghost use Rattle.std.specs.List.{list_any};
     ghost use Rattle.std.specs.Option.{option_copied};
@@ -166,6 +166,20 @@ impl Waiters {
             }
         }
         None
+    }
+
+    /// A second list of the same reads.
+    #[tactic(auto, using(crate::proofs::CopyLemmas::copies_reads))]
+    pub fn copy(&self, alloc: Global) -> Result<Waiters, AllocError>
+        ensures { IfOk result (λ copy. copy.list ≡ self.now.list) }
+    {
+        let mut copy = Waiters::new(alloc, *self.reads.hasher());
+        copy.reserve(self.len())?;
+        for (session, read) in self.reads.iter() {
+            let call = read.call.copy(alloc)?;
+            copy.join(*session, call, read.deadline);
+        }
+        Ok(copy)
     }
 
     /// Law: each session waits once at most. Calling this has no effect.
