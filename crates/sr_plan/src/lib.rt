@@ -2,6 +2,7 @@
 #![tactic(auto)]
 
 mod calls;
+mod judgement;
 mod moves;
 mod places;
 mod reply;

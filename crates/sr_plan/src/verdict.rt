@@ -5,35 +5,32 @@ ghost use Rattle.sr_plan.specs.Calls.{claim_calls};
 ghost use Rattle.sr_check.specs.PlanReply.{verdict_answer};
 ghost use Rattle.sr_plan.specs.Verdict.{IsVerdict, IsWorth, total_in, prices_in, moves_in, shortage_in};
 
-use crate::calls::calls_of;
+use crate::judgement::Judgement;
 use crate::moves::{Moves, Shortage};
-use crate::reply::{plan_reply, shortage_reply};
 use sr_args::Call;
 use sr_bytes::Name;
 use sr_ids::Id;
-use sr_policy::{Snapshot, problem};
+use sr_policy::Snapshot;
 use sr_resp::Reply;
-use sr_solver::solve;
-use sr_transport::Solved;
 use std::alloc::{AllocError, Global};
 use std::marker::Model;
 
 /// A snapshot, and a valid certificate of its problem: a cheapest assignment with prices, or a shortage.
+///
+/// It is kept in a block of its own, so that what holds a verdict, as an event does, is as small without one.
 #[derive(Drop)]
 pub struct Verdict {
-    snapshot: Snapshot,
-    solved: Solved,
+    judged: Box<Judgement>,
 }
 
 impl Model for Verdict {
     ghost use Rattle.sr_plan.specs.Verdict.{IsVerdict, Judged};
-    ghost use Rattle.sr_plan.specs.steps.Judged.{answer_of};
 
     ghost Value = { Judged };
 
-    ghost view = { λ v. record { snapshot = v.snapshot; answer = answer_of v.solved } };
+    ghost view = { λ v. v.judged.value };
 
-    ghost invariant = { λ v. IsVerdict (record { snapshot = v.snapshot; answer = answer_of v.solved }) };
+    ghost invariant = { λ v. IsVerdict v.judged.value };
 }
 
 impl Verdict {
@@ -43,24 +40,24 @@ impl Verdict {
     pub fn make(alloc: Global, snapshot: Snapshot) -> Result<Verdict, AllocError>
         ensures { IfOk result (λ verdict. verdict.snapshot ≡ snapshot) }
     {
-        snapshot.sound();
-        let problem = problem(alloc, &snapshot)?;
-        let solved = solve(alloc, &problem)?;
-        Ok(Verdict { snapshot, solved })
+        let judged = Judgement::make(alloc, snapshot)?;
+        judged.sound();
+        let judged = Box::new(alloc, judged)?;
+        Ok(Verdict { judged })
     }
 
     /// The snapshot that was judged.
     pub fn snapshot(&self) -> &Snapshot
         ensures { result.now ≡ self.now.snapshot }
     {
-        &self.snapshot
+        self.judged.as_ref().snapshot()
     }
 
     /// Law: a verdict shows that it is right, by its prices or by its shortage. Calling this has no effect.
     pub fn sound(&self)
         ensures { IsVerdict self.now }
     {
-        let _ = &self.solved;
+        let _ = &self.judged;
     }
 
     /// Law: no assignment costs less than a plan; and if there is a shortage, there is no assignment.
@@ -69,17 +66,14 @@ impl Verdict {
     pub fn optimal(&self)
         ensures { IsWorth (problem_of self.now.snapshot) self.now.answer }
     {
-        let _ = &self.solved;
+        self.judged.as_ref().optimal();
     }
 
     /// What a plan costs: the sum of rate times weight over its moves. `None` for a shortage.
     pub fn total(&self) -> Option<u64>
         ensures { result ≡ total_in self.now.answer }
     {
-        match &self.solved {
-            Solved::Best { total, .. } => Some(*total),
-            Solved::Short { .. } => None,
-        }
+        self.judged.as_ref().total()
     }
 
     /// The prices that show a plan to be a cheapest one: one for each live consumer, in their order and in the unit of
@@ -87,25 +81,14 @@ impl Verdict {
     pub fn prices(&self) -> Option<&[u64]>
         ensures { option_copied result ≡ prices_in self.now.answer }
     {
-        match &self.solved {
-            Solved::Best { prices, .. } => Some(prices.as_slice()),
-            Solved::Short { .. } => None,
-        }
+        self.judged.as_ref().prices()
     }
 
     /// The moves of a plan: each stranded entry with the consumer that it goes to, by id. `None` for a shortage.
     pub fn moves(&self) -> Option<Moves<'_>>
         ensures { result ≡ moves_in self.now.snapshot self.now.answer }
     {
-        let snapshot = &self.snapshot;
-        match &self.solved {
-            Solved::Best { assign, .. } => Some(Moves::new(
-                snapshot.stranded(),
-                assign.as_slice(),
-                snapshot.live(),
-            )),
-            Solved::Short { .. } => None,
-        }
+        self.judged.as_ref().moves()
     }
 
     /// The entries of a shortage, by id: they are more than the places at all consumers that any of them is allowed.
@@ -113,10 +96,7 @@ impl Verdict {
     pub fn shortage(&self) -> Option<Shortage<'_>>
         ensures { result ≡ shortage_in self.now.snapshot self.now.answer }
     {
-        match &self.solved {
-            Solved::Best { .. } => None,
-            Solved::Short { set } => Some(Shortage::new(set.as_slice(), self.snapshot.stranded())),
-        }
+        self.judged.as_ref().shortage()
     }
 
     /// The entries that are pending for the dead and no longer in the stream, by id, each with its owner. No plan moves
@@ -124,7 +104,7 @@ impl Verdict {
     pub fn gone(&self) -> &[(Id, Name)]
         ensures { result.now ≡ self.now.snapshot.gone }
     {
-        self.snapshot.gone()
+        self.judged.as_ref().gone()
     }
 
     /// The calls of XCLAIM that carry out a plan: one for each consumer that gets entries, in byte order of their names.
@@ -134,10 +114,7 @@ impl Verdict {
     pub fn claim_calls(&self, alloc: Global) -> Result<Vec<Call>, AllocError>
         ensures { IfOk result (λ calls. calls.items ≡ claim_calls self.now.snapshot self.now.answer) }
     {
-        match &self.solved {
-            Solved::Best { assign, .. } => calls_of(alloc, &self.snapshot, assign.as_slice()),
-            Solved::Short { .. } => Ok(Vec::new(alloc)),
-        }
+        self.judged.as_ref().claim_calls(alloc)
     }
 
     /// The verdict as RECOVER.PLAN replies it, or, if it was carried out, as RECOVER.RUN does.
@@ -146,20 +123,6 @@ impl Verdict {
     pub fn reply(&self, alloc: Global, applied: bool) -> Result<Reply, AllocError>
         ensures { IfOk result (λ reply. reply ≡ verdict_answer self.now.snapshot self.now.answer applied) }
     {
-        match &self.solved {
-            Solved::Best {
-                assign,
-                prices,
-                total,
-            } => plan_reply(
-                alloc,
-                &self.snapshot,
-                assign.as_slice(),
-                prices.as_slice(),
-                *total,
-                applied,
-            ),
-            Solved::Short { set } => shortage_reply(alloc, &self.snapshot, set.as_slice()),
-        }
+        self.judged.as_ref().reply(alloc, applied)
     }
 }

@@ -2,7 +2,7 @@ use Rattle.std.proofs.Common.{List, ℕ, ◌∙◌, ap}
 use Rattle.std.proofs.lemmas.Result.{IfOk-weaker}
 use Rattle.sr_check.specs.PlanReply.{verdict_answer}
 use Rattle.sr_plan.specs.Verdict.{short}
-use Rattle.sr_plan.proofs.verdict.Verdict.reply.Goals as goal
+use Rattle.sr_plan.proofs.judgement.Judgement.reply.Goals as goal
 
 pub returns-in-Short : goal.returns-in-Short
 returns-in-Short c =
