@@ -4,9 +4,11 @@
 use Rattle.std.specs.Prelude.{◌≡◌, ℕ, List, [], Option, Some, None, nat_eq, map}
 use Rattle.std.specs.Cmp.Lexicographic.{pointwise}
 use Rattle.std.specs.Map.{lookup}
-use Rattle.std.specs.Option.{option_map}
+use Rattle.std.specs.Option.{option_and_then, option_map}
 use Rattle.indexmap.specs.IndexMap.{insert_entry}
 use Rattle.sr_entries.specs.declared.entry.Entry.{Entry}
+use Rattle.sr_group.specs.Group.{GroupState}
+use Rattle.sr_stream.specs.Groups.{group_with}
 use Rattle.sr_stream.specs.Stream.{StreamState, KeptStream, IsStream}
 
 abbrev pub Key : Type 0
@@ -18,6 +20,10 @@ Keys = List (Key × StreamState)
 -- the stream at a key, if the key is there
 abbrev pub stream_at : Keys → Key → Option StreamState
 stream_at keys key = lookup (pointwise nat_eq key) keys
+
+-- the group of this name at a key, if the key and the group are there
+abbrev pub group_at : Keys → Key → List ℕ → Option GroupState
+group_at keys key name = option_and_then (λ (stream : StreamState). group_with name stream.groups) (stream_at keys key)
 
 -- the entries of a stream that was found; none if the key is missing
 abbrev pub entries_of : Option StreamState → List Entry

@@ -1,5 +1,7 @@
 // What no clause says: that commands succeed while there is memory, and that one that memory was refused to succeeds at the
 // second try. What they reply to requests that were worked by hand is tested from bytes to bytes, in sr_session.
+mod recovery;
+
 use crate::{Answered, Outcome, Space};
 use sr_args::{Call, CallFault, Command, Position, read_call};
 use sr_bytes::Words;
@@ -161,6 +163,10 @@ fn call_of(rt: &(impl AllocGlobal + Abort), line: &str) -> Result<Call, AllocErr
     assert!(rt; words.len() > 0);
     match read_call(rt.alloc(), &words) {
         Ok(Command::Call(call)) => Ok(call),
+        Ok(Command::Board { .. } | Command::Recover { .. }) => {
+            assert!(rt; false, "not a call: {line}");
+            Err(AllocError)
+        }
         Err(fault) => {
             assert_eq!(rt; fault, CallFault::Memory, "{line}");
             Err(AllocError)
@@ -168,14 +174,15 @@ fn call_of(rt: &(impl AllocGlobal + Abort), line: &str) -> Result<Call, AllocErr
     }
 }
 
-/// Appends what is sent in reply to a call.
+/// Appends what is sent in reply to a call at a moment.
 fn append_sent(
     alloc: Global,
     space: &mut Space,
+    moment: u64,
     call: &Call,
     out: &mut Vec<u8>,
 ) -> Result<(), AllocError> {
-    let Answered::Reply { send, .. } = space.at_once(alloc, MOMENT, call)?;
+    let Answered::Reply { send, .. } = space.at_once(alloc, moment, call)?;
     append_reply(out, &send)
 }
 
@@ -187,7 +194,7 @@ fn look(
     out: &mut Vec<u8>,
 ) -> Result<(), AllocError> {
     let call = call_of(rt, line)?;
-    append_sent(rt.alloc(), space, &call, out)
+    append_sent(rt.alloc(), space, MOMENT, &call, out)
 }
 
 /// What the keys hold, as the replies that show it.
