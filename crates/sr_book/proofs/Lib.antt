@@ -2,8 +2,11 @@ pub mod ActLemmas
 pub mod BookLemmas
 pub mod DueLemmas
 pub mod FreshLemmas
+pub mod HeardLemmas
 pub mod LegalLemmas
 pub mod OpenLemmas
+pub mod RecoveredLemmas
+pub mod RulesLemmas
 pub mod ServeLemmas
 pub mod SessionLaws
 pub mod SessionLemmas

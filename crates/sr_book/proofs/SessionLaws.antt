@@ -1,5 +1,5 @@
 -- Laws of one session at the book: what each of its events leaves, and that the servings that follow leave it alone.
-use Rattle.std.proofs.Common.{◌≡◌, ◌==◌, ℕ, ◌+◌, ◌^◌, Bool, true, false, cond, not, nat_lt, List, [], ◌∷◌, ◌++◌, length, drop, Option, Some, None, Err, refl, ap, sym, ◌∙◌, subst, arith, true≢false}
+use Rattle.std.proofs.Common.{◌≡◌, ◌==◌, ◌⊎◌, inl, inr, ℕ, ◌+◌, ◌^◌, Bool, true, false, cond, not, nat_lt, List, [], ◌∷◌, ◌++◌, length, drop, Option, Some, None, Result, Ok, Err, refl, ap, sym, ◌∙◌, subst, arith, true≢false}
 use Rattle.std.proofs.Math.Seq.{drop-append_seam}
 use Rattle.std.proofs.lemmas.Bool.{eq-eqb, ne_eqb}
 use Rattle.std.proofs.lemmas.List.Folds.{list_any-append}
@@ -7,17 +7,25 @@ use Rattle.std.proofs.lemmas.Map.Views.{any-filter_same}
 use Rattle.sr_args.specs.Blocking.{block_of, without_block}
 use Rattle.sr_args.specs.declared.call.Call.{Call}
 use Rattle.sr_args.specs.declared.call.Call.TheVariants as calls
-use Rattle.sr_resp.specs.Reply.{Answer as ReplyParts}
+use Rattle.sr_resp.specs.Reply.{Answer as ReplyParts, error_reply}
+use Rattle.sr_resp.specs.declared.code.ErrCode.TheVariants as errors
+use Rattle.sr_check.specs.PlanReply.{verdict_answer}
+use Rattle.sr_plan.specs.Verdict.{Judged}
+use Rattle.sr_policy.specs.Same.{same}
+use Rattle.sr_policy.specs.Snapshot.{Shown}
 use Rattle.sr_space.specs.Blocking.{answered_or_waits, executed, finds_nothing, outcome_of}
 use Rattle.sr_space.specs.Effect.{at_once}
-use Rattle.sr_space.specs.Keys.{Keys}
+use Rattle.sr_space.specs.Keys.{Keys, group_at}
+use Rattle.sr_space.specs.Snap.{snapped}
 use Rattle.sr_space.specs.declared.blocking.Outcome.{Outcome}
 use Rattle.sr_space.specs.declared.blocking.Outcome.TheVariants as outcomes
+use Rattle.sr_space.specs.declared.snap.SnapFault.{SnapFault}
 use Rattle.sr_space.specs.declared.outcome.Answered.{Answered}
 use Rattle.sr_space.specs.declared.outcome.Answered.TheVariants as answers
-use Rattle.sr_waiters.specs.Waiters.{Waiting, first_that, has_session, session_of}
+use Rattle.sr_waiters.specs.Waiters.{Waiting, has_session}
 use Rattle.sr_book.specs.Records.{AreServings, BookState, IsHistory, IsRefusal, IsStepped, LeadsBy, Legal, Recorded, Steps, addressed, event_record, event_server, is_serving, next_index, next_moment, to_session}
-use Rattle.sr_book.specs.Server.{AreBelow, AreOpen, Server, Serving, Session, acted, called, empty_server, is_open, refusal, served as served_as, serving, without}
+use Rattle.sr_book.specs.Server.{AreBelow, AreOpen, Server, Serving, Session, acted, board_reply, called, concluded, empty_server, fresh_snapshot, is_busy, is_open, keys_after, outdated, refusal, replied}
+use Rattle.sr_book.specs.Server.{serving, snap_code, snapped_for, speaker, without}
 use Rattle.sr_book.specs.declared.answer.Answer.{Answer}
 use Rattle.sr_book.specs.declared.event.Act.{Act}
 use Rattle.sr_book.specs.declared.event.Act.TheVariants as acts
@@ -25,12 +33,14 @@ use Rattle.sr_book.specs.declared.event.BookFault.{BookFault}
 use Rattle.sr_book.specs.declared.event.BookFault.TheVariants as faults
 use Rattle.sr_book.specs.declared.event.Event.{Event}
 use Rattle.sr_book.specs.declared.event.Event.TheVariants as events
+use Rattle.sr_book.specs.declared.event.Out.{Out}
 use Rattle.sr_book.specs.declared.event.Out.TheVariants as outs
 use Rattle.sr_book.proofs.ActLemmas.{called_server, not_busy, speaker_is_open}
 use Rattle.sr_book.proofs.DueLemmas.{absent-without}
 use Rattle.sr_book.proofs.FreshLemmas.{AreBelow-acted, AreBelow-served}
-use Rattle.sr_book.proofs.OpenLemmas.{is_open-with_letter, open-called, open-expired, open-joined, open-left, open-served}
-use Rattle.sr_book.proofs.ServeLemmas.{first_that-waits}
+use Rattle.sr_book.proofs.OpenLemmas.{is_open-with_letter, open-called, open-expired, open-joined, open-left, open-served, open-with_letter}
+use Rattle.sr_book.proofs.HeardLemmas.{Asks, SendsAnswer, acted-heard, asks-busy, asks-speaker}
+use Rattle.sr_book.proofs.ServeLemmas.{serving-read}
 use Rattle.sr_book.proofs.SessionLemmas.{differs-below}
 use Rattle.sr_book.proofs.TwiceLemmas.{IsTwice, at_once-twice}
 
@@ -39,26 +49,6 @@ abbrev pub IsIdleIn : ℕ → Server → Type 0
 IsIdleIn session server = (is_open session server.sessions ≡ true) × (has_session session server.waiting ≡ false)
 
 -- ---- a read that is served
-
--- the read that was served waited, and this is what serving it gave
-record IsServedRead (server : Server) (index : ℕ) (given : Serving) : Type 0 where
-  pub read : Waiting
-  pub waits : has_session read.session server.waiting ≡ true
-  pub result : given ≡ served_as index server read (at_once server.keys server.last read.call)
-
-serving-read : (server : Server) (index : ℕ) (given : Serving) → serving server index ≡ Some given → IsServedRead server index given
-serving-read server index given is = by (first_that (λ (call : Call). not (finds_nothing server.keys server.last call)) server.waiting) refl
-  where
-    by : (found : Option Waiting) → first_that (λ (call : Call). not (finds_nothing server.keys server.last call)) server.waiting ≡ found → IsServedRead server index given
-    by None e = absurd (let none = rw e at is in cc)
-    by (Some read) e =
-        let found = rw e at is in
-        let one : Some (served_as index server read (at_once server.keys server.last read.call)) ≡ Some given = found in
-        record {
-          read = read;
-          waits = first_that-waits (λ (call : Call). not (finds_nothing server.keys server.last call)) read.session server.waiting (sym (ap session_of e));
-          result = cc;
-        }
 
 module _ (session index : ℕ) (server : Server) (given : Serving) (next : serving server index ≡ Some given) where
   serving-open : is_open session given.server.sessions ≡ is_open session server.sessions
@@ -224,20 +214,25 @@ called-sends session moment server keys reply (outcomes.Reply send keep) alike o
     to_session-own session keep ∙ ap (λ (r : ReplyParts). r ∷ []) (sym alike ∙ told)
 called-sends session moment server keys reply (outcomes.Blocked call deadline) alike out = absurd (cc)
 
+-- the new records address to a session that is idle right after the event what the event's own record does
+added-addressed : (old : BookState) (told session : ℕ) (event : Event) (answer : Answer) (new : BookState) (replies : List ReplyParts) → IsStepped old told event answer new
+    → IsIdleIn session (event_server old told event) → to_session session (event_record old told event).replies ≡ replies
+    → addressed session (drop (length old.records) new.records) ≡ replies ++ []
+added-addressed old told session event answer new replies stepped idle sent =
+    let own : Recorded = event_record old told event in
+    let added : drop (length old.records) new.records ≡ own ∷ stepped.servings =
+    ap (drop (length old.records)) stepped.grown ∙ drop-append_seam old.records (own ∷ stepped.servings) in
+    let others : addressed session stepped.servings ≡ [] =
+    servings-silent session (next_index old + 1) (event_server old told event) stepped.servings new.server stepped.served stepped.legal idle.1 in
+    ap (addressed session) added ∙ ap (λ (l : List ReplyParts). l ++ addressed session stepped.servings) sent ∙ ap (λ (l : List ReplyParts). replies ++ l) others
+
 -- what a call is answered is the one reply that the new records address to the session
 pub called-addressed : (old : BookState) (told session : ℕ) (call : Call) (answer : Answer) (new : BookState) (reply : ReplyParts) → IsStepped old told (events.Call session call) answer new
     → answer.out ≡ outs.Reply reply → addressed session (drop (length old.records) new.records) ≡ reply ∷ []
 called-addressed old told session call answer new reply stepped out =
-    let idle = answered-idle old told session call answer new reply stepped out in
     let done = executed old.server.keys (next_moment old told) call in
-    let own : Recorded = event_record old told (events.Call session call) in
-    let added : drop (length old.records) new.records ≡ own ∷ stepped.servings =
-    ap (drop (length old.records)) stepped.grown ∙ drop-append_seam old.records (own ∷ stepped.servings) in
-    let first : to_session session own.replies ≡ reply ∷ [] =
-    called-sends session (next_moment old told) old.server done.keys reply done.outcome (executed-alike old.server.keys (next_moment old told) call) (sym stepped.out ∙ out) in
-    let others : addressed session stepped.servings ≡ [] =
-    servings-silent session (next_index old + 1) (event_server old told (events.Call session call)) stepped.servings new.server stepped.served stepped.legal idle.1 in
-    ap (addressed session) added ∙ ap (λ (l : List ReplyParts). l ++ addressed session stepped.servings) first ∙ ap (λ (l : List ReplyParts). reply ∷ l) others
+    added-addressed old told session (events.Call session call) answer new (reply ∷ []) stepped (answered-idle old told session call answer new reply stepped out)
+    (called-sends session (next_moment old told) old.server done.keys reply done.outcome (executed-alike old.server.keys (next_moment old told) call) (sym stepped.out ∙ out))
 
 -- ---- a call without BLOCK
 
@@ -281,6 +276,112 @@ unblocked-replies old told session call answer new stepped =
     let one = called-replies session moment old.server keys (at_once old.server.keys moment taken).outcome in
     (one.0, stepped.out ∙ ap (λ (o : Outcome). (called session moment old.server keys o).out) at_once_is ∙ one.1)
 
+-- ---- a session asks for a board or a snapshot, or concludes a verdict
+
+-- the session is open and does not wait
+pub asked-accepted-idle : (server : Server) (index session : ℕ) (event : Event) → Asks session event → refusal server index event ≡ None → IsIdleIn session server
+asked-accepted-idle server index session event asks accepted = (
+  speaker_is_open server index session event accepted (asks-speaker session event asks),
+  sym (asks-busy session event server.waiting asks) ∙ not_busy server index event accepted,
+)
+
+-- right after the event, before the servings that follow
+heard-idle : (old : BookState) (told session : ℕ) (event : Event) (answer : Answer) (new : BookState) → Asks session event → IsStepped old told event answer new
+    → IsIdleIn session (event_server old told event)
+heard-idle old told session event answer new asks stepped =
+    let before = asked-accepted-idle old.server (next_index old) session event asks stepped.accepted in
+    let heard = acted-heard old.server (next_index old) (next_moment old told) session event asks in (
+      ap (λ (s : Server). is_open session s.sessions) heard.leaves ∙ is_open-with_letter session session None old.server.sessions ∙ before.0,
+      ap (λ (s : Server). has_session session s.waiting) heard.leaves ∙ before.1,
+    )
+
+-- it is so still when the event is answered
+pub asked-idle : (old : BookState) (told session : ℕ) (event : Event) (answer : Answer) (new : BookState) → Asks session event → IsStepped old told event answer new
+    → IsIdleIn session new.server
+asked-idle old told session event answer new asks stepped =
+    servings-idle session (next_index old + 1) (event_server old told event) stepped.servings new.server
+    stepped.served stepped.legal (heard-idle old told session event answer new asks stepped)
+
+-- what the event sends, by what it is answered
+heard-sends : (old : BookState) (told session : ℕ) (event : Event) (answer : Answer) (new : BookState) (out : Out) → Asks session event → IsStepped old told event answer new
+    → answer.out ≡ out → SendsAnswer session out (event_record old told event).replies
+heard-sends old told session event answer new out asks stepped is =
+    let heard = acted-heard old.server (next_index old) (next_moment old told) session event asks in
+    let Sends : Out → Type 0 = λ o. SendsAnswer session o (event_record old told event).replies in
+    subst Sends (sym stepped.out ∙ is) heard.sends
+
+-- a reply is the one that the new records address to the session
+pub asked-addressed : (old : BookState) (told session : ℕ) (event : Event) (answer : Answer) (new : BookState) (reply : ReplyParts) → Asks session event
+    → IsStepped old told event answer new → answer.out ≡ outs.Reply reply → addressed session (drop (length old.records) new.records) ≡ reply ∷ []
+asked-addressed old told session event answer new reply asks stepped out =
+    let sent = heard-sends old told session event answer new (outs.Reply reply) asks stepped out in
+    added-addressed old told session event answer new (reply ∷ []) stepped (heard-idle old told session event answer new asks stepped)
+    (ap (to_session session) sent ∙ to_session-own session reply)
+
+-- with a snapshot they address nothing to it
+pub snapped-silent : (old : BookState) (told session : ℕ) (event : Event) (answer : Answer) (new : BookState) (shown : Shown) → Asks session event
+    → IsStepped old told event answer new → answer.out ≡ outs.Snap shown → addressed session (drop (length old.records) new.records) ≡ []
+snapped-silent old told session event answer new shown asks stepped out =
+    let sent = heard-sends old told session event answer new (outs.Snap shown) asks stepped out in
+    added-addressed old told session event answer new [] stepped (heard-idle old told session event answer new asks stepped) (ap (to_session session) sent)
+
+pub stale-silent : (old : BookState) (told session : ℕ) (event : Event) (answer : Answer) (new : BookState) (shown : Shown) → Asks session event
+    → IsStepped old told event answer new → answer.out ≡ outs.Stale shown → addressed session (drop (length old.records) new.records) ≡ []
+stale-silent old told session event answer new shown asks stepped out =
+    let sent = heard-sends old told session event answer new (outs.Stale shown) asks stepped out in
+    added-addressed old told session event answer new [] stepped (heard-idle old told session event answer new asks stepped) (ap (to_session session) sent)
+
+-- a board is replied
+pub board-replies : (old : BookState) (told session : ℕ) (key group : List ℕ) (answer : Answer) (new : BookState) → IsStepped old told (events.Board session key group) answer new
+    → (reply : ReplyParts) × (answer.out ≡ outs.Reply reply)
+board-replies old told session key group answer new stepped =
+    (board_reply old.server.rules (next_moment old told) (group_at old.server.keys key group), stepped.out)
+
+-- for a snapshot the answer is a reply, or the snapshot
+pub snapshot-answers : (old : BookState) (told session : ℕ) (key group : List ℕ) (dead : List (List ℕ)) (answer : Answer) (new : BookState)
+    → IsStepped old told (events.Snapshot session key group dead) answer new
+    → ((reply : ReplyParts) × (answer.out ≡ outs.Reply reply)) ⊎ ((shown : Shown) × (answer.out ≡ outs.Snap shown))
+snapshot-answers old told session key group dead answer new stepped = by (snapped old.server.rules old.server.keys key group dead) stepped.out
+  where
+    by : (result : Result Shown SnapFault) → answer.out ≡ (snapped_for session (next_moment old told) old.server result).out
+        → ((reply : ReplyParts) × (answer.out ≡ outs.Reply reply)) ⊎ ((shown : Shown) × (answer.out ≡ outs.Snap shown))
+    by (Ok shown) out = inr (shown, out)
+    by (Err fault) out = inl (error_reply (snap_code fault), out)
+
+-- for a verdict it is a reply, or, but in the last round, a fresh snapshot
+pub conclude-answers : (old : BookState) (told session : ℕ) (judged : Judged) (apply last : Bool) (answer : Answer) (new : BookState)
+    → IsStepped old told (events.Conclude session judged apply last) answer new
+    → ((reply : ReplyParts) × (answer.out ≡ outs.Reply reply)) ⊎ ((shown : Shown) × (answer.out ≡ outs.Stale shown) × (last ≡ false))
+conclude-answers old told session judged apply last answer new stepped = by (fresh_snapshot old.server judged.snapshot) stepped.out
+  where
+    Answers : Type 0
+    Answers = ((reply : ReplyParts) × (answer.out ≡ outs.Reply reply)) ⊎ ((shown : Shown) × (answer.out ≡ outs.Stale shown) × (last ≡ false))
+
+    moment : ℕ
+    moment = next_moment old told
+
+    outdated_by : (final : Bool) (shown : Shown) → last ≡ final → answer.out ≡ (outdated session moment final old.server shown).out → Answers
+    outdated_by true shown is out = inl (error_reply errors.Stale, out)
+    outdated_by false shown is out = inr (shown, out, is)
+
+    compared : (equal : Bool) (keys : Keys) (reply : ReplyParts) (shown : Shown)
+        → answer.out ≡ (cond equal (replied session moment old.server keys reply) (outdated session moment last old.server shown)).out → Answers
+    compared true keys reply shown out = inl (reply, out)
+    compared false keys reply shown out = outdated_by last shown refl out
+
+    by : (result : Result Shown SnapFault) → answer.out ≡ (concluded session moment apply last judged old.server result).out → Answers
+    by (Ok shown) out = compared (same shown judged.snapshot) (keys_after apply moment judged old.server.keys) (verdict_answer judged.snapshot judged.answer apply) shown out
+    by (Err fault) out = inl (error_reply (snap_code fault), out)
+
+-- so in the last round it is a reply
+pub conclude-last : (old : BookState) (told session : ℕ) (judged : Judged) (apply last : Bool) (answer : Answer) (new : BookState)
+    → IsStepped old told (events.Conclude session judged apply last) answer new → last ≡ true → (reply : ReplyParts) × (answer.out ≡ outs.Reply reply)
+conclude-last old told session judged apply last answer new stepped final = by (conclude-answers old told session judged apply last answer new stepped)
+  where
+    by : ((reply : ReplyParts) × (answer.out ≡ outs.Reply reply)) ⊎ ((shown : Shown) × (answer.out ≡ outs.Stale shown) × (last ≡ false)) → (reply : ReplyParts) × (answer.out ≡ outs.Reply reply)
+    by (inl one) = one
+    by (inr stale) = absurd (true≢false (sym final ∙ stale.2))
+
 -- ---- a session leaves
 
 is_open-without : (number : ℕ) (sessions : List Session) → is_open number (without number sessions) ≡ false
@@ -298,12 +399,12 @@ left-closed old told session answer new stepped = (
 
 -- ---- refusals
 
--- the call of a session that is open and does not wait is refused only if no index is left
-pub refused-not-idle : (server : Server) (index session : ℕ) (call : Call) → IsIdleIn session server
-    → (refusal server index (events.Call session call) ≡ Some faults.NoSession → ⊥) × (refusal server index (events.Call session call) ≡ Some faults.Busy → ⊥)
-refused-not-idle server index session call idle = (
-  (λ is. by_closed (nat_lt index (2 ^ 63)) (rw (idle.0, idle.1) at is)),
-  (λ is. by_busy (nat_lt index (2 ^ 63)) (rw (idle.0, idle.1) at is)),
+-- an event of a session that is open and does not wait is refused only if no index is left
+not-refused : (server : Server) (index session : ℕ) (event : Event) → speaker event ≡ Some session → is_busy event server.waiting ≡ false → is_open session server.sessions ≡ true
+    → (refusal server index event ≡ Some faults.NoSession → ⊥) × (refusal server index event ≡ Some faults.Busy → ⊥)
+not-refused server index session event of absent there = (
+  (λ is. by_closed (nat_lt index (2 ^ 63)) (rw (of, there, absent) at is)),
+  (λ is. by_busy (nat_lt index (2 ^ 63)) (rw (of, there, absent) at is)),
 )
   where
     by_closed : (fits : Bool) → cond fits None (Some faults.Full) ≡ Some faults.NoSession → ⊥
@@ -314,17 +415,34 @@ refused-not-idle server index session call idle = (
     by_busy true is = cc
     by_busy false is = cc
 
+pub refused-not-idle : (server : Server) (index session : ℕ) (call : Call) → IsIdleIn session server
+    → (refusal server index (events.Call session call) ≡ Some faults.NoSession → ⊥) × (refusal server index (events.Call session call) ≡ Some faults.Busy → ⊥)
+refused-not-idle server index session call idle = not-refused server index session (events.Call session call) refl idle.1 idle.0
+
+pub refused-asked-not-idle : (server : Server) (index session : ℕ) (event : Event) → Asks session event → IsIdleIn session server
+    → (refusal server index event ≡ Some faults.NoSession → ⊥) × (refusal server index event ≡ Some faults.Busy → ⊥)
+refused-asked-not-idle server index session event asks idle =
+    not-refused server index session event (asks-speaker session event asks) (asks-busy session event server.waiting asks ∙ idle.1) idle.0
+
 -- so no book answers it with NoSession or Busy
-pub steps-not-idle : (old : BookState) (told session : ℕ) (call : Call) (fault : BookFault) (new : BookState) → IsIdleIn session old.server
-    → Steps old told (events.Call session call) (Err fault) new → (fault ≡ faults.NoSession → ⊥) × (fault ≡ faults.Busy → ⊥)
-steps-not-idle old told session call fault new idle stepped =
-    let neither = refused-not-idle old.server (next_index old) session call idle in
-    by (refusal old.server (next_index old) (events.Call session call)) neither.0 neither.1 stepped.0
+answers-neither : (reason : Option BookFault) (fault : BookFault) → (reason ≡ Some faults.NoSession → ⊥) × (reason ≡ Some faults.Busy → ⊥) → IsRefusal reason fault
+    → (fault ≡ faults.NoSession → ⊥) × (fault ≡ faults.Busy → ⊥)
+answers-neither reason fault neither stepped = by reason neither.0 neither.1 stepped
   where
     by : (reason : Option BookFault) → (reason ≡ Some faults.NoSession → ⊥) → (reason ≡ Some faults.Busy → ⊥) → IsRefusal reason fault
         → (fault ≡ faults.NoSession → ⊥) × (fault ≡ faults.Busy → ⊥)
     by None not_closed not_busy is = ((λ closed. cc), (λ busy. cc))
     by (Some reason) not_closed not_busy is = ((λ closed. not_closed (ap Some (sym is ∙ closed))), (λ busy. not_busy (ap Some (sym is ∙ busy))))
+
+pub steps-not-idle : (old : BookState) (told session : ℕ) (call : Call) (fault : BookFault) (new : BookState) → IsIdleIn session old.server
+    → Steps old told (events.Call session call) (Err fault) new → (fault ≡ faults.NoSession → ⊥) × (fault ≡ faults.Busy → ⊥)
+steps-not-idle old told session call fault new idle stepped =
+    answers-neither (refusal old.server (next_index old) (events.Call session call)) fault (refused-not-idle old.server (next_index old) session call idle) stepped.0
+
+pub steps-asked-not-idle : (old : BookState) (told session : ℕ) (event : Event) (fault : BookFault) (new : BookState) → Asks session event → IsIdleIn session old.server
+    → Steps old told event (Err fault) new → (fault ≡ faults.NoSession → ⊥) × (fault ≡ faults.Busy → ⊥)
+steps-asked-not-idle old told session event fault new asks idle stepped =
+    answers-neither (refusal old.server (next_index old) event) fault (refused-asked-not-idle old.server (next_index old) session event asks idle) stepped.0
 
 -- ---- every state that a history leads to
 
@@ -352,7 +470,13 @@ pub history-below : (book : BookState) → IsHistory book → AreBelow (next_ind
 history-below book history =
     let IsFresh : ℕ → Type 0 = λ n. AreBelow n book.server.sessions in
     let same : 1 + length book.records ≡ next_index book = omega arith in
-    subst IsFresh same (legal-below 1 empty_server book.records book.server history tt)
+    subst IsFresh same (legal-below 1 (empty_server book.server.rules) book.records book.server history tt)
+
+heard-open : (server : Server) (index moment session : ℕ) (event : Event) → Asks session event → AreOpen server.waiting server.sessions
+    → AreOpen (acted server index moment event).server.waiting (acted server index moment event).server.sessions
+heard-open server index moment session event asks all =
+    let HasOpen : Server → Type 0 = λ s. AreOpen s.waiting s.sessions in
+    subst HasOpen (sym (acted-heard server index moment session event asks).leaves) (open-with_letter session None server.sessions server.waiting all)
 
 acted-open : (server : Server) (index moment : ℕ) (event : Event) → refusal server index event ≡ None → AreOpen server.waiting server.sessions
     → AreOpen (acted server index moment event).server.waiting (acted server index moment event).server.sessions
@@ -362,6 +486,9 @@ acted-open server index moment (events.Call session call) accepted all =
     let HasOpen : Server → Type 0 = λ s. AreOpen s.waiting s.sessions in
     let before = accepted-idle server index session call accepted in
     subst HasOpen (sym (called_server session moment server done.keys done.outcome)) (open-called session done.outcome server.sessions server.waiting before.0 all)
+acted-open server index moment (events.Board session key group) accepted all = heard-open server index moment session (events.Board session key group) refl all
+acted-open server index moment (events.Snapshot session key group dead) accepted all = heard-open server index moment session (events.Snapshot session key group dead) refl all
+acted-open server index moment (events.Conclude session judged apply last) accepted all = heard-open server index moment session (events.Conclude session judged apply last) refl all
 acted-open server index moment events.Expire accepted all = open-expired index moment server.sessions server.waiting all
 acted-open server index moment (events.Leave session) accepted all = open-left session server.sessions server.waiting all
 
@@ -382,4 +509,4 @@ legal-open index old (first ∷ others) new legal all =
     legal-open (index + 1) legal.0 others new legal.2 (led-waiting_open index first.moment first.replies old legal.0 first.act legal.1.1 all)
 
 pub history-open : (book : BookState) → IsHistory book → AreOpen book.server.waiting book.server.sessions
-history-open book history = legal-open 1 empty_server book.records book.server history (λ session waits. absurd (true≢false (sym waits)))
+history-open book history = legal-open 1 (empty_server book.server.rules) book.records book.server history (λ session waits. absurd (true≢false (sym waits)))

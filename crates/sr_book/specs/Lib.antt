@@ -1,6 +1,7 @@
 pub mod Concluded
 pub mod Layout
 pub mod Records
+pub mod Recovered
 pub mod Server
 pub mod Settled
 pub mod Taken

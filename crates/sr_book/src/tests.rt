@@ -3,6 +3,7 @@
 use crate::{Answer, Book, BookFault, Event, Out, Status};
 use sr_args::{Call, CallFault, Command, read_call};
 use sr_bytes::Words;
+use sr_policy::Policy;
 use sr_resp::append_reply;
 use std::alloc::{AllocError, Global};
 use std::hash::RandomState;
@@ -11,6 +12,7 @@ use std::random::RandomSource;
 use std::test::Fail;
 
 mod memory;
+mod recovery;
 mod runs;
 
 /// The moment, the session, what is done or asked, and what the book says to it.
@@ -31,6 +33,10 @@ fn call_of(rt: &(impl AllocGlobal + Abort), line: &str) -> Result<Call, AllocErr
     assert!(rt; words.len() > 0);
     match read_call(rt.alloc(), &words) {
         Ok(Command::Call(call)) => Ok(call),
+        Ok(Command::Board { .. } | Command::Recover { .. }) => {
+            assert!(rt; false, "not a call: {line}");
+            Err(AllocError)
+        }
         Err(fault) => {
             assert_eq!(rt; fault, CallFault::Memory, "{line}");
             Err(AllocError)
@@ -72,6 +78,8 @@ fn append_out(alloc: Global, text: &mut Vec<u8>, out: &Out) -> Result<(), AllocE
         Out::Joined(session) => append_number(alloc, text, "joined", *session),
         Out::Reply(reply) => append_reply(text, reply),
         Out::Blocked => text.extend_from_slice(b"blocked"),
+        Out::Snap(_) => text.extend_from_slice(b"snapshot"),
+        Out::Stale(_) => text.extend_from_slice(b"stale"),
         Out::Expired(count) => append_number(alloc, text, "expired", *count),
         Out::Left => text.extend_from_slice(b"left"),
     }
@@ -189,9 +197,10 @@ fn follow(rt: &(impl AllocGlobal + Abort), book: &mut Book, row: Row) -> Result<
     Ok(())
 }
 
-/// A book without records.
+/// A book without records, of a server with an empty policy.
 fn no_records(rt: &(impl AllocGlobal + RandomSource)) -> Result<Book, Fail> {
-    Ok(Book::new(rt.alloc(), RandomState::new(rt)?))
+    let policy = Policy::empty(rt.alloc());
+    Ok(Book::new(rt.alloc(), policy, RandomState::new(rt)?))
 }
 
 /// Follows rows from the empty book on.

@@ -58,7 +58,8 @@ fn readers_that_wait_are_consumers(rt: HostRuntime) -> Result<(), Fail> {
                 10,
                 3,
                 "XINFO CONSUMERS s g",
-                "*2\r\n*6\r\n$4\r\nname\r\n$1\r\nA\r\n$7\r\npending\r\n:0\r\n$4\r\nidle\r\n:0\r\n*6\r\n$4\r\nname\r\n$1\r\nB\r\n$7\r\npending\r\n:0\r\n$4\r\nidle\r\n:0\r\n",
+                "*2\r\n*6\r\n$4\r\nname\r\n$1\r\nA\r\n$7\r\npending\r\n:0\r\n$4\r\nidle\r\n:0\r\n\
+                 *6\r\n$4\r\nname\r\n$1\r\nB\r\n$7\r\npending\r\n:0\r\n$4\r\nidle\r\n:0\r\n",
             ),
         ],
     )
