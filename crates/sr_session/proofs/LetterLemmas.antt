@@ -20,6 +20,7 @@ use Rattle.sr_book.specs.declared.event.Act.{Act}
 use Rattle.sr_book.specs.declared.event.Act.TheVariants as acts
 use Rattle.sr_book.specs.declared.event.Event.{Event}
 use Rattle.sr_book.specs.declared.event.Event.TheVariants as events
+use Rattle.sr_book.proofs.HeardLemmas.{Asks, acted-heard}
 use Rattle.sr_book.proofs.OpenLemmas.{has_session-filter}
 use Rattle.sr_book.proofs.SessionLaws.{IsIdleIn, accepted-idle}
 
@@ -244,6 +245,14 @@ called-quiet session moment server keys (outcomes.Blocked call deadline) absent 
       none = λ other there. emptied-none session other server.sessions (λ apart. quiet.none other (waited-before session other read server.waiting refl apart there));
     }
 
+-- so does a board, a snapshot or a verdict
+heard-quiet : (server : Server) (index moment session : ℕ) (event : Event) → Asks session event → IsQuiet server → IsQuiet (acted server index moment event).server
+heard-quiet server index moment session event asks quiet =
+    subst IsQuiet (sym (acted-heard server index moment session event asks).leaves) (record {
+      once = quiet.once;
+      none = λ other there. emptied-none session other server.sessions (λ apart. quiet.none other there);
+    })
+
 acted-quiet : (server : Server) (index moment : ℕ) (event : Event) → refusal server index event ≡ None → IsQuiet server → IsQuiet (acted server index moment event).server
 acted-quiet server index moment events.Join accepted quiet = record {
   once = quiet.once;
@@ -252,6 +261,12 @@ acted-quiet server index moment events.Join accepted quiet = record {
 acted-quiet server index moment (events.Call session call) accepted quiet =
     let done = executed server.keys moment call in
     called-quiet session moment server done.keys done.outcome (accepted-idle server index session call accepted).1 quiet
+acted-quiet server index moment (events.Board session key group) accepted quiet =
+    heard-quiet server index moment session (events.Board session key group) refl quiet
+acted-quiet server index moment (events.Snapshot session key group dead) accepted quiet =
+    heard-quiet server index moment session (events.Snapshot session key group dead) refl quiet
+acted-quiet server index moment (events.Conclude session judged apply last) accepted quiet =
+    heard-quiet server index moment session (events.Conclude session judged apply last) refl quiet
 acted-quiet server index moment events.Expire accepted quiet = record {
   once = AreOnce-filter (λ read. not (is_due moment read)) server.waiting quiet.once;
   none = λ other there.
@@ -283,7 +298,7 @@ legal-quiet index old (first ∷ others) new legal quiet =
 -- in every state of a book, a session that waits has no letter
 pub history-none : (session : ℕ) (book : BookState) → IsHistory book → HasNone session book.server
 history-none session book history =
-    (legal-quiet 1 empty_server book.records book.server history (record { once = tt; none = λ other there. refl })).none session
+    (legal-quiet 1 (empty_server book.server.rules) book.records book.server history (record { once = tt; none = λ other there. refl })).none session
 
 led-none : (session index moment : ℕ) (replies : List (ℕ × ReplyParts)) (old new : Server) (act : Act) → is_serving act ≡ true
     → LeadsBy act index moment replies old new → HasNone session old → HasNone session new

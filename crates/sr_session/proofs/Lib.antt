@@ -1,6 +1,10 @@
 pub mod AnsweredLemmas
 pub mod DeskLemmas
 pub mod GatheredLemmas
+pub mod GrowthLemmas
+pub mod LetterLaws
 pub mod LetterLemmas
+pub mod RoundLemmas
 pub mod RunLemmas
+pub mod ToldLemmas
 pub mod UnderwayLemmas

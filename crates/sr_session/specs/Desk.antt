@@ -1,10 +1,11 @@
 -- What an event does at a desk that shows its book, and what little is known at one that shows none.
 -- Source: Redis documentation, the pages of the commands; docs/DEFINITIONS.md, "The one-thread server".
 
-use Rattle.std.specs.Prelude.{⊤, ◌≡◌, ℕ, true, false, Option, Some, None, IsSome, Result, Ok, Err}
+use Rattle.std.specs.Prelude.{⊤, ◌≡◌, ℕ, true, false, List, [], ◌∷◌, drop, length, Option, Some, None, IsSome, Result, Ok, Err}
+use Rattle.sr_resp.specs.Reply.{Answer as ReplyParts}
 use Rattle.sr_waiters.specs.Waiters.{has_session}
 use Rattle.sr_book.specs.Server.{is_open}
-use Rattle.sr_book.specs.Records.{BookState, Steps, letter_for}
+use Rattle.sr_book.specs.Records.{BookState, Steps, addressed, letter_for}
 use Rattle.sr_book.specs.declared.answer.Answer.{Answer}
 use Rattle.sr_book.specs.declared.answer.Letter.{Letter}
 use Rattle.sr_book.specs.declared.event.BookFault.TheVariants as book
@@ -51,3 +52,17 @@ abbrev pub IsIdle : ℕ → Option BookState → Type 0
 IsIdle session None = ⊤
 IsIdle session (Some state) =
     (is_open session state.server.sessions ≡ true) × (has_session session state.server.waiting ≡ false)
+
+-- where the book is shown: these are the replies to the session in the records that were added
+abbrev pub AreRecorded : ℕ → Option BookState → List ReplyParts → Option BookState → Type 0
+AreRecorded session None replies new = ⊤
+AreRecorded session (Some old) replies None = ⊥
+AreRecorded session (Some old) replies (Some new) = addressed session (drop (length old.records) new.records) ≡ replies
+
+-- this is the one reply to it there
+abbrev pub IsRecorded : ℕ → Option BookState → ReplyParts → Option BookState → Type 0
+IsRecorded session old reply new = AreRecorded session old (reply ∷ []) new
+
+-- there is none
+abbrev pub IsUnrecorded : ℕ → Option BookState → Option BookState → Type 0
+IsUnrecorded session old new = AreRecorded session old [] new

@@ -1,7 +1,9 @@
 pub mod Desk
 pub mod Answered
 pub mod Unanswered
+pub mod Rounds
 pub mod Session
 pub mod Whole
 pub mod Source
 pub mod steps
+pub mod Told

@@ -2,16 +2,16 @@ ghost use Rattle.std.specs.Prelude.{◌≡◌, ℕ, ◌<◌, List, length, false
 ghost use Rattle.std.specs.Io.KnownBytes.{Appends};
 ghost use Rattle.sr_resp.specs.Request.{Words};
 ghost use Rattle.sr_resp.specs.Reply.{reply_text};
-ghost use Rattle.sr_args.specs.Command.{IsCall};
+ghost use Rattle.sr_args.specs.Command.{IsCommand};
 ghost use Rattle.sr_session.specs.Answered.{Answers, Holds, code_of, taken_as};
 ghost use Rattle.sr_session.specs.Desk.{IsIdle};
 ghost use Rattle.sr_session.specs.steps.Calling.{Fails, IsDeskEnd, made_of};
 ghost use Rattle.sr_session.specs.steps.Gathered.{Moves, BreaksOff, Gathers, Stops, IsNoted};
 
-use crate::calling::{answer, call_of};
+use crate::calling::answer;
 use crate::replies::Replies;
 use crate::{Clock, Desk, DeskFault, End, Gate};
-use sr_args::{Call, CallFault, Command, read_call};
+use sr_args::{CallFault, Command, read_call};
 use sr_bytes::Words;
 use sr_resp::{ErrCode, Reply, Sink};
 use std::alloc::Global;
@@ -57,16 +57,8 @@ pub(crate) fn answer_request<W: Sink, D: Desk, C: Clock, G: Gate>(
     ensures same { D.borrows desk.new ≡ D.borrows desk.old }
 {
     match read_call(alloc, words) {
-        Ok(command) => answer_call(
-            alloc,
-            writer,
-            desk,
-            clock,
-            gate,
-            blocking,
-            session,
-            call_of(command),
-            replies,
+        Ok(command) => answer_command(
+            alloc, writer, desk, clock, gate, blocking, session, command, replies,
         ),
         Err(fault) => {
             replies.gather_error(alloc, code_of_fault(fault))?;
@@ -75,8 +67,8 @@ pub(crate) fn answer_request<W: Sink, D: Desk, C: Clock, G: Gate>(
     }
 }
 
-/// Answers one call in the same way.
-fn answer_call<W: Sink, D: Desk, C: Clock, G: Gate>(
+/// Answers one command in the same way.
+fn answer_command<W: Sink, D: Desk, C: Clock, G: Gate>(
     alloc: Global,
     writer: &mut W,
     desk: &mut D,
@@ -84,34 +76,34 @@ fn answer_call<W: Sink, D: Desk, C: Clock, G: Gate>(
     gate: &G,
     blocking: bool,
     session: u64,
-    call: Call,
+    command: Command,
     replies: &mut Replies,
 ) -> Result<(), End>
     requires sound { W.failed writer.old ≡ false }
     requires idle { IsIdle session (D.shows desk.old) }
     ensures ok { OnOk result ((gets : List ℕ) × Appends (W.contents writer.old) (W.contents writer.new) gets
-        × ((words : Words) → IsCall words call → Gathers (Answers (C.may_tell clock.now) blocking session)
+        × ((words : Words) → IsCommand words command → Gathers (Answers (C.may_tell clock.now) blocking session)
         replies.old.gathered.items replies.old.sent (D.shows desk.old) words
         gets replies.new.gathered.items replies.new.sent (D.shows desk.new))) }
     ensures idle { OnOk result (IsIdle session (D.shows desk.new)) }
     ensures err { IfErr result (λ end. (gets : List ℕ) × Appends (W.contents writer.old) (W.contents writer.new) gets
-        × ((words : Words) → IsCall words call → Stops (Answers (C.may_tell clock.now) blocking session)
+        × ((words : Words) → IsCommand words command → Stops (Answers (C.may_tell clock.now) blocking session)
         (Holds (C.may_tell clock.now) blocking session)
         replies.old.gathered.items replies.old.sent (D.shows desk.old) words gets end (D.shows desk.new))) }
     ensures noted { IsNoted result (W.failed writer.old) (W.failed writer.new) }
     ensures same { D.borrows desk.new ≡ D.borrows desk.old }
 {
-    send_before(writer, blocking, &call, replies)?;
-    let reply = reply_to(alloc, desk, clock, gate, blocking, session, call)?;
+    send_before(writer, blocking, &command, replies)?;
+    let reply = reply_to(alloc, desk, clock, gate, blocking, session, command)?;
     replies.gather(&reply)?;
     Ok(())
 }
 
-/// Sends what is gathered, if the call may wait.
+/// Sends what is gathered, if the command may wait.
 fn send_before<W: Sink>(
     writer: &mut W,
     blocking: bool,
-    call: &Call,
+    command: &Command,
     replies: &mut Replies,
 ) -> Result<(), End>
     requires { W.failed writer.old ≡ false }
@@ -121,14 +113,22 @@ fn send_before<W: Sink>(
         × BreaksOff replies.old.gathered.items replies.old.sent gets end) }
     ensures noted { IsNoted result (W.failed writer.old) (W.failed writer.new) }
 {
-    if blocking && call.block().is_some() {
+    if blocking && may_wait(command) {
         replies.send(writer)
     } else {
         Ok(())
     }
 }
 
-/// The reply to a call: that of its server, or the error that says that nothing changed.
+/// Whether the command is a call with BLOCK.
+fn may_wait(command: &Command) -> bool {
+    match command {
+        Command::Call(call) => call.block().is_some(),
+        Command::Board { .. } | Command::Recover { .. } => false,
+    }
+}
+
+/// The reply to a command: that of its server, or the error that says that nothing changed.
 fn reply_to<D: Desk, C: Clock, G: Gate>(
     alloc: Global,
     desk: &mut D,
@@ -136,26 +136,26 @@ fn reply_to<D: Desk, C: Clock, G: Gate>(
     gate: &G,
     blocking: bool,
     session: u64,
-    call: Call,
+    command: Command,
 ) -> Result<Reply, End>
     requires { IsIdle session (D.shows desk.old) }
-    ensures ok { IfOk result (λ reply. (words : Words) → IsCall words call → Answers (C.may_tell clock.now) blocking session
+    ensures ok { IfOk result (λ reply. (words : Words) → IsCommand words command → Answers (C.may_tell clock.now) blocking session
         (D.shows desk.old) words (reply_text reply) (D.shows desk.new)) }
     ensures idle { OnOk result (IsIdle session (D.shows desk.new)) }
-    ensures err { IfErr result (λ end. (words : Words) → IsCall words call
+    ensures err { IfErr result (λ end. (words : Words) → IsCommand words command
         → Fails (Answers (C.may_tell clock.now) blocking session) (Holds (C.may_tell clock.now) blocking session)
         (D.shows desk.old) words end (D.shows desk.new)) }
     ensures end { IfErr result IsDeskEnd }
     ensures same { D.borrows desk.new ≡ D.borrows desk.old }
 {
-    let command = Command::Call(taken(blocking, call));
-    match answer(alloc, desk, clock, gate, session, command) {
+    let taken = taken(blocking, command);
+    match answer(alloc, desk, clock, gate, session, taken) {
         Ok(reply) => Ok(reply),
         Err(fault) => reply_to_fault(alloc, fault),
     }
 }
 
-/// The error that says that a call was refused and nothing changed, or the end that another fault brings.
+/// The error that says that a command was refused and no key changed, or the end that another fault brings.
 fn reply_to_fault(alloc: Global, fault: DeskFault) -> Result<Reply, End>
     ensures made { result ≡ made_of fault }
     ensures end { IfErr result IsDeskEnd }
@@ -170,9 +170,12 @@ fn reply_to_fault(alloc: Global, fault: DeskFault) -> Result<Reply, End>
     }
 }
 
-/// The call as a session takes it.
-fn taken(blocking: bool, call: Call) -> Call
-    ensures { result ≡ taken_as blocking call }
+/// The command as a session takes it.
+fn taken(blocking: bool, command: Command) -> Command
+    ensures { result ≡ taken_as blocking command }
 {
-    if blocking { call } else { call.without_block() }
+    match command {
+        Command::Call(call) if !blocking => Command::Call(call.without_block()),
+        command => command,
+    }
 }

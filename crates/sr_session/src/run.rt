@@ -123,7 +123,12 @@ fn join<D: Desk, C: Clock>(alloc: Global, desk: &mut D, clock: &C) -> Result<u64
     match desk.step(alloc, clock.now(), Event::Join) {
         Ok(answer) => match answer.out {
             Out::Joined(session) => Ok(session),
-            Out::Reply(_) | Out::Blocked | Out::Expired(_) | Out::Left => Err(End::Desk),
+            Out::Reply(_)
+            | Out::Blocked
+            | Out::Snap(_)
+            | Out::Stale(_)
+            | Out::Expired(_)
+            | Out::Left => Err(End::Desk),
         },
         Err(fault) => Err(unjoined_end(fault)),
     }

@@ -4,6 +4,7 @@ ghost use Rattle.std.specs.Prelude.{◌≡◌, ◌≤◌, None, true, false, IfO
 
 use crate::{Clock, End, NoGate, PlainDesk, ReadFailed, ReadFrom, Source, run_session};
 use sr_book::Book;
+use sr_policy::Policy;
 use sr_resp::{Sink, WriteFailed, WriteTo};
 use std::alloc::{AllocError, Global};
 use std::cell::Cell;
@@ -17,6 +18,7 @@ use std::test::Fail;
 mod desks;
 mod groups;
 mod pages;
+mod recovery;
 mod sessions;
 
 /// `XLEN s`
@@ -156,7 +158,7 @@ fn talk(
     turns: u64,
 ) -> Result<(End, Vec<u8>), Fail> {
     let alloc = rt.alloc();
-    let mut book = Book::new(alloc, RandomState::new(rt)?);
+    let mut book = Book::new(alloc, Policy::empty(alloc), RandomState::new(rt)?);
     let mut desk = PlainDesk::new(&mut book);
     let mut reader = reader.unread();
     let mut writer = Kept::with_room(alloc, room)?;
@@ -322,7 +324,11 @@ impl Read for Interrupted<'_> {
 #[test]
 fn an_interrupted_read_is_tried_again(rt: HostRuntime) -> Result<(), Fail> {
     for (fails, end) in [(false, End::Closed), (true, End::ReadFault)] {
-        let mut book = Book::new(rt.alloc(), RandomState::new(&rt)?);
+        let mut book = Book::new(
+            rt.alloc(),
+            Policy::empty(rt.alloc()),
+            RandomState::new(&rt)?,
+        );
         let mut desk = PlainDesk::new(&mut book);
         let mut written = Vec::new(rt.alloc());
         let mut reader = ReadFrom::new(Interrupted {
@@ -411,7 +417,11 @@ fn a_call_asks_the_clock_once(rt: HostRuntime) -> Result<(), Fail> {
     ] {
         let bytes = spelled(rt.alloc(), lines)?;
         let asked = Cell::new(0);
-        let mut book = Book::new(rt.alloc(), RandomState::new(&rt)?);
+        let mut book = Book::new(
+            rt.alloc(),
+            Policy::empty(rt.alloc()),
+            RandomState::new(&rt)?,
+        );
         let mut desk = PlainDesk::new(&mut book);
         let mut writer = Kept::with_room(rt.alloc(), 512)?;
         let mut reader = Pieces::new(bytes.as_slice(), 4096, 4096);

@@ -1,10 +1,10 @@
 -- Cited by private clauses alone: how a call at a desk comes out, and a reply that is not there.
 
-use Rattle.std.specs.Prelude.{◌≡◌, ℕ, List, Bool, IsTrue, Option, None, Result, Ok, Err}
+use Rattle.std.specs.Prelude.{◌≡◌, ℕ, List, ◌++◌, Bool, IsTrue, Option, Some, None, Result, Ok, Err}
 use Rattle.sr_resp.specs.Request.{Words}
 use Rattle.sr_resp.specs.Reply.{Answer as ReplyParts, error_reply}
 use Rattle.sr_resp.specs.declared.code.ErrCode.TheVariants as errors
-use Rattle.sr_book.specs.Records.{BookState}
+use Rattle.sr_book.specs.Records.{BookState, Recorded, addressed}
 use Rattle.sr_book.specs.declared.answer.Answer.{Answer}
 use Rattle.sr_book.specs.declared.answer.Letter.{Letter}
 use Rattle.sr_book.specs.declared.event.BookFault.{BookFault}
@@ -62,3 +62,10 @@ IsDeskEnd ends.Desk = Unit {0}
 pub data Fails {S : Type 0} (Answers : S → Words → List ℕ → S → Type 0) (Holds : S → Words → S → Type 0) (before : S) (words : Words) (end : End) (after : S) : Type 0 where
   unread : (text : List ℕ) → Answers before words text after → end ≡ ends.Memory → Fails Answers Holds before words end after
   held : Holds before words after → end ≡ ends.Desk → Fails Answers Holds before words end after
+
+-- where the book is shown: records were added, and these are the replies to the session in them
+abbrev pub Adds : ℕ → Option BookState → List ReplyParts → Option BookState → Type 0
+Adds session None replies new = new ≡ None
+Adds session (Some old) replies None = ⊥
+Adds session (Some old) replies (Some new) =
+    (more : List Recorded) × (new.records ≡ old.records ++ more) × (addressed session more ≡ replies)

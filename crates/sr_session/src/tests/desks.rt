@@ -5,6 +5,7 @@ use super::{Kept, Pieces, Stopped, spelled};
 use crate::{Desk, DeskFault, End, Ended, NoGate, PlainDesk, run_session};
 use sr_args::Call;
 use sr_book::{Act, Answer, Book, Event, Letter, Out, Record};
+use sr_policy::Policy;
 use sr_resp::{Reply, Sink, WriteFailed};
 use std::alloc::Global;
 use std::cell::Cell;
@@ -67,6 +68,9 @@ impl Desk for Noting<'_> {
                 } else {
                     Out::Reply(reply_of(alloc, self.count.get()))
                 }
+            }
+            Event::Board { .. } | Event::Snapshot { .. } | Event::Conclude { .. } => {
+                Out::Reply(reply_of(alloc, self.count.get()))
             }
             Event::Expire => Out::Expired(0),
             Event::Leave { session: _ } => Out::Left,
@@ -170,6 +174,9 @@ impl Desk for Refusing {
                 } else {
                     unless(self.call, Out::Reply(reply_of(alloc, 7)))
                 }
+            }
+            Event::Board { .. } | Event::Snapshot { .. } | Event::Conclude { .. } => {
+                unless(self.call, Out::Reply(reply_of(alloc, 7)))
             }
             Event::Expire => unless(None, Out::Expired(0)),
             Event::Leave { session: _ } => unless(self.leave, Out::Left),
@@ -300,7 +307,11 @@ fn a_read_that_waits_is_not_answered(rt: HostRuntime) -> Result<(), Fail> {
         (true, End::Desk, b"".as_slice()),
         (false, End::Closed, b"*-1\r\n".as_slice()),
     ] {
-        let mut book = Book::new(rt.alloc(), RandomState::new(&rt)?);
+        let mut book = Book::new(
+            rt.alloc(),
+            Policy::empty(rt.alloc()),
+            RandomState::new(&rt)?,
+        );
         let mut desk = PlainDesk::new(&mut book);
         let mut reader = Pieces::new(bytes.as_slice(), 4096, 4096);
         let mut writer = Kept::with_room(rt.alloc(), 512)?;
@@ -331,11 +342,24 @@ fn word_of(record: &Record) -> &str {
             _ => "another call",
         },
         Act::Event(Event::Call { .. }) => "a call of another session",
+        Act::Event(Event::Board { .. }) => "a board",
+        Act::Event(Event::Snapshot { .. }) => "a snapshot",
+        Act::Event(Event::Conclude { .. }) => "a verdict",
         Act::Event(Event::Expire) => "expire",
         Act::Event(Event::Leave { session: 1 }) => "leave",
         Act::Event(Event::Leave { .. }) => "a leave of another session",
         Act::Serve { .. } => "serve",
     }
+}
+
+/// Whether the records are of these, in their order, each at moment 5.
+fn are_these(records: &[Record], words: &[&str]) -> bool {
+    for (record, word) in records.iter().zip(words) {
+        if word_of(record) != *word || record.moment != 5 {
+            return false;
+        }
+    }
+    true
 }
 
 /// A session's records are its join, its calls and its leave, each at the clock's moment. Words that are not a command have none.
@@ -345,7 +369,11 @@ fn records_are_the_join_the_calls_and_the_leave(rt: HostRuntime) -> Result<(), F
         rt.alloc(),
         "PING\nFOO\nXADD s 1-1 a b\nXADD s 1-1 a b\nXLEN s",
     )?;
-    let mut book = Book::new(rt.alloc(), RandomState::new(&rt)?);
+    let mut book = Book::new(
+        rt.alloc(),
+        Policy::empty(rt.alloc()),
+        RandomState::new(&rt)?,
+    );
     let mut reader = Pieces::new(bytes.as_slice(), 4096, 4096);
     let mut writer = Kept::with_room(rt.alloc(), 512)?;
     let ended = run_session(
@@ -367,9 +395,6 @@ fn records_are_the_join_the_calls_and_the_leave(rt: HostRuntime) -> Result<(), F
     );
     let words = ["join", "ping", "xadd", "xadd", "xlen", "leave"];
     assert_eq!(rt; book.records().len(), words.len());
-    for (record, word) in book.records().iter().zip(words) {
-        assert_eq!(rt; word_of(record), word);
-        assert_eq!(rt; record.moment, 5, "{word}");
-    }
+    assert!(rt; are_these(book.records(), &words));
     Ok(())
 }

@@ -4,6 +4,7 @@ ghost use Rattle.std.specs.Prelude.{true};
 use super::{Kept, Pieces, spelled};
 use crate::{Clock, End, NoGate, PlainDesk, run_session};
 use sr_book::Book;
+use sr_policy::Policy;
 use std::alloc::{AllocError, Global};
 use std::cell::Cell;
 use std::hash::RandomState;
@@ -96,7 +97,7 @@ impl Screen {
 }
 
 /// The replies in a text of RESP2, as redis-cli prints them.
-fn shown(alloc: Global, replies: &str) -> Result<String, Fail> {
+pub(super) fn shown(alloc: Global, replies: &str) -> Result<String, Fail> {
     let mut screen = Screen {
         text: String::new(alloc),
         open: Vec::new(alloc),
@@ -133,15 +134,15 @@ impl Clock for Hands<'_> {
 
 /// A session: its commands, one a line, the moment at which it joins and that of each command, and the replies that it shows.
 #[derive(Drop)]
-struct Session {
-    commands: String,
-    moments: Vec<u64>,
-    replies: String,
+pub(super) struct Session {
+    pub(super) commands: String,
+    pub(super) moments: Vec<u64>,
+    pub(super) replies: String,
 }
 
 /// Reads a session: a line that begins with `> ` is a command, and the lines after it are its reply. A line that begins with `@ `
 /// is the moment from there on, in milliseconds since 1970. It is 5 before. The words of a session that tells moments are all calls.
-fn read_session(alloc: Global, text: &str) -> Result<Session, Fail> {
+pub(super) fn read_session(alloc: Global, text: &str) -> Result<Session, Fail> {
     let mut session = Session {
         commands: String::new(alloc),
         moments: Vec::new(alloc),
@@ -173,7 +174,7 @@ fn talk(
     moments: &[u64],
 ) -> Result<(End, Vec<u8>), Fail> {
     let alloc = rt.alloc();
-    let mut book = Book::new(alloc, RandomState::new(rt)?);
+    let mut book = Book::new(alloc, Policy::empty(alloc), RandomState::new(rt)?);
     let mut desk = PlainDesk::new(&mut book);
     let mut reader = Pieces::new(requests, 4096, 4096);
     let mut writer = Kept::with_room(alloc, 8192)?;

@@ -1,7 +1,8 @@
 use Rattle.std.proofs.lemmas.Result.{IfErr-weaker, IfOk-weaker}
 use Rattle.sr_session.specs.Answered.{at_once, later}
 use Rattle.sr_session.specs.Unanswered.{is_refused}
-use Rattle.sr_session.proofs.DeskLemmas.{lettered, lost-unanswered, replied-idle, replied-recorded, stray-out, stray-unanswered}
+use Rattle.sr_session.proofs.DeskLemmas.{lettered, lost-unanswered, replied-idle, replied-recorded, stray-call, stray-unanswered}
+use Rattle.sr_session.proofs.LetterLaws.{lettered-recorded}
 use Rattle.sr_session.proofs.calling.carry_out.Goals as goal
 
 pub returns-in-Reply-clause-ok : goal.returns-in-Reply-clause-ok
@@ -13,7 +14,7 @@ returns-in-Reply-clause-idle g c = λ idle. replied-idle _ _ _ _ _ _ _ c.in-Ok.e
 
 pub returns-in-Blocked-clause-ok : goal.returns-in-Blocked-clause-ok
 returns-in-Blocked-clause-ok g c =
-    IfOk-weaker c.await_letter.result _ _ (λ reply letter. later c.now.result c.in-Ok.answer _ letter.0 c.now.ensures c.in-Ok.ensures.step c.in-Blocked.is letter.1 letter.2) c.await_letter.ensures.ok
+    IfOk-weaker c.await_letter.result _ _ (λ reply letter. later c.now.result c.in-Ok.answer _ letter.0 c.now.ensures c.in-Ok.ensures.step c.in-Blocked.is letter.1 letter.2 (lettered-recorded _ _ _ _ _ _ _ letter.0 _ c.in-Ok.ensures.step c.in-Blocked.is letter.1 letter.2)) c.await_letter.ensures.ok
 
 pub returns-in-Blocked-clause-idle : goal.returns-in-Blocked-clause-idle
 returns-in-Blocked-clause-idle g c =
@@ -23,9 +24,13 @@ pub returns-in-Blocked-clause-err : goal.returns-in-Blocked-clause-err
 returns-in-Blocked-clause-err g c =
     IfErr-weaker c.await_letter.result _ _ (λ fault loses. lost-unanswered _ _ c.now.result _ c.in-Ok.answer _ _ _ _ c.now.ensures c.in-Ok.ensures.step c.in-Blocked.is loses) c.await_letter.ensures.err
 
-pub returns-in-Joined-clause-err : goal.returns-in-Joined-clause-err
-returns-in-Joined-clause-err g c =
-    stray-unanswered _ _ c.now.result _ c.in-Ok.answer _ _ _ c.now.ensures c.in-Ok.ensures.step (stray-out c.in-Ok.answer.out c.in-Joined.is)
+pub returns-in-Ok : goal.returns-in-Ok
+returns-in-Ok g c = record {
+  ok = tt;
+  idle = tt;
+  err = stray-unanswered _ _ c.now.result _ c.in-Ok.answer _ _ _ c.now.ensures c.in-Ok.ensures.step (stray-call c.in-Ok.answer.out c.in-Joined.is);
+  same = c.in-Ok.ensures.same;
+}
 
-pub returns-in-Err-clause-err : goal.returns-in-Err-clause-err
-returns-in-Err-clause-err g c = is_refused c.now.result c.now.ensures c.in-Err.ensures.step
+pub returns-clause-err : goal.returns-clause-err
+returns-clause-err g c = is_refused c.now.result c.now.ensures c.in-Err.ensures.step

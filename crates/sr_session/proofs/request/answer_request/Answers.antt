@@ -1,8 +1,7 @@
-use Rattle.std.proofs.Common.{[], ◌++◌, refl, ap, ◌∙◌, subst}
+use Rattle.std.proofs.Common.{[], ◌++◌, refl, ap, ◌∙◌}
 use Rattle.std.proofs.lemmas.Result.{err_from_is_err_and, on_ok_weaker, IfErr-weaker}
 use Rattle.std.proofs.KnownBytes.{Appends-nil}
 use Rattle.sr_resp.specs.Reply.{reply_text, error_reply}
-use Rattle.sr_args.specs.Command.{IsCommand}
 use Rattle.sr_session.specs.Answered.{refuses}
 use Rattle.sr_session.specs.steps.Gathered.{stay, silent}
 use Rattle.sr_session.proofs.GatheredLemmas.{Gathers-made}
@@ -10,11 +9,11 @@ use Rattle.sr_session.proofs.request.answer_request.Goals as goal
 
 pub returns-in-Ok-clause-ok : goal.returns-in-Ok-clause-ok
 returns-in-Ok-clause-ok g c =
-    on_ok_weaker c.answer_call.result (λ o. (o.0, o.1, o.2 c.args.words.now (subst (IsCommand c.args.words.now) c.call_of.ensures c.in-Ok.ensures.ok))) c.answer_call.ensures.ok
+    on_ok_weaker c.answer_command.result (λ o. (o.0, o.1, o.2 c.args.words.now c.in-Ok.ensures.ok)) c.answer_command.ensures.ok
 
 pub returns-in-Ok-clause-err : goal.returns-in-Ok-clause-err
 returns-in-Ok-clause-err g c =
-    IfErr-weaker c.answer_call.result _ _ (λ end e. (e.0, e.1, e.2 c.args.words.now (subst (IsCommand c.args.words.now) c.call_of.ensures c.in-Ok.ensures.ok))) c.answer_call.ensures.err
+    IfErr-weaker c.answer_command.result _ _ (λ end e. (e.0, e.1, e.2 c.args.words.now c.in-Ok.ensures.ok)) c.answer_command.ensures.err
 
 pub returns-in_ok-gather_error-in-Err-clause-ok : goal.returns-in_ok-gather_error-in-Err-clause-ok
 returns-in_ok-gather_error-in-Err-clause-ok g c =

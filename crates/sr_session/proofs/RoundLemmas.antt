@@ -1,0 +1,222 @@
+-- The rounds of a recovery, one after another, and what they leave of their session.
+use Rattle.std.proofs.Common.{◌≡◌, ◌==◌, ◌-◌, ℕ, zero, suc, ◌⊎◌, inl, inr, Bool, true, false, arith, Option, Some, None, Ok, Err, refl, sym, ap, subst, ◌∙◌}
+use Rattle.std.proofs.lemmas.Bool.{ne_eqb}
+use Rattle.sr_resp.specs.Reply.{Answer as ReplyParts}
+use Rattle.sr_policy.specs.Snapshot.{Shown}
+use Rattle.sr_plan.specs.Verdict.{Judged}
+use Rattle.sr_book.specs.Records.{BookState, IsStepped}
+use Rattle.sr_book.specs.declared.answer.Answer.{Answer}
+use Rattle.sr_book.specs.declared.event.BookFault.TheVariants as book
+use Rattle.sr_book.specs.declared.event.Event.{Event}
+use Rattle.sr_book.specs.declared.event.Event.TheVariants as events
+use Rattle.sr_book.specs.declared.event.Out.{Out}
+use Rattle.sr_book.specs.declared.event.Out.TheVariants as outs
+use Rattle.sr_book.proofs.HeardLemmas.{Asks}
+use Rattle.sr_book.proofs.SessionLaws.{asked-idle, conclude-answers, conclude-last, steps-asked-not-idle}
+use Rattle.sr_session.specs.Desk.{IsIdle, StepsAt, StepsTo}
+use Rattle.sr_session.specs.Rounds.{BreaksIn, IsRefusedRound, IsRound, RepliesIn}
+use Rattle.sr_session.specs.declared.desk.DeskFault.{DeskFault}
+use Rattle.sr_session.specs.declared.desk.DeskFault.TheVariants as faults
+
+-- ---- an event at a desk
+
+-- a desk that refuses an event shows what it showed
+StepsTo-refused : (old : BookState) (told : ℕ) (event : Event) (fault : DeskFault) (new : BookState) → StepsTo old told event (Err fault) new → new ≡ old
+StepsTo-refused old told event faults.Memory new step = step.1
+StepsTo-refused old told event faults.Busy new step = step.1
+StepsTo-refused old told event faults.Full new step = step.1
+StepsTo-refused old told event faults.NoSession new step = step.1
+StepsTo-refused old told event (faults.Regress index) new step = absurd step
+StepsTo-refused old told event faults.Idle new step = absurd step
+StepsTo-refused old told event faults.Unread new step = absurd step
+
+pub StepsAt-refused : (old : Option BookState) (told : ℕ) (event : Event) (fault : DeskFault) (new : Option BookState) → StepsAt old told event (Err fault) new → new ≡ old
+StepsAt-refused None told event fault new step = step
+StepsAt-refused (Some old) told event fault None step = absurd step
+StepsAt-refused (Some old) told event fault (Some new) step = ap Some (StepsTo-refused old told event fault new step)
+
+-- one that shows nothing after an event showed nothing before it
+pub was_hidden : (old : Option BookState) (told : ℕ) (event : Event) (answer : Answer) (middle : Option BookState) → StepsAt old told event (Ok answer) middle → middle ≡ None → old ≡ None
+was_hidden None told event answer middle step none = refl
+was_hidden (Some old) told event answer middle step none = absurd (subst (StepsAt (Some old) told event (Ok answer)) none step)
+
+-- a session that is answered a board, a snapshot or a verdict may call
+pub asked-leaves_idle : (session told : ℕ) (event : Event) (answer : Answer) (old new : Option BookState) → Asks session event → StepsAt old told event (Ok answer) new → IsIdle session new
+asked-leaves_idle session told event answer None new asks step = subst (IsIdle session) (sym step) tt
+asked-leaves_idle session told event answer (Some old) None asks step = absurd step
+asked-leaves_idle session told event answer (Some old) (Some new) asks step = asked-idle old told session event answer new asks step
+
+-- an answer that no book gives to an event comes of a desk that shows none
+pub stray-hidden : (Comes : Out → Type 0) (told : ℕ) (event : Event) (answer : Answer) (old new : Option BookState)
+    → ((before after : BookState) → IsStepped before told event answer after → Comes answer.out) → (Comes answer.out → ⊥)
+    → StepsAt old told event (Ok answer) new → (old ≡ None) × (new ≡ None)
+stray-hidden Comes told event answer None new law stray step = (refl, step)
+stray-hidden Comes told event answer (Some old) None law stray step = absurd step
+stray-hidden Comes told event answer (Some old) (Some new) law stray step = absurd (stray (law old new step))
+
+-- ---- what comes of a verdict
+
+abbrev pub IsConcludeOut : Out → Type 0
+IsConcludeOut (outs.Joined number) = ⊥
+IsConcludeOut (outs.Reply reply) = Unit {0}
+IsConcludeOut outs.Blocked = ⊥
+IsConcludeOut (outs.Snap shown) = ⊥
+IsConcludeOut (outs.Stale shown) = Unit {0}
+IsConcludeOut (outs.Expired count) = ⊥
+IsConcludeOut outs.Left = ⊥
+
+concluded-out : (old : BookState) (told session : ℕ) (judged : Judged) (apply last : Bool) (answer : Answer) (new : BookState)
+    → IsStepped old told (events.Conclude session judged apply last) answer new → IsConcludeOut answer.out
+concluded-out old told session judged apply last answer new stepped = by (conclude-answers old told session judged apply last answer new stepped)
+  where
+    by : ((reply : ReplyParts) × (answer.out ≡ outs.Reply reply)) ⊎ ((shown : Shown) × (answer.out ≡ outs.Stale shown) × (last ≡ false)) → IsConcludeOut answer.out
+    by (inl one) = subst IsConcludeOut (sym one.1) tt
+    by (inr stale) = subst IsConcludeOut (sym stale.1) tt
+
+pub stray-conclude : (old new : Option BookState) (told session : ℕ) (judged : Judged) (apply last : Bool) (answer : Answer)
+    → StepsAt old told (events.Conclude session judged apply last) (Ok answer) new → (IsConcludeOut answer.out → ⊥) → (old ≡ None) × (new ≡ None)
+stray-conclude old new told session judged apply last answer step stray =
+    stray-hidden IsConcludeOut told (events.Conclude session judged apply last) answer old new
+    (λ before after stepped. concluded-out before told session judged apply last answer after stepped) stray step
+
+-- the other answers are none
+pub stray-verdict : (out : Out)
+    → ((number : ℕ) × (out ≡ outs.Joined number)) ⊎ ((out ≡ outs.Blocked) ⊎ (((shown : Shown) × (out ≡ outs.Snap shown)) ⊎ (((count : ℕ) × (out ≡ outs.Expired count)) ⊎ (out ≡ outs.Left))))
+    → IsConcludeOut out → ⊥
+stray-verdict out (inl joined) comes = subst IsConcludeOut joined.1 comes
+stray-verdict out (inr (inl blocked)) comes = subst IsConcludeOut blocked comes
+stray-verdict out (inr (inr (inl snap))) comes = subst IsConcludeOut snap.1 comes
+stray-verdict out (inr (inr (inr (inl expired)))) comes = subst IsConcludeOut expired.1 comes
+stray-verdict out (inr (inr (inr (inr left)))) comes = subst IsConcludeOut left comes
+
+-- ---- one round more
+
+-- it is the last one if it is one of one
+is_last : (rounds : ℕ) → (suc rounds == 1) ≡ (rounds == 0)
+is_last zero = refl
+is_last (suc rounds) = ne_eqb (suc (suc rounds)) 1 (λ is. cc) ∙ sym (ne_eqb (suc rounds) 0 (λ is. cc))
+
+one_less : (rounds : ℕ) → suc rounds - 1 ≡ rounds
+one_less rounds = omega arith
+
+-- the last round is not stale
+last-hidden : (told session : ℕ) (judged : Judged) (apply : Bool) (answer : Answer) (shown : Shown) (old new : Option BookState)
+    → StepsAt old told (events.Conclude session judged apply true) (Ok answer) new → answer.out ≡ outs.Stale shown → old ≡ None
+last-hidden told session judged apply answer shown None new step out = refl
+last-hidden told session judged apply answer shown (Some old) None step out = absurd step
+last-hidden told session judged apply answer shown (Some old) (Some new) step out =
+    let one = conclude-last old told session judged apply true answer new step refl in
+    let other : outs.Stale shown ≡ outs.Reply one.0 = sym out ∙ one.1 in
+    absurd (cc)
+
+-- so none is left after one that is stale, but at a desk that shows nothing
+pub stale-left : (told session : ℕ) (judged : Judged) (apply : Bool) (rounds : ℕ) (answer : Answer) (shown : Shown) (old middle : Option BookState) → (rounds ≡ 0 → ⊥)
+    → StepsAt old told (events.Conclude session judged apply (rounds == 1)) (Ok answer) middle → answer.out ≡ outs.Stale shown → rounds - 1 ≡ 0 → middle ≡ None
+stale-left told session judged apply zero answer shown old middle some step out none_left = absurd (some refl)
+stale-left told session judged apply (suc zero) answer shown old middle some step out none_left =
+    let P : Option BookState → Type 0 = λ o. StepsAt o told (events.Conclude session judged apply true) (Ok answer) middle in
+    subst P (last-hidden told session judged apply answer shown old middle step out) step
+stale-left told session judged apply (suc (suc rounds)) answer shown old middle some step out none_left =
+    let left : suc rounds ≡ 0 = sym (one_less (suc rounds)) ∙ none_left in
+    absurd (cc)
+
+-- where no round may be made, nothing is shown
+pub none-breaks : (may_tell : ℕ → Bool) (session : ℕ) (apply : Bool) (rounds : ℕ) (shown : Shown) (old : Option BookState) (fault : DeskFault) → rounds ≡ 0 → (rounds ≡ 0 → old ≡ None)
+    → BreaksIn may_tell session apply rounds shown old fault old
+none-breaks may_tell session apply zero shown old fault none hidden = (hidden refl, hidden refl)
+none-breaks may_tell session apply (suc rounds) shown old fault none hidden = inl (hidden none, hidden none)
+
+module _ (may_tell : ℕ → Bool) (session : ℕ) (apply : Bool) (shown : Shown) (old : Option BookState) where
+  pub round-replies : (rounds : ℕ) (reply : ReplyParts) (new : Option BookState) → (rounds ≡ 0 → ⊥)
+      → IsRound may_tell session apply (rounds == 1) shown old (outs.Reply reply) new → RepliesIn may_tell session apply rounds shown old reply new
+  round-replies zero reply new some round = absurd (some refl)
+  round-replies (suc rounds) reply new some round =
+      let P : Bool → Type 0 = λ last. IsRound may_tell session apply last shown old (outs.Reply reply) new in
+      inl (subst P (is_last rounds) round)
+
+  pub stale-replies : (rounds : ℕ) (fresh : Shown) (middle : Option BookState) (reply : ReplyParts) (new : Option BookState) → (rounds ≡ 0 → ⊥)
+      → IsRound may_tell session apply (rounds == 1) shown old (outs.Stale fresh) middle → RepliesIn may_tell session apply (rounds - 1) fresh middle reply new
+      → RepliesIn may_tell session apply rounds shown old reply new
+  stale-replies zero fresh middle reply new some round others = absurd (some refl)
+  stale-replies (suc rounds) fresh middle reply new some round others =
+      let P : Bool → Type 0 = λ last. IsRound may_tell session apply last shown old (outs.Stale fresh) middle in
+      let Q : ℕ → Type 0 = λ left. RepliesIn may_tell session apply left fresh middle reply new in
+      inr (record { fresh = fresh; middle = middle; round = subst P (is_last rounds) round; others = subst Q (one_less rounds) others })
+
+  pub stale-breaks : (rounds : ℕ) (fresh : Shown) (middle : Option BookState) (fault : DeskFault) (new : Option BookState) → (rounds ≡ 0 → ⊥)
+      → IsRound may_tell session apply (rounds == 1) shown old (outs.Stale fresh) middle → BreaksIn may_tell session apply (rounds - 1) fresh middle fault new
+      → BreaksIn may_tell session apply rounds shown old fault new
+  stale-breaks zero fresh middle fault new some round others = absurd (some refl)
+  stale-breaks (suc rounds) fresh middle fault new some round others =
+      let P : Bool → Type 0 = λ last. IsRound may_tell session apply last shown old (outs.Stale fresh) middle in
+      let Q : ℕ → Type 0 = λ left. BreaksIn may_tell session apply left fresh middle fault new in
+      inr (inr (inr (record { fresh = fresh; middle = middle; round = subst P (is_last rounds) round; others = subst Q (one_less rounds) others })))
+
+  pub refused-breaks : (rounds : ℕ) (fault : DeskFault) (new : Option BookState) → (rounds ≡ 0 → ⊥)
+      → IsRefusedRound may_tell session apply (rounds == 1) shown old fault new → BreaksIn may_tell session apply rounds shown old fault new
+  refused-breaks zero fault new some round = absurd (some refl)
+  refused-breaks (suc rounds) fault new some round =
+      let P : Bool → Type 0 = λ last. IsRefusedRound may_tell session apply last shown old fault new in
+      inr (inr (inl (subst P (is_last rounds) round)))
+
+  pub hidden-breaks : (rounds : ℕ) (fault : DeskFault) (new : Option BookState) → (rounds ≡ 0 → ⊥)
+      → (old ≡ None) × (new ≡ None) → BreaksIn may_tell session apply rounds shown old fault new
+  hidden-breaks zero fault new some hidden = absurd (some refl)
+  hidden-breaks (suc rounds) fault new some hidden = inl hidden
+
+-- ---- a recovery that broke off
+
+-- leaves its session as it was
+pub BreaksIn-idle : (may_tell : ℕ → Bool) (session : ℕ) (apply : Bool) (rounds : ℕ) (shown : Shown) (old : Option BookState) (fault : DeskFault) (new : Option BookState)
+    → BreaksIn may_tell session apply rounds shown old fault new → IsIdle session old → IsIdle session new
+BreaksIn-idle may_tell session apply zero shown old fault new hidden idle = subst (IsIdle session) (sym hidden.1) tt
+BreaksIn-idle may_tell session apply (suc rounds) shown old fault new (inl hidden) idle = subst (IsIdle session) (sym hidden.1) tt
+BreaksIn-idle may_tell session apply (suc rounds) shown old fault new (inr (inl lacks)) idle = subst (IsIdle session) (sym lacks.1) idle
+BreaksIn-idle may_tell session apply (suc rounds) shown old fault new (inr (inr (inl refused))) idle =
+    subst (IsIdle session) (sym (StepsAt-refused old refused.told (events.Conclude session refused.judged apply (rounds == 0)) fault new refused.step)) idle
+BreaksIn-idle may_tell session apply (suc rounds) shown old fault new (inr (inr (inr stale))) idle =
+    let round = stale.round in
+    BreaksIn-idle may_tell session apply rounds stale.fresh stale.middle fault new stale.others
+    (asked-leaves_idle session round.told (events.Conclude session round.judged apply (rounds == 0)) round.answer old stale.middle refl round.step)
+
+-- the faults for which a recovery that is shown does not break off
+abbrev pub IsOutside : DeskFault → Type 0
+IsOutside faults.Memory = ⊥
+IsOutside faults.Busy = Unit {0}
+IsOutside faults.Full = ⊥
+IsOutside faults.NoSession = Unit {0}
+IsOutside (faults.Regress index) = Unit {0}
+IsOutside faults.Idle = Unit {0}
+IsOutside faults.Unread = Unit {0}
+
+-- a desk that shows its book does not refuse so what an idle session asks for
+pub refused-hidden : (session told : ℕ) (event : Event) (fault : DeskFault) (old new : Option BookState) → Asks session event → IsOutside fault → IsIdle session old
+    → StepsAt old told event (Err fault) new → (old ≡ None) × (new ≡ None)
+refused-hidden session told event fault None new asks outside idle step = (refl, step)
+refused-hidden session told event fault (Some old) None asks outside idle step = absurd step
+refused-hidden session told event faults.Memory (Some old) (Some new) asks outside idle step = absurd outside
+refused-hidden session told event faults.Busy (Some old) (Some new) asks outside idle step =
+    absurd ((steps-asked-not-idle old told session event book.Busy new asks idle step).1 refl)
+refused-hidden session told event faults.Full (Some old) (Some new) asks outside idle step = absurd outside
+refused-hidden session told event faults.NoSession (Some old) (Some new) asks outside idle step =
+    absurd ((steps-asked-not-idle old told session event book.NoSession new asks idle step).0 refl)
+refused-hidden session told event (faults.Regress index) (Some old) (Some new) asks outside idle step = absurd step
+refused-hidden session told event faults.Idle (Some old) (Some new) asks outside idle step = absurd step
+refused-hidden session told event faults.Unread (Some old) (Some new) asks outside idle step = absurd step
+
+pub BreaksIn-hidden : (may_tell : ℕ → Bool) (session : ℕ) (apply : Bool) (rounds : ℕ) (shown : Shown) (old : Option BookState) (fault : DeskFault) (new : Option BookState)
+    → IsOutside fault → BreaksIn may_tell session apply (suc rounds) shown old fault new → IsIdle session old → (old ≡ None) × (new ≡ None)
+BreaksIn-hidden may_tell session apply rounds shown old fault new outside (inl hidden) idle = hidden
+BreaksIn-hidden may_tell session apply rounds shown old fault new outside (inr (inl lacks)) idle = absurd (subst IsOutside lacks.0 outside)
+BreaksIn-hidden may_tell session apply rounds shown old fault new outside (inr (inr (inl refused))) idle =
+    refused-hidden session refused.told (events.Conclude session refused.judged apply (rounds == 0)) fault old new refl outside idle refused.step
+BreaksIn-hidden may_tell session apply zero shown old fault new outside (inr (inr (inr stale))) idle =
+    let round = stale.round in
+    let none = last-hidden round.told session round.judged apply round.answer stale.fresh old stale.middle round.step round.comes in
+    (none, stale.others.1)
+BreaksIn-hidden may_tell session apply (suc rounds) shown old fault new outside (inr (inr (inr stale))) idle =
+    let round = stale.round in
+    let event : Event = events.Conclude session round.judged apply (suc rounds == 0) in
+    let both = BreaksIn-hidden may_tell session apply rounds stale.fresh stale.middle fault new outside stale.others
+    (asked-leaves_idle session round.told event round.answer old stale.middle refl round.step) in
+    (was_hidden old round.told event round.answer stale.middle round.step both.0, both.1)
