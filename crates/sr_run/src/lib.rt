@@ -6,12 +6,14 @@ mod held;
 mod receipt;
 mod seat;
 mod seating;
+mod shared;
 
 pub use fault::{ActFault, HoldFault, SeatFault};
 pub use held::Held;
 pub use receipt::Receipt;
 pub use seat::Seat;
 pub use seating::hold;
+pub use shared::{Shared, open};
 
 #[cfg(test)]
 mod tests;

@@ -5,6 +5,7 @@ use crate::{Held, HoldFault, Seat, SeatFault, hold};
 use sr_args::{Call, Command, read_call};
 use sr_book::{Book, Event};
 use sr_bytes::Words;
+use sr_policy::Policy;
 use std::alloc::Global;
 use std::hash::RandomState;
 use std::marker::Brand;
@@ -30,12 +31,15 @@ fn call(alloc: Global, line: &str) -> Result<Call, Fail> {
     if words.len() == 0 {
         return Err(Fail::new("no words"));
     }
-    let Command::Call(call) = read_call(alloc, &words)?;
-    Ok(call)
+    match read_call(alloc, &words)? {
+        Command::Call(call) => Ok(call),
+        Command::Board { .. } | Command::Recover { .. } => Err(Fail::new("no call")),
+    }
 }
 
 fn empty_book(rt: &(impl AllocGlobal + RandomSource)) -> Result<Book, Fail> {
-    Ok(Book::new(rt.alloc(), RandomState::new(rt)?))
+    let policy = Policy::empty(rt.alloc());
+    Ok(Book::new(rt.alloc(), policy, RandomState::new(rt)?))
 }
 
 /// Has this many sessions join at 10. Their numbers count from 1.
