@@ -7,9 +7,9 @@
 mod clock;
 mod command_line;
 mod fault;
+mod load;
 mod options;
 mod report;
-mod server;
 mod start;
 #[cfg(test)]
 mod tests;

@@ -2,14 +2,16 @@ ghost use Rattle.std.specs.Prelude.{◌≡◌, ◌≤◌, ◌↔◌, ◌⊎◌, 
 ghost use Rattle.std.specs.Io.KnownBytes.{Appends, Consumes};
 ghost use Rattle.sr_server.specs.Fault.{Serves, Runs, any_moment, is_of_session, status_of};
 ghost use Rattle.sr_book.specs.Records.{empty_book};
+ghost use Rattle.sr_policy.specs.Rules.{Rules};
 ghost use Rattle.sr_server.specs.Options.{AsksFor};
 
 use crate::clock::SystemClock;
 use crate::fault::{Fault, outcome};
+use crate::load::load_policy;
 use crate::options::read_options;
 use crate::report::{refuse, report};
-use crate::server::{Server, load_policy};
 use crate::text_files::TextFiles;
+use sr_book::Book;
 use sr_resp::Sink;
 use sr_session::{Clock, NoGate, PlainDesk, Source, run_session};
 use std::alloc::Global;
@@ -104,9 +106,9 @@ where
     };
     match load_policy(rt.alloc(), files, policy) {
         Ok(policy) => {
-            let mut server = Server::new(rt.alloc(), hasher, policy);
             let clock = SystemClock::new(rt);
-            serve(rt.alloc(), &mut server, &clock, reader, writer)
+            let mut book = Book::new(rt.alloc(), policy, hasher);
+            serve(rt.alloc(), &mut book, &clock, reader, writer)
         }
         Err(fault) => Err(fault),
     }
@@ -115,20 +117,19 @@ where
 /// Serves one connection to its end.
 fn serve<C: Clock, I: Source, O: Sink>(
     alloc: Global,
-    server: &mut Server,
+    book: &mut Book,
     clock: &C,
     reader: &mut I,
     writer: &mut O,
 ) -> Result<(), Fault>
     requires unread { (I.ended reader.old ≡ false) × (I.failed reader.old ≡ false) }
     requires unwritten { O.failed writer.old ≡ false }
-    requires book { server.old.book ≡ empty_book }
 
     // what was taken from the reader, and written to the writer
     ensures served { (taken written : List ℕ)
         × Consumes (I.remaining reader.old) (I.remaining reader.new) taken
         × Appends (O.contents writer.old) (O.contents writer.new) written
-        × Serves (C.may_tell clock.now) taken written result }
+        × ((rules : Rules) → book.old ≡ empty_book rules → Serves (C.may_tell clock.now) rules taken written result) }
 
     // each outcome has its cause, and no cause is passed over
     ensures ok { IsOk result ↔ (I.ended reader.new ≡ true) }
@@ -136,7 +137,7 @@ fn serve<C: Clock, I: Source, O: Sink>(
     ensures write { IsErrOf result Fault.Write ↔ (O.failed writer.new ≡ true) }
     ensures session { IfErr result (λ fault. is_of_session fault ≡ true) }
 {
-    let mut desk = PlainDesk::new(&mut server.book);
+    let mut desk = PlainDesk::new(book);
     let ended = run_session(
         alloc, reader, writer, &mut desk, clock, &NoGate, BLOCKING, TURNS,
     );

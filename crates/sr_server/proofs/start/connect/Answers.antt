@@ -14,4 +14,4 @@ returns-in-Err-clause-served g c =
 pub returns-in-Ok-load_policy-clause-served : goal.returns-in-Ok-load_policy-clause-served
 returns-in-Ok-load_policy-clause-served g c =
     let s = c.serve.ensures.served in
-    (s.0, s.1, s.2, s.3, serves _ c.in-Ok-load_policy.ensures s.4)
+    (s.0, s.1, s.2, s.3, serves _ c.in-Ok-load_policy.ensures (s.4 _ c.new-book.ensures))

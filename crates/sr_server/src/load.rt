@@ -3,33 +3,8 @@ ghost use Rattle.sr_server.specs.Policy.{Loads};
 
 use crate::fault::{Fault, policy_fault};
 use crate::text_files::{TextFault, TextFiles};
-use sr_book::Book;
 use sr_policy::Policy;
 use std::alloc::Global;
-use std::hash::RandomState;
-
-/// What the server keeps while it runs: its book, and the policy that says who may take a dead consumer's entries.
-#[derive(Drop)]
-pub(crate) struct Server {
-    pub(crate) book: Book,
-    pub(crate) policy: Policy,
-}
-
-impl Server {
-    ghost use Rattle.std.specs.Prelude.{◌≡◌};
-    ghost use Rattle.sr_book.specs.Records.{empty_book};
-
-    /// A server to which nothing has happened.
-    pub(crate) fn new(alloc: Global, hasher: RandomState, policy: Policy) -> Server
-        ensures book { result.book ≡ empty_book }
-        ensures policy { result.policy ≡ policy }
-    {
-        Server {
-            book: Book::new(alloc, hasher),
-            policy,
-        }
-    }
-}
 
 /// The policy of the file at a path, or the empty one without a path.
 pub(crate) fn load_policy<F: TextFiles>(
