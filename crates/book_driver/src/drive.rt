@@ -1,6 +1,11 @@
 //! A book, and what is done with it for each line.
+use crate::held::HeldSnapshots;
 use crate::line::Ask;
+use sr_args::Names;
 use sr_book::{Answer, Book, BookFault, Event, Letter, Out, Record, Status};
+use sr_bytes::Name;
+use sr_plan::Verdict;
+use sr_policy::Policy;
 use std::alloc::{AllocError, Global};
 use std::hash::RandomState;
 
@@ -14,6 +19,8 @@ pub(crate) struct Driver {
     book: Book,
     /// The session of each join line, in their order.
     joined: Vec<u64>,
+    /// The last snapshot of each session.
+    held: HeldSnapshots,
 }
 
 /// What came of a line.
@@ -25,6 +32,14 @@ pub(crate) enum Outcome {
     Answered(Answer),
     /// An event was refused.
     Refused(BookFault),
+    /// A session got a snapshot: fresh after a stale verdict, or the first one.
+    Snapped {
+        index: u64,
+        settled: bool,
+        stale: bool,
+    },
+    /// The session holds no snapshot of which a verdict could be made.
+    NoVerdict,
     /// Whether a deadline is reached.
     Due(bool),
     /// What a session was given while it waited.
@@ -36,12 +51,13 @@ pub(crate) enum Outcome {
 }
 
 impl Driver {
-    /// A driver of a book without records. Takes no memory.
-    pub(crate) fn new(alloc: Global, hasher: RandomState) -> Driver {
+    /// A driver of a book with this policy and without records. Takes no memory.
+    pub(crate) fn new(alloc: Global, policy: Policy, hasher: RandomState) -> Driver {
         Driver {
             hasher,
-            book: Book::new(alloc, hasher),
+            book: Book::new(alloc, policy, hasher),
             joined: Vec::new(alloc),
+            held: HeldSnapshots::new(alloc),
         }
     }
 
@@ -53,8 +69,8 @@ impl Driver {
     /// Does what a line asks for. An `Err` leaves the book as it was.
     pub(crate) fn answer(&mut self, alloc: Global, ask: Ask) -> Result<Outcome, AllocError> {
         match ask {
-            Ask::NewBook => {
-                *self = Driver::new(alloc, self.hasher);
+            Ask::NewBook { policy } => {
+                *self = Driver::new(alloc, policy, self.hasher);
                 Ok(Outcome::NewBook)
             }
             Ask::Join { told } => self.join(alloc, told),
@@ -66,6 +82,33 @@ impl Driver {
                 let session = self.number_of(session);
                 Ok(step(&mut self.book, alloc, told, Event::Call { session, call }))
             }
+            Ask::Board {
+                told,
+                session,
+                key,
+                group,
+            } => {
+                let session = self.number_of(session);
+                let event = Event::Board {
+                    session,
+                    key,
+                    group,
+                };
+                Ok(step(&mut self.book, alloc, told, event))
+            }
+            Ask::Snapshot {
+                told,
+                session,
+                key,
+                group,
+                dead,
+            } => self.snapshot(alloc, told, self.number_of(session), key, group, dead),
+            Ask::Conclude {
+                told,
+                session,
+                apply,
+                last,
+            } => self.conclude(alloc, told, self.number_of(session), apply, last),
             Ask::Expire { told } => Ok(step(&mut self.book, alloc, told, Event::Expire)),
             Ask::Leave { told, session } => {
                 let session = self.number_of(session);
@@ -89,6 +132,83 @@ impl Driver {
         let outcome = step(&mut self.book, alloc, told, Event::Join);
         self.joined.push_reserved(number_in(&outcome));
         Ok(outcome)
+    }
+
+    /// A session gets the snapshot of a group, and holds it.
+    fn snapshot(
+        &mut self,
+        alloc: Global,
+        told: u64,
+        session: u64,
+        key: Name,
+        group: Name,
+        dead: Names,
+    ) -> Result<Outcome, AllocError> {
+        self.held.reserve()?;
+        let event = Event::Snapshot {
+            session,
+            key,
+            group,
+            dead,
+        };
+        Ok(self.step_and_hold(alloc, told, session, event))
+    }
+
+    /// A session concludes a verdict on the last snapshot that it got.
+    fn conclude(
+        &mut self,
+        alloc: Global,
+        told: u64,
+        session: u64,
+        apply: bool,
+        last: bool,
+    ) -> Result<Outcome, AllocError> {
+        self.held.reserve()?;
+        let Some(snapshot) = self.held.copy_of(alloc, session)? else {
+            return Ok(Outcome::NoVerdict);
+        };
+        let verdict = Verdict::make(alloc, snapshot)?;
+        let event = Event::Conclude {
+            session,
+            verdict,
+            apply,
+            last,
+        };
+        Ok(self.step_and_hold(alloc, told, session, event))
+    }
+
+    /// Hands the book an event; a snapshot that it answers is held for the session. There is room for it.
+    fn step_and_hold(&mut self, alloc: Global, told: u64, session: u64, event: Event) -> Outcome {
+        match self.book.step(alloc, told, event) {
+            Ok(answer) => self.hold(session, answer),
+            Err(refused) => Outcome::Refused(refused.fault),
+        }
+    }
+
+    /// Holds the snapshot of an answer, if it is one.
+    fn hold(&mut self, session: u64, answer: Answer) -> Outcome {
+        let Answer {
+            index,
+            out,
+            settled,
+        } = answer;
+        let (snapshot, stale) = match out {
+            Out::Snap(snapshot) => (snapshot, false),
+            Out::Stale(snapshot) => (snapshot, true),
+            out => {
+                return Outcome::Answered(Answer {
+                    index,
+                    out,
+                    settled,
+                });
+            }
+        };
+        self.held.hold(session, snapshot);
+        Outcome::Snapped {
+            index,
+            settled,
+            stale,
+        }
     }
 
     /// The number of the session whose join line has this ordinal, from 1.
@@ -119,6 +239,7 @@ fn number_in(outcome: &Outcome) -> u64 {
     };
     match &answer.out {
         Out::Joined(number) => *number,
-        Out::Reply(_) | Out::Blocked | Out::Expired(_) | Out::Left => NO_SESSION,
+        Out::Reply(_) | Out::Blocked | Out::Snap(_) | Out::Stale(_) | Out::Expired(_) | Out::Left =>
+            NO_SESSION,
     }
 }

@@ -1,7 +1,8 @@
 //! Lines, read as what they ask for.
 use hex::FromHexError;
-use sr_args::{Call, CallFault, Command, read_call};
-use sr_bytes::{Words, read_decimal};
+use sr_args::{Call, CallFault, Command, Names, read_call};
+use sr_bytes::{Name, Words, read_decimal};
+use sr_policy::{Policy, PolicyFault};
 use std::alloc::{AllocError, Global};
 use std::str::{self, Split};
 
@@ -13,22 +14,63 @@ const MOST_DIGITS: usize = 20;
 /// `told` is a moment in milliseconds since 1970. A session is named by the ordinal of its join line, from 1.
 #[derive(Drop)]
 pub(crate) enum Ask {
-    /// A new book takes the place of the one that there was.
-    NewBook,
+    /// A new book, with this policy, takes the place of the one that there was.
+    NewBook {
+        policy: Policy,
+    },
     /// A session opens.
-    Join { told: u64 },
+    Join {
+        told: u64,
+    },
     /// A session calls.
-    Call { told: u64, session: u64, call: Call },
+    Call {
+        told: u64,
+        session: u64,
+        call: Call,
+    },
+    /// A session asks for the board of a group.
+    Board {
+        told: u64,
+        session: u64,
+        key: Name,
+        group: Name,
+    },
+    /// A session asks for a snapshot of a group with these consumers dead.
+    Snapshot {
+        told: u64,
+        session: u64,
+        key: Name,
+        group: Name,
+        dead: Names,
+    },
+    /// A session concludes the verdict on the snapshot that it got last.
+    Conclude {
+        told: u64,
+        session: u64,
+        apply: bool,
+        last: bool,
+    },
     /// Reads whose deadline is reached are answered.
-    Expire { told: u64 },
+    Expire {
+        told: u64,
+    },
     /// A session closes.
-    Leave { told: u64, session: u64 },
+    Leave {
+        told: u64,
+        session: u64,
+    },
     /// Whether a deadline is reached.
-    Due { told: u64 },
+    Due {
+        told: u64,
+    },
     /// What a session was given while it waited.
-    Collect { session: u64 },
+    Collect {
+        session: u64,
+    },
     /// How a session stands.
-    Status { session: u64 },
+    Status {
+        session: u64,
+    },
     /// The records so far.
     Records,
 }
@@ -69,11 +111,19 @@ fn read_form(alloc: Global, parts: &mut Split<'_, char>) -> Result<Ask, LineFaul
         return Err(LineFault::Form);
     };
     match form {
-        "policy" => read_policy(parts),
+        "policy" => read_policy(alloc, parts),
         "join" => Ok(Ask::Join {
             told: read_number(parts)?,
         }),
         "call" => read_call_line(alloc, parts),
+        "board" => read_board(alloc, parts),
+        "snapshot" => read_snapshot(alloc, parts),
+        "conclude" => Ok(Ask::Conclude {
+            told: read_number(parts)?,
+            session: read_session(parts)?,
+            apply: read_flag(parts)?,
+            last: read_flag(parts)?,
+        }),
         "expire" => Ok(Ask::Expire {
             told: read_number(parts)?,
         }),
@@ -95,10 +145,67 @@ fn read_form(alloc: Global, parts: &mut Split<'_, char>) -> Result<Ask, LineFaul
     }
 }
 
-/// A new book: its policy is the empty one.
-fn read_policy(parts: &mut Split<'_, char>) -> Result<Ask, LineFault> {
+/// A new book: its policy is the empty one, or that of a file with these bytes.
+fn read_policy(alloc: Global, parts: &mut Split<'_, char>) -> Result<Ask, LineFault> {
+    let Some(part) = parts.next() else {
+        return Err(LineFault::Form);
+    };
+    let bytes = read_word(alloc, part)?;
+    let Ok(text) = str::from_utf8(bytes.as_slice()) else {
+        return Err(LineFault::Form);
+    };
+    match Policy::read(alloc, text) {
+        Ok(policy) => Ok(Ask::NewBook { policy }),
+        Err(PolicyFault::Memory) => Err(LineFault::Memory),
+        Err(PolicyFault::Toml | PolicyFault::Shape | PolicyFault::Range) => Err(LineFault::Form),
+    }
+}
+
+/// A board: its moment, its session, its key and its group.
+fn read_board(alloc: Global, parts: &mut Split<'_, char>) -> Result<Ask, LineFault> {
+    Ok(Ask::Board {
+        told: read_number(parts)?,
+        session: read_session(parts)?,
+        key: read_name(alloc, parts)?,
+        group: read_name(alloc, parts)?,
+    })
+}
+
+/// A snapshot: its moment, its session, its key, its group, and the names of the dead.
+fn read_snapshot(alloc: Global, parts: &mut Split<'_, char>) -> Result<Ask, LineFault> {
+    Ok(Ask::Snapshot {
+        told: read_number(parts)?,
+        session: read_session(parts)?,
+        key: read_name(alloc, parts)?,
+        group: read_name(alloc, parts)?,
+        dead: read_names(alloc, parts)?,
+    })
+}
+
+/// The names that the rest of a line has, each a part of its own.
+fn read_names(alloc: Global, parts: &mut Split<'_, char>) -> Result<Names, LineFault> {
+    let mut names = Vec::new(alloc);
+    for part in parts {
+        let name = Name::new(read_word(alloc, part)?);
+        names.reserve(1)?;
+        names.push_reserved(name);
+    }
+    Ok(Names::new(names))
+}
+
+/// The name that the next part has.
+fn read_name(alloc: Global, parts: &mut Split<'_, char>) -> Result<Name, LineFault> {
+    let Some(part) = parts.next() else {
+        return Err(LineFault::Form);
+    };
+    Ok(Name::new(read_word(alloc, part)?))
+}
+
+/// Yes or no, as 1 or 0.
+fn read_flag(parts: &mut Split<'_, char>) -> Result<bool, LineFault> {
     match parts.next() {
-        Some("-") => Ok(Ask::NewBook),
+        Some("0") => Ok(false),
+        Some("1") => Ok(true),
         Some(_) | None => Err(LineFault::Form),
     }
 }
@@ -117,6 +224,7 @@ fn read_call_line(alloc: Global, parts: &mut Split<'_, char>) -> Result<Ask, Lin
             session,
             call,
         }),
+        Ok(Command::Board { .. } | Command::Recover { .. }) => Err(LineFault::Form),
         Err(CallFault::Memory) => Err(LineFault::Memory),
         Err(fault) => Err(LineFault::Refused(fault)),
     }

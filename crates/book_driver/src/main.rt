@@ -4,19 +4,21 @@
 #![tactic(auto)]
 
 mod drive;
+mod held;
 mod line;
 mod print;
 
 use crate::drive::Driver;
 use crate::line::read_line;
 use crate::print::{print_fault, print_outcome};
+use sr_policy::Policy;
 use std::alloc::Global;
 use std::hash::RandomState;
 use std::io::{self, BufRead, BufReader, LineWriter, Write};
 
 fn main(rt: HostRuntime) -> io::Result<()> {
     let alloc = rt.alloc();
-    let mut driver = Driver::new(alloc, RandomState::new(&rt)?);
+    let mut driver = Driver::new(alloc, Policy::empty(alloc), RandomState::new(&rt)?);
     let mut out = LineWriter::new(alloc, io::writer(&rt))?;
     for line in BufReader::new(alloc, rt.reader())?.split(alloc, b'\n') {
         answer_line(alloc, &mut driver, line?.as_slice(), &mut out)?;
