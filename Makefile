@@ -1,18 +1,26 @@
 # All that is needed is the Rattle toolchain, whose command is `rt`, and the python3 that it runs on.
 
-.PHONY: run test replay histories check memory compare bench bench-solver check-solver
+.PHONY: run demo test replay histories plans check memory compare bench bench-solver check-solver
 
 # Builds the server and sends it the commands of examples/first.session as a client spells them.
 run:
 	@cd crates/sr_server && rt run -- --stdio < stdin
 
+# Shows a recovery on one screen: a worker dies with twelve jobs, and others get them at the least cost.
+demo:
+	@cd crates/sr_server && rt run -- --stdio < /dev/null
+	@cd crates/plan_check && rt run < stdin > /dev/null
+	@scripts/demo crates/sr_server/out/sr_server crates/plan_check/out/plan_check
+
 # The whole gate: every proof from nothing, the must-fail edits, the tests and the program's stored run. Then the program that
-# was proved replays the sessions of the README and of examples/, and reads policy files, and histories are replayed.
+# was proved replays the sessions of the README and of examples/, and reads policy files, and histories are replayed and plans
+# checked.
 test:
 	rt ci
 	@scripts/replay crates/sr_server/out/sr_server README.md examples/*.session
 	@scripts/policies crates/sr_server/out/sr_server examples/policies/*.toml
 	@scripts/histories crates/book_driver/out/book_driver examples/histories/*.history
+	@scripts/plans crates/plan_check/out/plan_check examples/plans/*.plan
 
 # The sessions alone.
 replay:
@@ -23,6 +31,11 @@ replay:
 histories:
 	@cd crates/book_driver && rt run -- < /dev/null
 	@scripts/histories crates/book_driver/out/book_driver examples/histories/*.history
+
+# The plans alone: replies checked against the problems beside them.
+plans:
+	@cd crates/plan_check && rt run < stdin
+	@scripts/plans crates/plan_check/out/plan_check examples/plans/*.plan
 
 # One crate while it is written: make check C=sr_ids
 check:
@@ -46,6 +59,8 @@ bench:
 	@python3 bench/claims.py crates/sr_server/out/sr_server
 	@python3 bench/groups.py crates/sr_server/out/sr_server
 	@python3 bench/records.py crates/sr_server/out/sr_server
+	@cd crates/book_driver && rt run -- < /dev/null
+	@python3 bench/recovery.py crates/sr_server/out/sr_server crates/book_driver/out/book_driver
 
 # Times the solver on the families of problems of docs/BENCH.md, by turns with LEMON's network simplex on the same problems if its
 # headers are installed (Debian: liblemon-dev), and alone if not.
