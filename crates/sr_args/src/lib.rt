@@ -14,8 +14,6 @@ mod read;
 mod reads;
 mod streams;
 mod table;
-#[cfg(test)]
-mod tests;
 mod value;
 
 pub use call::{Call, Command, PendingAsked, Position, TimeAsked, Trim, TrimBy};

@@ -10,8 +10,6 @@ mod event;
 mod machine;
 mod record;
 mod sessions;
-#[cfg(test)]
-mod tests;
 
 pub use answer::{Answer, Letter, Status, StepFault};
 pub use book::Book;

@@ -9,6 +9,3 @@ mod read;
 mod shortage;
 
 pub use judge::{Reason, Verified, accepts};
-
-#[cfg(test)]
-mod tests;

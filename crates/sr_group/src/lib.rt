@@ -16,6 +16,3 @@ pub use consumer::Consumer;
 pub use group::Group;
 pub use listing::{Idle, Summary};
 pub use shown::{Listed, ListedIter, Scan, Shown};
-
-#[cfg(test)]
-mod tests;

@@ -12,6 +12,3 @@ mod search;
 pub use nack::Nack;
 pub use nacks::Nacks;
 pub use pending::Pending;
-
-#[cfg(test)]
-mod tests;

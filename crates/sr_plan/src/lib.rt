@@ -10,6 +10,3 @@ mod verdict;
 
 pub use moves::{Moves, Shortage};
 pub use verdict::Verdict;
-
-#[cfg(test)]
-mod tests;

@@ -28,6 +28,3 @@ pub use room::room_of;
 pub use snapshot::Snapshot;
 pub use stranded::Stranded;
 pub use weight::weight_of;
-
-#[cfg(test)]
-mod tests;

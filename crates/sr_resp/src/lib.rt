@@ -4,16 +4,12 @@
 mod bytes;
 mod code;
 mod decoding;
-#[cfg(test)]
-mod decoding_tests;
 mod draft;
 mod encoding;
 mod first;
 mod piece;
 mod reader;
 mod reply;
-#[cfg(test)]
-mod reply_tests;
 mod request;
 mod scan;
 mod send;

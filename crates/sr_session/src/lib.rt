@@ -11,8 +11,6 @@ mod replies;
 mod request;
 mod run;
 mod source;
-#[cfg(test)]
-mod tests;
 
 pub use calling::answer;
 pub use clock::Clock;

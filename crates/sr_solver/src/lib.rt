@@ -15,8 +15,6 @@ mod shortage;
 mod solution;
 mod table;
 mod taker;
-#[cfg(test)]
-mod tests;
 mod wanted;
 
 pub use solution::solve;

@@ -11,8 +11,6 @@ mod outcome;
 mod reply;
 mod snap;
 mod space;
-#[cfg(test)]
-mod tests;
 mod touch;
 
 pub use blocking::Outcome;

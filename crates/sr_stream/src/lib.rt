@@ -7,8 +7,6 @@ mod laws;
 mod named;
 mod places;
 mod stream;
-#[cfg(test)]
-mod tests;
 
 pub use fault::{AddFault, GivenFault, GroupFault};
 pub use laws::given_ids;

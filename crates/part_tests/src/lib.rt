@@ -1,0 +1,21 @@
+//! The tests of the crates below sr_space, in a crate of their own: a crate that has tests is proved twice.
+#![tactic(auto)]
+
+#[cfg(test)]
+mod check;
+#[cfg(test)]
+mod decoding;
+#[cfg(test)]
+mod group;
+#[cfg(test)]
+mod pending;
+#[cfg(test)]
+mod plan;
+#[cfg(test)]
+mod policy;
+#[cfg(test)]
+mod replies;
+#[cfg(test)]
+mod solver;
+#[cfg(test)]
+mod stream;

@@ -1,0 +1,400 @@
+// What a session makes of a desk's answers: when it writes, how it ends, and what it leaves in the book.
+ghost use Rattle.std.specs.Prelude.{◌≡◌, None, false};
+
+use super::{Kept, Pieces, Stopped, spelled};
+use sr_args::Call;
+use sr_book::{Act, Answer, Book, Event, Letter, Out, Record};
+use sr_policy::Policy;
+use sr_resp::{Reply, Sink, WriteFailed};
+use sr_session::{Desk, DeskFault, End, Ended, NoGate, PlainDesk, run_session};
+use std::alloc::Global;
+use std::cell::Cell;
+use std::hash::RandomState;
+use std::random::RandomSource;
+use std::test::Fail;
+
+/// Keeps what it gets, and tells others how much.
+#[derive(Drop)]
+struct Told<'a> {
+    bytes: Vec<u8>,
+    count: &'a Cell<usize>,
+}
+
+impl Sink for Told<'_> {
+    ghost contents = { λ _. None };
+
+    ghost failed = { λ _. false };
+
+    fn write(&mut self, bytes: &[u8]) -> Result<usize, WriteFailed> {
+        if self.bytes.extend_from_slice(bytes).is_err() {
+            return Ok(bytes.len());
+        }
+        self.count.set(self.bytes.len());
+        Ok(bytes.len())
+    }
+}
+
+/// What a desk answers to an event that is accepted.
+fn accepted(out: Out) -> Answer {
+    Answer {
+        index: 1,
+        out,
+        settled: true,
+    }
+}
+
+/// Answers each call by the number of bytes that were written before it. A call with BLOCK waits, and is answered so too.
+#[derive(Drop)]
+struct Noting<'a> {
+    count: &'a Cell<usize>,
+}
+
+/// The reply that is this count.
+fn reply_of(alloc: Global, count: usize) -> Reply {
+    Reply::int(alloc, i64::try_from(count).unwrap_or(i64::MAX))
+}
+
+impl Desk for Noting<'_> {
+    ghost shows = { λ _. None };
+
+    ghost borrows = { λ _. 0 };
+
+    fn step(&mut self, alloc: Global, _: u64, event: Event) -> Result<Answer, DeskFault> {
+        let out = match event {
+            Event::Join => Out::Joined(1),
+            Event::Call { session: _, call } => {
+                if call.block().is_some() {
+                    Out::Blocked
+                } else {
+                    Out::Reply(reply_of(alloc, self.count.get()))
+                }
+            }
+            Event::Board { .. } | Event::Snapshot { .. } | Event::Conclude { .. } => {
+                Out::Reply(reply_of(alloc, self.count.get()))
+            }
+            Event::Expire => Out::Expired(0),
+            Event::Leave { session: _ } => Out::Left,
+        };
+        Ok(accepted(out))
+    }
+
+    fn await_reply(&mut self, alloc: Global, session: u64) -> Result<Letter, DeskFault> {
+        Ok(Letter {
+            index: 1,
+            session,
+            reply: reply_of(alloc, self.count.get()),
+        })
+    }
+}
+
+/// Replies that are gathered go out before a call that may wait, and otherwise after the whole piece.
+#[test]
+fn gathered_replies_are_sent_before_a_call_that_may_wait(rt: HostRuntime) -> Result<(), Fail> {
+    for (blocking, lines, replies) in [
+        (true, "PING\nPING\nPING", ":0\r\n:0\r\n:0\r\n"),
+        (
+            true,
+            "PING\nPING\nXREAD BLOCK 0 STREAMS s $\nPING",
+            ":0\r\n:0\r\n:8\r\n:8\r\n",
+        ),
+        (
+            true,
+            "XREAD BLOCK 9 STREAMS s $\nXREAD BLOCK 9 STREAMS s $\nPING\nXREAD BLOCK 9 STREAMS s $",
+            ":0\r\n:4\r\n:4\r\n:12\r\n",
+        ),
+        (
+            false,
+            "PING\nXREAD BLOCK 0 STREAMS s $\nPING",
+            ":0\r\n:0\r\n:0\r\n",
+        ),
+    ] {
+        let bytes = spelled(rt.alloc(), lines)?;
+        let count = Cell::new(0);
+        let mut writer = Told {
+            bytes: Vec::new(rt.alloc()),
+            count: &count,
+        };
+        let mut reader = Pieces::new(bytes.as_slice(), 4096, 4096);
+        let ended = run_session(
+            rt.alloc(),
+            &mut reader,
+            &mut writer,
+            &mut Noting { count: &count },
+            &Stopped,
+            &NoGate,
+            blocking,
+            9,
+        );
+        assert_eq!(rt; ended.end, End::Closed, "{lines}");
+        assert!(rt; ended.left, "{lines}");
+        assert!(rt; writer.bytes.as_slice() == replies.as_bytes(), "{lines}");
+    }
+    Ok(())
+}
+
+/// Refuses what it is told to refuse: a join, a call, a letter or a leave. It answers what it does not refuse by 7.
+#[derive(Clone, Copy, Drop)]
+struct Refusing {
+    join: Option<DeskFault>,
+    call: Option<DeskFault>,
+    letter: Option<DeskFault>,
+    leave: Option<DeskFault>,
+}
+
+/// It refuses nothing.
+const OPEN: Refusing = Refusing {
+    join: None,
+    call: None,
+    letter: None,
+    leave: None,
+};
+
+/// What is accepted unless it is refused.
+fn unless(fault: Option<DeskFault>, out: Out) -> Result<Answer, DeskFault> {
+    match fault {
+        Some(fault) => {
+            drop(out);
+            Err(fault)
+        }
+        None => Ok(accepted(out)),
+    }
+}
+
+impl Desk for Refusing {
+    ghost shows = { λ _. None };
+
+    ghost borrows = { λ _. 0 };
+
+    fn step(&mut self, alloc: Global, _: u64, event: Event) -> Result<Answer, DeskFault> {
+        match event {
+            Event::Join => unless(self.join, Out::Joined(7)),
+            Event::Call { session: _, call } => {
+                if call.block().is_some() {
+                    unless(self.call, Out::Blocked)
+                } else {
+                    unless(self.call, Out::Reply(reply_of(alloc, 7)))
+                }
+            }
+            Event::Board { .. } | Event::Snapshot { .. } | Event::Conclude { .. } => {
+                unless(self.call, Out::Reply(reply_of(alloc, 7)))
+            }
+            Event::Expire => unless(None, Out::Expired(0)),
+            Event::Leave { session: _ } => unless(self.leave, Out::Left),
+        }
+    }
+
+    fn await_reply(&mut self, alloc: Global, session: u64) -> Result<Letter, DeskFault> {
+        match self.letter {
+            Some(fault) => Err(fault),
+            None => Ok(Letter {
+                index: 1,
+                session,
+                reply: reply_of(alloc, 7),
+            }),
+        }
+    }
+}
+
+/// How a session of `PING`, `XREAD BLOCK 0 STREAMS s $` and `PING` ends at a desk, and what it wrote.
+fn refused(rt: &impl AllocGlobal, desk: Refusing) -> Result<(Ended, Vec<u8>), Fail> {
+    let alloc = rt.alloc();
+    let bytes = spelled(alloc, "PING\nXREAD BLOCK 0 STREAMS s $\nPING")?;
+    let mut desk = desk;
+    let mut reader = Pieces::new(bytes.as_slice(), 4096, 4096);
+    let mut writer = Kept::with_room(alloc, 512)?;
+    let ended = run_session(
+        alloc,
+        &mut reader,
+        &mut writer,
+        &mut desk,
+        &Stopped,
+        &NoGate,
+        true,
+        9,
+    );
+    Ok((ended, writer.bytes))
+}
+
+/// Memory and a full history are answered as errors, and the session goes on. Every other fault of a call ends it.
+#[test]
+fn faults_of_a_call(rt: HostRuntime) -> Result<(), Fail> {
+    let memory: &[u8] = b"-OOM out of memory\r\n-OOM out of memory\r\n-OOM out of memory\r\n";
+    let full: &[u8] = b"-OOM history is full\r\n-OOM history is full\r\n-OOM history is full\r\n";
+    for (fault, end, text) in [
+        (DeskFault::Memory, End::Closed, memory),
+        (DeskFault::Full, End::Closed, full),
+        (DeskFault::Busy, End::Desk, b"".as_slice()),
+        (DeskFault::NoSession, End::Desk, b"".as_slice()),
+        (DeskFault::Regress { index: 3 }, End::Desk, b"".as_slice()),
+        (DeskFault::Idle, End::Desk, b"".as_slice()),
+    ] {
+        let desk = Refusing {
+            call: Some(fault),
+            ..OPEN
+        };
+        let (ended, written) = refused(&rt, desk)?;
+        assert_eq!(rt; ended, Ended { end, left: true }, "{fault:?}");
+        assert!(rt; written.as_slice() == text, "{fault:?}");
+    }
+    Ok(())
+}
+
+/// A letter that is not there ends the session. If memory is lacking for one, that is how it ends.
+#[test]
+fn faults_of_a_letter(rt: HostRuntime) -> Result<(), Fail> {
+    for (fault, end) in [
+        (DeskFault::Memory, End::Memory),
+        (DeskFault::Idle, End::Desk),
+        (DeskFault::NoSession, End::Desk),
+    ] {
+        let desk = Refusing {
+            letter: Some(fault),
+            ..OPEN
+        };
+        let (ended, written) = refused(&rt, desk)?;
+        assert_eq!(rt; ended, Ended { end, left: true }, "{fault:?}");
+        assert!(rt; written.as_slice() == b":7\r\n".as_slice(), "{fault:?}");
+    }
+    let (ended, written) = refused(&rt, OPEN)?;
+    assert_eq!(rt;
+        ended,
+        Ended {
+            end: End::Closed,
+            left: true
+        }
+    );
+    assert!(rt; written.as_slice() == b":7\r\n:7\r\n:7\r\n".as_slice());
+    Ok(())
+}
+
+/// A session that cannot join reads and writes nothing; `left` says whether the leave was carried out.
+#[test]
+fn faults_at_the_door(rt: HostRuntime) -> Result<(), Fail> {
+    for (fault, end) in [
+        (DeskFault::Memory, End::Memory),
+        (DeskFault::Full, End::Desk),
+        (DeskFault::Regress { index: 3 }, End::Desk),
+    ] {
+        let closed = Refusing {
+            join: Some(fault),
+            ..OPEN
+        };
+        let (ended, written) = refused(&rt, closed)?;
+        assert_eq!(rt; ended, Ended { end, left: false }, "{fault:?}");
+        assert!(rt; written.is_empty(), "{fault:?}");
+        let kept = Refusing {
+            leave: Some(fault),
+            ..OPEN
+        };
+        let (ended, _) = refused(&rt, kept)?;
+        assert_eq!(rt;
+            ended,
+            Ended {
+                end: End::Closed,
+                left: false
+            },
+            "{fault:?}"
+        );
+    }
+    Ok(())
+}
+
+/// A read of a stream that is empty waits only if calls may wait. No one else calls, so it has no reply.
+#[test]
+fn a_read_that_waits_is_not_answered(rt: HostRuntime) -> Result<(), Fail> {
+    let bytes = spelled(rt.alloc(), "XREAD BLOCK 0 STREAMS s $")?;
+    for (blocking, end, text) in [
+        (true, End::Desk, b"".as_slice()),
+        (false, End::Closed, b"*-1\r\n".as_slice()),
+    ] {
+        let mut book = Book::new(
+            rt.alloc(),
+            Policy::empty(rt.alloc()),
+            RandomState::new(&rt)?,
+        );
+        let mut desk = PlainDesk::new(&mut book);
+        let mut reader = Pieces::new(bytes.as_slice(), 4096, 4096);
+        let mut writer = Kept::with_room(rt.alloc(), 512)?;
+        let ended = run_session(
+            rt.alloc(),
+            &mut reader,
+            &mut writer,
+            &mut desk,
+            &Stopped,
+            &NoGate,
+            blocking,
+            9,
+        );
+        assert_eq!(rt; ended, Ended { end, left: true }, "{blocking}");
+        assert!(rt; writer.bytes.as_slice() == text, "{blocking}");
+    }
+    Ok(())
+}
+
+/// What a record is of, in a word.
+fn word_of(record: &Record) -> &str {
+    match &record.act {
+        Act::Event(Event::Join) => "join",
+        Act::Event(Event::Call { session: 1, call }) => match call {
+            Call::Ping { .. } => "ping",
+            Call::Xadd { .. } => "xadd",
+            Call::Xlen { .. } => "xlen",
+            _ => "another call",
+        },
+        Act::Event(Event::Call { .. }) => "a call of another session",
+        Act::Event(Event::Board { .. }) => "a board",
+        Act::Event(Event::Snapshot { .. }) => "a snapshot",
+        Act::Event(Event::Conclude { .. }) => "a verdict",
+        Act::Event(Event::Expire) => "expire",
+        Act::Event(Event::Leave { session: 1 }) => "leave",
+        Act::Event(Event::Leave { .. }) => "a leave of another session",
+        Act::Serve { .. } => "serve",
+    }
+}
+
+/// Whether the records are of these, in their order, each at moment 5.
+fn are_these(records: &[Record], words: &[&str]) -> bool {
+    for (record, word) in records.iter().zip(words) {
+        if word_of(record) != *word || record.moment != 5 {
+            return false;
+        }
+    }
+    true
+}
+
+/// A session's records are its join, its calls and its leave, each at the clock's moment. Words that are not a command have none.
+#[test]
+fn records_are_the_join_the_calls_and_the_leave(rt: HostRuntime) -> Result<(), Fail> {
+    let bytes = spelled(
+        rt.alloc(),
+        "PING\nFOO\nXADD s 1-1 a b\nXADD s 1-1 a b\nXLEN s",
+    )?;
+    let mut book = Book::new(
+        rt.alloc(),
+        Policy::empty(rt.alloc()),
+        RandomState::new(&rt)?,
+    );
+    let mut reader = Pieces::new(bytes.as_slice(), 4096, 4096);
+    let mut writer = Kept::with_room(rt.alloc(), 512)?;
+    let ended = run_session(
+        rt.alloc(),
+        &mut reader,
+        &mut writer,
+        &mut PlainDesk::new(&mut book),
+        &Stopped,
+        &NoGate,
+        false,
+        9,
+    );
+    assert_eq!(rt;
+        ended,
+        Ended {
+            end: End::Closed,
+            left: true
+        }
+    );
+    let words = ["join", "ping", "xadd", "xadd", "xlen", "leave"];
+    assert_eq!(rt; book.records().len(), words.len());
+    assert!(rt; are_these(book.records(), &words));
+    Ok(())
+}
