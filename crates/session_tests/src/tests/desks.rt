@@ -34,6 +34,38 @@ impl Sink for Told<'_> {
     }
 }
 
+/// What a desk is asked for.
+#[derive(Clone, Copy, Drop)]
+enum Asked {
+    Join,
+    /// A call with BLOCK.
+    Wait,
+    Reply,
+    Expire,
+    Leave,
+}
+
+/// What an event asks for.
+fn asked_by(event: &Event) -> Asked {
+    match event {
+        Event::Join => Asked::Join,
+        Event::Call { session: _, call } => match call.block() {
+            Some(_) => Asked::Wait,
+            None => Asked::Reply,
+        },
+        Event::Board { .. } | Event::Snapshot { .. } | Event::Conclude { .. } => Asked::Reply,
+        Event::Expire => Asked::Expire,
+        Event::Leave { session: _ } => Asked::Leave,
+    }
+}
+
+/// Drops an event, and tells what it asks for. A desk that held the event across its exits would be dear to prove.
+fn taken(event: Event) -> Asked {
+    let asked = asked_by(&event);
+    drop(event);
+    asked
+}
+
 /// What a desk answers to an event that is accepted.
 fn accepted(out: Out) -> Answer {
     Answer {
@@ -60,20 +92,12 @@ impl Desk for Noting<'_> {
     ghost borrows = { λ _. 0 };
 
     fn step(&mut self, alloc: Global, _: u64, event: Event) -> Result<Answer, DeskFault> {
-        let out = match event {
-            Event::Join => Out::Joined(1),
-            Event::Call { session: _, call } => {
-                if call.block().is_some() {
-                    Out::Blocked
-                } else {
-                    Out::Reply(reply_of(alloc, self.count.get()))
-                }
-            }
-            Event::Board { .. } | Event::Snapshot { .. } | Event::Conclude { .. } => {
-                Out::Reply(reply_of(alloc, self.count.get()))
-            }
-            Event::Expire => Out::Expired(0),
-            Event::Leave { session: _ } => Out::Left,
+        let out = match taken(event) {
+            Asked::Join => Out::Joined(1),
+            Asked::Wait => Out::Blocked,
+            Asked::Reply => Out::Reply(reply_of(alloc, self.count.get())),
+            Asked::Expire => Out::Expired(0),
+            Asked::Leave => Out::Left,
         };
         Ok(accepted(out))
     }
@@ -166,20 +190,12 @@ impl Desk for Refusing {
     ghost borrows = { λ _. 0 };
 
     fn step(&mut self, alloc: Global, _: u64, event: Event) -> Result<Answer, DeskFault> {
-        match event {
-            Event::Join => unless(self.join, Out::Joined(7)),
-            Event::Call { session: _, call } => {
-                if call.block().is_some() {
-                    unless(self.call, Out::Blocked)
-                } else {
-                    unless(self.call, Out::Reply(reply_of(alloc, 7)))
-                }
-            }
-            Event::Board { .. } | Event::Snapshot { .. } | Event::Conclude { .. } => {
-                unless(self.call, Out::Reply(reply_of(alloc, 7)))
-            }
-            Event::Expire => unless(None, Out::Expired(0)),
-            Event::Leave { session: _ } => unless(self.leave, Out::Left),
+        match taken(event) {
+            Asked::Join => unless(self.join, Out::Joined(7)),
+            Asked::Wait => unless(self.call, Out::Blocked),
+            Asked::Reply => unless(self.call, Out::Reply(reply_of(alloc, 7))),
+            Asked::Expire => unless(None, Out::Expired(0)),
+            Asked::Leave => unless(self.leave, Out::Left),
         }
     }
 
