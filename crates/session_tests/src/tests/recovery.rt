@@ -456,18 +456,45 @@ const LINES: &str = concat!(
     "D                           0        -        -            -          120\n"
 );
 
+/// What is written for the last request, at a book that was prepared so and to which the first was made.
+fn last_written(
+    rt: &(impl AllocGlobal + RandomSource + Abort),
+    policy: &str,
+    before: &str,
+    first: &str,
+    last: &str,
+) -> Result<Vec<u8>, Fail> {
+    let mut book = prepared(rt, policy, before)?;
+    let _done = told(rt.alloc(), &mut book, first)?;
+    let (_, written) = told(rt.alloc(), &mut book, last)?;
+    Ok(written)
+}
+
+/// Fails the test unless a board of this many bytes, with these lines below its heading, was written.
+fn is_board(
+    rt: &(impl AllocGlobal + Abort),
+    written: &[u8],
+    length: usize,
+    lines: &str,
+) -> Result<(), Fail> {
+    let board = format!(in rt.alloc(); "${length}\r\n{HEADING}{lines}\r\n")?;
+    assert!(rt; written == board.as_bytes());
+    Ok(())
+}
+
 #[test]
 fn boards_are_shown(rt: HostRuntime) -> Result<(), Fail> {
-    let mut book = prepared(&rt, TWO, BOTH)?;
-    let _done = told(rt.alloc(), &mut book, "@ 100\n> RECOVER.RUN s g DEAD D")?;
-    let (_, written) = told(rt.alloc(), &mut book, "@ 130\n> RECOVER.BOARD s g")?;
-    let board = format!(in rt.alloc(); "$296\r\n{HEADING}{LINES}\r\n")?;
-    assert!(rt; written.as_slice() == board.as_bytes());
-    let mut book = prepared(&rt, "", "> XGROUP CREATE s g 0 MKSTREAM")?;
-    let (_, written) = told(rt.alloc(), &mut book, "> RECOVER.BOARD s g")?;
-    let board = format!(in rt.alloc(); "$74\r\n{HEADING}\r\n")?;
-    assert!(rt; written.as_slice() == board.as_bytes());
-    Ok(())
+    let run = "@ 100\n> RECOVER.RUN s g DEAD D";
+    let board = "@ 130\n> RECOVER.BOARD s g";
+    let written = last_written(&rt, TWO, BOTH, run, board)?;
+    is_board(&rt, written.as_slice(), 296, LINES)
+}
+
+#[test]
+fn a_board_of_nobody_is_its_heading(rt: HostRuntime) -> Result<(), Fail> {
+    let create = "> XGROUP CREATE s g 0 MKSTREAM";
+    let written = last_written(&rt, "", create, "> XLEN s", "> RECOVER.BOARD s g")?;
+    is_board(&rt, written.as_slice(), 74, "")
 }
 
 /// Notes what happens in a recovery: 1 for a snapshot, 2 between, and 3 for a verdict.
