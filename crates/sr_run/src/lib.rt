@@ -14,6 +14,3 @@ pub use receipt::Receipt;
 pub use seat::Seat;
 pub use seating::hold;
 pub use shared::{Shared, open};
-
-#[cfg(test)]
-mod tests;

@@ -1,11 +1,11 @@
-//! What no clause says: that calls succeed while there is memory, and histories that were worked out by hand.
+// What no clause says: that calls succeed while there is memory, and histories that were worked out by hand.
 ghost use Rattle.std.specs.Prelude.{◌≡◌, ◌<◌, ◌⊎◌};
 
-use crate::{Held, HoldFault, Seat, SeatFault, hold};
 use sr_args::{Call, Command, read_call};
 use sr_book::{Book, Event};
 use sr_bytes::Words;
 use sr_policy::Policy;
+use sr_run::{Held, HoldFault, Seat, SeatFault, hold};
 use std::alloc::Global;
 use std::hash::RandomState;
 use std::marker::Brand;
@@ -19,7 +19,6 @@ use std::test::Fail;
 enum History {
     Serving,
     Deadline,
-    Regress,
 }
 
 /// The call that a line is.
@@ -133,29 +132,6 @@ fn deadline<L: Ledger, R: AllocGlobal + Abort>(
     Ok(())
 }
 
-/// A seat has seen a record that the book does not have.
-fn regress<L: Ledger, R: AllocGlobal + Abort>(
-    rt: &R,
-    held: &mut Held<L>,
-    maker: &mut Seat<L>,
-    ahead: &mut Seat<L>,
-) -> Result<(), Fail> {
-    let alloc = rt.alloc();
-    join(rt, held, maker, 1)?;
-    ahead.see(2);
-    let want = SeatFault::Regress { index: 1 };
-    match held.act(alloc, ahead, 10, Event::Join) {
-        Ok(_answer) => assert!(rt; false),
-        Err(refused) => assert!(rt; refused.fault == want),
-    }
-    let due = held.tick(alloc, ahead, 10);
-    assert!(rt; due == Err(want));
-    let found = look(rt.alloc(), held, ahead, 1);
-    assert!(rt; found == Err(want));
-    assert_eq!(rt; held.book().records().len(), 1);
-    Ok(())
-}
-
 /// Goes through a history at two seats.
 fn goes_on<L: Ledger, R: AllocGlobal + Abort + RandomSource>(
     rt: &R,
@@ -174,7 +150,6 @@ fn goes_on<L: Ledger, R: AllocGlobal + Abort + RandomSource>(
     match history {
         History::Serving => serving(rt, &mut held, &mut one, &mut other),
         History::Deadline => deadline(rt, &mut held, &mut one, &mut other),
-        History::Regress => regress(rt, &mut held, &mut one, &mut other),
     }
 }
 
@@ -193,11 +168,6 @@ fn a_read_that_waits_is_served_and_seen(rt: HostRuntime) -> Result<(), Fail> {
 #[test]
 fn a_deadline_is_reached_at_its_moment(rt: HostRuntime) -> Result<(), Fail> {
     goes_through(&rt, History::Deadline)
-}
-
-#[test]
-fn a_book_that_went_back_is_told(rt: HostRuntime) -> Result<(), Fail> {
-    goes_through(&rt, History::Regress)
 }
 
 /// Fails the test unless that number of seats is refused.
