@@ -1,4 +1,5 @@
 mod copies;
+mod equal;
 mod groups;
 mod reads;
 mod recover;

@@ -5,6 +5,7 @@ mod blocking;
 mod call;
 mod commands;
 mod copy;
+mod equal;
 mod fault;
 mod name;
 mod names;
