@@ -44,6 +44,12 @@ pub trait Desk {
     fn await_reply(&mut self, alloc: Global, session: u64) -> Result<Letter, DeskFault>
         ensures letter { AwaitsAt (shows self.old) session result (shows self.new) }
         ensures same { borrows self.new ≡ borrows self.old };
+
+    /// Is told that no event of the session follows at once: it is about to read, to write or to make a plan. A desk
+    /// that keeps others waiting from one event to the next lets them go on here.
+    fn pause(&mut self)
+        ensures shows { shows self.new ≡ shows self.old }
+        ensures same { borrows self.new ≡ borrows self.old };
 }
 
 /// A desk over a book of its own, which it shows. It never waits.
@@ -74,6 +80,8 @@ impl<'a> Desk for PlainDesk<'a> {
     fn await_reply(&mut self, alloc: Global, session: u64) -> Result<Letter, DeskFault> {
         letter_in(self.book, alloc, session)
     }
+
+    fn pause(&mut self) {}
 }
 
 /// Carries out an event in the book.

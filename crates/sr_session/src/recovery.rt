@@ -86,6 +86,7 @@ fn make_rounds<D: Desk, C: Clock, G: Gate>(
     if rounds == 0 {
         return Err(DeskFault::Idle);
     }
+    desk.pause();
     let Ok(verdict) = Verdict::make(alloc, snapshot) else {
         return Err(DeskFault::Memory);
     };

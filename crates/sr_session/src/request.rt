@@ -93,15 +93,16 @@ fn answer_command<W: Sink, D: Desk, C: Clock, G: Gate>(
     ensures noted { IsNoted result (W.failed writer.old) (W.failed writer.new) }
     ensures same { D.borrows desk.new ≡ D.borrows desk.old }
 {
-    send_before(writer, blocking, &command, replies)?;
+    send_before(writer, desk, blocking, &command, replies)?;
     let reply = reply_to(alloc, desk, clock, gate, blocking, session, command)?;
     replies.gather(&reply)?;
     Ok(())
 }
 
 /// Sends what is gathered, if the command may wait.
-fn send_before<W: Sink>(
+fn send_before<W: Sink, D: Desk>(
     writer: &mut W,
+    desk: &mut D,
     blocking: bool,
     command: &Command,
     replies: &mut Replies,
@@ -112,8 +113,11 @@ fn send_before<W: Sink>(
     ensures err { IfErr result (λ end. (gets : List ℕ) × Appends (W.contents writer.old) (W.contents writer.new) gets
         × BreaksOff replies.old.gathered.items replies.old.sent gets end) }
     ensures noted { IsNoted result (W.failed writer.old) (W.failed writer.new) }
+    ensures shows { D.shows desk.new ≡ D.shows desk.old }
+    ensures same { D.borrows desk.new ≡ D.borrows desk.old }
 {
     if blocking && may_wait(command) {
+        desk.pause();
         replies.send(writer)
     } else {
         Ok(())

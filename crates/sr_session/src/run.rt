@@ -298,6 +298,7 @@ fn answer_waiting<W: Sink, D: Desk, C: Clock, G: Gate>(
             alloc, writer, desk, clock, gate, blocking, session, &words, replies,
         )?;
     }
+    desk.pause();
     Ok(())
 }
 

@@ -109,6 +109,8 @@ impl Desk for Noting<'_> {
             reply: reply_of(alloc, self.count.get()),
         })
     }
+
+    fn pause(&mut self) {}
 }
 
 /// Replies that are gathered go out before a call that may wait, and otherwise after the whole piece.
@@ -209,6 +211,8 @@ impl Desk for Refusing {
             }),
         }
     }
+
+    fn pause(&mut self) {}
 }
 
 /// How a session of `PING`, `XREAD BLOCK 0 STREAMS s $` and `PING` ends at a desk, and what it wrote.
@@ -412,5 +416,105 @@ fn records_are_the_join_the_calls_and_the_leave(rt: HostRuntime) -> Result<(), F
     let words = ["join", "ping", "xadd", "xadd", "xlen", "leave"];
     assert_eq!(rt; book.records().len(), words.len());
     assert!(rt; are_these(book.records(), &words));
+    Ok(())
+}
+
+/// A desk over a book, which notes what it is asked: `s` for a step, `a` for a letter and `p` for a pause. Before each
+/// it notes `w` if something was written meanwhile.
+#[derive(Drop)]
+struct Watched<'a> {
+    book: &'a mut Book,
+    count: &'a Cell<usize>,
+    seen: usize,
+    noted: Vec<u8>,
+}
+
+impl Watched<'_> {
+    fn note(&mut self, letter: u8) {
+        let count = self.count.get();
+        if count != self.seen && self.noted.push(b'w').is_err() {
+            return;
+        }
+        self.seen = count;
+        let _noted = self.noted.push(letter);
+    }
+}
+
+impl Desk for Watched<'_> {
+    ghost shows = { λ _. None };
+
+    ghost borrows = { λ _. 0 };
+
+    fn step(&mut self, alloc: Global, moment: u64, event: Event) -> Result<Answer, DeskFault> {
+        self.note(b's');
+        PlainDesk::new(self.book).step(alloc, moment, event)
+    }
+
+    fn await_reply(&mut self, alloc: Global, session: u64) -> Result<Letter, DeskFault> {
+        self.note(b'a');
+        PlainDesk::new(self.book).await_reply(alloc, session)
+    }
+
+    fn pause(&mut self) {
+        self.note(b'p');
+        PlainDesk::new(self.book).pause();
+    }
+}
+
+/// What a desk is asked in a session of these bytes, which come in one read.
+fn notes_of(alloc: Global, bytes: &[u8], hasher: RandomState) -> Vec<u8> {
+    let count = Cell::new(0);
+    let mut book = Book::new(alloc, Policy::empty(alloc), hasher);
+    let mut writer = Told {
+        bytes: Vec::new(alloc),
+        count: &count,
+    };
+    let mut reader = Pieces::new(bytes, 4096, 4096);
+    let mut desk = Watched {
+        book: &mut book,
+        count: &count,
+        seen: 0,
+        noted: Vec::new(alloc),
+    };
+    let _ended = run_session(
+        alloc,
+        &mut reader,
+        &mut writer,
+        &mut desk,
+        &Stopped,
+        &NoGate,
+        true,
+        9,
+    );
+    desk.noted
+}
+
+/// The same of these requests.
+fn noted(rt: &(impl AllocGlobal + RandomSource), lines: &str) -> Result<Vec<u8>, Fail> {
+    let hasher = RandomState::new(rt)?;
+    let bytes = spelled(rt.alloc(), lines)?;
+    Ok(notes_of(rt.alloc(), bytes.as_slice(), hasher))
+}
+
+/// No pause comes between the requests of one read. One comes after them all, before their replies are written; one
+/// before the replies that go out before a call that may wait; and one before a plan is made.
+#[test]
+fn a_pause_comes_before_a_write_and_before_a_plan(rt: HostRuntime) -> Result<(), Fail> {
+    for (lines, want) in [
+        ("PING\nPING\nPING", "sssspws"),
+        ("FOO", "spws"),
+        (
+            "XADD s 1-1 a b\nXREAD BLOCK 9 STREAMS s 0\nPING",
+            "sspwsspws",
+        ),
+        ("PING\nXREAD BLOCK 0 STREAMS s $\nPING", "sspwsas"),
+        (
+            "XGROUP CREATE s g $ MKSTREAM\nRECOVER.PLAN s g DEAD D\nPING",
+            "ssspsspws",
+        ),
+    ] {
+        let found = noted(&rt, lines)?;
+        assert!(rt; found.as_slice() == want.as_bytes(), "{lines}");
+    }
     Ok(())
 }

@@ -586,6 +586,10 @@ impl Desk for Meddling<'_> {
     fn await_reply(&mut self, _: Global, _: u64) -> Result<Letter, DeskFault> {
         Err(DeskFault::Idle)
     }
+
+    fn pause(&mut self) {
+        PlainDesk::new(self.book).pause();
+    }
 }
 
 /// What another session does meanwhile, the commands and their replies, and what was noted of them.

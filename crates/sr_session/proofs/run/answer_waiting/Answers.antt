@@ -38,3 +38,8 @@ returns-in_err-answer_request-clause-end g c =
     let one = c.in_err-answer_request.ensures.err in
     let p = err_from_is_err_and c.from_residual.result c.from_residual.ensures.1 in
     rw (p.1, p.2) (IsPieceEnd-from_stops _ _ _ _ _ _ _ _ _ one.2)
+
+pub returns-clause-ok : goal.returns-clause-ok
+returns-clause-ok g c =
+    let i = c.loop-words.invariant in
+    (i.so_far.0, i.so_far.1, λ found taken written start. rw (c.pause.ensures.shows, c.in_default.ensures.none.1) (i.so_far.2 found taken written start))
