@@ -14,6 +14,11 @@ use std::random::RandomSource;
 use std::sync::ledger::{Blank, Ledger};
 use std::test::Fail;
 
+mod closing;
+mod desks;
+mod records;
+mod workers;
+
 /// What a test goes through.
 #[derive(Clone, Copy)]
 enum History {

@@ -1,3 +1,3 @@
-pub mod HeldLemmas
-pub mod LetterLemmas
+pub mod ClosedLemmas
 pub mod SharedLemmas
+pub mod WorkedLemmas

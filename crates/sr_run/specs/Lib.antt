@@ -1,3 +1,5 @@
-pub mod Held
-pub mod Refused
 pub mod Shared
+pub mod Closed
+pub mod Desk
+pub mod Worked
+pub mod Crews

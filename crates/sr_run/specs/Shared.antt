@@ -4,10 +4,10 @@
 use Rattle.std.specs.Prelude.{⊤, ◌≡◌, ◌+◌, ◌<◌, ℕ, Bool, true, false}
 use Rattle.sr_args.specs.declared.call.Call.{Call}
 use Rattle.sr_book.specs.declared.answer.Letter.{Letter}
-use Rattle.sr_run.specs.Held.{SeatState, seen_by}
-use Rattle.sr_run.specs.declared.fault.SeatFault.{SeatFault}
-use Rattle.sr_run.specs.declared.fault.SeatFault.TheVariants as faults
-use Rattle.sr_run.specs.declared.receipt.Receipt.{Receipt}
+use Rattle.sr_seats.specs.Held.{SeatState, seen_by}
+use Rattle.sr_seats.specs.declared.fault.SeatFault.{SeatFault}
+use Rattle.sr_seats.specs.declared.fault.SeatFault.TheVariants as faults
+use Rattle.sr_seats.specs.declared.receipt.Receipt.{Receipt}
 
 -- the seat made one event, in a record after all that it had seen
 pub record HasMade (index : ℕ) (old new : SeatState) : Type 0 where

@@ -1,36 +1,16 @@
-use sr_book::Event;
+use sr_seats::{CloseFault, SeatFault};
 
-/// Why a seat's call was not carried out. The first that holds is told: regress, no session, busy or idle, full, memory.
+/// Why scripts were not run to their ends. A thread that could not be started comes before a worker, and a worker before the closing.
 #[derive(Clone, Copy, Debug, PartialEq, Eq)]
-pub enum SeatFault {
-    /// The last index of the book, which is below one that the seat has seen.
-    Regress { index: u64 },
-    /// The session is not open.
-    NoSession,
-    /// The session waits.
-    Busy,
-    /// No index is left for a record.
-    Full,
-    /// A failed allocation.
-    Memory,
-    /// The session neither waits nor has a letter.
-    Idle,
-}
-
-/// An event that was not carried out, and why.
-#[derive(Drop)]
-pub struct ActFault {
-    /// Why it was not.
-    pub fault: SeatFault,
-    /// The event.
-    pub event: Event,
-}
-
-/// Why a book was not held.
-#[derive(Clone, Copy, Debug, PartialEq, Eq)]
-pub enum HoldFault {
-    /// The number of seats is not from 1 to 65.
+pub enum RunFault {
+    /// The number of scripts is not from 1 to 64.
     Count,
-    /// A failed allocation.
+    /// A failed allocation outside of the events: the rest was not judged.
     Memory,
+    /// The first script, counted from 0, of which an event was refused, and why that was.
+    Worker { at: usize, fault: SeatFault },
+    /// All events were carried out, and the run was not closed.
+    Close(CloseFault),
+    /// A thread could not be started.
+    Thread,
 }

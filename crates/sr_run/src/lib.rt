@@ -1,16 +1,15 @@
-//! A book that several hands use, one at a time: each counts what it made, and none is shown less than it has seen.
+//! A held book behind a lock: seats in threads of their own, a desk at a seat, and workers that run scripts.
 #![tactic(auto)]
 
+mod crew;
+mod desk;
 mod fault;
-mod held;
-mod receipt;
-mod seat;
-mod seating;
 mod shared;
+mod worker;
+mod workers;
 
-pub use fault::{ActFault, HoldFault, SeatFault};
-pub use held::Held;
-pub use receipt::Receipt;
-pub use seat::Seat;
-pub use seating::hold;
-pub use shared::{Shared, open};
+pub use desk::SeatDesk;
+pub use fault::RunFault;
+pub use shared::{Shared, Unclosed, open};
+pub use sr_seats::{ActFault, CloseFault, Closed, Held, HoldFault, Receipt, Seat, SeatFault, hold};
+pub use workers::{Ran, run_workers};

@@ -1,0 +1,181 @@
+// What a session writes at a seat, and what the seat is told of letters.
+ghost use Rattle.std.specs.Prelude.{◌≡◌, true};
+
+use super::call;
+use sr_book::{Book, Event, Letter};
+use sr_policy::Policy;
+use sr_resp::WriteTo;
+use sr_run::{Seat, SeatDesk, Shared, open};
+use sr_session::{Clock, Desk, DeskFault, End, NoGate, PlainDesk, ReadFrom, run_session};
+use std::alloc::Global;
+use std::hash::RandomState;
+use std::marker::Brand;
+use std::process::Abort;
+use std::random::RandomSource;
+use std::sync::Wait;
+use std::sync::ledger::{Blank, Ledger};
+use std::test::Fail;
+
+/// A reader dies with an entry, and another takes it over.
+const REQUESTS: &str = "PING
+XGROUP CREATE s g $ MKSTREAM
+XADD s 1-1 c x
+XREADGROUP GROUP g D STREAMS s >
+RECOVER.RUN s g DEAD D
+XLEN s";
+
+/// The replies to them: the entry goes to A, at a cost of 2, and no price is needed.
+const REPLIES: &[u8] = b"+PONG\r\n+OK\r\n$3\r\n1-1\r\n\
+*1\r\n*2\r\n$1\r\ns\r\n*1\r\n*2\r\n$3\r\n1-1\r\n*2\r\n$1\r\nc\r\n$1\r\nx\r\n\
+*5\r\n$4\r\ndone\r\n:2\r\n*1\r\n*2\r\n$3\r\n1-1\r\n$1\r\nA\r\n*1\r\n*2\r\n$1\r\nA\r\n:0\r\n*0\r\n\
+:1\r\n";
+
+/// One consumer may take entries of class x, and has room for two.
+const POLICY: &str = "class_field = \"c\"\n[limits]\nA = 2\n[rates.x]\nA = 1\n";
+
+/// It is 5 milliseconds past 1970.
+struct Stopped;
+
+impl Clock for Stopped {
+    ghost may_tell = { λ _ _. true };
+
+    fn now(&self) -> u64 {
+        5
+    }
+}
+
+/// What happens at a seat.
+#[derive(Clone, Copy)]
+enum Scene {
+    Session,
+    Letters,
+}
+
+/// The requests, as a client spells them.
+fn spelled(alloc: Global) -> Result<Vec<u8>, Fail> {
+    let mut bytes = Vec::new(alloc);
+    for line in REQUESTS.split('\n') {
+        let header = format!(in alloc; "*{}\r\n", line.split(' ').count())?;
+        bytes.extend_from_slice(header.as_bytes())?;
+        for word in line.split(' ') {
+            let text = format!(in alloc; "${}\r\n{word}\r\n", word.len())?;
+            bytes.extend_from_slice(text.as_bytes())?;
+        }
+    }
+    Ok(bytes)
+}
+
+/// A book under the policy.
+fn book(rt: &(impl AllocGlobal + RandomSource)) -> Result<Book, Fail> {
+    let Ok(policy) = Policy::read(rt.alloc(), POLICY) else {
+        return Err(Fail::new("a policy"));
+    };
+    Ok(Book::new(rt.alloc(), policy, RandomState::new(rt)?))
+}
+
+/// What a session writes at a desk.
+fn talk<D: Desk>(alloc: Global, desk: &mut D) -> Result<Vec<u8>, Fail> {
+    let requests = spelled(alloc)?;
+    let mut written = Vec::new(alloc);
+    let mut reader = ReadFrom::new(requests.as_slice());
+    let mut writer = WriteTo::new(&mut written);
+    let ended = run_session(
+        alloc,
+        &mut reader,
+        &mut writer,
+        desk,
+        &Stopped,
+        &NoGate,
+        false,
+        9,
+    );
+    if ended.end == End::Closed && ended.left {
+        Ok(written)
+    } else {
+        Err(Fail::new("the session ended otherwise"))
+    }
+}
+
+/// A session writes what it writes over a book of its own.
+fn session<L: Ledger, R: AllocGlobal + Abort + RandomSource + Wait>(
+    rt: &R,
+    shared: &Shared<L>,
+    seat: &mut Seat<L>,
+) -> Result<(), Fail> {
+    let mut own = book(rt)?;
+    let alone = talk(rt.alloc(), &mut PlainDesk::new(&mut own))?;
+    let seated = talk(rt.alloc(), &mut SeatDesk::new(rt, shared, seat))?;
+    assert!(rt; alone.as_slice() == REPLIES);
+    assert!(rt; seated.as_slice() == REPLIES);
+    // The join, four calls, a snapshot, a conclusion, a call and the leave.
+    assert_eq!(rt; seat.front(), 9);
+    Ok(())
+}
+
+/// The index of a letter.
+fn index_of(found: Result<Letter, DeskFault>) -> Result<u64, DeskFault> {
+    match found {
+        Ok(letter) => Ok(letter.index),
+        Err(fault) => Err(fault),
+    }
+}
+
+/// A session has no letter before it waited, the letter of its serving then, and none once it has left.
+fn letters<L: Ledger, R: AllocGlobal + Abort + Wait>(
+    rt: &R,
+    shared: &Shared<L>,
+    seat: &mut Seat<L>,
+) -> Result<(), Fail> {
+    let alloc = rt.alloc();
+    let mut desk = SeatDesk::new(rt, shared, seat);
+    desk.step(alloc, 10, Event::Join)?;
+    desk.step(alloc, 10, Event::Join)?;
+    let idle = index_of(desk.await_reply(alloc, 1));
+    assert!(rt; idle == Err(DeskFault::Idle));
+    for (session, line) in [(1, "XREAD BLOCK 0 STREAMS s $"), (2, "XADD s 1-1 a b")] {
+        let call = call(alloc, line)?;
+        desk.step(alloc, 10, Event::Call { session, call })?;
+    }
+    let served = index_of(desk.await_reply(alloc, 1));
+    assert!(rt; served == Ok(5));
+    desk.step(alloc, 10, Event::Leave { session: 1 })?;
+    let left = index_of(desk.await_reply(alloc, 1));
+    assert!(rt; left == Err(DeskFault::NoSession));
+    drop(desk);
+    assert_eq!(rt; seat.front(), 6);
+    Ok(())
+}
+
+/// Has something happen at the one seat of a shared book.
+fn at_a_seat<L: Ledger, R: AllocGlobal + Abort + RandomSource + Wait>(
+    rt: &R,
+    blank: Blank,
+    scene: Scene,
+) -> Result<(), Fail>
+    requires name { blank.name ≡ L.name }
+    requires whole { blank.parts ≡ L.parts }
+    requires parts { blank.parts ≡ 1 }
+{
+    let (shared, mut seats) = open::<L>(rt.alloc(), book(rt)?, 1, blank)?;
+    let Some(mut seat) = seats.pop() else {
+        return Err(Fail::new("a seat"));
+    };
+    match scene {
+        Scene::Session => session(rt, &shared, &mut seat),
+        Scene::Letters => letters(rt, &shared, &mut seat),
+    }
+}
+
+fn plays<R: AllocGlobal + Abort + RandomSource + Wait>(rt: &R, scene: Scene) -> Result<(), Fail> {
+    at_a_seat::<Brand, R>(rt, Blank::new(1), scene)
+}
+
+#[test]
+fn a_session_at_a_seat_writes_what_it_writes_alone(rt: HostRuntime) -> Result<(), Fail> {
+    plays(&rt, Scene::Session)
+}
+
+#[test]
+fn a_session_has_a_letter_once_it_waited_and_until_it_leaves(rt: HostRuntime) -> Result<(), Fail> {
+    plays(&rt, Scene::Letters)
+}

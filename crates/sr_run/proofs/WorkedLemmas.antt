@@ -1,0 +1,301 @@
+-- What workers leave, put together from what each of them leaves.
+use Rattle.std.proofs.Common.{◌≡◌, ℕ, zero, suc, take, drop, ◌+◌, ◌*◌, ◌≤◌, List, [], ◌∷◌, ◌++◌, length, length-append, map, refl, sym, ap, ap₂, ◌∙◌, subst, arith, append-nil, Result, Ok, Err}
+use Rattle.std.specs.Prelude.{◌≢◌, MatchResult, sum, sum_by}
+use Rattle.std.specs.List.{flat_map}
+use Rattle.std.proofs.lemmas.Grind.{flat_map-append}
+use Rattle.std.proofs.lemmas.List.{length-map, length-take-le, map-append, take-append-drop}
+use Rattle.std.proofs.lemmas.List.Concat.{flat_map-cons, length-flat_map}
+use Rattle.std.proofs.lemmas.List.Folds.{flat_map-map}
+use Rattle.std.proofs.lemmas.List.Sums.{sum-map, sum_by-append, sum_by-cons}
+use Rattle.std.proofs.Math.Seq.{take-append_seam, drop-append_seam}
+use Rattle.sr_args.specs.declared.call.Call.{Call}
+use Rattle.sr_book.specs.Records.{BookState}
+use Rattle.sr_run.specs.Closed.{IsClosed}
+use Rattle.sr_run.specs.Crews.{AreHalves, AreTogether, CrewState, HasNotWorked, HasWorked, IsCrew, first_of, joined, seats_from}
+use Rattle.sr_seats.specs.Held.{SeatState, new_seat, new_seats}
+use Rattle.sr_run.specs.Shared.{HasMade}
+use Rattle.sr_run.specs.Worked.{AreWorked, HasNotRun, HasRun, IsWorked, count_calls, joined_up}
+use Rattle.sr_run.specs.declared.fault.RunFault.{RunFault}
+use Rattle.sr_run.specs.declared.fault.RunFault.TheVariants as faults
+use Rattle.sr_seats.specs.declared.receipt.Receipt.{Receipt}
+
+-- ---- seats that count on
+
+front_seats : (first n k : ℕ) → k ≤ n → take k (seats_from first n) ≡ seats_from first k
+front_seats first n zero few = refl
+front_seats first zero (suc k) few = absurd (omega (arith, few))
+front_seats first (suc n) (suc k) few = ap (λ xs. new_seat first ∷ xs) (front_seats (first + 1) n k (omega (arith, few)))
+
+back_seats : (first n k m : ℕ) → k + m ≡ n → drop k (seats_from first n) ≡ seats_from (first + k) m
+back_seats first n zero m all =
+    let here : first ≡ first + 0 = omega arith in
+    let same : n ≡ m = omega (arith, all) in
+    ap₂ seats_from here same
+back_seats first zero (suc k) m all = absurd (omega (arith, all))
+back_seats first (suc n) (suc k) m all =
+    let here : first + 1 + k ≡ first + suc k = omega arith in
+    back_seats (first + 1) n k m (omega (arith, all)) ∙ ap (λ f. seats_from f m) here
+
+seats_from-more : (first n : ℕ) → seats_from first (suc n) ≡ seats_from first n ++ new_seat (first + n) ∷ []
+seats_from-more first zero =
+    let here : first ≡ first + 0 = omega arith in
+    ap (λ f. new_seat f ∷ []) here
+seats_from-more first (suc n) =
+    let here : first + 1 + n ≡ first + suc n = omega arith in
+    ap (λ xs. new_seat first ∷ xs) (seats_from-more (first + 1) n ∙ ap (λ f. seats_from (first + 1) n ++ new_seat f ∷ []) here)
+
+-- seats that are numbered from 0 count on from 0
+pub new_seats_count_on : (n : ℕ) → new_seats n ≡ seats_from 0 n
+new_seats_count_on zero = refl
+new_seats_count_on (suc n) =
+    let here : n ≡ 0 + n = omega arith in
+    ap (λ xs. xs ++ new_seat n ∷ []) (new_seats_count_on n) ∙ ap (λ f. seats_from 0 n ++ new_seat f ∷ []) here ∙ sym (seats_from-more 0 n)
+
+length-seats_from : (first n : ℕ) → length (seats_from first n) ≡ n
+length-seats_from first zero = refl
+length-seats_from first (suc n) = ap suc (length-seats_from (first + 1) n)
+
+-- ---- the halves of a crew
+
+-- seats that have done and seen nothing are a crew
+pub new_crew : {V : Type 0} (f : V → List Call) (n : ℕ) (seats : List SeatState) (xs : List V) → seats ≡ new_seats n → length xs ≡ n → n ≤ 64 → IsCrew 0 seats (map f xs)
+new_crew f n seats xs new many few =
+    let size : length (map f xs) ≡ n = length-map xs f ∙ many in
+    record { new = new ∙ new_seats_count_on n ∙ ap (λ m. seats_from 0 m) (sym size); few = omega (arith, size, few) }
+
+-- it has a seat for each script
+pub crew_size : {V : Type 0} (f : V → List Call) (first : ℕ) (seats : List SeatState) (xs : List V) → IsCrew first seats (map f xs) → length seats ≡ length xs
+crew_size f first seats xs crew = ap length crew.new ∙ length-seats_from first (length (map f xs)) ∙ length-map xs f
+
+-- the first of it, this many, are a crew
+pub front_crew : {V : Type 0} (f : V → List Call) (first k : ℕ) (seats front : List SeatState) (xs ys : List V) → k ≤ length xs → front ≡ take k seats → ys ≡ take k xs → IsCrew first seats (map f xs)
+    → IsCrew first front (map f ys)
+front_crew f first k seats front xs ys few front_is ys_are crew =
+    let size : length (map f ys) ≡ k = length-map ys f ∙ ap length ys_are ∙ length-take-le k xs few in
+    let whole : length (map f xs) ≡ length xs = length-map xs f in
+    record {
+      new = front_is ∙ ap (λ ss. take k ss) crew.new ∙ front_seats first (length (map f xs)) k (omega (arith, few, whole)) ∙ ap (λ n. seats_from first n) (sym size);
+      few = omega (arith, size, whole, few, crew.few);
+    }
+
+-- the others are one whose seats count on from those
+pub back_crew : {V : Type 0} (f : V → List Call) (first k : ℕ) (seats back : List SeatState) (xs ys : List V) → k ≤ length xs → back ≡ drop k seats → ys ≡ drop k xs → IsCrew first seats (map f xs)
+    → IsCrew (first + k) back (map f ys)
+back_crew f first k seats back xs ys few back_is ys_are crew =
+    let size : length (map f ys) ≡ length ys = length-map ys f in
+    let same : length ys ≡ length (drop k xs) = ap length ys_are in
+    let whole : length (map f xs) ≡ length xs = length-map xs f in
+    let parts : length (take k xs) + length (drop k xs) ≡ length xs = sym (length-append (take k xs) (drop k xs)) ∙ ap length (take-append-drop k xs) in
+    let all : k + length (map f ys) ≡ length (map f xs) = omega (arith, size, same, whole, parts, length-take-le k xs few) in
+    record {
+      new = back_is ∙ ap (λ ss. drop k ss) crew.new ∙ back_seats first (length (map f xs)) k (length (map f ys)) all;
+      few = omega (arith, all, crew.few);
+    }
+
+-- both have all the scripts
+pub halves_are_whole : {V : Type 0} (f : V → List Call) (k : ℕ) (xs : List V) → map f xs ≡ map f (take k xs) ++ map f (drop k xs)
+halves_are_whole f k xs = ap (λ ys. map f ys) (sym (take-append-drop k xs)) ∙ map-append f (take k xs) (drop k xs)
+
+-- ---- scripts and their receipts
+
+AreWorked-append : (number : ℕ) (ss ts : List (List Call)) (gs hs : List (List Receipt)) → AreWorked number ss gs → AreWorked (number + length ss) ts hs → AreWorked number (ss ++ ts) (gs ++ hs)
+AreWorked-append number [] ts [] hs one two =
+    let same : number + 0 ≡ number = omega arith in
+    let P : ℕ → Type 0 = λ n. AreWorked n ts hs in
+    subst P same two
+AreWorked-append number [] ts (g ∷ gs) hs one two = absurd one
+AreWorked-append number (s ∷ ss) ts [] hs one two = absurd one
+AreWorked-append number (s ∷ ss) ts (g ∷ gs) hs one two =
+    let same : number + length (s ∷ ss) ≡ number + 1 + length ss = omega arith in
+    let P : ℕ → Type 0 = λ n. AreWorked n ts hs in
+    (one.0, AreWorked-append (number + 1) ss ts gs hs one.1 (subst P same two))
+
+-- each script has as many receipts as calls
+pub AreWorked-lengths : (number : ℕ) (ss : List (List Call)) (gs : List (List Receipt)) → AreWorked number ss gs → map length gs ≡ map length ss
+AreWorked-lengths number [] [] worked = refl
+AreWorked-lengths number [] (g ∷ gs) worked = absurd worked
+AreWorked-lengths number (s ∷ ss) [] worked = absurd worked
+AreWorked-lengths number (s ∷ ss) (g ∷ gs) worked =
+    let calls : length g ≡ length s = sym (length-map g (λ (r : Receipt). r.call)) ∙ ap length worked.0.calls in
+    ap₂ (λ (n : ℕ) (ns : List ℕ). n ∷ ns) calls (AreWorked-lengths (number + 1) ss gs worked.1)
+
+-- ---- crews
+
+-- a crew has worked once both of its halves have
+pub halves_have_worked : (front back : CrewState) (seats others : List SeatState) (receipts more : List Receipt) → AreHalves front back → HasWorked front seats receipts → HasWorked back others more
+    → HasWorked (joined front back) (seats ++ others) (receipts ++ more)
+halves_have_worked front back seats others receipts more halves one two =
+    let P : ℕ → Type 0 = λ n. AreWorked n back.scripts two.groups in
+    let later : AreWorked (front.first + length front.scripts) back.scripts two.groups = subst P halves.next two.worked in
+    let share : SeatState → ℕ = λ seat. seat.share in
+    let size : List Call → ℕ = λ script. length script in
+    let many : length (front.scripts ++ back.scripts) ≡ length front.scripts + length back.scripts = length-append front.scripts back.scripts in
+    record {
+      groups = one.groups ++ two.groups;
+      whole = ap₂ (λ (xs ys : List Receipt). xs ++ ys) one.whole two.whole ∙ sym (flat_map-append (λ (list : List Receipt). list) one.groups two.groups);
+      worked = AreWorked-append front.first front.scripts back.scripts one.groups two.groups one.worked later;
+      all = omega (arith, length-append seats others, many, one.all, two.all);
+      shares = omega (arith, sum_by-append share seats others, sum_by-append size front.scripts back.scripts, many, one.shares, two.shares);
+    }
+
+one_last : {X : Type 0} (others : List X) (x : X) → length (others ++ x ∷ []) ≡ 1 → others ++ x ∷ [] ≡ x ∷ []
+one_last [] x one = refl
+one_last (y ∷ ys) x one = absurd (omega (arith, one, length-append ys (x ∷ [])))
+
+one_script : (first : ℕ) (script : List Call) (seat : SeatState) (receipts : List Receipt) → IsWorked first script receipts → seat.share ≡ length script + 2
+    → HasWorked (record { first = first; scripts = script ∷ [] }) (seat ∷ []) receipts
+one_script first script seat receipts worked share =
+    let size : List Call → ℕ = λ s. length s in
+    let shares : SeatState → ℕ = λ s. s.share in
+    record {
+      groups = receipts ∷ [];
+      whole = sym (append-nil receipts) ∙ sym (flat_map-cons (λ (list : List Receipt). list) receipts []);
+      worked = (worked, tt);
+      all = refl;
+      shares = sum_by-cons shares seat [] ∙ omega (arith, share, sum_by-cons size script []);
+    }
+
+-- so has a crew of one whose worker has: its seat and its script are the last
+pub one_has_worked : {V : Type 0} (f : V → List Call) (first : ℕ) (seats rest left : List SeatState) (xs others : List V) (seat seat_after : SeatState) (script : V) (asked : List Call) (receipts : List Receipt)
+    → IsCrew first seats (map f xs) → length (map f xs) ≡ 1 → seats ≡ rest ++ seat ∷ [] → xs ≡ others ++ script ∷ [] → left ≡ rest ++ seat_after ∷ [] → asked ≡ f script
+    → IsWorked seat.number asked receipts → seat_after.share ≡ seat.share + length asked + 2 → HasWorked (record { first = first; scripts = map f xs }) left receipts
+one_has_worked f first seats rest left xs others seat seat_after script asked receipts crew one seats_are xs_are left_is same worked share =
+    let many : length xs ≡ 1 = sym (length-map xs f) ∙ one in
+    let alone : xs ≡ script ∷ [] = xs_are ∙ one_last others script (ap length (sym xs_are) ∙ many) in
+    let by_new : seats ≡ new_seat first ∷ [] = crew.new ∙ ap (λ n. seats_from first n) one in
+    let by_last : seats ≡ seat ∷ [] = seats_are ∙ one_last rest seat (ap length (sym seats_are) ∙ ap length by_new) in
+    let is_new : seat ≡ new_seat first = let both : seat ∷ [] ≡ new_seat first ∷ [] = sym by_last ∙ by_new in cc in
+    let front : length (rest ++ seat_after ∷ []) ≡ 1 = length-append rest (seat_after ∷ []) ∙ sym (length-append rest (seat ∷ [])) ∙ ap length (sym seats_are) ∙ ap length by_new in
+    let left_alone : left ≡ seat_after ∷ [] = left_is ∙ one_last rest seat_after front in
+    let number : seat.number ≡ first = ap (λ (s : SeatState). s.number) is_new in
+    let unused : seat.share ≡ 0 = ap (λ (s : SeatState). s.share) is_new in
+    let size : length asked ≡ length (f script) = ap length same in
+    let W : ℕ → Type 0 = λ n. IsWorked n asked receipts in
+    let C : List Call → Type 0 = λ calls. IsWorked first calls receipts in
+    let done = one_script first (f script) seat_after receipts (subst C same (subst W number worked)) (omega (arith, share, unused, size)) in
+    let P : List (List Call) → Type 0 = λ scripts. HasWorked (record { first = first; scripts = scripts }) (seat_after ∷ []) receipts in
+    let Q : List SeatState → Type 0 = λ ss. HasWorked (record { first = first; scripts = map f xs }) ss receipts in
+    subst Q (sym left_alone) (subst P (sym (ap (λ ys. map f ys) alone)) done)
+
+-- a crew that has worked has a receipt for each call
+pub worked_count : (crew : CrewState) (seats : List SeatState) (receipts : List Receipt) → HasWorked crew seats receipts → length receipts ≡ sum (map length crew.scripts)
+worked_count crew seats receipts worked =
+    let size : List Receipt → ℕ = λ group. length group in
+    ap length worked.whole ∙ length-flat_map (λ (list : List Receipt). list) worked.groups ∙ sym (sum-map size worked.groups) ∙ ap sum (AreWorked-lengths crew.first crew.scripts worked.groups worked.worked)
+
+-- ---- lists that are told apart
+
+-- lists that are as long as others, one by one, and are the same one after the other, are those
+pub told_apart : {X : Type 0} → (gs hs : List (List X)) → map length gs ≡ map length hs → joined_up gs ≡ joined_up hs → gs ≡ hs
+told_apart [] [] sizes same = refl
+told_apart [] (h ∷ hs) sizes same = absurd (let differ = sizes in cc)
+told_apart (g ∷ gs) [] sizes same = absurd (let differ = sizes in cc)
+told_apart {X} (g ∷ gs) (h ∷ hs) sizes same =
+    let size : length g ≡ length h = let it : length g ∷ map length gs ≡ length h ∷ map length hs = sizes in cc in
+    let later : map length gs ≡ map length hs = let it : length g ∷ map length gs ≡ length h ∷ map length hs = sizes in cc in
+    let whole : g ++ joined_up gs ≡ h ++ joined_up hs = sym (flat_map-cons (λ (list : List X). list) g gs) ∙ same ∙ flat_map-cons (λ (list : List X). list) h hs in
+    let first : g ≡ h = sym (take-append_seam g (joined_up gs)) ∙ ap₂ (λ (n : ℕ) (xs : List X). take n xs) size whole ∙ take-append_seam h (joined_up hs) in
+    let rest : joined_up gs ≡ joined_up hs = sym (drop-append_seam g (joined_up gs)) ∙ ap₂ (λ (n : ℕ) (xs : List X). drop n xs) size whole ∙ drop-append_seam h (joined_up hs) in
+    ap₂ (λ (x : List X) (xs : List (List X)). x ∷ xs) first (told_apart gs hs later rest)
+
+-- the receipts of a crew that has worked, script by script, are those of its workers
+pub worked_by_script : (crew : CrewState) (seats : List SeatState) (receipts : List Receipt) (groups : List (List Receipt)) → HasWorked crew seats receipts → map length groups ≡ map length crew.scripts
+    → joined_up groups ≡ receipts → AreWorked crew.first crew.scripts groups
+worked_by_script crew seats receipts groups worked sizes same =
+    let is : worked.groups ≡ groups = told_apart worked.groups groups (AreWorked-lengths crew.first crew.scripts worked.groups worked.worked ∙ sym sizes) (sym worked.whole ∙ sym same) in
+    let P : List (List Receipt) → Type 0 = λ gs. AreWorked crew.first crew.scripts gs in
+    subst P is worked.worked
+
+-- ---- one worker
+
+pub made_number : (index : ℕ) (old new : SeatState) → HasMade index old new → new.number ≡ old.number
+made_number index old new made = ap (λ s. s.number) made.counted
+
+pub made_share : (index : ℕ) (old new : SeatState) → HasMade index old new → new.share ≡ old.share + 1
+made_share index old new made = ap (λ s. s.share) made.counted
+
+-- ---- what came of halves
+
+-- a fault of one half is one of the whole
+front_has_not_worked : (front back : CrewState) (fault : RunFault) → AreHalves front back → HasNotWorked front fault → HasNotWorked (joined front back) fault
+front_has_not_worked front back faults.Count halves refused = refused
+front_has_not_worked front back faults.Memory halves refused = tt
+front_has_not_worked front back (faults.Worker at why) halves refused = (refused.0, omega (arith, refused.1, length-append front.scripts back.scripts))
+front_has_not_worked front back (faults.Close why) halves refused = refused
+front_has_not_worked front back faults.Thread halves refused = tt
+
+back_has_not_worked : (front back : CrewState) (fault : RunFault) → AreHalves front back → HasNotWorked back fault → HasNotWorked (joined front back) fault
+back_has_not_worked front back faults.Count halves refused = refused
+back_has_not_worked front back faults.Memory halves refused = tt
+back_has_not_worked front back (faults.Worker at why) halves refused =
+    (omega (arith, refused.0, halves.next), omega (arith, refused.1, halves.next, length-append front.scripts back.scripts))
+back_has_not_worked front back (faults.Close why) halves refused = refused
+back_has_not_worked front back faults.Thread halves refused = tt
+
+first_of_both : (front back : CrewState) (one other : RunFault) → AreHalves front back → HasNotWorked front one → HasNotWorked back other → HasNotWorked (joined front back) (first_of one other)
+first_of_both front back one faults.Count halves refused nor = front_has_not_worked front back one halves refused
+first_of_both front back one faults.Memory halves refused nor = front_has_not_worked front back one halves refused
+first_of_both front back one (faults.Worker at why) halves refused nor = front_has_not_worked front back one halves refused
+first_of_both front back one (faults.Close why) halves refused nor = front_has_not_worked front back one halves refused
+first_of_both front back one faults.Thread halves refused nor = tt
+
+-- a crew has worked or not, by its halves
+pub halves_together : {X : Type 0} (seats : X → List SeatState) (receipts : X → List Receipt) (front back : CrewState) (a b c : Result X RunFault) → AreHalves front back
+    → MatchResult a (λ x. HasWorked front (seats x) (receipts x)) (λ e. HasNotWorked front e) → MatchResult b (λ x. HasWorked back (seats x) (receipts x)) (λ e. HasNotWorked back e)
+    → AreTogether seats receipts a b c → MatchResult c (λ x. HasWorked (joined front back) (seats x) (receipts x)) (λ e. HasNotWorked (joined front back) e)
+halves_together seats receipts front back (Ok one) (Ok two) (Ok all) halves p q is =
+    let P : List SeatState → Type 0 = λ ss. HasWorked (joined front back) ss (receipts all) in
+    let Q : List Receipt → Type 0 = λ rs. HasWorked (joined front back) (seats one ++ seats two) rs in
+    subst P (sym is.0) (subst Q (sym is.1) (halves_have_worked front back (seats one) (seats two) (receipts one) (receipts two) halves p q))
+halves_together seats receipts front back (Ok one) (Ok two) (Err fault) halves p q is =
+    let P : RunFault → Type 0 = λ e. HasNotWorked (joined front back) e in
+    subst P (sym is) tt
+halves_together seats receipts front back (Ok one) (Err other) (Ok all) halves p q is = absurd is
+halves_together seats receipts front back (Ok one) (Err other) (Err fault) halves p q is =
+    let P : RunFault → Type 0 = λ e. HasNotWorked (joined front back) e in
+    subst P (sym is) (back_has_not_worked front back other halves q)
+halves_together seats receipts front back (Err other) (Ok two) (Ok all) halves p q is = absurd is
+halves_together seats receipts front back (Err other) (Ok two) (Err fault) halves p q is =
+    let P : RunFault → Type 0 = λ e. HasNotWorked (joined front back) e in
+    subst P (sym is) (front_has_not_worked front back other halves p)
+halves_together seats receipts front back (Err one) (Err other) (Ok all) halves p q is = absurd is
+halves_together seats receipts front back (Err one) (Err other) (Err fault) halves p q is =
+    let P : RunFault → Type 0 = λ e. HasNotWorked (joined front back) e in
+    subst P (sym is) (first_of_both front back one other halves p q)
+
+-- ---- the run
+
+sizes_of_all : {V X : Type 0} (f : V → List X) (xs : List V) → map length (map f xs) ≡ map (λ x. length (f x)) xs
+sizes_of_all f [] = refl
+sizes_of_all f (x ∷ xs) = ap (λ (ns : List ℕ). length (f x) ∷ ns) (sizes_of_all f xs)
+
+-- the receipts of a crew that has worked are as many as its calls
+pub receipts_by_sizes : {V : Type 0} (f : V → List Call) (crew : CrewState) (scripts : List V) (sizes : List ℕ) (seats : List SeatState) (receipts : List Receipt)
+    → HasWorked crew seats receipts → crew.scripts ≡ map f scripts → sizes ≡ map (λ s. length (f s)) scripts → length receipts ≡ sum sizes
+receipts_by_sizes f crew scripts sizes seats receipts worked told same =
+    worked_count crew seats receipts worked ∙ ap (λ (ss : List (List Call)). sum (map length ss)) told ∙ ap sum (sizes_of_all f scripts ∙ sym same)
+
+-- a crew that has not worked has not run
+pub crew_has_not_run : (count : ℕ) (crew : CrewState) (fault : RunFault) → crew.first ≡ 0 → length crew.scripts ≡ count → HasNotWorked crew fault → HasNotRun count fault × (fault ≢ faults.Count)
+crew_has_not_run count crew faults.Count first many refused = absurd refused
+crew_has_not_run count crew faults.Memory first many refused = (tt, λ is. let it = is in cc)
+crew_has_not_run count crew (faults.Worker at why) first many refused = (omega (arith, first, many, refused.1), λ is. let it = is in cc)
+crew_has_not_run count crew (faults.Close why) first many refused = absurd refused
+crew_has_not_run count crew faults.Thread first many refused = (tt, λ is. let it = is in cc)
+
+-- a closed run of a crew that has worked, with its receipts script by script
+pub whole_run : {V W : Type 0} (f : V → List Call) (h : W → List Receipt) (crew : CrewState) (scripts : List V) (sizes : List ℕ) (groups : List W) (seats : List SeatState) (receipts handed_in : List Receipt)
+    (book : BookState) (acts : ℕ) → HasWorked crew seats receipts → crew.first ≡ 0 → crew.scripts ≡ map f scripts → sizes ≡ map (λ s. length (f s)) scripts → map (λ g. length (h g)) groups ≡ sizes
+    → flat_map (λ g. h g) groups ≡ receipts → handed_in ≡ receipts → IsClosed handed_in [] book acts → acts ≡ sum_by (λ seat. seat.share) seats → HasRun (map f scripts) (map h groups) book acts
+whole_run f h crew scripts sizes groups seats receipts handed_in book acts worked first told sizes_are grouped same handed closed total =
+    let lengths : map length (map h groups) ≡ map length crew.scripts = sizes_of_all h groups ∙ grouped ∙ sizes_are ∙ sym (sizes_of_all f scripts) ∙ ap (λ (ss : List (List Call)). map length ss) (sym told) in
+    let flat : joined_up (map h groups) ≡ receipts = flat_map-map (λ (list : List Receipt). list) h groups ∙ same in
+    let P : List Receipt → Type 0 = λ rs. IsClosed rs [] book acts in
+    let Q : ℕ → Type 0 = λ n. AreWorked n crew.scripts (map h groups) in
+    let R : List (List Call) → Type 0 = λ ss. AreWorked 0 ss (map h groups) in
+    let many : count_calls crew.scripts + 2 * length crew.scripts ≡ count_calls (map f scripts) + 2 * length (map f scripts) = ap (λ (ss : List (List Call)). count_calls ss + 2 * length ss) told in
+    record {
+      worked = subst R told (subst Q first (worked_by_script crew seats receipts (map h groups) worked lengths flat));
+      counted = total ∙ worked.shares ∙ many;
+      closed = subst P (handed ∙ sym flat) closed;
+    }

@@ -1,0 +1,15 @@
+use Rattle.std.proofs.Common.{subst, ◌∙◌, ap, length}
+use Rattle.sr_run.specs.Crews.{CrewState, HasWorked}
+use Rattle.sr_run.proofs.WorkedLemmas.{one_has_worked}
+use Rattle.sr_run.proofs.crew.run_one.Goals as goal
+
+pub returns-in-Ok-work : goal.returns-in-Ok-work
+returns-in-Ok-work g c =
+    let crew = c.crew.inside in
+    let last = c.in-Some-Some in
+    let P : CrewState → Type 0 = λ whole. HasWorked whole c.push_reserved.new.self.items c.work.new.receipts.items in
+    subst P c.crew.view_is
+    (one_has_worked (λ script. script.items) crew.first crew.seats.items c.pop.new.self.items c.push_reserved.new.self.items crew.scripts.items c.pop-2.new.self.items
+    last.seat c.work.new.seat last.script c.as_slice.result.now c.work.new.receipts.items
+    c.crew.invariant (ap (λ (whole : CrewState). length whole.scripts) c.crew.view_is ∙ c.requires) last.ensures.items last.ensures'.items c.push_reserved.ensures.items c.as_slice.ensures.value
+    c.in-Ok-work.ensures.receipts c.in-Ok-work.ensures.share)

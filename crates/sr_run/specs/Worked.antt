@@ -1,0 +1,48 @@
+-- What workers did with their scripts, if each of their events was carried out.
+-- Source: docs/DEFINITIONS.md, "The one-thread server".
+
+use Rattle.std.specs.Prelude.{⊤, ◌≡◌, ◌≢◌, ◌<◌, ◌+◌, ◌*◌, ℕ, List, [], ◌∷◌, All, length, map, sum_by}
+use Rattle.std.specs.List.{flat_map}
+use Rattle.sr_args.specs.declared.call.Call.{Call}
+use Rattle.sr_book.specs.Records.{BookState}
+use Rattle.sr_run.specs.Closed.{IsClosed}
+use Rattle.sr_seats.specs.declared.fault.CloseFault.TheVariants as closing
+use Rattle.sr_run.specs.declared.fault.RunFault.{RunFault}
+use Rattle.sr_run.specs.declared.fault.RunFault.TheVariants as faults
+use Rattle.sr_seats.specs.declared.receipt.Receipt.{Receipt}
+
+-- a receipt for each call of a script, in order, all from one seat and of one session
+pub record IsWorked (number : ℕ) (script : List Call) (receipts : List Receipt) : Type 0 where
+  pub caller : ℕ
+  pub calls : map (λ receipt. receipt.call) receipts ≡ script
+  pub seats : All (λ receipt. receipt.seat ≡ number) receipts
+  pub sessions : All (λ receipt. receipt.session ≡ caller) receipts
+
+-- so for each script, from seats that count on from this number
+abbrev pub AreWorked : ℕ → List (List Call) → List (List Receipt) → Type 0
+AreWorked number [] [] = ⊤
+AreWorked number [] (receipts ∷ others) = ⊥
+AreWorked number (script ∷ scripts) [] = ⊥
+AreWorked number (script ∷ scripts) (receipts ∷ others) = IsWorked number script receipts × AreWorked (number + 1) scripts others
+
+-- the lists one after the other
+abbrev pub joined_up : {X : Type 0} → List (List X) → List X
+joined_up lists = flat_map (λ list. list) lists
+
+-- how many calls the scripts have
+abbrev pub count_calls : List (List Call) → ℕ
+count_calls scripts = sum_by length scripts
+
+-- a run of scripts: the receipts of each are those of its calls, each worker joined and left besides, and it is closed with all of them
+pub record HasRun (scripts : List (List Call)) (receipts : List (List Receipt)) (book : BookState) (acts : ℕ) : Type 0 where
+  pub worked : AreWorked 0 scripts receipts
+  pub counted : acts ≡ count_calls scripts + 2 * length scripts
+  pub closed : IsClosed (joined_up receipts) [] book acts
+
+-- why this many scripts have not run: an event was refused to one of them; or the run, whose seats are all there, is not closed
+abbrev pub HasNotRun : ℕ → RunFault → Type 0
+HasNotRun count faults.Count = ⊤
+HasNotRun count faults.Memory = ⊤
+HasNotRun count (faults.Worker at fault) = at < count
+HasNotRun count (faults.Close fault) = fault ≢ closing.Short
+HasNotRun count faults.Thread = ⊤

@@ -1,0 +1,148 @@
+ghost use Rattle.std.specs.Prelude.{◌≡◌, None, IfOk, IfErr};
+ghost use Rattle.sr_run.specs.Desk.{HasRefused, desk_fault_of};
+ghost use Rattle.sr_run.specs.Shared.{HasMade, HasSeen};
+
+use crate::Shared;
+use crate::shared::Turn;
+use sr_book::{Answer, Event, Letter};
+use sr_seats::{Seat, SeatFault};
+use sr_session::{Desk, DeskFault};
+use std::alloc::Global;
+use std::sync::Wait;
+use std::sync::ledger::Ledger;
+
+/// A desk over a book behind a lock, at a seat. It shows no book, since others may use it between any two events.
+///
+/// It keeps the lock from one event to the next until the session pauses, joins or leaves: so the requests of one read are
+/// carried out in one turn. Its `await_reply` waits for as long as the session does.
+#[derive(Drop)]
+pub struct SeatDesk<'a, L: Ledger, R: Wait> {
+    rt: &'a R,
+    shared: &'a Shared<L>,
+    seat: &'a mut Seat<L>,
+    turn: Option<Turn<'a, L>>,
+}
+
+impl<'a, L: Ledger, R: Wait> SeatDesk<'a, L, R> {
+    /// A desk at this seat.
+    pub fn new(rt: &'a R, shared: &'a Shared<L>, seat: &'a mut Seat<L>) -> SeatDesk<'a, L, R>
+        ensures seat { result.seat.now ≡ seat.old }
+        ensures shows { ⟦<SeatDesk<'a, L, R> as Desk>⟧.shows result ≡ None }
+        ensures borrows { ⟦<SeatDesk<'a, L, R> as Desk>⟧.borrows result ≡ seat.entry.ghost_name }
+    {
+        SeatDesk {
+            rt,
+            shared,
+            seat,
+            turn: None,
+        }
+    }
+}
+
+impl<'a, L: Ledger, R: Wait> Desk for SeatDesk<'a, L, R> {
+    ghost shows = { λ _. None };
+
+    ghost borrows = { λ d. d.seat.ghost_name };
+
+    fn step(&mut self, alloc: Global, moment: u64, event: Event) -> Result<Answer, DeskFault>
+        ensures ok { IfOk result (λ answer. HasMade answer.index self.old.seat.now self.new.seat.now) }
+        ensures err { IfErr result (λ fault. HasRefused fault self.old.seat.now self.new.seat.now) }
+        ensures same { self.new.seat.ghost_name ≡ self.old.seat.ghost_name }
+    {
+        let goes_on = may_go_on(&event);
+        let mut turn = match self.turn.take() {
+            Some(turn) => turn,
+            None => self.shared.turn(self.rt),
+        };
+        let result = act_in(&mut turn, self.seat, alloc, moment, event);
+        self.turn = kept(turn, goes_on);
+        result
+    }
+
+    fn await_reply(&mut self, alloc: Global, session: u64) -> Result<Letter, DeskFault>
+        ensures ok { IfOk result (λ letter. HasSeen session letter self.old.seat.now self.new.seat.now) }
+        ensures err { IfErr result (λ fault. HasRefused fault self.old.seat.now self.new.seat.now) }
+        ensures same { self.new.seat.ghost_name ≡ self.old.seat.ghost_name }
+    {
+        self.pause();
+        await_at(self.rt, self.shared, self.seat, alloc, session)
+    }
+
+    fn pause(&mut self)
+        ensures seat { self.new.seat.now ≡ self.old.seat.now }
+        ensures same { self.new.seat.ghost_name ≡ self.old.seat.ghost_name }
+    {
+        if let Some(turn) = self.turn.take() {
+            turn.end();
+        }
+    }
+}
+
+/// Whether the session may have a further event at once: after its join it reads, and after its leave nothing comes.
+fn may_go_on(event: &Event) -> bool {
+    match event {
+        Event::Call { .. }
+        | Event::Board { .. }
+        | Event::Snapshot { .. }
+        | Event::Conclude { .. } => true,
+        Event::Join | Event::Expire | Event::Leave { .. } => false,
+    }
+}
+
+/// A turn that goes on; one that does not ends here.
+fn kept<L: Ledger>(turn: Turn<'_, L>, goes_on: bool) -> Option<Turn<'_, L>> {
+    if goes_on {
+        Some(turn)
+    } else {
+        turn.end();
+        None
+    }
+}
+
+/// Carries out an event of a seat, and drops it if it was not.
+fn act_in<L: Ledger>(
+    turn: &mut Turn<'_, L>,
+    seat: &mut Seat<L>,
+    alloc: Global,
+    told: u64,
+    event: Event,
+) -> Result<Answer, DeskFault>
+    ensures ok { IfOk result (λ answer. HasMade answer.index seat.old seat.new) }
+    ensures err { IfErr result (λ fault. HasRefused fault seat.old seat.new) }
+{
+    match turn.act(alloc, seat, told, event) {
+        Ok(answer) => Ok(answer),
+        Err(refused) => Err(desk_fault(refused.fault)),
+    }
+}
+
+/// The letter of a session, which the seat has seen then.
+fn await_at<L: Ledger, R: Wait>(
+    rt: &R,
+    shared: &Shared<L>,
+    seat: &mut Seat<L>,
+    alloc: Global,
+    session: u64,
+) -> Result<Letter, DeskFault>
+    ensures ok { IfOk result (λ letter. HasSeen session letter seat.old seat.new) }
+    ensures err { IfErr result (λ fault. HasRefused fault seat.old seat.new) }
+{
+    match shared.await_reply(rt, alloc, seat, session) {
+        Ok(letter) => Ok(letter),
+        Err(fault) => Err(desk_fault(fault)),
+    }
+}
+
+/// The reason of a seat, as a desk gives it.
+fn desk_fault(fault: SeatFault) -> DeskFault
+    ensures { result ≡ desk_fault_of fault }
+{
+    match fault {
+        SeatFault::Regress { index } => DeskFault::Regress { index },
+        SeatFault::NoSession => DeskFault::NoSession,
+        SeatFault::Busy => DeskFault::Busy,
+        SeatFault::Full => DeskFault::Full,
+        SeatFault::Memory => DeskFault::Memory,
+        SeatFault::Idle => DeskFault::Idle,
+    }
+}

@@ -1,0 +1,3 @@
+pub mod ClosingLemmas
+pub mod HeldLemmas
+pub mod LetterLemmas

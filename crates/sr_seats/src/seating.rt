@@ -1,0 +1,68 @@
+ghost use Rattle.std.specs.Prelude.{◌≡◌, ◌↔◌, ◌⊎◌, ◌+◌, ◌*◌, ◌^◌, ◌<◌, ◌≤◌, IfOk, length};
+ghost use Rattle.std.specs.Result.{IsErrOf};
+ghost use Rattle.sr_seats.specs.Held.{count_events, new_seats};
+
+use crate::{Held, HoldFault, Seat};
+use sr_book::{Act, Book, Record};
+use std::alloc::{AllocError, Global};
+use std::sync::ledger;
+use std::sync::ledger::{Blank, Ledger};
+
+/// Holds a book for this many seats, from 1 to 65. Refused, it drops the book.
+pub fn hold<L: Ledger>(
+    alloc: Global,
+    book: Book,
+    n: usize,
+    blank: Blank,
+) -> Result<(Held<L>, Vec<Seat<L>>), HoldFault>
+    requires name { blank.name ≡ L.name }
+    requires whole { blank.parts ≡ L.parts }
+    requires parts { 0 < n → n ≤ 65 → blank.parts ≡ n }
+    ensures count { IsErrOf result HoldFault.Count ↔ ((n ≡ 0) ⊎ (65 < n)) }
+    ensures held { IfOk result (λ made. made.0 ≡
+        record { book = book; before = count_events book.records; made = 0 }) }
+    ensures seats { IfOk result (λ made. made.1.items ≡ new_seats n) }
+{
+    if n == 0 || n > 65 {
+        return Err(HoldFault::Count);
+    }
+    let Ok((made, seats)) = seats_of::<L>(alloc, n, blank) else {
+        return Err(HoldFault::Memory);
+    };
+    Ok((Held::new(book, n as u64, made), seats))
+}
+
+/// A ledger of which no event is counted, and this many seats that have made and seen nothing.
+fn seats_of<L: Ledger>(
+    alloc: Global,
+    n: usize,
+    blank: Blank,
+) -> Result<(ledger::Book<L>, Vec<Seat<L>>), AllocError>
+    requires name { blank.name ≡ L.name }
+    requires whole { blank.parts ≡ L.parts }
+    requires parts { blank.parts ≡ n }
+    ensures total { IfOk result (λ made. made.0.total ≡ 0) }
+    ensures seats { IfOk result (λ made. made.1.items ≡ new_seats n) }
+{
+    let mut seats = Vec::with_capacity(alloc, n)?;
+    let (made, mut rest) = blank.open::<L>();
+    for number in 0..n {
+        let share = rest.split_off(1, 0);
+        seats.push_reserved(Seat::new(number as u64, share));
+    }
+    Ok((made, seats))
+}
+
+/// How many of the records are of events.
+pub(crate) fn count_events(records: &[Record]) -> u64
+    ensures { result ≡ count_events records.now }
+{
+    let mut count = 0;
+    for recorded in records {
+        match &recorded.act {
+            Act::Event(_event) => count += 1,
+            Act::Serve { .. } => {}
+        }
+    }
+    count
+}
