@@ -48,11 +48,14 @@ pub data Runs (may_tell : ℕ → Bool) (may_hold : List ℕ → Option (List �
 abbrev pub is_of_session : Fault → Bool
 is_of_session faults.StartMemory = false
 is_of_session faults.NoRandomSource = false
+is_of_session faults.NoThread = false
 is_of_session faults.PolicyUnreadable = false
 is_of_session faults.PolicyNotToml = false
 is_of_session faults.PolicyShape = false
 is_of_session faults.PolicyRange = false
 is_of_session faults.PolicyMemory = false
+is_of_session faults.Bind = false
+is_of_session faults.Accept = false
 is_of_session faults.Protocol = true
 is_of_session faults.Read = true
 is_of_session faults.Write = true

@@ -13,6 +13,8 @@ pub(crate) enum Fault {
     StartMemory,
     #[error("start: no random source")]
     NoRandomSource,
+    #[error("start: no thread")]
+    NoThread,
     #[error("policy: cannot read")]
     PolicyUnreadable,
     #[error("policy: not TOML")]
@@ -23,6 +25,10 @@ pub(crate) enum Fault {
     PolicyRange,
     #[error("policy: out of memory")]
     PolicyMemory,
+    #[error("listen: cannot bind")]
+    Bind,
+    #[error("listen: accept fault")]
+    Accept,
     #[error("session: protocol error")]
     Protocol,
     #[error("session: read fault")]

@@ -1,21 +1,32 @@
-//! The server as a program: `sr_server --stdio` serves one connection, over standard input and output.
+//! The server as a program: `sr_server --stdio` serves one connection, over standard input and output, and `sr_server --listen`
+//! serves those that come to an address.
 //!
-//! It ends with status 0 at the end of the input, with 1 after a fault, which is one line on standard error, and with 2
+//! It ends with status 0 at the end of standard input, with 1 after a fault, which is one line on standard error, and with 2
 //! if the command line is refused.
 #![tactic(auto)]
 
+ghost use Rattle.std.specs.Prelude.{◌≤◌};
+
 mod clock;
+mod command;
 mod command_line;
 mod fault;
+mod listen;
 mod load;
+mod network;
+mod opening;
 mod options;
 mod report;
+mod request;
+mod serving;
 mod start;
 #[cfg(test)]
 mod tests;
 mod text_files;
 
 use crate::command_line::{refuse_words, words};
+use crate::network::{SystemNetwork, serve_all_that_come};
+use crate::serving::ServeFault;
 use crate::start::start;
 use crate::text_files::SystemFiles;
 use sr_resp::WriteTo;
@@ -24,6 +35,12 @@ use std::process::ExitCode;
 
 fn main(rt: HostRuntime) -> ExitCode {
     let mut files = SystemFiles::new(&rt);
+    let mut network = SystemNetwork::new(
+        &rt,
+        |rt, listener, book, workers| -> ServeFault
+            requires { (1 ≤ workers) × (workers ≤ 64) }
+        { serve_all_that_come(rt, rt.alloc(), &listener, book, workers) },
+    );
     let mut reader = ReadFrom::new(rt.stdin());
     let mut writer = WriteTo::new(rt.stdout());
     let mut err = rt.stderr();
@@ -32,6 +49,7 @@ fn main(rt: HostRuntime) -> ExitCode {
             &rt,
             words.as_slice(),
             &mut files,
+            &mut network,
             &mut reader,
             &mut writer,
             &mut err,

@@ -2,6 +2,7 @@ ghost use Rattle.std.specs.Prelude.{◌≡◌, ◌≢◌, ◌⊎◌};
 ghost use Rattle.clap.specs.Words.{kind_of};
 ghost use Rattle.sr_server.specs.Fault.{status_of};
 
+use crate::command::UsageFault;
 use crate::fault::Fault;
 use clap::Error;
 use clap::error::ErrorKind;
@@ -33,5 +34,13 @@ pub(crate) fn refuse<E: Write>(err: &mut E, error: &Error) -> u8
         return report(err, Err(Fault::StartMemory));
     }
     let _ = write!(err, "{error}");
+    REFUSED
+}
+
+/// Says why the options ask for nothing that the program can do, and answers the status.
+pub(crate) fn refuse_usage<E: Write>(err: &mut E, fault: UsageFault) -> u8
+    ensures { result ≡ 2 }
+{
+    let _ = writeln!(err, "error: {fault}\n\nFor more information, try '--help'.");
     REFUSED
 }

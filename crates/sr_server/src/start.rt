@@ -1,40 +1,47 @@
-ghost use Rattle.std.specs.Prelude.{◌≡◌, ◌≤◌, ◌↔◌, ◌⊎◌, ℕ, List, [], ◌∷◌, map, true, false, Option, option_map, Result, IsOk, IfErr, IsErrOf};
+ghost use Rattle.std.specs.Prelude.{◌≡◌, ◌≤◌, ◌↔◌, ◌⊎◌, ℕ, List, ◌∷◌, map, true, false, option_map, Result, IsOk, IfErr, IsErrOf};
 ghost use Rattle.std.specs.Io.KnownBytes.{Appends, Consumes};
 ghost use Rattle.sr_server.specs.Fault.{Serves, Runs, any_moment, is_of_session, status_of};
 ghost use Rattle.sr_book.specs.Records.{empty_book};
 ghost use Rattle.sr_policy.specs.Rules.{Rules};
-ghost use Rattle.sr_server.specs.Options.{AsksFor};
+ghost use Rattle.std.specs.declared.net.socket_addr.SocketAddr.{SocketAddr};
+ghost use Rattle.sr_server.specs.Command.{AsksForAddress, AsksForNothing, AsksForStdio, AsksToListen};
+ghost use Rattle.sr_server.specs.Listening.{Listens};
+ghost use Rattle.sr_server.specs.Options.{AreOnce, Flag, asked_by, word_of};
 
 use crate::clock::SystemClock;
+use crate::command::request_of;
 use crate::fault::{Fault, outcome};
-use crate::load::load_policy;
+use crate::listen::listen;
+use crate::network::Network;
+use crate::opening::open_book;
 use crate::options::read_options;
-use crate::report::{refuse, report};
+use crate::report::{refuse, refuse_usage, report};
+use crate::request::Request;
 use crate::text_files::TextFiles;
 use sr_book::Book;
 use sr_resp::Sink;
 use sr_session::{Clock, NoGate, PlainDesk, Source, run_session};
 use std::alloc::Global;
 use std::convert::AsStr;
-use std::hash::RandomState;
 use std::io::Write;
 use std::random::RandomSource;
 use std::rt;
 
 /// The number of reads after which a session ends.
-const TURNS: u64 = 1 << 40;
+pub(crate) const TURNS: u64 = 1 << 40;
 
 /// Whether a read may wait: nobody else could answer it over standard input and output.
 const BLOCKING: bool = false;
 
 /// Runs the program: reads the command line, whose first word is the program's name, and the policy file that it names, and
-/// serves one connection.
+/// serves one connection, or those that come to an address.
 ///
-/// Answers the status that it ends with. What is said besides the replies goes to `err`.
-pub(crate) fn start<R, S, F, I, O, E>(
+/// Answers the status that it ends with. What is said besides the replies and the line for the address goes to `err`.
+pub(crate) fn start<R, S, F, N, I, O, E>(
     rt: &R,
     words: &[S],
     files: &mut F,
+    network: &mut N,
     reader: &mut I,
     writer: &mut O,
     err: &mut E,
@@ -43,40 +50,66 @@ where
     R: AllocGlobal + rt::Clock + RandomSource,
     S: AsStr,
     F: TextFiles,
+    N: Network,
     I: Source,
     O: Sink,
     E: Write,
     requires unread { (I.ended reader.old ≡ false) × (I.failed reader.old ≡ false) }
     requires unwritten { O.failed writer.old ≡ false }
 
-    // --stdio, with or without a policy: what was taken from the reader and written to the writer, and the status for it
-    ensures served { (name : List ℕ) (asked : List (List ℕ)) (policy : Option (List ℕ)) → map S.text words.now ≡ name ∷ asked
-        → AsksFor asked policy
+    // --stdio: what was taken from the reader and written to the writer, and the status for it
+    ensures served { (name : List ℕ) (flags : List Flag) → map S.text words.now ≡ name ∷ map word_of flags → AreOnce flags
+        → AsksForStdio (asked_by flags)
         → (taken written : List ℕ)
         × Consumes (I.remaining reader.old) (I.remaining reader.new) taken
         × Appends (O.contents writer.old) (O.contents writer.new) written
         × (outcome : Result (Unit {0}) Fault)
-        × Runs any_moment (F.may_hold files.old) policy taken written outcome
+        × Runs any_moment (F.may_hold files.old) (asked_by flags).policy taken written outcome
         × (result ≡ status_of outcome)
+        × (network.new ≡ network.old)
         × (IfErr outcome (λ fault. is_of_session fault ≡ false → (reader.new ≡ reader.old) × (writer.new ≡ writer.old)))
         × (IsErrOf outcome Fault.NoRandomSource → files.new ≡ files.old) }
+
+    // --listen: what was asked of the network, and what became of it
+    ensures listened { (name : List ℕ) (flags : List Flag) → map S.text words.now ≡ name ∷ map word_of flags → AreOnce flags
+        → AsksForAddress (asked_by flags)
+        → (text : List ℕ) × (address : SocketAddr) × (workers : ℕ) × AsksToListen (asked_by flags) text address workers
+        × (written : List ℕ)
+        × Appends (O.contents writer.old) (O.contents writer.new) written
+        × (fault : Fault)
+        × Listens (F.may_hold files.old) N.may_refuse N.may_end (asked_by flags).policy text address workers written
+        (O.failed writer.new) fault
+        × (result ≡ 1)
+        × (reader.new ≡ reader.old) }
+
+    // both of these or neither, no address and port, or too few or many workers: no file is read, and nothing is read or written
+    ensures both { (name : List ℕ) (flags : List Flag) → map S.text words.now ≡ name ∷ map word_of flags → AreOnce flags
+        → AsksForNothing (asked_by flags)
+        → (1 ≤ result) × (files.new ≡ files.old) × (network.new ≡ network.old) × (reader.new ≡ reader.old) × (writer.new ≡ writer.old) }
 
     // whatever the command line: status 0 exactly if the reader came to its end, and 1 if a read or a write failed
     ensures ok { (result ≡ 0) ↔ (I.ended reader.new ≡ true) }
     ensures failed { (I.failed reader.new ≡ true) ⊎ (O.failed writer.new ≡ true) → result ≡ 1 }
 
-    // status 2, or no option: no file is read, and nothing is read or written
-    ensures refused { result ≡ 2 → (files.new ≡ files.old) × (reader.new ≡ reader.old) × (writer.new ≡ writer.old) }
-    ensures missing { (name : List ℕ) → map S.text words.now ≡ name ∷ []
-        → (1 ≤ result) × (files.new ≡ files.old) × (reader.new ≡ reader.old) × (writer.new ≡ writer.old) }
+    // status 2: no file is read, nothing is asked of the network, and nothing is read or written
+    ensures refused { result ≡ 2
+        → (files.new ≡ files.old) × (network.new ≡ network.old) × (reader.new ≡ reader.old) × (writer.new ≡ writer.old) }
 {
-    match read_options(rt.alloc(), words) {
-        Ok(options) => report(err, connect(rt, files, options.policy, reader, writer)),
-        Err(error) => refuse(err, &error),
+    let options = match read_options(rt.alloc(), words) {
+        Ok(options) => options,
+        Err(error) => return refuse(err, &error),
+    };
+    match request_of(&options) {
+        Ok(Request::Stdio) => report(err, connect(rt, files, options.policy, reader, writer)),
+        Ok(Request::Listen(asked)) => {
+            let fault = listen(rt, files, network, options.policy, &asked, writer, err);
+            report(err, Err(fault))
+        }
+        Err(fault) => refuse_usage(err, fault),
     }
 }
 
-/// Loads the policy, and serves the connection of a reader and a writer, with the system's clock.
+/// Opens the book, and serves the connection of a reader and a writer, with the system's clock.
 fn connect<R, F, I, O>(
     rt: &R,
     files: &mut F,
@@ -101,13 +134,9 @@ where
     ensures refused { IfErr result (λ fault. is_of_session fault ≡ false → (reader.new ≡ reader.old) × (writer.new ≡ writer.old)) }
     ensures random { IsErrOf result Fault.NoRandomSource → files.new ≡ files.old }
 {
-    let Ok(hasher) = RandomState::new(rt) else {
-        return Err(Fault::NoRandomSource);
-    };
-    match load_policy(rt.alloc(), files, policy) {
-        Ok(policy) => {
+    match open_book(rt, files, policy) {
+        Ok(mut book) => {
             let clock = SystemClock::new(rt);
-            let mut book = Book::new(rt.alloc(), policy, hasher);
             serve(rt.alloc(), &mut book, &clock, reader, writer)
         }
         Err(fault) => Err(fault),

@@ -1,15 +1,22 @@
 //! The program over memory: the words of the command line, files, input, output, standard error and the status.
+ghost use Rattle.std.specs.Prelude.{◌≤◌, IsTrue};
+ghost use Rattle.sr_server.specs.Listening.{any_end, any_refusal};
 ghost use Rattle.sr_server.specs.Policy.{any_text as any};
 
 use crate::clock::SystemClock;
 use crate::fault::outcome;
+use crate::listen::WARNING;
+use crate::network::{Bound, ListenFault, Network};
 use crate::report::report;
+use crate::serving::ServeFault;
 use crate::start::start;
 use crate::text_files::{SystemFiles, TextFault, TextFiles};
+use sr_book::Book;
 use sr_resp::WriteTo;
 use sr_session::{End, ReadFrom};
 use std::alloc::Global;
 use std::io::{self, Error, ErrorKind, Read, Write};
+use std::net::SocketAddr;
 use std::random::RandomSource;
 use std::rt::Clock;
 use std::test::Fail;
@@ -81,6 +88,49 @@ impl TextFiles for SameFiles {
     }
 }
 
+/// A network that refuses each address, or stops serving at once in this way, and remembers for how many workers.
+#[derive(Drop)]
+struct ShortNetwork {
+    refusal: Option<ListenFault>,
+    end: ServeFault,
+    workers: usize,
+}
+
+impl Network for ShortNetwork {
+    type Listener = ();
+
+    ghost may_refuse = { any_refusal };
+
+    ghost may_end = { any_end };
+
+    fn listen(&mut self, address: SocketAddr) -> Result<Bound<()>, ListenFault> {
+        match self.refusal {
+            Some(fault) => Err(fault),
+            None => Ok(Bound {
+                listener: (),
+                address,
+            }),
+        }
+    }
+
+    fn serve(&mut self, bound: Bound<()>, book: Book, workers: usize) -> ServeFault
+        requires workers { (1 ≤ workers) × (workers ≤ 64) }
+        ensures { IsTrue (any_end bound.address workers book result) }
+    {
+        self.workers = workers;
+        self.end
+    }
+}
+
+/// A network that refuses each address for this cause, or stops serving at once in this way.
+fn network_of(refusal: Option<ListenFault>, end: ServeFault) -> ShortNetwork {
+    ShortNetwork {
+        refusal,
+        end,
+        workers: 0,
+    }
+}
+
 /// How the program ended, and what it wrote.
 #[derive(Drop)]
 struct Ended {
@@ -97,7 +147,7 @@ impl Ended {
     }
 }
 
-/// Starts the program as `main` does.
+/// Starts the program as `main` does, over a network that can't be used.
 fn start_over<R, F, I, O, E>(
     rt: &R,
     words: &[&str],
@@ -113,9 +163,41 @@ where
     O: Write + Drop,
     E: Write,
 {
+    let mut network = network_of(Some(ListenFault::Bind), ServeFault::Accept);
     let mut reader = ReadFrom::new(reader);
     let mut writer = WriteTo::new(writer);
-    start(rt, words, files, &mut reader, &mut writer, err)
+    start(
+        rt,
+        words,
+        files,
+        &mut network,
+        &mut reader,
+        &mut writer,
+        err,
+    )
+}
+
+/// Runs the program with these words, over this network, files that hold an empty policy, and no input.
+fn listen_over<R>(rt: &R, words: &[&str], network: &mut ShortNetwork) -> Ended
+where
+    R: AllocGlobal + Clock + RandomSource,
+{
+    let mut files = files_of(rt.alloc(), Ok(""));
+    let mut reader = ReadFrom::new("".as_bytes());
+    let mut out = Vec::new(rt.alloc());
+    let mut err = Vec::new(rt.alloc());
+    let mut writer = WriteTo::new(&mut out);
+    let status = start(
+        rt,
+        words,
+        &mut files,
+        network,
+        &mut reader,
+        &mut writer,
+        &mut err,
+    );
+    drop(writer);
+    Ended { status, out, err }
 }
 
 /// Runs the program with these words, over this input and files that cannot be read.
@@ -176,6 +258,12 @@ fn command_lines_are_refused(rt: HostRuntime) -> Result<(), Fail> {
         "sr_server --stdio --policy -x",
         "sr_server --policy p.toml",
         "sr_server --stdio --policy p.toml --policy q.toml",
+        "sr_server --stdio --workers 0",
+        "sr_server --stdio --workers 65",
+        "sr_server --workers 8",
+        "sr_server --listen 127.0.0.1",
+        "sr_server --listen localhost:6379",
+        "sr_server --listen 127.0.0.1:6379 --workers many",
     ];
     for row in rows {
         let words: Vec<&str> = row.split(' ').collect(rt.alloc())?;
@@ -326,6 +414,69 @@ fn session_runs_under_a_policy(rt: HostRuntime) {
         let ended = run_with(&rt, words, &mut files, PING.as_bytes());
         assert!(rt; ended.is(0, "+PONG\r\n", ""));
     }
+}
+
+const LOCAL: &str = "sr_server --listen 127.0.0.1:6379 --workers 3";
+
+const OPEN: &str = "sr_server --policy=p.toml --listen=0.0.0.0:06379";
+
+#[test]
+fn listening_ends_the_program(rt: HostRuntime) -> Result<(), Fail> {
+    let no_address = Some(ListenFault::Bind);
+    let local = "listening on 127.0.0.1:6379\n";
+    let rows = [
+        (
+            LOCAL,
+            no_address,
+            ServeFault::Accept,
+            0,
+            "",
+            "listen: cannot bind\n",
+        ),
+        (
+            LOCAL,
+            None,
+            ServeFault::Accept,
+            3,
+            local,
+            "listen: accept fault\n",
+        ),
+        (
+            LOCAL,
+            None,
+            ServeFault::Thread,
+            3,
+            local,
+            "start: no thread\n",
+        ),
+        (
+            LOCAL,
+            None,
+            ServeFault::Memory,
+            3,
+            local,
+            "start: out of memory\n",
+        ),
+    ];
+    for (line, refusal, end, workers, out, err) in rows {
+        let words: Vec<&str> = line.split(' ').collect(rt.alloc())?;
+        let mut network = network_of(refusal, end);
+        let ended = listen_over(&rt, words.as_slice(), &mut network);
+        assert!(rt; ended.is(1, out, err), "at {err}");
+        assert_eq!(rt; network.workers, workers, "at {err}");
+    }
+    Ok(())
+}
+
+#[test]
+fn open_address_is_warned_of(rt: HostRuntime) -> Result<(), Fail> {
+    let words: Vec<&str> = OPEN.split(' ').collect(rt.alloc())?;
+    let mut network = network_of(None, ServeFault::Accept);
+    let ended = listen_over(&rt, words.as_slice(), &mut network);
+    let warned = format!(in rt.alloc(); "{WARNING}listen: accept fault\n")?;
+    assert!(rt; ended.is(1, "listening on 0.0.0.0:06379\n", warned.as_str()));
+    assert_eq!(rt; network.workers, 64);
+    Ok(())
 }
 
 #[test]
