@@ -1,6 +1,6 @@
 # All that is needed is the Rattle toolchain, whose command is `rt`, and the python3 that it runs on.
 
-.PHONY: run demo test replay histories plans check memory compare bench bench-solver check-solver
+.PHONY: run demo test replay histories plans check memory compare clients soak bench bench-net bench-solver check-solver
 
 # Builds the server and sends it the commands of examples/first.session as a client spells them.
 run:
@@ -52,6 +52,18 @@ compare:
 	@cd crates/sr_server && rt run -- --stdio < /dev/null
 	@python3 bench/compare.py crates/sr_server/out/sr_server
 
+# Builds the server and has real clients use it over a socket: redis-cli and libraries of Python, Node.js, Ruby and PHP, those that are
+# installed (docs/CLIENTS.md).
+clients:
+	@cd crates/sr_server && rt run -- --stdio < /dev/null
+	@scripts/clients crates/sr_server/out/sr_server
+
+# Builds the server and uses it roughly over sockets for a minute, beside two honest workers who may lose nothing. By hand for longer,
+# or again with the seed that was printed: make soak SECONDS=3600 SEED=7
+soak:
+	@cd crates/sr_server && rt run -- --stdio < /dev/null
+	@scripts/soak crates/sr_server/out/sr_server $(or $(SECONDS),60) $(SEED)
+
 # Builds the server, times it on streams of requests over a pipe, and tells what memory a client can claim, as docs/BENCH.md describes.
 bench:
 	@cd crates/sr_server && rt run -- --stdio < /dev/null
@@ -61,6 +73,11 @@ bench:
 	@python3 bench/records.py crates/sr_server/out/sr_server
 	@cd crates/book_driver && rt run -- < /dev/null
 	@python3 bench/recovery.py crates/sr_server/out/sr_server crates/book_driver/out/book_driver
+
+# Builds the server and times it over sockets, by turns with a Redis server if that is installed (Debian: redis-server redis-tools).
+bench-net:
+	@cd crates/sr_server && rt run -- --stdio < /dev/null
+	@python3 bench/net.py crates/sr_server/out/sr_server
 
 # Times the solver on the families of problems of docs/BENCH.md, by turns with LEMON's network simplex on the same problems if its
 # headers are installed (Debian: liblemon-dev), and alone if not.

@@ -1,0 +1,208 @@
+"""Starts a server on a free port of the loopback interface, waits until it listens, and stops it; and talks RESP2 to it.
+
+    with listening.Server("crates/sr_server/out/sr_server", workers=8) as server, server.connect() as connection:
+        connection.call("PING")
+"""
+
+import os
+import select
+import shutil
+import signal
+import socket
+import subprocess
+import tempfile
+import time
+
+HOST = "127.0.0.1"
+SECONDS = 20  # that a server has to begin or to end
+TRIES = 3  # another program may take the free port first
+
+
+class Fault(Exception):
+    """A server that did not begin, or that said what no server says."""
+
+
+class ErrorReply(Exception):
+    """A reply that is an error."""
+
+
+def stop_when_ended():
+    """Has a program that is ended by a signal stop its servers first."""
+    signal.signal(signal.SIGTERM, signal.default_int_handler)
+
+
+def free_port():
+    with socket.socket() as probe:
+        probe.bind((HOST, 0))
+        return probe.getsockname()[1]
+
+
+def spelled(*words):
+    """The request of these words in RESP2. A word is bytes, a text or a number."""
+    parts = [word if isinstance(word, bytes) else str(word).encode() for word in words]
+    return b"*%d\r\n" % len(parts) + b"".join(b"$%d\r\n%s\r\n" % (len(part), part) for part in parts)
+
+
+class Connection:
+    """One connection. An error reply is raised by `call`, and returned by `reply`."""
+
+    def __init__(self, port, seconds=SECONDS):
+        self.socket = socket.create_connection((HOST, port), timeout=seconds)
+        self.socket.setsockopt(socket.IPPROTO_TCP, socket.TCP_NODELAY, 1)
+        self.file = self.socket.makefile("rb")
+
+    def __enter__(self):
+        return self
+
+    def __exit__(self, *_):
+        self.close()
+
+    def close(self):
+        self.file.close()
+        self.socket.close()
+
+    def send(self, *words):
+        self.socket.sendall(spelled(*words))
+
+    def reply(self):
+        """The next reply: bytes, a number, None, a list, or an ErrorReply."""
+        line = self.file.readline()
+        if not line.endswith(b"\r\n"):
+            raise ConnectionError("the server ended the connection")
+        kind, rest = line[:1], line[1:-2]
+        if kind == b"+":
+            return rest
+        if kind == b"-":
+            return ErrorReply(rest.decode(errors="replace"))
+        if kind == b":":
+            return int(rest)
+        if kind == b"$":
+            return self.bulk(int(rest))
+        if kind == b"*":
+            return None if rest == b"-1" else [self.reply() for _ in range(int(rest))]
+        raise Fault(f"no reply begins with {line[:40]!r}")
+
+    def bulk(self, length):
+        if length < 0:
+            return None
+        text = self.file.read(length + 2)
+        if len(text) < length + 2:
+            raise ConnectionError("the server ended the connection")
+        return text[:-2]
+
+    def call(self, *words):
+        self.send(*words)
+        reply = self.reply()
+        if isinstance(reply, ErrorReply):
+            raise reply
+        return reply
+
+
+class Process:
+    """A server's process, and what the system knows of it."""
+
+    port = None
+    process = None
+
+    def __enter__(self):
+        return self
+
+    def __exit__(self, *_):
+        self.stop()
+
+    def connect(self, seconds=SECONDS):
+        return Connection(self.port, seconds)
+
+    def alive(self):
+        return self.process.poll() is None
+
+    def stop(self):
+        """Ends the process. Servers keep nothing, so nothing is lost by it that would be kept otherwise."""
+        if self.alive():
+            self.process.terminate()
+        try:
+            self.process.wait(SECONDS)
+        except subprocess.TimeoutExpired:
+            self.process.kill()
+            self.process.wait()
+
+    def memory(self):
+        """Its resident bytes."""
+        return self.status("VmRSS") * 1024
+
+    def threads(self):
+        return self.status("Threads")
+
+    def status(self, name):
+        with open(f"/proc/{self.process.pid}/status") as status:
+            return next(int(line.split()[1]) for line in status if line.startswith(name + ":"))
+
+    def handles(self):
+        """How many files and sockets it has open."""
+        return len(os.listdir(f"/proc/{self.process.pid}/fd"))
+
+    def processor(self):
+        """The seconds of processor time that it took."""
+        with open(f"/proc/{self.process.pid}/stat") as stat:
+            user, system = stat.read().rpartition(")")[2].split()[11:13]
+        return (int(user) + int(system)) / os.sysconf("SC_CLK_TCK")
+
+
+class Server(Process):
+    """`sr_server --listen`, which prints a line when it listens."""
+
+    name = "sr_server"
+
+    def __init__(self, program, policy=None, workers=None):
+        options = [] if policy is None else ["--policy", str(policy)]
+        options += [] if workers is None else ["--workers", str(workers)]
+        for tries in range(TRIES):
+            self.port = free_port()
+            address = f"{HOST}:{self.port}"
+            self.process = subprocess.Popen([program, "--listen", address, *options], stdin=subprocess.DEVNULL, stdout=subprocess.PIPE)
+            line = self.first_line()
+            if line == f"listening on {address}\n".encode():
+                return
+            self.stop()
+        raise Fault(f"{program} --listen {address} printed {line!r} and ended with status {self.process.returncode}")
+
+    def first_line(self):
+        ready, _, _ = select.select([self.process.stdout], [], [], SECONDS)
+        return self.process.stdout.readline() if ready else b""
+
+    def stop(self):
+        super().stop()
+        self.process.stdout.close()
+
+
+class Redis(Process):
+    """A Redis server (Debian: redis-server) that keeps nothing."""
+
+    name = "Redis"
+
+    def __init__(self):
+        self.port = free_port()
+        self.folder = tempfile.TemporaryDirectory()
+        options = ["--bind", HOST, "--port", str(self.port), "--save", "", "--appendonly", "no", "--dir", self.folder.name]
+        self.process = subprocess.Popen(["redis-server", *options], stdout=subprocess.DEVNULL)
+        until = time.monotonic() + SECONDS
+        while not self.answers():
+            if not self.alive() or time.monotonic() > until:
+                self.stop()
+                raise Fault("redis-server did not begin")
+            time.sleep(0.02)
+
+    @staticmethod
+    def installed():
+        return shutil.which("redis-server") is not None
+
+    def answers(self):
+        try:
+            with self.connect() as connection:
+                return connection.call("PING") == b"PONG"
+        except OSError:
+            return False
+
+    def stop(self):
+        super().stop()
+        self.folder.cleanup()
