@@ -10,6 +10,7 @@ use sr_run::{Ran, Receipt, RunFault, SeatFault, run_workers};
 use sr_session::{Clock, NoGate};
 use std::alloc::{AllocError, Global};
 use std::hash::RandomState;
+use std::process::Abort;
 use std::random::RandomSource;
 use std::sync::Wait;
 use std::test::Fail;
@@ -57,25 +58,47 @@ fn run<R: AllocGlobal + RandomSource + Threads + Wait + Sync>(
     Ok(run_workers(rt, alloc, scripts, policy, &Still, &NoGate, hasher))
 }
 
-#[test]
-fn two_scripts_have_their_replies(rt: HostRuntime) -> Result<(), Fail> {
-    let alloc = rt.alloc();
-    let adding = script(
-        alloc,
-        &["XADD s 1-1 a b", "XLEN s", "XADD s 2-1 a b", "XLEN s"],
-    )?;
-    let acknowledging = script(alloc, &["XACK s g 1-1", "XACK s g 1-1"])?;
-    let ran = match run(&rt, vec![in alloc; adding, acknowledging]?)? {
-        Ok(ran) => ran,
-        Err(_fault) => return Err(Fail::new("refused")),
-    };
+/// One worker adds to a stream, and another acknowledges in vain.
+fn two_scripts(alloc: Global) -> Result<Vec<Vec<Call>>, Fail> {
+    let mut scripts = Vec::with_capacity(alloc, 2)?;
+    for lines in [
+        ["XADD s 1-1 a b", "XLEN s", "XADD s 2-1 a b", "XLEN s"].as_slice(),
+        ["XACK s g 1-1", "XACK s g 1-1"].as_slice(),
+    ] {
+        scripts.push(script(alloc, lines)?)?;
+    }
+    Ok(scripts)
+}
+
+/// The replies to a script that was run.
+fn replies_to(alloc: Global, ran: &Ran, at: usize) -> Result<Vec<u8>, Fail> {
+    match ran.receipts.get(at) {
+        Some(receipts) => Ok(replies_of(alloc, receipts.as_slice())?),
+        None => Err(Fail::new("no such script")),
+    }
+}
+
+/// Fails the test unless each script has its replies.
+fn compare(rt: &(impl AllocGlobal + Abort), ran: &Ran) -> Result<(), Fail> {
     assert_eq!(rt; ran.closed.acts, 10);
     assert_eq!(rt; ran.receipts.len(), 2);
-    let added = replies_of(alloc, ran.receipts[0].as_slice())?;
-    assert!(rt; added.as_slice() == b"$3\r\n1-1\r\n:1\r\n$3\r\n2-1\r\n:2\r\n");
-    let acknowledged = replies_of(alloc, ran.receipts[1].as_slice())?;
-    assert!(rt; acknowledged.as_slice() == b":0\r\n:0\r\n");
+    for (at, want) in [
+        (0, "$3\r\n1-1\r\n:1\r\n$3\r\n2-1\r\n:2\r\n"),
+        (1, ":0\r\n:0\r\n"),
+    ] {
+        let replies = replies_to(rt.alloc(), ran, at)?;
+        assert!(rt; replies.as_slice() == want.as_bytes(), "{at}");
+    }
     Ok(())
+}
+
+#[test]
+fn two_scripts_have_their_replies(rt: HostRuntime) -> Result<(), Fail> {
+    let scripts = two_scripts(rt.alloc())?;
+    match run(&rt, scripts)? {
+        Ok(ran) => compare(&rt, &ran),
+        Err(_fault) => Err(Fail::new("refused")),
+    }
 }
 
 #[test]
