@@ -47,10 +47,12 @@ memory:
 	@cd crates/$(C) && rt test
 	@scripts/memory crates/$(C)/out/$(C)_tests $(N)
 
-# Builds the server, sends it and a Redis server (Debian: redis-server) the same random commands, and prints replies that differ.
+# Builds the server, sends it and a Redis server (Debian: redis-server) the same random commands, also over sockets with readers that
+# block, and prints replies that differ.
 compare:
 	@cd crates/sr_server && rt run -- --stdio < /dev/null
 	@python3 bench/compare.py crates/sr_server/out/sr_server
+	@python3 bench/compare_net.py crates/sr_server/out/sr_server
 
 # Builds the server and has real clients use it over a socket: redis-cli and libraries of Python, Node.js, Ruby and PHP, those that are
 # installed (docs/CLIENTS.md).
