@@ -1,6 +1,6 @@
 # All that is needed is the Rattle toolchain, whose command is `rt`, and the python3 that it runs on.
 
-.PHONY: run demo test replay histories plans check memory compare clients soak bench bench-net bench-solver check-solver
+.PHONY: run demo test replay histories plans check memory refusals compare clients soak bench bench-net bench-solver check-solver
 
 # Builds the server and sends it the commands of examples/first.session as a client spells them.
 run:
@@ -12,30 +12,35 @@ demo:
 	@cd crates/plan_check && rt run < stdin > /dev/null
 	@scripts/demo crates/sr_server/out/sr_server crates/plan_check/out/plan_check
 
-# The whole gate: every proof from nothing, the must-fail edits, the tests and the program's stored run. Then the program that
-# was proved replays the sessions of the README and of examples/, and reads policy files, and histories are replayed and plans
-# checked.
+# The whole gate: every proof from nothing, the must-fail edits, the tests and the program's stored run. Then the programs that
+# were proved replay the sessions and histories of the README, of examples/ and of tests/, read policy files and check plans.
 test:
 	rt ci
-	@scripts/replay crates/sr_server/out/sr_server README.md examples/*.session
+	@scripts/replay crates/sr_server/out/sr_server README.md examples/*.session tests/sessions/*.session
+	@tests/many_stranded.py crates/sr_server/out/sr_server
 	@scripts/policies crates/sr_server/out/sr_server examples/policies/*.toml
-	@scripts/histories crates/book_driver/out/book_driver examples/histories/*.history
+	@scripts/histories crates/book_driver/out/book_driver examples/histories/*.history tests/histories/*.history
+	@scripts/replay_at crates/book_driver/out/book_driver tests/moments/*.session
 	@scripts/plans crates/plan_check/out/plan_check examples/plans/*.plan
+	@tests/plan_check.py crates/plan_check/out/plan_check
 
 # The sessions alone.
 replay:
 	@cd crates/sr_server && rt run -- --stdio < /dev/null
-	@scripts/replay crates/sr_server/out/sr_server README.md examples/*.session
+	@scripts/replay crates/sr_server/out/sr_server README.md examples/*.session tests/sessions/*.session
+	@tests/many_stranded.py crates/sr_server/out/sr_server
 
 # The histories alone: events handed to a book, with their answers.
 histories:
 	@cd crates/book_driver && rt run -- < /dev/null
-	@scripts/histories crates/book_driver/out/book_driver examples/histories/*.history
+	@scripts/histories crates/book_driver/out/book_driver examples/histories/*.history tests/histories/*.history
+	@scripts/replay_at crates/book_driver/out/book_driver tests/moments/*.session
 
 # The plans alone: replies checked against the problems beside them.
 plans:
 	@cd crates/plan_check && rt run < stdin
 	@scripts/plans crates/plan_check/out/plan_check examples/plans/*.plan
+	@tests/plan_check.py crates/plan_check/out/plan_check
 
 # One crate while it is written: make check C=sr_ids
 check:
@@ -46,6 +51,12 @@ check:
 memory:
 	@cd crates/$(C) && rt test
 	@scripts/memory crates/$(C)/out/$(C)_tests $(N)
+
+# Builds book_driver, and replays histories once for each of its allocations, which is refused: what it is refused to leaves the book, and
+# succeeds at the second try. It needs cc.
+refusals:
+	@cd crates/book_driver && rt run -- < /dev/null
+	@scripts/refusals crates/book_driver/out/book_driver examples/histories/*.history tests/histories/runs.history tests/histories/waiting.history
 
 # Builds the server, sends it and a Redis server (Debian: redis-server) the same random commands, also over sockets with readers that
 # block, and prints replies that differ.

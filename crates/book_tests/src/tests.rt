@@ -1,7 +1,7 @@
-// What no clause says: that events succeed while there is memory, what a whole run answers, worked by hand, that no waiting
-// read has an answer after an event unless memory was refused, and that an event that memory was refused to leaves the book.
+// What no clause says: that a whole run succeeds while there is memory, that no waiting read has an answer after an event
+// unless memory was refused, and that an event that memory was refused to leaves the book.
 use sr_args::{Call, CallFault, Command, read_call};
-use sr_book::{Answer, Book, BookFault, Event, Out, Status};
+use sr_book::{Answer, Book, BookFault, Event, Out};
 use sr_bytes::Words;
 use sr_policy::Policy;
 use sr_resp::append_reply;
@@ -12,11 +12,7 @@ use std::random::RandomSource;
 use std::test::Fail;
 
 mod memory;
-mod recovery;
 mod runs;
-
-/// The moment, the session, what is done or asked, and what the book says to it.
-type Row = (u64, u64, &'static str, &'static str);
 
 /// The words of a line, which stand between single spaces.
 fn words_of(alloc: Global, line: &str) -> Result<Words, AllocError> {
@@ -117,16 +113,6 @@ fn append_answer(
     append_out(rt.alloc(), text, &answer.out)
 }
 
-/// How a session stands, in words.
-fn status_word(status: Status) -> &'static str {
-    match status {
-        Status::Closed => "closed",
-        Status::Idle => "idle",
-        Status::Waiting => "waiting",
-        Status::Letter => "letter",
-    }
-}
-
 /// Appends the letter of a session: the index of its record, and the reply.
 fn append_letter(
     alloc: Global,
@@ -143,72 +129,8 @@ fn append_letter(
     append_reply(text, &letter.reply)
 }
 
-/// Appends the index and the moment of the last record.
-fn append_last(alloc: Global, text: &mut Vec<u8>, book: &Book) -> Result<(), AllocError> {
-    let Some(last) = book.records().last() else {
-        return text.extend_from_slice(b"none");
-    };
-    append_number(alloc, text, "record", last.index)?;
-    append_number(alloc, text, " at", last.moment)
-}
-
-/// Hands in the event of a line, and appends what the book says to it.
-fn append_step(
-    rt: &(impl AllocGlobal + Abort),
-    text: &mut Vec<u8>,
-    book: &mut Book,
-    (moment, session, line, _): Row,
-) -> Result<(), AllocError> {
-    let event = event_of(rt, session, line)?;
-    let next = book.records().len() as u64 + 1;
-    match book.step(rt.alloc(), moment, event) {
-        Ok(answer) => append_answer(rt, text, &answer, next),
-        Err(refused) => append_fault(text, refused.fault),
-    }
-}
-
-/// Appends what the book says to a row: to `status`, `letter`, `last` and `due`, which ask, and to an event.
-fn append_said(
-    rt: &(impl AllocGlobal + Abort),
-    text: &mut Vec<u8>,
-    book: &mut Book,
-    row: Row,
-) -> Result<(), AllocError> {
-    let (moment, session, line, _) = row;
-    match line {
-        "status" => text.extend_from_slice(status_word(book.status(session)).as_bytes()),
-        "letter" => append_letter(rt.alloc(), text, book, session),
-        "last" => append_last(rt.alloc(), text, book),
-        "due" => text.extend_from_slice(if book.due(moment) { b"yes" } else { b"no" }),
-        _ => append_step(rt, text, book, row),
-    }
-}
-
-/// Goes on by a row. It fails if the book says something else.
-fn follow(rt: &(impl AllocGlobal + Abort), book: &mut Book, row: Row) -> Result<(), AllocError> {
-    let mut text = Vec::new(rt.alloc());
-    append_said(rt, &mut text, book, row)?;
-    let (moment, session, line, said) = row;
-    assert_eq!(rt;
-        text.as_slice(),
-        said.as_bytes(),
-        "{line} of {session} at {moment}"
-    );
-    Ok(())
-}
-
 /// A book without records, of a server with an empty policy.
 fn no_records(rt: &(impl AllocGlobal + RandomSource)) -> Result<Book, Fail> {
     let policy = Policy::empty(rt.alloc());
     Ok(Book::new(rt.alloc(), policy, RandomState::new(rt)?))
-}
-
-/// Follows rows from the empty book on.
-fn play(rt: &(impl AllocGlobal + RandomSource + Abort), rows: &[Row]) -> Result<(), Fail> {
-    let mut book = no_records(rt)?;
-    for row in rows {
-        follow(rt, &mut book, *row)?;
-    }
-    book.legal();
-    Ok(())
 }

@@ -334,55 +334,70 @@ fn a_scan_drops_what_was_deleted(rt: HostRuntime) -> Result<(), AllocError> {
     Ok(())
 }
 
+/// Whether a scan for one entry, none of which is idle for long enough, looks at ten of them.
+fn looks_at_ten(
+    group: &mut Group,
+    alloc: Global,
+    entries: &Entries,
+    consumer: &Name,
+) -> Result<bool, AllocError> {
+    let how = claim(1000, ClaimTime::Now);
+    let found = group.autoclaim(alloc, consumer, id(0), 1, how, 10, entries)?;
+    Ok(found.next == id(11) && found.shown.listed().len() == 0)
+}
+
 #[test]
 fn a_scan_looks_at_ten_times_its_count(rt: HostRuntime) -> Result<(), AllocError> {
     let alloc = rt.alloc();
     let entries = entries_to(alloc, 11)?;
-    let mut group = delivered(alloc, &entries)?;
     let b = name(alloc, b'B')?;
-    let how = claim(1000, ClaimTime::Now);
-    let found = group.autoclaim(alloc, &b, id(0), 1, how, 10, &entries)?;
-    assert_eq!(rt; found.next, id(11));
-    assert_eq!(rt; found.shown.listed().len(), 0);
+    assert!(rt; looks_at_ten(&mut delivered(alloc, &entries)?, alloc, &entries, &b)?);
     Ok(())
+}
+
+/// Whether an id that is named twice is acknowledged once.
+fn counts_once(group: &mut Group) -> bool {
+    group.ack([id(1), id(1), id(9)].as_slice()) == 1
+        && group.pending_len() == 1
+        && group.last_id() == id(2)
 }
 
 #[test]
 fn acknowledged_twice_counts_once(rt: HostRuntime) -> Result<(), AllocError> {
-    let alloc = rt.alloc();
-    let mut group = delivered(alloc, &entries_to(alloc, 2)?)?;
-    assert_eq!(rt; group.ack([id(1), id(1), id(9)].as_slice()), 1);
-    assert_eq!(rt; group.copy(alloc)?.pending_len(), 1);
-    assert_eq!(rt; group.last_id(), id(2));
+    let entries = entries_to(rt.alloc(), 2)?;
+    assert!(rt; counts_once(&mut delivered(rt.alloc(), &entries)?.copy(rt.alloc())?));
     Ok(())
+}
+
+/// Whether a consumer of this name is made at 10, not made again at 20, and removed.
+fn is_made_once(group: &mut Group, alloc: Global, name: &Name) -> Result<bool, AllocError> {
+    let made = group.add_consumer(alloc, name, 10)?;
+    let again = group.add_consumer(alloc, name, 20)?;
+    let one = group.consumers().len() == 1 && group.seen(name) == Some(10);
+    Ok(made && !again && one && group.del_consumer(name) == 0 && group.seen(name) == None)
 }
 
 #[test]
 fn a_consumer_is_made_once(rt: HostRuntime) -> Result<(), AllocError> {
-    let alloc = rt.alloc();
-    let b = name(alloc, b'B')?;
-    let mut group = Group::new(alloc, id(0));
-    assert!(rt; group.add_consumer(alloc, &b, 10)?);
-    assert!(rt; !group.add_consumer(alloc, &b, 20)?);
-    assert!(rt; group.consumers().len() == 1 && group.consumers()[0].seen == 10);
-    assert_eq!(rt; group.seen(&b), Some(10));
-    assert_eq!(rt; group.del_consumer(&b), 0);
-    assert_eq!(rt; group.seen(&b), None);
+    let b = name(rt.alloc(), b'B')?;
+    let mut group = Group::new(rt.alloc(), id(0));
+    assert!(rt; is_made_once(&mut group, rt.alloc(), &b)?);
     assert_eq!(rt; group.consumers().len(), 0);
     Ok(())
 }
 
+/// Whether the one consumer of a group has three entries.
+fn has_three(group: &Group, alloc: Global, consumer: &Name) -> Result<bool, AllocError> {
+    let summary = group.summary(alloc)?;
+    let ids = summary.least == Some(id(1)) && summary.greatest == Some(id(3));
+    let counts = summary.total == 3 && summary.counts.as_slice() == [3].as_slice();
+    Ok(ids && counts && group.oldest(consumer) == Some(10) && group.count_of(consumer) == 3)
+}
+
 #[test]
 fn a_summary_counts_for_each_consumer(rt: HostRuntime) -> Result<(), AllocError> {
-    let alloc = rt.alloc();
-    let a = name(alloc, b'A')?;
-    let group = delivered(alloc, &entries_to(alloc, 3)?)?;
-    let summary = group.summary(alloc)?;
-    assert_eq!(rt; summary.total, 3);
-    assert_eq!(rt; summary.least, Some(id(1)));
-    assert_eq!(rt; summary.greatest, Some(id(3)));
-    assert!(rt; summary.counts.as_slice() == [3].as_slice());
-    assert_eq!(rt; group.oldest(&a), Some(10));
-    assert_eq!(rt; group.count_of(&a), 3);
+    let entries = entries_to(rt.alloc(), 3)?;
+    let a = name(rt.alloc(), b'A')?;
+    assert!(rt; has_three(&delivered(rt.alloc(), &entries)?, rt.alloc(), &a)?);
     Ok(())
 }

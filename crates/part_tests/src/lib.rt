@@ -1,6 +1,10 @@
-//! The tests of the crates below sr_space, in a crate of their own: a crate that has tests is proved twice.
+//! The tests of the crates below sr_book, in a crate of their own: a crate that has tests is proved twice.
 #![tactic(auto)]
 
+#[cfg(test)]
+mod board;
+#[cfg(test)]
+mod bytes;
 #[cfg(test)]
 mod check;
 #[cfg(test)]
@@ -8,14 +12,22 @@ mod decoding;
 #[cfg(test)]
 mod group;
 #[cfg(test)]
+mod ids;
+#[cfg(test)]
 mod pending;
 #[cfg(test)]
 mod plan;
 #[cfg(test)]
 mod policy;
 #[cfg(test)]
+mod reading;
+#[cfg(test)]
 mod replies;
 #[cfg(test)]
 mod solver;
 #[cfg(test)]
 mod stream;
+#[cfg(test)]
+mod transport;
+#[cfg(test)]
+mod waiters;

@@ -79,10 +79,35 @@ fn refused_memory_leaves_the_stream(rt: HostRuntime) {
     let _ended = fill(&rt, &mut stream, rt.alloc());
 }
 
+/// A stream with one entry, which has this id; without entries if there is none.
+fn stream_to(alloc: Global, last: Option<Id>) -> Result<Stream, AddFault> {
+    let mut stream = Stream::new(alloc);
+    if let Some(last) = last {
+        stream.add(Spec::Written(last), 0, fields(alloc)?)?;
+    }
+    Ok(stream)
+}
+
+/// Whether a spec gives this at a moment, and is added with it.
+fn is_given(
+    stream: &mut Stream,
+    alloc: Global,
+    moment: u64,
+    spec: Spec,
+    want: Result<Id, GivenFault>,
+) -> Result<bool, AllocError> {
+    if stream.next_id(spec, moment) != want {
+        return Ok(false);
+    }
+    match want {
+        Ok(id) => Ok(stream.add(spec, moment, fields(alloc)?) == Ok(id)),
+        Err(_fault) => Ok(true),
+    }
+}
+
 /// After a last id, at a moment, each spec gives what is beside it.
 #[test]
 fn ids_are_given(rt: HostRuntime) -> Result<(), Fail> {
-    let alloc = rt.alloc();
     let rows = [
         (Some(id(5, 0)), 0, Spec::Ms(5), Ok(id(5, 1))),
         (Some(id(5, 0)), 5, Spec::Ms(5), Ok(id(5, 1))),
@@ -120,15 +145,9 @@ fn ids_are_given(rt: HostRuntime) -> Result<(), Fail> {
         (None, 0, Spec::Auto, Ok(id(0, 1))),
     ];
     for (last, moment, spec, want) in rows {
-        let mut stream = Stream::new(alloc);
-        if let Some(last) = last {
-            let first = stream.add(Spec::Written(last), moment, fields(alloc)?);
-            assert_eq!(rt; first, Ok(last));
-        }
-        assert_eq!(rt; stream.next_id(spec, moment), want, "at {moment} {spec:?}");
-        if let Ok(id) = want {
-            assert_eq!(rt; stream.add(spec, moment, fields(alloc)?), Ok(id));
-        }
+        let mut stream = stream_to(rt.alloc(), last)?;
+        let given = is_given(&mut stream, rt.alloc(), moment, spec, want)?;
+        assert!(rt; given, "at {moment} {spec:?}");
     }
     Ok(())
 }
@@ -142,24 +161,28 @@ fn five_entries(alloc: Global) -> Result<Stream, AddFault> {
     Ok(stream)
 }
 
+/// Whether three of five entries are trimmed, and 4-1 and 5-1 are left.
+fn are_trimmed(stream: &mut Stream, alloc: Global) -> Result<bool, AllocError> {
+    let are_counted = stream.trim_len(1, 2) == 2 && stream.trim_id(id(4, 0), 0) == 1;
+    let left = ids_from(alloc, stream, id(4, 2))?;
+    let is_left = left.as_slice() == [id(5, 1)].as_slice() && stream.get(id(4, 1)).is_some();
+    Ok(are_counted && is_left && newest(stream) == Some(id(5, 1)))
+}
+
+/// Whether 5-1 is deleted, once, and the last id and the number of the added stay.
+fn is_deleted(stream: &mut Stream) -> bool {
+    stream.delete(&[id(5, 1), id(5, 1), id(9, 9)]) == 1
+        && stream.last_id() == id(5, 1)
+        && stream.added() == 5
+        && stream.len() == 1
+}
+
 #[test]
 fn trims_and_deletes(rt: HostRuntime) -> Result<(), Fail> {
-    let alloc = rt.alloc();
-    let mut stream = five_entries(alloc)?;
-    assert_eq!(rt; stream.trim_len(1, 2), 2);
-    assert_eq!(rt; stream.trim_id(id(4, 0), 0), 1);
-    assert_eq!(rt;
-        ids_from(alloc, &stream, id(4, 2))?.as_slice(),
-        [id(5, 1)].as_slice()
-    );
-    assert_eq!(rt; newest(&stream), Some(id(5, 1)));
-    assert!(rt; stream.get(id(4, 1)).is_some());
-    let copy = stream.copy(alloc)?;
-    assert_eq!(rt; stream.delete(&[id(5, 1), id(5, 1), id(9, 9)]), 1);
-    assert_eq!(rt; stream.last_id(), id(5, 1));
-    assert_eq!(rt; stream.added(), 5);
-    assert_eq!(rt; stream.len(), 1);
-    assert_eq!(rt; copy.len(), 2);
+    let mut stream = five_entries(rt.alloc())?;
+    let are_trimmed = are_trimmed(&mut stream, rt.alloc())?;
+    let copied = stream.copy(rt.alloc())?.len();
+    assert!(rt; are_trimmed && copied == 2 && is_deleted(&mut stream));
     Ok(())
 }
 
@@ -199,23 +222,29 @@ fn four_groups(alloc: Global) -> Result<Stream, Fail> {
     Ok(stream)
 }
 
+/// Whether the names of the groups, each with a space after it, are these.
+fn are_named(stream: &Stream, alloc: Global, names: &[u8]) -> Result<bool, AllocError> {
+    Ok(group_names(alloc, stream)?.as_slice() == names)
+}
+
+/// Whether a group that is there is not made again, delivers from another id on once that is set, and is destroyed once.
+fn is_made_once(stream: &mut Stream, alloc: Global, name: &Name) -> bool {
+    stream.create_group(alloc, name, id(7, 0)) == Err(GroupFault::Busy)
+        && last_of(stream, name) == Some(id(0, 0))
+        && stream.set_group_id(name, id(8, 0))
+        && last_of(stream, name) == Some(id(8, 0))
+        && stream.destroy_group(name)
+        && !stream.destroy_group(name)
+        && !stream.set_group_id(name, id(9, 0))
+}
+
 #[test]
 fn groups_are_made_once_in_byte_order(rt: HostRuntime) -> Result<(), Fail> {
-    let alloc = rt.alloc();
-    let a = name(alloc, "a")?;
-    let mut stream = four_groups(alloc)?;
-    assert!(rt; group_names(alloc, &stream)?.as_slice() == b"B a ab b ".as_slice());
-    assert_eq!(rt;
-        stream.create_group(alloc, &a, id(7, 0)),
-        Err(GroupFault::Busy)
-    );
-    assert_eq!(rt; last_of(&stream, &a), Some(id(0, 0)));
-    assert!(rt; stream.set_group_id(&a, id(8, 0)));
-    assert_eq!(rt; last_of(&stream, &a), Some(id(8, 0)));
-    assert!(rt; stream.destroy_group(&a));
-    assert!(rt; !stream.destroy_group(&a));
-    assert!(rt; !stream.set_group_id(&a, id(9, 0)));
-    assert!(rt; group_names(alloc, &stream)?.as_slice() == b"B ab b ".as_slice());
+    let a = name(rt.alloc(), "a")?;
+    let mut stream = four_groups(rt.alloc())?;
+    let are_in_order = are_named(&stream, rt.alloc(), b"B a ab b ")?;
+    assert!(rt; are_in_order && is_made_once(&mut stream, rt.alloc(), &a));
+    assert!(rt; are_named(&stream, rt.alloc(), b"B ab b ")?);
     Ok(())
 }
 
@@ -248,17 +277,29 @@ fn deliver(
     Ok(())
 }
 
+/// Makes a group that has delivered up to 3-1, and delivers the rest to a reader.
+fn deliver_to(stream: &mut Stream, alloc: Global, group: &Name, reader: &Name) -> Result<(), Fail> {
+    stream.create_group(alloc, group, id(3, 1))?;
+    deliver(alloc, stream, group, reader)?;
+    Ok(())
+}
+
+/// Whether what is acknowledged in a stream stays pending in its copy.
+fn go_apart(stream: &mut Stream, copy: &Stream, group: &Name, reader: &Name) -> bool {
+    acknowledge(stream, group, &[id(4, 1), id(9, 9)]) == 1
+        && acknowledge(stream, reader, &[id(5, 1)]) == 0
+        && pending(stream, group) == 1
+        && pending(copy, group) == 2
+        && last_of(copy, group) == Some(id(5, 1))
+}
+
 #[test]
 fn copies_have_groups_of_their_own(rt: HostRuntime) -> Result<(), Fail> {
-    let alloc = rt.alloc();
-    let (group, reader) = (name(alloc, "g")?, name(alloc, "r")?);
-    let mut stream = five_entries(alloc)?;
-    stream.create_group(alloc, &group, id(3, 1))?;
-    deliver(alloc, &mut stream, &group, &reader)?;
-    let copy = stream.copy(alloc)?;
-    assert_eq!(rt; acknowledge(&mut stream, &group, &[id(4, 1), id(9, 9)]), 1);
-    assert_eq!(rt; acknowledge(&mut stream, &reader, &[id(5, 1)]), 0);
-    assert_eq!(rt; (pending(&stream, &group), pending(&copy, &group)), (1, 2));
-    assert_eq!(rt; last_of(&copy, &group), Some(id(5, 1)));
+    let group = name(rt.alloc(), "g")?;
+    let reader = name(rt.alloc(), "r")?;
+    let mut stream = five_entries(rt.alloc())?;
+    deliver_to(&mut stream, rt.alloc(), &group, &reader)?;
+    let copy = stream.copy(rt.alloc())?;
+    assert!(rt; go_apart(&mut stream, &copy, &group, &reader));
     Ok(())
 }

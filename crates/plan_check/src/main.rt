@@ -8,8 +8,6 @@ mod finding;
 mod judge;
 mod problem;
 mod terminal;
-#[cfg(test)]
-mod tests;
 mod words;
 
 use crate::finding::status_of;

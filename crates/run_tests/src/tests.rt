@@ -16,6 +16,7 @@ use std::test::Fail;
 
 mod closing;
 mod desks;
+mod held;
 mod records;
 mod workers;
 

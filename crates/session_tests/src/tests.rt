@@ -16,10 +16,7 @@ use std::random::RandomSource;
 use std::test::Fail;
 
 mod desks;
-mod groups;
-mod pages;
 mod recovery;
-mod sessions;
 
 /// `XLEN s`
 const XLEN: &[u8] = b"*2\r\n$4\r\nXLEN\r\n$1\r\ns\r\n";
@@ -157,22 +154,36 @@ fn talk(
     room: usize,
     turns: u64,
 ) -> Result<(End, Vec<u8>), Fail> {
-    let alloc = rt.alloc();
-    let mut book = Book::new(alloc, Policy::empty(alloc), RandomState::new(rt)?);
-    let mut desk = PlainDesk::new(&mut book);
-    let mut reader = reader.unread();
-    let mut writer = Kept::with_room(alloc, room)?;
+    let hasher = RandomState::new(rt)?;
+    let writer = Kept::with_room(rt.alloc(), room)?;
+    Ok(talk_over(rt.alloc(), hasher, reader.unread(), writer, turns))
+}
+
+/// The same over this reader and writer. Books are made in functions of one exit: at each exit a book is dear to prove.
+fn talk_over(
+    alloc: Global,
+    hasher: RandomState,
+    reader: Pieces<'_>,
+    writer: Kept,
+    turns: u64,
+) -> (End, Vec<u8>)
+    requires unread { (reader.ended ≡ false) × (reader.failed ≡ false) }
+    requires unwritten { writer.failed ≡ false }
+{
+    let mut book = Book::new(alloc, Policy::empty(alloc), hasher);
+    let mut reader = reader;
+    let mut writer = writer;
     let ended = run_session(
         alloc,
         &mut reader,
         &mut writer,
-        &mut desk,
+        &mut PlainDesk::new(&mut book),
         &Stopped,
         &NoGate,
         false,
         turns,
     );
-    Ok((ended.end, writer.bytes))
+    (ended.end, writer.bytes)
 }
 
 /// Whether a session with room and turns enough ends so, and writes this.
@@ -321,33 +332,36 @@ impl Read for Interrupted<'_> {
     }
 }
 
+/// How a session of the run ends whose reads are interrupted, and what it wrote.
+fn read_again(alloc: Global, hasher: RandomState, fails: bool) -> (End, Vec<u8>) {
+    let mut book = Book::new(alloc, Policy::empty(alloc), hasher);
+    let mut written = Vec::new(alloc);
+    let mut reader = ReadFrom::new(Interrupted {
+        bytes: RUN,
+        again: false,
+        fails,
+    });
+    let mut writer = WriteTo::new(&mut written);
+    let ended = run_session(
+        alloc,
+        &mut reader,
+        &mut writer,
+        &mut PlainDesk::new(&mut book),
+        &Stopped,
+        &NoGate,
+        false,
+        9,
+    );
+    drop(writer);
+    (ended.end, written)
+}
+
 #[test]
 fn an_interrupted_read_is_tried_again(rt: HostRuntime) -> Result<(), Fail> {
     for (fails, end) in [(false, End::Closed), (true, End::ReadFault)] {
-        let mut book = Book::new(
-            rt.alloc(),
-            Policy::empty(rt.alloc()),
-            RandomState::new(&rt)?,
-        );
-        let mut desk = PlainDesk::new(&mut book);
-        let mut written = Vec::new(rt.alloc());
-        let mut reader = ReadFrom::new(Interrupted {
-            bytes: RUN,
-            again: false,
-            fails,
-        });
-        let mut writer = WriteTo::new(&mut written);
-        let ended = run_session(
-            rt.alloc(),
-            &mut reader,
-            &mut writer,
-            &mut desk,
-            &Stopped,
-            &NoGate,
-            false,
-            9,
-        );
-        assert_eq!(rt; ended.end, end);
+        let hasher = RandomState::new(&rt)?;
+        let (found, written) = read_again(rt.alloc(), hasher, fails);
+        assert_eq!(rt; found, end);
         assert!(rt; written.as_slice() == REPLIES.as_slice());
     }
     Ok(())
@@ -406,6 +420,27 @@ impl Clock for Counting<'_> {
     }
 }
 
+/// How a session of these bytes ends, and how often it asks the clock.
+fn clocked(alloc: Global, hasher: RandomState, bytes: &[u8], writer: Kept) -> (End, u64)
+    requires unwritten { writer.failed ≡ false }
+{
+    let mut book = Book::new(alloc, Policy::empty(alloc), hasher);
+    let asked = Cell::new(0);
+    let mut reader = Pieces::new(bytes, 4096, 4096);
+    let mut writer = writer;
+    let ended = run_session(
+        alloc,
+        &mut reader,
+        &mut writer,
+        &mut PlainDesk::new(&mut book),
+        &Counting { asked: &asked },
+        &NoGate,
+        false,
+        9,
+    );
+    (ended.end, asked.get())
+}
+
 /// The clock is asked once for each call, and not for a request that is refused; and once each to join and to leave.
 #[test]
 fn a_call_asks_the_clock_once(rt: HostRuntime) -> Result<(), Fail> {
@@ -416,27 +451,10 @@ fn a_call_asks_the_clock_once(rt: HostRuntime) -> Result<(), Fail> {
         ("XADD s 0-0 a b\nFOO\nXADD s 1-1 a b\nXADD s 1-1 a b", 5),
     ] {
         let bytes = spelled(rt.alloc(), lines)?;
-        let asked = Cell::new(0);
-        let mut book = Book::new(
-            rt.alloc(),
-            Policy::empty(rt.alloc()),
-            RandomState::new(&rt)?,
-        );
-        let mut desk = PlainDesk::new(&mut book);
-        let mut writer = Kept::with_room(rt.alloc(), 512)?;
-        let mut reader = Pieces::new(bytes.as_slice(), 4096, 4096);
-        let ended = run_session(
-            rt.alloc(),
-            &mut reader,
-            &mut writer,
-            &mut desk,
-            &Counting { asked: &asked },
-            &NoGate,
-            false,
-            9,
-        );
-        assert_eq!(rt; ended.end, End::Closed, "{lines}");
-        assert_eq!(rt; asked.get(), calls, "{lines}");
+        let writer = Kept::with_room(rt.alloc(), 512)?;
+        let hasher = RandomState::new(&rt)?;
+        let found = clocked(rt.alloc(), hasher, bytes.as_slice(), writer);
+        assert_eq!(rt; found, (End::Closed, calls), "{lines}");
     }
     Ok(())
 }

@@ -16,6 +16,3 @@ pub use packed::room_of;
 pub use pairs::Pairs;
 pub use unread::Unread;
 pub use words::Words;
-
-#[cfg(test)]
-mod tests;

@@ -7,6 +7,3 @@ mod text;
 mod write;
 
 pub use text::board;
-
-#[cfg(test)]
-mod tests;

@@ -14,6 +14,3 @@ pub use next::{IdFault, next_auto, next_in, succ};
 pub use parse::{one_reading, parse_end, parse_spec, parse_start, parse_strict};
 pub use spec::Spec;
 pub use write::write_id;
-
-#[cfg(test)]
-mod tests;

@@ -9,6 +9,3 @@ mod solved;
 pub use certificate::{check_prices, check_shortage};
 pub use problem::{MAX_COST, Problem};
 pub use solved::{Solved, check, total};
-
-#[cfg(test)]
-mod tests;

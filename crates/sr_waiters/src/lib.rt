@@ -4,6 +4,3 @@
 mod waiters;
 
 pub use waiters::Waiters;
-
-#[cfg(test)]
-mod tests;

@@ -25,7 +25,7 @@ RECOVER.RUN s g DEAD D
 XLEN s";
 
 /// The replies to them: the entry goes to A, at a cost of 2, and no price is needed.
-const REPLIES: &[u8] = b"+PONG\r\n+OK\r\n$3\r\n1-1\r\n\
+pub(super) const REPLIES: &[u8] = b"+PONG\r\n+OK\r\n$3\r\n1-1\r\n\
 *1\r\n*2\r\n$1\r\ns\r\n*1\r\n*2\r\n$3\r\n1-1\r\n*2\r\n$1\r\nc\r\n$1\r\nx\r\n\
 *5\r\n$4\r\ndone\r\n:2\r\n*1\r\n*2\r\n$3\r\n1-1\r\n$1\r\nA\r\n*1\r\n*2\r\n$1\r\nA\r\n:0\r\n*0\r\n\
 :1\r\n";
@@ -66,7 +66,7 @@ fn spelled(alloc: Global) -> Result<Vec<u8>, Fail> {
 }
 
 /// A book under the policy.
-fn book(rt: &(impl AllocGlobal + RandomSource)) -> Result<Book, Fail> {
+pub(super) fn book(rt: &(impl AllocGlobal + RandomSource)) -> Result<Book, Fail> {
     let Ok(policy) = Policy::read(rt.alloc(), POLICY) else {
         return Err(Fail::new("a policy"));
     };
@@ -74,7 +74,7 @@ fn book(rt: &(impl AllocGlobal + RandomSource)) -> Result<Book, Fail> {
 }
 
 /// What a session writes at a desk.
-fn talk<D: Desk>(alloc: Global, desk: &mut D) -> Result<Vec<u8>, Fail> {
+pub(super) fn talk<D: Desk>(alloc: Global, desk: &mut D) -> Result<Vec<u8>, Fail> {
     let requests = spelled(alloc)?;
     let mut written = Vec::new(alloc);
     let mut reader = ReadFrom::new(requests.as_slice());

@@ -319,6 +319,45 @@ fn faults_at_the_door(rt: HostRuntime) -> Result<(), Fail> {
     Ok(())
 }
 
+/// How a session of these bytes ends at a book, and what it wrote.
+fn served(
+    alloc: Global,
+    book: &mut Book,
+    bytes: &[u8],
+    writer: Kept,
+    blocking: bool,
+) -> (Ended, Vec<u8>)
+    requires unwritten { writer.failed ≡ false }
+{
+    let mut reader = Pieces::new(bytes, 4096, 4096);
+    let mut writer = writer;
+    let ended = run_session(
+        alloc,
+        &mut reader,
+        &mut writer,
+        &mut PlainDesk::new(book),
+        &Stopped,
+        &NoGate,
+        blocking,
+        9,
+    );
+    (ended, writer.bytes)
+}
+
+/// The same at a book without records.
+fn served_anew(
+    alloc: Global,
+    hasher: RandomState,
+    bytes: &[u8],
+    writer: Kept,
+    blocking: bool,
+) -> (Ended, Vec<u8>)
+    requires unwritten { writer.failed ≡ false }
+{
+    let mut book = Book::new(alloc, Policy::empty(alloc), hasher);
+    served(alloc, &mut book, bytes, writer, blocking)
+}
+
 /// A read of a stream that is empty waits only if calls may wait. No one else calls, so it has no reply.
 #[test]
 fn a_read_that_waits_is_not_answered(rt: HostRuntime) -> Result<(), Fail> {
@@ -327,26 +366,11 @@ fn a_read_that_waits_is_not_answered(rt: HostRuntime) -> Result<(), Fail> {
         (true, End::Desk, b"".as_slice()),
         (false, End::Closed, b"*-1\r\n".as_slice()),
     ] {
-        let mut book = Book::new(
-            rt.alloc(),
-            Policy::empty(rt.alloc()),
-            RandomState::new(&rt)?,
-        );
-        let mut desk = PlainDesk::new(&mut book);
-        let mut reader = Pieces::new(bytes.as_slice(), 4096, 4096);
-        let mut writer = Kept::with_room(rt.alloc(), 512)?;
-        let ended = run_session(
-            rt.alloc(),
-            &mut reader,
-            &mut writer,
-            &mut desk,
-            &Stopped,
-            &NoGate,
-            blocking,
-            9,
-        );
+        let hasher = RandomState::new(&rt)?;
+        let writer = Kept::with_room(rt.alloc(), 512)?;
+        let (ended, written) = served_anew(rt.alloc(), hasher, bytes.as_slice(), writer, blocking);
         assert_eq!(rt; ended, Ended { end, left: true }, "{blocking}");
-        assert!(rt; writer.bytes.as_slice() == text, "{blocking}");
+        assert!(rt; written.as_slice() == text, "{blocking}");
     }
     Ok(())
 }
@@ -382,6 +406,26 @@ fn are_these(records: &[Record], words: &[&str]) -> bool {
     true
 }
 
+/// How a session of these bytes ends, and whether its records are of these.
+fn recorded(
+    alloc: Global,
+    hasher: RandomState,
+    bytes: &[u8],
+    writer: Kept,
+    words: &[&str],
+) -> (Ended, bool)
+    requires unwritten { writer.failed ≡ false }
+{
+    let mut book = Book::new(alloc, Policy::empty(alloc), hasher);
+    let (ended, written) = served(alloc, &mut book, bytes, writer, false);
+    drop(written);
+    let records = book.records();
+    (
+        ended,
+        records.len() == words.len() && are_these(records, words),
+    )
+}
+
 /// A session's records are its join, its calls and its leave, each at the clock's moment. Words that are not a command have none.
 #[test]
 fn records_are_the_join_the_calls_and_the_leave(rt: HostRuntime) -> Result<(), Fail> {
@@ -389,33 +433,12 @@ fn records_are_the_join_the_calls_and_the_leave(rt: HostRuntime) -> Result<(), F
         rt.alloc(),
         "PING\nFOO\nXADD s 1-1 a b\nXADD s 1-1 a b\nXLEN s",
     )?;
-    let mut book = Book::new(
-        rt.alloc(),
-        Policy::empty(rt.alloc()),
-        RandomState::new(&rt)?,
-    );
-    let mut reader = Pieces::new(bytes.as_slice(), 4096, 4096);
-    let mut writer = Kept::with_room(rt.alloc(), 512)?;
-    let ended = run_session(
-        rt.alloc(),
-        &mut reader,
-        &mut writer,
-        &mut PlainDesk::new(&mut book),
-        &Stopped,
-        &NoGate,
-        false,
-        9,
-    );
-    assert_eq!(rt;
-        ended,
-        Ended {
-            end: End::Closed,
-            left: true
-        }
-    );
+    let hasher = RandomState::new(&rt)?;
+    let writer = Kept::with_room(rt.alloc(), 512)?;
     let words = ["join", "ping", "xadd", "xadd", "xlen", "leave"];
-    assert_eq!(rt; book.records().len(), words.len());
-    assert!(rt; are_these(book.records(), &words));
+    let (ended, are_recorded) = recorded(rt.alloc(), hasher, bytes.as_slice(), writer, &words);
+    assert!(rt; ended.end == End::Closed && ended.left);
+    assert!(rt; are_recorded);
     Ok(())
 }
 

@@ -1,12 +1,7 @@
-//! What no clause says: which digits write which numbers, and that names, fields and words can be made and copied.
-use crate::{Fields, Name, Words, read_decimal};
+// What no clause says: which digits write which numbers, and that names, fields and words can be made and copied.
+use sr_bytes::{Fields, Name, Words, read_decimal};
 use std::alloc::{AllocError, Global};
-use std::collections::HashMap;
 use std::test::Fail;
-
-fn name(alloc: Global, text: &str) -> Result<Name, AllocError> {
-    Ok(Name::new(Vec::from_slice(alloc, text.as_bytes())?))
-}
 
 /// Three fields, one of them with an empty name and one with a long value.
 fn three_fields(alloc: Global, long: &[u8]) -> Result<Fields, AllocError> {
@@ -65,20 +60,6 @@ fn names_show_their_bytes(rt: HostRuntime) -> Result<(), Fail> {
     Ok(())
 }
 
-#[test]
-fn names_are_keys(rt: HostRuntime) -> Result<(), Fail> {
-    let alloc = rt.alloc();
-    let mut counts = HashMap::new(alloc);
-    counts.insert(name(alloc, "s")?, 1)?;
-    counts.insert(name(alloc, "st")?, 2)?;
-    counts.insert(name(alloc, "s")?, 3)?;
-    assert_eq!(rt; counts.len(), 2);
-    assert_eq!(rt; counts.get(&name(alloc, "s")?).copied(), Some(3));
-    assert_eq!(rt; counts.get(&name(alloc, "t")?).copied(), None);
-    Ok(())
-}
-
-// `rt try --test --fail-alloc N` refuses each allocation in turn. Then the test fails only by that refusal.
 #[test]
 fn copies_hold_the_same(rt: HostRuntime) -> Result<(), Fail> {
     let alloc = rt.alloc();

@@ -1,6 +1,6 @@
-//! What no clause says: that a board is made while there is memory. The boards were written by hand.
-use crate::board;
+// What no clause says: that a board is made while there is memory. The boards were written by hand.
 use sr_bytes::{Fields, Name};
+use sr_dash::board;
 use sr_entries::{Entries, Entry};
 use sr_group::Group;
 use sr_ids::Id;

@@ -1,6 +1,6 @@
 // That the definitions mean what they should: small problems worked by hand, and the limits of a problem, each with the
 // number that is just taken and the one that is just refused.
-use crate::{Problem, Solved, check, check_prices, check_shortage, total};
+use sr_transport::{Problem, Solved, check, check_prices, check_shortage, total};
 use std::alloc::{AllocError, Global};
 use std::process::Abort;
 use std::test::Fail;

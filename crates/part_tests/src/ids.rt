@@ -1,5 +1,5 @@
-//! What no clause says: which words parse to which ids, how ids are printed, and which id is next.
-use crate::{
+// What no clause says: which words parse to which ids, how ids are printed, and which id is next.
+use sr_ids::{
     Id, IdFault, Spec, next_auto, next_in, parse_end, parse_spec, parse_start, parse_strict, succ,
     write_id,
 };
