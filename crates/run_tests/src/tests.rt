@@ -47,6 +47,18 @@ fn empty_book(rt: &(impl AllocGlobal + RandomSource)) -> Result<Book, Fail> {
     Ok(Book::new(rt.alloc(), policy, RandomState::new(rt)?))
 }
 
+/// Has a session join at 10. The index of its record: the answer is dropped here alone, since at each exit it is dear to prove.
+fn joined<L: Ledger>(
+    alloc: Global,
+    held: &mut Held<L>,
+    seat: &mut Seat<L>,
+) -> Result<u64, SeatFault> {
+    match held.act(alloc, seat, 10, Event::Join) {
+        Ok(answer) => Ok(answer.index),
+        Err(refused) => Err(refused.fault),
+    }
+}
+
 /// Has this many sessions join at 10. Their numbers count from 1.
 fn join<L: Ledger, R: AllocGlobal + Abort>(
     rt: &R,
@@ -55,15 +67,25 @@ fn join<L: Ledger, R: AllocGlobal + Abort>(
     count: u64,
 ) -> Result<(), Fail> {
     for number in 0..count {
-        match held.act(rt.alloc(), seat, 10, Event::Join) {
-            Ok(answer) => assert!(rt; answer.index == number.saturating_add(1)),
-            Err(refused) => assert!(rt; false, "{:?}", refused.fault),
-        }
+        let index = joined(rt.alloc(), held, seat)?;
+        assert!(rt; index == number.saturating_add(1));
     }
     Ok(())
 }
 
-/// Makes a call of a session at 10. Its record has this index.
+/// Makes a call of a session at 10. The index of its record.
+fn exchanged<L: Ledger>(
+    alloc: Global,
+    held: &mut Held<L>,
+    seat: &mut Seat<L>,
+    session: u64,
+    call: &Call,
+) -> Result<u64, SeatFault> {
+    let receipt = held.exchange(alloc, seat, 10, session, call)?;
+    Ok(receipt.index)
+}
+
+/// Makes the call of a line. Its record has this index.
 fn exchange<L: Ledger, R: AllocGlobal + Abort>(
     rt: &R,
     held: &mut Held<L>,
@@ -73,8 +95,9 @@ fn exchange<L: Ledger, R: AllocGlobal + Abort>(
     index: u64,
 ) -> Result<(), Fail> {
     let call = call(rt.alloc(), line)?;
-    let receipt = held.exchange(rt.alloc(), seat, 10, session, &call)?;
-    assert_eq!(rt; receipt.index, index, "{line}");
+    let found = exchanged(rt.alloc(), held, seat, session, &call);
+    drop(call);
+    assert_eq!(rt; found?, index, "{line}");
     Ok(())
 }
 
@@ -138,6 +161,25 @@ fn deadline<L: Ledger, R: AllocGlobal + Abort>(
     Ok(())
 }
 
+/// Goes through a history at two of these seats.
+fn goes_at<L: Ledger, R: AllocGlobal + Abort>(
+    rt: &R,
+    held: &mut Held<L>,
+    seats: &mut [Seat<L>],
+    history: History,
+) -> Result<(), Fail> {
+    let Some((one, others)) = seats.split_first_mut() else {
+        return Err(Fail::new("no seat"));
+    };
+    let Some(other) = others.first_mut() else {
+        return Err(Fail::new("one seat"));
+    };
+    match history {
+        History::Serving => serving(rt, held, one, other),
+        History::Deadline => deadline(rt, held, one, other),
+    }
+}
+
 /// Goes through a history at two seats.
 fn goes_on<L: Ledger, R: AllocGlobal + Abort + RandomSource>(
     rt: &R,
@@ -150,13 +192,7 @@ fn goes_on<L: Ledger, R: AllocGlobal + Abort + RandomSource>(
 {
     let book = empty_book(rt)?;
     let (mut held, mut seats) = hold::<L>(rt.alloc(), book, 2, blank)?;
-    let (Some(mut one), Some(mut other)) = (seats.pop(), seats.pop()) else {
-        return Err(Fail::new("two seats"));
-    };
-    match history {
-        History::Serving => serving(rt, &mut held, &mut one, &mut other),
-        History::Deadline => deadline(rt, &mut held, &mut one, &mut other),
-    }
+    goes_at(rt, &mut held, seats.as_mut_slice(), history)
 }
 
 fn goes_through<R: AllocGlobal + Abort + RandomSource>(

@@ -23,18 +23,25 @@ enum Handed {
     LetterOfAnother,
 }
 
+/// Opens a session. Answers whether it could.
+fn opens<L: Ledger, R: AllocGlobal + Wait>(rt: &R, shared: &Shared<L>, seat: &mut Seat<L>) -> bool {
+    match shared.act(rt, rt.alloc(), seat, 10, Event::Join) {
+        Ok(_answer) => true,
+        Err(_refused) => false,
+    }
+}
+
 /// Opens two sessions.
 fn join<L: Ledger, R: AllocGlobal + Wait>(
     rt: &R,
     shared: &Shared<L>,
     seat: &mut Seat<L>,
 ) -> Result<(), Fail> {
-    for _ in 0..2 {
-        if shared.act(rt, rt.alloc(), seat, 10, Event::Join).is_err() {
-            return Err(Fail::new("no session"));
-        }
+    if opens(rt, shared, seat) && opens(rt, shared, seat) {
+        Ok(())
+    } else {
+        Err(Fail::new("no session"))
     }
-    Ok(())
 }
 
 /// Has a session call.
@@ -46,8 +53,9 @@ fn exchange<L: Ledger, R: AllocGlobal + Wait>(
     line: &str,
 ) -> Result<Receipt, Fail> {
     let call = call(rt.alloc(), line)?;
-    let receipt = shared.exchange(rt, rt.alloc(), seat, 10, session, &call)?;
-    Ok(receipt)
+    let made = shared.exchange(rt, rt.alloc(), seat, 10, session, &call);
+    drop(call);
+    Ok(made?)
 }
 
 /// One session waits for an entry, and another adds it: records 3 and 4. Record 5 serves the first.

@@ -96,19 +96,39 @@ pub(super) fn talk<D: Desk>(alloc: Global, desk: &mut D) -> Result<Vec<u8>, Fail
     }
 }
 
+/// What a session writes over a book of its own. The book is dropped here alone, since at each exit it is dear to prove.
+fn alone(alloc: Global, book: Book) -> Result<Vec<u8>, Fail> {
+    let mut own = book;
+    talk(alloc, &mut PlainDesk::new(&mut own))
+}
+
 /// A session writes what it writes over a book of its own.
 fn session<L: Ledger, R: AllocGlobal + Abort + RandomSource + Wait>(
     rt: &R,
     shared: &Shared<L>,
     seat: &mut Seat<L>,
 ) -> Result<(), Fail> {
-    let mut own = book(rt)?;
-    let alone = talk(rt.alloc(), &mut PlainDesk::new(&mut own))?;
+    let by_itself = alone(rt.alloc(), book(rt)?)?;
+    assert!(rt; by_itself.as_slice() == REPLIES);
     let seated = talk(rt.alloc(), &mut SeatDesk::new(rt, shared, seat))?;
-    assert!(rt; alone.as_slice() == REPLIES);
     assert!(rt; seated.as_slice() == REPLIES);
     // The join, four calls, a snapshot, a conclusion, a call and the leave.
     assert_eq!(rt; seat.front(), 9);
+    Ok(())
+}
+
+/// Hands a desk an event at 10.
+fn step<D: Desk>(alloc: Global, desk: &mut D, event: Event) -> Result<(), DeskFault> {
+    match desk.step(alloc, 10, event) {
+        Ok(_answer) => Ok(()),
+        Err(fault) => Err(fault),
+    }
+}
+
+/// Hands a desk the call of a line.
+fn step_call<D: Desk>(alloc: Global, desk: &mut D, session: u64, line: &str) -> Result<(), Fail> {
+    let call = call(alloc, line)?;
+    step(alloc, desk, Event::Call { session, call })?;
     Ok(())
 }
 
@@ -121,27 +141,29 @@ fn index_of(found: Result<Letter, DeskFault>) -> Result<u64, DeskFault> {
 }
 
 /// A session has no letter before it waited, the letter of its serving then, and none once it has left.
+fn letters_at<D: Desk>(rt: &(impl AllocGlobal + Abort), desk: &mut D) -> Result<(), Fail> {
+    let alloc = rt.alloc();
+    step(alloc, desk, Event::Join)?;
+    step(alloc, desk, Event::Join)?;
+    let idle = index_of(desk.await_reply(alloc, 1));
+    assert!(rt; idle == Err(DeskFault::Idle));
+    step_call(alloc, desk, 1, "XREAD BLOCK 0 STREAMS s $")?;
+    step_call(alloc, desk, 2, "XADD s 1-1 a b")?;
+    let served = index_of(desk.await_reply(alloc, 1));
+    assert!(rt; served == Ok(5));
+    step(alloc, desk, Event::Leave { session: 1 })?;
+    let left = index_of(desk.await_reply(alloc, 1));
+    assert!(rt; left == Err(DeskFault::NoSession));
+    Ok(())
+}
+
+/// The same at a seat.
 fn letters<L: Ledger, R: AllocGlobal + Abort + Wait>(
     rt: &R,
     shared: &Shared<L>,
     seat: &mut Seat<L>,
 ) -> Result<(), Fail> {
-    let alloc = rt.alloc();
-    let mut desk = SeatDesk::new(rt, shared, seat);
-    desk.step(alloc, 10, Event::Join)?;
-    desk.step(alloc, 10, Event::Join)?;
-    let idle = index_of(desk.await_reply(alloc, 1));
-    assert!(rt; idle == Err(DeskFault::Idle));
-    for (session, line) in [(1, "XREAD BLOCK 0 STREAMS s $"), (2, "XADD s 1-1 a b")] {
-        let call = call(alloc, line)?;
-        desk.step(alloc, 10, Event::Call { session, call })?;
-    }
-    let served = index_of(desk.await_reply(alloc, 1));
-    assert!(rt; served == Ok(5));
-    desk.step(alloc, 10, Event::Leave { session: 1 })?;
-    let left = index_of(desk.await_reply(alloc, 1));
-    assert!(rt; left == Err(DeskFault::NoSession));
-    drop(desk);
+    letters_at(rt, &mut SeatDesk::new(rt, shared, seat))?;
     assert_eq!(rt; seat.front(), 6);
     Ok(())
 }
