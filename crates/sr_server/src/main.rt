@@ -7,30 +7,10 @@
 
 ghost use Rattle.std.specs.Prelude.{◌≤◌};
 
-mod clock;
-mod command;
-mod command_line;
-mod fault;
-mod listen;
-mod load;
-mod network;
-mod opening;
-mod options;
-mod report;
-mod request;
-mod serving;
-mod start;
-#[cfg(test)]
-mod tests;
-mod text_files;
-
-use crate::command_line::{refuse_words, words};
-use crate::network::{SystemNetwork, serve_all_that_come};
-use crate::serving::ServeFault;
-use crate::start::start;
-use crate::text_files::SystemFiles;
 use sr_resp::WriteTo;
+use sr_serve::ServeFault;
 use sr_session::ReadFrom;
+use sr_start::{SystemFiles, SystemNetwork, refuse_words, serve_all_that_come, start, words};
 use std::process::ExitCode;
 
 fn main(rt: HostRuntime) -> ExitCode {

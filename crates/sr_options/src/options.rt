@@ -1,0 +1,105 @@
+ghost use Rattle.std.specs.Prelude.{◌≡◌, ℕ, List, ◌∷◌, map, false, IfOk, IfErr};
+ghost use Rattle.clap.specs.Words.{app_of, kind_of, rule_of};
+ghost use Rattle.sr_options.specs.Options.{AreOnce, Flag, asked_by, asked_of, word_of};
+ghost use Rattle.sr_options.specs.steps.Server.{plain_rule, server, valued_rule};
+
+use clap::error::ErrorKind;
+use clap::{Arg, ArgAction, Command, Error};
+use std::alloc::{AllocError, Global};
+use std::convert::AsStr;
+
+/// What help says at its end.
+const EXAMPLES: &str = "Examples:
+  sr_server --listen 127.0.0.1:6379 --policy policy.toml
+  sr_server --stdio < requests > replies";
+
+/// The options of the command line, as they are written.
+#[derive(Clone, Copy)]
+pub struct Options<'a> {
+    /// Whether one session is asked for, over standard input and output.
+    pub stdio: bool,
+    /// The address to listen at.
+    pub listen: Option<&'a str>,
+    /// The path of the policy file.
+    pub policy: Option<&'a str>,
+    /// How many connections are served at a time.
+    pub workers: Option<&'a str>,
+}
+
+/// Reads the options from the words of the command line, of which the first is the program's name.
+///
+/// An `Err` has the text for the user, also where help was asked for.
+pub fn read_options<'a, S: AsStr>(alloc: Global, words: &'a [S]) -> Result<Options<'a>, Error>
+    ensures ok { (name : List ℕ) (flags : List Flag) → map S.text words.now ≡ name ∷ map word_of flags → AreOnce flags
+        → IfOk result (λ options. asked_of options ≡ asked_by flags) }
+    ensures err { (name : List ℕ) (flags : List Flag) → map S.text words.now ≡ name ∷ map word_of flags → AreOnce flags
+        → IfErr result (λ error. kind_of error ≡ ErrorKind.OutOfMemory) }
+{
+    let command = command_line(alloc)?;
+    let matches = command.try_get_matches_from(words)?;
+    Ok(Options {
+        stdio: matches.get_flag("stdio"),
+        listen: matches.get_str("listen"),
+        policy: matches.get_str("policy"),
+        workers: matches.get_str("workers"),
+    })
+}
+
+/// The options that there are.
+fn command_line<'a>(alloc: Global) -> Result<Command<'a>, AllocError>
+    ensures { IfOk result (λ command. app_of command ≡ server) }
+{
+    let stdio = plain(
+        alloc,
+        "stdio",
+        "Serve one connection over standard input and output",
+    );
+    let listen = valued(
+        alloc,
+        "listen",
+        "ADDR",
+        "Serve the connections that come to this address, as 127.0.0.1:6379 or [::1]:6379",
+    );
+    let policy = valued(
+        alloc,
+        "policy",
+        "FILE",
+        "Read who may take which entries from this file",
+    );
+    let workers = valued(
+        alloc,
+        "workers",
+        "N",
+        "Serve at most N connections at a time, from 1 to 64 [default: 64]",
+    );
+    Command::new(alloc, "sr_server")
+        .about("Redis Streams over RESP2. Takes either --stdio or --listen.")
+        .after_help(EXAMPLES)
+        .arg(stdio)?
+        .arg(listen)?
+        .arg(policy)?
+        .arg(workers)
+}
+
+/// An option without a value.
+fn plain<'a>(alloc: Global, name: &'a str, help: &'a str) -> Arg<'a>
+    ensures rule { rule_of result ≡ plain_rule name.entry.now }
+    ensures local { result.global ≡ false }
+{
+    Arg::new(alloc, name)
+        .long(name)
+        .action(ArgAction::SetTrue)
+        .help(help)
+}
+
+/// An option with a value.
+fn valued<'a>(alloc: Global, name: &'a str, value: &'a str, help: &'a str) -> Arg<'a>
+    ensures rule { rule_of result ≡ valued_rule name.entry.now }
+    ensures local { result.global ≡ false }
+{
+    Arg::new(alloc, name)
+        .long(name)
+        .action(ArgAction::Set)
+        .value_name(value)
+        .help(help)
+}

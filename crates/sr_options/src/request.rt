@@ -1,0 +1,24 @@
+ghost use Rattle.std.specs.Prelude.{◌≤◌};
+
+use std::net::SocketAddr;
+
+/// What the command line asks for.
+#[derive(Clone, Copy)]
+pub enum Request<'a> {
+    /// One session over standard input and output.
+    Stdio,
+    /// A server for connections.
+    Listen(Listening<'a>),
+}
+
+/// Serving the connections that come to an address.
+#[derive(Clone, Copy)]
+pub struct Listening<'a> {
+    /// The address to listen at.
+    pub address: SocketAddr,
+    /// The address as it was given.
+    pub text: &'a str,
+    /// How many connections are served at a time.
+    pub workers: usize,
+    ghost in_range: { (1 ≤ workers) × (workers ≤ 64) },
+}

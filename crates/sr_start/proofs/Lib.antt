@@ -1,0 +1,2 @@
+pub mod ListenLemmas
+pub mod ServeLemmas

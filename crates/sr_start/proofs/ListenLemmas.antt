@@ -1,0 +1,22 @@
+-- What was written once the program listens, and how serving may end.
+use Rattle.std.proofs.Common.{◌≡◌, ◌∙◌, sym, subst, refl, ℕ, List, Bool, true, false, true≢false, Option, Result, Ok, Err, OnOk, OnErr, IsTrue}
+use Rattle.std.specs.Io.KnownBytes.{Appends}
+use Rattle.std.specs.declared.net.socket_addr.SocketAddr.{SocketAddr}
+use Rattle.sr_book.specs.Records.{BookState}
+use Rattle.sr_serve.specs.declared.serving.ServeFault.{ServeFault}
+
+-- the line is written whole, or a write failed
+pub said_unless_failed : {T E : Type 0} (sent : Result T E) (old new : Option (List ℕ)) (line : List ℕ) (failed : Bool)
+    → OnOk sent (Appends old new line) → OnErr sent ((written : List ℕ) × Appends old new written) → OnErr sent (failed ≡ true)
+    → (written : List ℕ) × Appends old new written × (failed ≡ false → written ≡ line)
+said_unless_failed (Ok done) old new line failed ok err fails = (line, ok, λ sound. refl)
+said_unless_failed (Err fault) old new line failed ok err fails =
+    (err.0, err.1, λ sound. absurd (true≢false (sym fails ∙ sound)))
+
+-- the address that is bound is the one that was asked for, and the book is the opened one
+pub may_end_so : (may_end : SocketAddr → ℕ → BookState → ServeFault → Bool) (bound address : SocketAddr) (workers : ℕ)
+    (book opened : BookState) (end : ServeFault) → bound ≡ address → book ≡ opened
+    → IsTrue (may_end bound workers book end) → IsTrue (may_end address workers opened end)
+may_end_so may_end bound address workers book opened end same_address same_book ends =
+    subst (λ (at : SocketAddr). IsTrue (may_end at workers opened end)) same_address
+    (subst (λ (from : BookState). IsTrue (may_end bound workers from end)) same_book ends)

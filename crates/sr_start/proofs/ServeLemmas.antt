@@ -1,0 +1,23 @@
+-- A session that starts with an empty book is one that the program serves, and one without a book is none.
+use Rattle.std.proofs.Common.{◌≡◌, ℕ, Bool, false, List, [], Option, Some, Result, Err, subst, refl, ap, inl, inr}
+use Rattle.sr_policy.specs.Rules.{Rules}
+use Rattle.sr_book.specs.Records.{BookState, empty_book}
+use Rattle.sr_session.specs.Whole.{RunsAs}
+use Rattle.sr_session.specs.declared.run.Ended.{Ended}
+use Rattle.sr_start.specs.declared.fault.Fault.{Fault}
+use Rattle.sr_start.specs.Fault.{Runs, Serves, loads_not, outcome_of, starts_not}
+use Rattle.sr_start.specs.Listening.{Opens}
+
+pub served_from : (may_tell : ℕ → Bool) (rules : Rules) (taken written : List ℕ) (found now : Option BookState) (ended : Ended) (outcome : Result (Unit {0}) Fault)
+    → found ≡ Some (empty_book rules) → RunsAs may_tell false found taken written ended now → outcome ≡ outcome_of ended.end → Serves may_tell rules taken written outcome
+served_from may_tell rules taken written found now ended outcome starts session told = record {
+  ended = ended;
+  now = now;
+  session = subst (λ old. RunsAs may_tell false old taken written ended now) starts session;
+  told = told;
+}
+
+pub not_opened : (may_tell : ℕ → Bool) (may_hold : List ℕ → Option (List ℕ) → Bool) (policy : Option (List ℕ)) (fault : Fault)
+    → Opens may_hold policy (Err fault) → Runs may_tell may_hold policy [] [] (Err fault)
+not_opened may_tell may_hold policy fault (inl is) = starts_not refl refl (inr (ap Err is))
+not_opened may_tell may_hold policy fault (inr loads) = loads_not fault refl refl loads refl

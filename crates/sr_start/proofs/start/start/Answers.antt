@@ -1,0 +1,80 @@
+use Rattle.std.proofs.Common.{[], Err, refl, inl, subst}
+use Rattle.std.proofs.KnownBytes.{Consumes-nil, Appends-nil}
+use Rattle.sr_start.specs.declared.fault.Fault.TheVariants.{StartMemory}
+use Rattle.sr_options.specs.Command.{AsksForNothing, AsksForStdio, AsksToListen}
+use Rattle.sr_start.specs.Fault.{Runs, starts_not}
+use Rattle.sr_serve.specs.Moment.{any_moment}
+use Rattle.sr_start.specs.Listening.{Listens, starts_not as listens_not}
+use Rattle.sr_options.specs.Options.{Asked}
+use Rattle.sr_options.proofs.CommandLemmas.{not_both}
+use Rattle.sr_start.proofs.start.start.Goals as goal
+
+-- ---- the options are refused
+
+pub returns-in-Err-clause-served : goal.returns-in-Err-clause-served
+returns-in-Err-clause-served g c = λ name flags words_are once asks.
+    let is_1 = c.refuse.ensures.memory (c.in-Err.ensures.err name flags words_are once) in
+    ([], [], Consumes-nil _, Appends-nil _, Err StartMemory, starts_not refl refl (inl refl), is_1, refl, (λ e. (refl, refl)), (λ e. refl))
+
+pub returns-in-Err-clause-listened : goal.returns-in-Err-clause-listened
+returns-in-Err-clause-listened g c = λ name flags words_are once asks.
+    let is_1 = c.refuse.ensures.memory (c.in-Err.ensures.err name flags words_are once) in
+    (asks.0, asks.1, asks.2, asks.3, [], Appends-nil _, StartMemory, listens_not refl refl, is_1, refl)
+
+-- ---- they ask for standard input and output
+
+pub returns-in-Ok-Stdio-clause-served : goal.returns-in-Ok-Stdio-clause-served
+returns-in-Ok-Stdio-clause-served g c = λ name flags words_are once asks.
+    let s = c.connect.ensures.served in
+    let read = c.in-Ok.ensures.ok name flags words_are once in
+    let runs = subst (λ (asked : Asked). Runs any_moment (g.F.TextFiles.may_hold c.args.files.now) asked.policy s.0 s.1 c.connect.result) read s.4 in
+    (s.0, s.1, s.2, s.3, c.connect.result, runs, c.report.ensures, refl, c.connect.ensures.refused, c.connect.ensures.random)
+
+pub returns-in-Ok-Stdio-clause-listened : goal.returns-in-Ok-Stdio-clause-listened
+returns-in-Ok-Stdio-clause-listened g c = λ name flags words_are once asks.
+    let stdio = subst AsksForStdio (c.in-Ok.ensures.ok name flags words_are once) (rw c.in-Ok-Stdio.field-0-is at c.in-Ok-Stdio.ensures.ok) in
+    absurd (not_both _ stdio asks)
+
+pub returns-in-Ok-Stdio-clause-both : goal.returns-in-Ok-Stdio-clause-both
+returns-in-Ok-Stdio-clause-both g c = λ name flags words_are once nothing.
+    let stdio = subst AsksForStdio (c.in-Ok.ensures.ok name flags words_are once) (rw c.in-Ok-Stdio.field-0-is at c.in-Ok-Stdio.ensures.ok) in
+    absurd (nothing.no_stdio stdio)
+
+-- ---- they ask for an address
+
+pub returns-in-Ok-Listen-clause-served : goal.returns-in-Ok-Listen-clause-served
+returns-in-Ok-Listen-clause-served g c = λ name flags words_are once asks.
+    let asked = c.in-Ok-Listen.asked in
+    let listen = subst (λ (read : Asked). AsksToListen read asked.text.now asked.address asked.workers)
+    (c.in-Ok.ensures.ok name flags words_are once) (rw c.in-Ok-Listen.field-0-is at c.in-Ok-Listen.ensures.ok) in
+    absurd (not_both _ asks (asked.text.now, asked.address, asked.workers, listen))
+
+pub returns-in-Ok-Listen-clause-listened : goal.returns-in-Ok-Listen-clause-listened
+returns-in-Ok-Listen-clause-listened g c = λ name flags words_are once asks.
+    let asked = c.in-Ok-Listen.asked in
+    let read = c.in-Ok.ensures.ok name flags words_are once in
+    let listen = subst (λ (read : Asked). AsksToListen read asked.text.now asked.address asked.workers)
+    read (rw c.in-Ok-Listen.field-0-is at c.in-Ok-Listen.ensures.ok) in
+    let l = c.listen-fault.ensures.listened in
+    let listens = subst (λ (read : Asked). Listens (g.F.TextFiles.may_hold c.args.files.now) g.N.Network.may_refuse g.N.Network.may_end read.policy
+    asked.text.now asked.address asked.workers l.0 (g.O.Sink.failed c.listen-fault.new.writer) c.listen-fault.result) read l.2 in
+    (asked.text.now, asked.address, asked.workers, listen, l.0, l.1, c.listen-fault.result, listens, c.report-in-Ok-Listen.ensures, refl)
+
+pub returns-in-Ok-Listen-clause-both : goal.returns-in-Ok-Listen-clause-both
+returns-in-Ok-Listen-clause-both g c = λ name flags words_are once nothing.
+    let asked = c.in-Ok-Listen.asked in
+    let listen = subst (λ (read : Asked). AsksToListen read asked.text.now asked.address asked.workers)
+    (c.in-Ok.ensures.ok name flags words_are once) (rw c.in-Ok-Listen.field-0-is at c.in-Ok-Listen.ensures.ok) in
+    absurd (nothing.no_address (asked.text.now, asked.address, asked.workers, listen))
+
+-- ---- they ask for nothing
+
+pub returns-in-Err-request_of-clause-served : goal.returns-in-Err-request_of-clause-served
+returns-in-Err-request_of-clause-served g c = λ name flags words_are once asks.
+    let nothing = subst AsksForNothing (c.in-Ok.ensures.ok name flags words_are once) c.in-Err-request_of.ensures.err in
+    absurd (nothing.no_stdio asks)
+
+pub returns-in-Err-request_of-clause-listened : goal.returns-in-Err-request_of-clause-listened
+returns-in-Err-request_of-clause-listened g c = λ name flags words_are once asks.
+    let nothing = subst AsksForNothing (c.in-Ok.ensures.ok name flags words_are once) c.in-Err-request_of.ensures.err in
+    absurd (nothing.no_address asks)

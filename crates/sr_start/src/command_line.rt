@@ -1,0 +1,25 @@
+ghost use Rattle.std.specs.Prelude.{◌≡◌, ◌≢◌};
+ghost use Rattle.std.specs.IoError.{error_kind};
+
+use crate::fault::Fault;
+use crate::report::{REFUSED, report};
+use std::env;
+use std::io::{self, Error, ErrorKind, Write};
+use std::rt::Env;
+
+/// The words of the command line, the program's name first.
+pub fn words(rt: &(impl Env + AllocGlobal)) -> io::Result<Vec<String>> {
+    Ok(env::args(rt)?.collect(rt.alloc())?)
+}
+
+/// Says why there are no words, and answers the status.
+pub fn refuse_words<E: Write>(err: &mut E, error: Error) -> u8
+    ensures memory { error_kind error ≡ ErrorKind.OutOfMemory → result ≡ 1 }
+    ensures refused { error_kind error ≢ ErrorKind.OutOfMemory → result ≡ 2 }
+{
+    if error.kind() == ErrorKind::OutOfMemory {
+        return report(err, Err(Fault::StartMemory));
+    }
+    let _ = writeln!(err, "error: the command line is not UTF-8");
+    REFUSED
+}
