@@ -18,12 +18,35 @@ use std::io::{self, BufRead, BufReader, LineWriter, Write};
 
 fn main(rt: HostRuntime) -> io::Result<()> {
     let alloc = rt.alloc();
-    let mut driver = Driver::new(alloc, Policy::empty(alloc), RandomState::new(&rt)?);
+    let hasher = RandomState::new(&rt)?;
+    let input = BufReader::new(alloc, rt.reader())?;
     let mut out = LineWriter::new(alloc, io::writer(&rt))?;
-    for line in BufReader::new(alloc, rt.reader())?.split(alloc, b'\n') {
-        answer_line(alloc, &mut driver, line?.as_slice(), &mut out)?;
-    }
+    answer_input(alloc, hasher, input, &mut out)?;
     out.flush()
+}
+
+/// Answers the lines of the input over a new book.
+fn answer_input<R: BufRead + Drop, W: Write>(
+    alloc: Global,
+    hasher: RandomState,
+    input: R,
+    out: &mut W,
+) -> io::Result<()> {
+    let mut driver = Driver::new(alloc, Policy::empty(alloc), hasher);
+    answer_lines(alloc, &mut driver, input, out)
+}
+
+/// Answers the lines of the input.
+fn answer_lines<R: BufRead + Drop, W: Write>(
+    alloc: Global,
+    driver: &mut Driver,
+    input: R,
+    out: &mut W,
+) -> io::Result<()> {
+    for line in input.split(alloc, b'\n') {
+        answer_line(alloc, driver, line?.as_slice(), out)?;
+    }
+    Ok(())
 }
 
 /// Answers a line, unless it is empty.
