@@ -17,6 +17,7 @@ demo:
 test:
 	rt ci
 	@scripts/replay crates/sr_server/out/sr_server README.md examples/*.session tests/sessions/*.session
+	@tests/requests.py crates/sr_server/out/sr_server
 	@tests/many_stranded.py crates/sr_server/out/sr_server
 	@scripts/policies crates/sr_server/out/sr_server examples/policies/*.toml
 	@scripts/histories crates/book_driver/out/book_driver examples/histories/*.history tests/histories/*.history
@@ -28,6 +29,7 @@ test:
 replay:
 	@cd crates/sr_server && rt run -- --stdio < /dev/null
 	@scripts/replay crates/sr_server/out/sr_server README.md examples/*.session tests/sessions/*.session
+	@tests/requests.py crates/sr_server/out/sr_server
 	@tests/many_stranded.py crates/sr_server/out/sr_server
 
 # The histories alone: events handed to a book, with their answers.
@@ -56,7 +58,7 @@ memory:
 # succeeds at the second try. It needs cc.
 refusals:
 	@cd crates/book_driver && rt run -- < /dev/null
-	@scripts/refusals crates/book_driver/out/book_driver examples/histories/*.history tests/histories/runs.history tests/histories/waiting.history
+	@scripts/refusals crates/book_driver/out/book_driver examples/histories/*.history tests/histories/runs.history tests/histories/waiting.history tests/histories/adding.history
 
 # Builds the server, sends it and a Redis server (Debian: redis-server) the same random commands, also over sockets with readers that
 # block, and prints replies that differ.

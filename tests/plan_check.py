@@ -38,6 +38,12 @@ consumer A 1
 rate x A 1
 """
 
+# The second entry of `TWO` can go to B alone.
+APART = TWO.replace("rate y A 1\n", "")
+
+# There is one entry, and A has a place that is left over.
+ONE = "entry 1-1 x 2\nconsumer A 2\nconsumer B 1\nrate x A 1\nrate x B 2\n"
+
 # Both of `TWO`, and 3-1 that is gone.
 GONE = """\
 gone 3-1
@@ -56,6 +62,8 @@ CHEAPEST = "cheapest, total 6"
 FORM = "wrong: the reply is neither a plan nor a shortage"
 
 ENTRIES = "wrong: the entries of the reply, or those that it calls gone, are not those of the problem"
+
+NAMES = "wrong: a name in the reply is not that of a consumer in its place"
 
 PRICES = "wrong: the prices do not show that the plan is allowed, costs the total, and costs least"
 
@@ -80,6 +88,16 @@ SENT = [
     (TWO, "*5 $4 plan :6 *2 *2 $3 1-1 $1 B *2 $3 2-1 $1 A *2 *2 $1 A :2 *2 $1 B :0 *0", CHEAPEST),
     (TWO_AGAIN, "*5 $4 done :6 *2 *2 $3 1-1 $1 B *2 $3 2-1 $1 A *2 *2 $1 A :2 *2 $1 B :0 *0", CHEAPEST),
     (TWO, "*5 $4 plan :6 *2 *2 $3 1-1 $1 B *2 $3 2-1 $1 A *2 *2 $1 A :1 *2 $1 B :0 *0", PRICES),
+    # The prices of A that show the plan are those from 2 to 198, and one of B has to be there.
+    (TWO, "*5 $4 plan :6 *2 *2 $3 1-1 $1 B *2 $3 2-1 $1 A *2 *2 $1 A :198 *2 $1 B :0 *0", CHEAPEST),
+    (TWO, "*5 $4 plan :6 *2 *2 $3 1-1 $1 B *2 $3 2-1 $1 A *2 *2 $1 A :199 *2 $1 B :0 *0", PRICES),
+    (TWO, "*5 $4 plan :6 *2 *2 $3 1-1 $1 B *2 $3 2-1 $1 A *1 *2 $1 A :2 *0", NAMES),
+    # A has no room for both.
+    (TWO, "*5 $4 plan :4 *2 *2 $3 1-1 $1 A *2 $3 2-1 $1 A *2 *2 $1 A :2 *2 $1 B :0 *0", PRICES),
+    (APART, "*5 $4 plan :202 *2 *2 $3 1-1 $1 A *2 $3 2-1 $1 B *2 *2 $1 A :0 *2 $1 B :0 *0", "cheapest, total 202"),
+    # A price where a place is left over.
+    (ONE, "*5 $4 plan :2 *1 *2 $3 1-1 $1 A *2 *2 $1 A :0 *2 $1 B :0 *0", "cheapest, total 2"),
+    (ONE, "*5 $4 plan :2 *1 *2 $3 1-1 $1 A *2 *2 $1 A :1 *2 $1 B :0 *0", PRICES),
     (TWO, "*5 $4 plan :5 *2 *2 $3 1-1 $1 B *2 $3 2-1 $1 A *2 *2 $1 A :2 *2 $1 B :0 *0", PRICES),
     # The total is right, but the other plan costs less.
     (TWO, "*5 $4 plan :202 *2 *2 $3 1-1 $1 A *2 $3 2-1 $1 B *2 *2 $1 A :0 *2 $1 B :0 *0", PRICES),
@@ -88,13 +106,19 @@ SENT = [
     (
         TWO,
         "*5 $4 plan :6 *2 *2 $3 1-1 $1 C *2 $3 2-1 $1 A *2 *2 $1 A :2 *2 $1 B :0 *0",
-        "wrong: a name in the reply is not that of a consumer in its place",
+        NAMES,
     ),
     # 3-1 is called gone, and is not in the problem; and then it is in the problem.
     (TWO, "*5 $4 plan :6 *2 *2 $3 1-1 $1 B *2 $3 2-1 $1 A *2 *2 $1 A :2 *2 $1 B :0 *1 $3 3-1", ENTRIES),
     (GONE, "*5 $4 plan :6 *2 *2 $3 1-1 $1 B *2 $3 2-1 $1 A *2 *2 $1 A :2 *2 $1 B :0 *1 $3 3-1", CHEAPEST),
     (SHORT, "*4 $4 none *2 $3 1-1 $3 2-1 *1 *2 $1 A :1 :1", "impossible, 1 place for 2 entries"),
     (SHORT, "*4 $4 none *2 $3 1-1 $3 2-1 *1 *2 $1 A :1 :2", PLACES),
+    # One of the entries has a place, and none needs none. Entries of a shortage stand by id, each once. Those of `TWO` have places.
+    (SHORT, "*4 $4 none *1 $3 1-1 *1 *2 $1 A :1 :1", PLACES),
+    (SHORT, "*4 $4 none *0 *0 :0", PLACES),
+    (SHORT, "*4 $4 none *2 $3 2-1 $3 1-1 *1 *2 $1 A :1 :1", ENTRIES),
+    (SHORT, "*4 $4 none *2 $3 1-1 $3 1-1 *1 *2 $1 A :1 :1", ENTRIES),
+    (TWO, "*4 $4 none *2 $3 1-1 $3 2-1 *2 *2 $1 A :1 *2 $1 B :1 :2", PLACES),
     # Nobody may take 1-1.
     ("entry 1-1 x 1\nconsumer A 1\n", "*4 $4 none *1 $3 1-1 *0 :0", "impossible, 0 places for 1 entry"),
     ("", "*5 $4 plan :0 *0 *0 *0", "cheapest, total 0"),

@@ -10,8 +10,6 @@ mod check;
 #[cfg(test)]
 mod decoding;
 #[cfg(test)]
-mod group;
-#[cfg(test)]
 mod ids;
 #[cfg(test)]
 mod pending;

@@ -1,8 +1,16 @@
-// Calls that are the same, and calls that differ in one part.
+// Calls that are the same, and calls that differ in one part. What is compared is a copy, which outlives its call.
 use super::call;
-use sr_args::CallFault;
+use sr_args::{Call, CallFault};
 use std::process::Abort;
 use std::test::Fail;
+
+/// A copy of the call that a line is.
+fn copied(rt: &(impl AllocGlobal + Abort), line: &str) -> Result<Call, CallFault> {
+    let call = call(rt, line)?;
+    let copy = call.copy(rt.alloc());
+    drop(call);
+    Ok(copy?)
+}
 
 /// Fails the test unless the calls that two lines are compare as wanted.
 fn compares(
@@ -11,7 +19,7 @@ fn compares(
     second: &str,
     want: bool,
 ) -> Result<(), CallFault> {
-    let left = call(rt, first)?;
+    let left = copied(rt, first)?;
     let read = call(rt, second);
     let same = match &read {
         Ok(right) => left.equals(right),
@@ -25,11 +33,20 @@ fn compares(
 
 #[test]
 fn calls_are_the_same_in_all_parts_or_not(rt: HostRuntime) -> Result<(), Fail> {
-    compares(&rt, "XADD s 5 a 1 b 2", "XADD s 5-0 a 1 b 2", true)?;
-    compares(&rt, "XADD s 5 a 1 b 2", "XADD s 5 b 2 a 1", false)?;
-    compares(&rt, "XRANGE s - + COUNT 2", "XRANGE s - +", false)?;
-    compares(&rt, "XLEN one", "XLEN two", false)?;
-    compares(&rt, "XLEN s", "XINFO STREAM s", false)?;
-    compares(&rt, "XREAD STREAMS s t 1 2", "XREAD STREAMS s t 1 3", false)?;
+    let read = "XREADGROUP GROUP g c COUNT 2 BLOCK 5 NOACK STREAMS s t > 0";
+    for (first, second, want) in [
+        ("XADD s 5 a 1 b 2", "XADD s 5-0 a 1 b 2", true),
+        ("XADD s 5 a 1 b 2", "XADD s 5 b 2 a 1", false),
+        ("XRANGE s - + COUNT 2", "XRANGE s - +", false),
+        ("XLEN one", "XLEN two", false),
+        ("XLEN s", "XINFO STREAM s", false),
+        ("XREAD STREAMS s t 1 2", "XREAD STREAMS s t 1 3", false),
+        ("XDEL s 1-1 5", "XDEL s 1-1 5-0", true),
+        ("XPENDING s g 5 7 -1 c", "XPENDING s g 5-0 7 -1 c", true),
+        ("XPENDING s g 5 7 -1 c", "XPENDING s g 5 7 -2 c", false),
+        (read, read, true),
+    ] {
+        compares(&rt, first, second, want)?;
+    }
     Ok(())
 }
