@@ -19,9 +19,12 @@ test:
 	@scripts/replay crates/sr_server/out/sr_server README.md examples/*.session tests/sessions/*.session
 	@tests/requests.py crates/sr_server/out/sr_server
 	@tests/many_stranded.py crates/sr_server/out/sr_server
+	@tests/bytes.py crates/sr_server/out/sr_server
 	@scripts/policies crates/sr_server/out/sr_server examples/policies/*.toml
+	@tests/policies.py crates/sr_server/out/sr_server
 	@scripts/histories crates/book_driver/out/book_driver examples/histories/*.history tests/histories/*.history
 	@scripts/replay_at crates/book_driver/out/book_driver tests/moments/*.session
+	@tests/heavy_entry.py crates/book_driver/out/book_driver
 	@scripts/plans crates/plan_check/out/plan_check examples/plans/*.plan
 	@tests/plan_check.py crates/plan_check/out/plan_check
 
@@ -31,12 +34,14 @@ replay:
 	@scripts/replay crates/sr_server/out/sr_server README.md examples/*.session tests/sessions/*.session
 	@tests/requests.py crates/sr_server/out/sr_server
 	@tests/many_stranded.py crates/sr_server/out/sr_server
+	@tests/bytes.py crates/sr_server/out/sr_server
 
 # The histories alone: events handed to a book, with their answers.
 histories:
 	@cd crates/book_driver && rt run -- < /dev/null
 	@scripts/histories crates/book_driver/out/book_driver examples/histories/*.history tests/histories/*.history
 	@scripts/replay_at crates/book_driver/out/book_driver tests/moments/*.session
+	@tests/heavy_entry.py crates/book_driver/out/book_driver
 
 # The plans alone: replies checked against the problems beside them.
 plans:

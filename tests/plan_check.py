@@ -30,6 +30,9 @@ TWO_AGAIN = (
     "rate x B 2\nrate y A 1\nrate x A 1\nentry 2-1 y 2\nentry 1-1 x 2\n"
 )
 
+# The same, but B has no room.
+NO_ROOM = TWO.replace("consumer B 1", "consumer B 0")
+
 # A alone has room, and for one entry.
 SHORT = """\
 entry 1-1 x 2
@@ -87,10 +90,11 @@ PLAN = """\
 SENT = [
     (TWO, "*5 $4 plan :6 *2 *2 $3 1-1 $1 B *2 $3 2-1 $1 A *2 *2 $1 A :2 *2 $1 B :0 *0", CHEAPEST),
     (TWO_AGAIN, "*5 $4 done :6 *2 *2 $3 1-1 $1 B *2 $3 2-1 $1 A *2 *2 $1 A :2 *2 $1 B :0 *0", CHEAPEST),
+    # Other prices show the same. A's price may be 2 to 198 more than B's.
+    (TWO, "*5 $4 done :6 *2 *2 $3 1-1 $1 B *2 $3 2-1 $1 A *2 *2 $1 A :198 *2 $1 B :0 *0", CHEAPEST),
     (TWO, "*5 $4 plan :6 *2 *2 $3 1-1 $1 B *2 $3 2-1 $1 A *2 *2 $1 A :1 *2 $1 B :0 *0", PRICES),
-    # The prices of A that show the plan are those from 2 to 198, and one of B has to be there.
-    (TWO, "*5 $4 plan :6 *2 *2 $3 1-1 $1 B *2 $3 2-1 $1 A *2 *2 $1 A :198 *2 $1 B :0 *0", CHEAPEST),
     (TWO, "*5 $4 plan :6 *2 *2 $3 1-1 $1 B *2 $3 2-1 $1 A *2 *2 $1 A :199 *2 $1 B :0 *0", PRICES),
+    # B has no price.
     (TWO, "*5 $4 plan :6 *2 *2 $3 1-1 $1 B *2 $3 2-1 $1 A *1 *2 $1 A :2 *0", NAMES),
     # A has no room for both.
     (TWO, "*5 $4 plan :4 *2 *2 $3 1-1 $1 A *2 $3 2-1 $1 A *2 *2 $1 A :2 *2 $1 B :0 *0", PRICES),
@@ -98,10 +102,14 @@ SENT = [
     # A price where a place is left over.
     (ONE, "*5 $4 plan :2 *1 *2 $3 1-1 $1 A *2 *2 $1 A :0 *2 $1 B :0 *0", "cheapest, total 2"),
     (ONE, "*5 $4 plan :2 *1 *2 $3 1-1 $1 A *2 *2 $1 A :1 *2 $1 B :0 *0", PRICES),
+    # The total is one too low, and one too high.
     (TWO, "*5 $4 plan :5 *2 *2 $3 1-1 $1 B *2 $3 2-1 $1 A *2 *2 $1 A :2 *2 $1 B :0 *0", PRICES),
+    (TWO, "*5 $4 plan :7 *2 *2 $3 1-1 $1 B *2 $3 2-1 $1 A *2 *2 $1 A :2 *2 $1 B :0 *0", PRICES),
     # The total is right, but the other plan costs less.
     (TWO, "*5 $4 plan :202 *2 *2 $3 1-1 $1 A *2 $3 2-1 $1 B *2 *2 $1 A :0 *2 $1 B :0 *0", PRICES),
     (TWO, "*5 $4 plan :6 *1 *2 $3 1-1 $1 B *2 *2 $1 A :2 *2 $1 B :0 *0", ENTRIES),
+    # 1-1 is there twice.
+    (TWO, "*5 $4 plan :6 *2 *2 $3 1-1 $1 B *2 $3 1-1 $1 A *2 *2 $1 A :2 *2 $1 B :0 *0", ENTRIES),
     # C is not there.
     (
         TWO,
@@ -113,17 +121,23 @@ SENT = [
     (GONE, "*5 $4 plan :6 *2 *2 $3 1-1 $1 B *2 $3 2-1 $1 A *2 *2 $1 A :2 *2 $1 B :0 *1 $3 3-1", CHEAPEST),
     (SHORT, "*4 $4 none *2 $3 1-1 $3 2-1 *1 *2 $1 A :1 :1", "impossible, 1 place for 2 entries"),
     (SHORT, "*4 $4 none *2 $3 1-1 $3 2-1 *1 *2 $1 A :1 :2", PLACES),
-    # One of the entries has a place, and none needs none. Entries of a shortage stand by id, each once. Those of `TWO` have places.
+    # One of the entries has a place, and none needs none. Entries of a shortage stand by id, each once.
     (SHORT, "*4 $4 none *1 $3 1-1 *1 *2 $1 A :1 :1", PLACES),
     (SHORT, "*4 $4 none *0 *0 :0", PLACES),
     (SHORT, "*4 $4 none *2 $3 2-1 $3 1-1 *1 *2 $1 A :1 :1", ENTRIES),
     (SHORT, "*4 $4 none *2 $3 1-1 $3 1-1 *1 *2 $1 A :1 :1", ENTRIES),
+    (NO_ROOM, "*4 $4 none *2 $3 1-1 $3 2-1 *2 *2 $1 A :1 *2 $1 B :0 :1", "impossible, 1 place for 2 entries"),
+    (NO_ROOM, "*4 $4 none *2 $3 1-1 $3 2-1 *2 *2 $1 A :1 *2 $1 B :0 :2", PLACES),
+    # The two have places enough.
     (TWO, "*4 $4 none *2 $3 1-1 $3 2-1 *2 *2 $1 A :1 *2 $1 B :1 :2", PLACES),
     # Nobody may take 1-1.
     ("entry 1-1 x 1\nconsumer A 1\n", "*4 $4 none *1 $3 1-1 *0 :0", "impossible, 0 places for 1 entry"),
     ("", "*5 $4 plan :0 *0 *0 *0", "cheapest, total 0"),
     (TWO, "-STALE the group has changed", "wrong: the reply is an error"),
     (TWO, "*5", FORM),
+    # A line too many, and an empty one alone.
+    (TWO, "*5 $4 plan :6 *2 *2 $3 1-1 $1 B *2 $3 2-1 $1 A *2 *2 $1 A :2 *2 $1 B :0 *0 !", FORM),
+    (TWO, "", FORM),
 ]
 
 # Two texts of `PLAN`, the second of which takes the place of the first, and what is printed then.

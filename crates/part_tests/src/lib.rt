@@ -6,8 +6,6 @@ mod board;
 #[cfg(test)]
 mod bytes;
 #[cfg(test)]
-mod check;
-#[cfg(test)]
 mod decoding;
 #[cfg(test)]
 mod ids;
@@ -15,8 +13,6 @@ mod ids;
 mod pending;
 #[cfg(test)]
 mod plan;
-#[cfg(test)]
-mod policy;
 #[cfg(test)]
 mod reading;
 #[cfg(test)]

@@ -1,10 +1,11 @@
-// That the definitions mean what they should, and that calls succeed while there is memory: verdicts worked by hand.
+// What no clause says and no program shows: the parts of a verdict, worked by hand, and whether a plan that is checked was carried out.
+// What verdicts are replied as is in tests/moments/recovery.session, and what replies are worth in tests/plan_check.py.
 use sr_args::{Call, TimeAsked};
 use sr_bytes::Name;
+use sr_check::{Reason, Verified, accepts};
 use sr_ids::Id;
 use sr_plan::Verdict;
 use sr_policy::{Live, Rates, Snapshot, Stranded};
-use sr_resp::encode;
 use std::alloc::{AllocError, Global};
 use std::test::Fail;
 
@@ -106,106 +107,13 @@ const TWO_CLASSES: &[(&str, &[Option<u64>])] = &[
     ("y", &[Some(1), Some(100)]),
 ];
 
-/// A snapshot, and the reply of its verdict.
-struct Case {
-    stranded: &'static [&'static str],
-    missing: &'static [u64],
-    live: &'static [(&'static str, u64, u64)],
-    rates: &'static [(&'static str, &'static [Option<u64>])],
-    applied: bool,
-    reply: &'static str,
-}
+/// The reply of the plan with 1-1 at B and 2-1 at A.
+const PLANNED: &str =
+    "*5\r\n$4\r\nplan\r\n:6\r\n*2\r\n*2\r\n$3\r\n1-1\r\n$1\r\nB\r\n*2\r\n$3\r\n2-1\r\n$1\r\nA\r\n*2\r\n*2\r\n$1\r\nA\r\n:2\r\n*2\r\n$1\r\nB\r\n:0\r\n*0\r\n";
 
-const CASES: &[Case] = &[
-    // Nothing is stranded.
-    Case {
-        stranded: &[],
-        missing: &[],
-        live: TWO_LIVE,
-        rates: &[],
-        applied: false,
-        reply: "*5\r\n$4\r\nplan\r\n:0\r\n*0\r\n*2\r\n*2\r\n$1\r\nA\r\n:0\r\n*2\r\n$1\r\nB\r\n:0\r\n*0\r\n",
-    },
-    // Entries that are gone come last.
-    Case {
-        stranded: &[],
-        missing: &[3, 4],
-        live: &[("A", 1, 0)],
-        rates: &[],
-        applied: true,
-        reply: "*5\r\n$4\r\ndone\r\n:0\r\n*0\r\n*1\r\n*2\r\n$1\r\nA\r\n:0\r\n*2\r\n$3\r\n3-0\r\n$3\r\n4-0\r\n",
-    },
-    // Two entries and one place.
-    Case {
-        stranded: &["x", "x"],
-        missing: &[],
-        live: &[("A", 1, 0)],
-        rates: &[("x", &[Some(1)])],
-        applied: false,
-        reply: "*4\r\n$4\r\nnone\r\n*2\r\n$3\r\n1-1\r\n$3\r\n2-1\r\n*1\r\n*2\r\n$1\r\nA\r\n:1\r\n:1\r\n",
-    },
-    // Full consumers have room for none. B has room and may not take the entry.
-    Case {
-        stranded: &["x"],
-        missing: &[],
-        live: &[("A", 3, 3), ("B", 1, 0), ("C", 1, 2)],
-        rates: &[("x", &[Some(1), None, Some(1)])],
-        applied: true,
-        reply: "*4\r\n$4\r\nnone\r\n*1\r\n$3\r\n1-1\r\n*2\r\n*2\r\n$1\r\nA\r\n:0\r\n*2\r\n$1\r\nC\r\n:0\r\n:0\r\n",
-    },
-    // Nobody is alive.
-    Case {
-        stranded: &["x"],
-        missing: &[],
-        live: &[],
-        rates: &[],
-        applied: false,
-        reply: "*4\r\n$4\r\nnone\r\n*1\r\n$3\r\n1-1\r\n*0\r\n:0\r\n",
-    },
-];
-
-/// Whether the reply of a verdict is sent as this text.
-fn is_sent(
-    alloc: Global,
-    verdict: &Verdict,
-    applied: bool,
-    text: &str,
-) -> Result<bool, AllocError> {
-    let reply = verdict.reply(alloc, applied)?;
-    Ok(encode(alloc, &reply)?.as_slice() == text.as_bytes())
-}
-
-/// Whether the snapshot of a case is in order, and its verdict has the reply that was worked out.
-fn is_right(alloc: Global, case: &Case) -> Result<bool, AllocError> {
-    match judged(alloc, case.stranded, case.missing, case.live, case.rates)? {
-        Some(verdict) => is_sent(alloc, &verdict, case.applied, case.reply),
-        None => Ok(false),
-    }
-}
-
-#[test]
-fn replies_worked_by_hand(rt: HostRuntime) -> Result<(), Fail> {
-    for (i, case) in CASES.iter().enumerate() {
-        assert!(rt; is_right(rt.alloc(), case)?, "case {i}");
-    }
-    Ok(())
-}
-
-/// The verdict on entries 1-1 of class x and 2-1 of class y, which A and B could take.
-fn two_entries(alloc: Global) -> Result<Option<Verdict>, AllocError> {
-    judged(alloc, &["x", "y"], &[], TWO_LIVE, TWO_CLASSES)
-}
-
-/// The verdict on two entries, of which A could take one.
-fn too_many(alloc: Global) -> Result<Option<Verdict>, AllocError> {
-    judged(
-        alloc,
-        &["x", "x"],
-        &[5],
-        &[("A", 1, 0)],
-        &[("x", &[Some(1)])],
-    )
-}
+/// The same with other prices, and carried out.
+const DONE: &str =
+    "*5\r\n$4\r\ndone\r\n:6\r\n*2\r\n*2\r\n$3\r\n1-1\r\n$1\r\nB\r\n*2\r\n$3\r\n2-1\r\n$1\r\nA\r\n*2\r\n*2\r\n$1\r\nA\r\n:198\r\n*2\r\n$1\r\nB\r\n:0\r\n*0\r\n";
 
 /// Whether a name is this text.
 fn is(name: &Name, text: &str) -> bool {
@@ -217,44 +125,25 @@ fn is_move(found: Option<(Id, &Name)>, ms: u64, consumer: &str) -> bool {
     found.is_some_and(|(id, name)| id == Id { ms, seq: 1 } && is(name, consumer))
 }
 
-#[test]
-fn two_entries_go_where_both_cost_least(rt: HostRuntime) -> Result<(), Fail> {
-    let verdict = two_entries(rt.alloc())?.expect(&rt, "in order");
-    let mut moves = verdict.moves().expect(&rt, "a plan");
-    assert_eq!(rt; moves.len(), 2);
-    assert!(rt; is_move(moves.next(), 1, "B"));
-    assert!(rt; is_move(moves.next(), 2, "A"));
-    assert!(rt; moves.next().is_none());
-    assert_eq!(rt; verdict.total(), Some(6));
-    Ok(())
-}
-
-/// The moves of entry 1-1 to B and of 2-1 to A, as they are replied.
-const MOVED: &str = "*2\r\n*2\r\n$3\r\n1-1\r\n$1\r\nB\r\n*2\r\n$3\r\n2-1\r\n$1\r\nA\r\n";
-
-/// The reply of the plan with these moves, at prices p of A and q of B.
-fn plan_text(alloc: Global, p: u64, q: u64) -> Result<String, AllocError> {
-    let priced = format!(in alloc; "*2\r\n*2\r\n$1\r\nA\r\n:{p}\r\n*2\r\n$1\r\nB\r\n:{q}\r\n")?;
-    format!(in alloc; "*5\r\n$4\r\nplan\r\n:6\r\n{MOVED}{priced}*0\r\n")
-}
-
-/// Whether the prices of A and B show the moves to be cheapest, and the verdict's reply has them.
-fn has_right_prices(alloc: Global, verdict: &Verdict) -> Result<bool, AllocError> {
-    match verdict.prices() {
-        Some([p, q]) => Ok(
-            p.saturating_sub(*q) >= 2
-                && p.saturating_sub(*q) <= 198
-                && is_sent(alloc, verdict, false, plan_text(alloc, *p, *q)?.as_str())?,
-        ),
-        _ => Ok(false),
+/// Whether prices of A and B show that no plan costs less: A's is 2 to 198 more than B's.
+fn are_right(prices: Option<&[u64]>) -> bool {
+    match prices {
+        Some([p, q]) => p.saturating_sub(*q) >= 2 && p.saturating_sub(*q) <= 198,
+        _ => false,
     }
 }
 
-#[test]
-fn prices_differ_by_2_to_198(rt: HostRuntime) -> Result<(), Fail> {
-    let verdict = two_entries(rt.alloc())?.expect(&rt, "in order");
-    assert!(rt; has_right_prices(rt.alloc(), &verdict)?);
-    Ok(())
+/// Whether a verdict is a plan that moves 1-1 to B and 2-1 to A.
+fn is_plan(verdict: &Verdict) -> bool {
+    let Some(mut moves) = verdict.moves() else {
+        return false;
+    };
+    moves.len() == 2
+        && is_move(moves.next(), 1, "B")
+        && is_move(moves.next(), 2, "A")
+        && moves.next().is_none()
+        && verdict.total() == Some(6)
+        && are_right(verdict.prices())
 }
 
 /// Whether a call claims the entry with this moment for a consumer, at once and with JUSTID.
@@ -277,36 +166,87 @@ fn is_claim(call: &Call, name: &str, ms: u64) -> bool {
     }
 }
 
-#[test]
-fn one_call_for_each_consumer_in_byte_order(rt: HostRuntime) -> Result<(), Fail> {
-    let alloc = rt.alloc();
-    let verdict = two_entries(alloc)?.expect(&rt, "in order");
+/// Whether a verdict is carried out by one call for each consumer, in byte order.
+fn has_right_calls(alloc: Global, verdict: &Verdict) -> Result<bool, AllocError> {
     let calls = verdict.claim_calls(alloc)?;
-    assert_eq!(rt; calls.len(), 2);
-    assert!(rt; is_claim(&calls[0], "A", 2));
-    assert!(rt; is_claim(&calls[1], "B", 1));
-    Ok(())
+    Ok(match calls.as_slice() {
+        [first, second] => is_claim(first, "A", 2) && is_claim(second, "B", 1),
+        _ => false,
+    })
 }
 
-#[test]
-fn a_shortage_has_ids_and_no_plan(rt: HostRuntime) -> Result<(), Fail> {
-    let verdict = too_many(rt.alloc())?.expect(&rt, "in order");
-    let mut shortage = verdict.shortage().expect(&rt, "a shortage");
-    assert_eq!(rt; shortage.len(), 2);
-    assert_eq!(rt; shortage.next(), Some(Id { ms: 1, seq: 1 }));
-    assert_eq!(rt; shortage.next(), Some(Id { ms: 2, seq: 1 }));
-    assert_eq!(rt; shortage.next(), None);
-    assert!(rt; verdict.total().is_none());
-    assert_eq!(rt; verdict.claim_calls(rt.alloc())?.len(), 0);
-    Ok(())
+/// Whether a checker tells a plan from one that was carried out, and both from what is no reply.
+fn are_told_apart(alloc: Global, snapshot: &Snapshot) -> Result<bool, AllocError> {
+    let planned = accepts(alloc, snapshot, PLANNED.as_bytes())?;
+    let done = accepts(alloc, snapshot, DONE.as_bytes())?;
+    let no_reply = accepts(alloc, snapshot, b"\r\n")?;
+    Ok(
+        planned
+            == Verified::Cheapest {
+                done: false,
+                total: 6,
+            }
+            && done
+                == Verified::Cheapest {
+                    done: true,
+                    total: 6,
+                }
+            && no_reply
+                == Verified::Wrong {
+                    reason: Reason::Form,
+                },
+    )
 }
 
-#[test]
-fn a_verdict_shows_its_snapshot(rt: HostRuntime) -> Result<(), Fail> {
-    let verdict = too_many(rt.alloc())?.expect(&rt, "in order");
-    verdict.sound();
+/// Whether a verdict is that plan, has its calls, and is on a snapshot for which its reply is right.
+fn is_right(alloc: Global, verdict: &Verdict) -> Result<bool, AllocError> {
+    Ok(
+        is_plan(verdict)
+            && has_right_calls(alloc, verdict)?
+            && are_told_apart(alloc, verdict.snapshot())?,
+    )
+}
+
+/// Whether the verdict on 1-1 of class x and 2-1 of class y, which A and B could take, is right.
+fn two_entries_go_where_both_cost_least(alloc: Global) -> Result<bool, AllocError> {
+    match judged(alloc, &["x", "y"], &[], TWO_LIVE, TWO_CLASSES)? {
+        Some(verdict) => is_right(alloc, &verdict),
+        None => Ok(false),
+    }
+}
+
+/// Whether a verdict is a shortage of 1-1 and 2-1, of a snapshot that has one entry that is gone.
+fn is_shortage(verdict: &Verdict) -> bool {
     verdict.optimal();
-    assert_eq!(rt; verdict.snapshot().stranded().len(), 2);
-    assert_eq!(rt; verdict.gone().len(), 1);
+    let Some(mut shortage) = verdict.shortage() else {
+        return false;
+    };
+    shortage.len() == 2
+        && shortage.next() == Some(Id { ms: 1, seq: 1 })
+        && shortage.next() == Some(Id { ms: 2, seq: 1 })
+        && shortage.next().is_none()
+        && verdict.total().is_none()
+        && verdict.snapshot().stranded().len() == 2
+        && verdict.gone().len() == 1
+}
+
+/// Whether the verdict on two entries, of which A could take one, is that shortage.
+fn two_entries_are_too_many(alloc: Global) -> Result<bool, AllocError> {
+    match judged(
+        alloc,
+        &["x", "x"],
+        &[5],
+        &[("A", 1, 0)],
+        &[("x", &[Some(1)])],
+    )? {
+        Some(verdict) => Ok(is_shortage(&verdict)),
+        None => Ok(false),
+    }
+}
+
+#[test]
+fn verdicts_have_the_parts_that_were_worked_out(rt: HostRuntime) -> Result<(), Fail> {
+    assert!(rt; two_entries_go_where_both_cost_least(rt.alloc())?);
+    assert!(rt; two_entries_are_too_many(rt.alloc())?);
     Ok(())
 }
