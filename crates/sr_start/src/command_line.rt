@@ -2,7 +2,7 @@ ghost use Rattle.std.specs.Prelude.{◌≡◌, ◌≢◌};
 ghost use Rattle.std.specs.IoError.{error_kind};
 
 use crate::fault::Fault;
-use crate::report::{REFUSED, report};
+use crate::status::{REFUSED, report};
 use std::env;
 use std::io::{self, Error, ErrorKind, Write};
 use std::rt::Env;

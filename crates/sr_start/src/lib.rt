@@ -7,14 +7,14 @@ mod listen;
 mod load;
 mod network;
 mod opening;
-mod report;
-mod start;
+mod program;
+mod status;
 mod text_files;
 
 pub use command_line::{refuse_words, words};
 pub use fault::{Fault, outcome};
 pub use listen::WARNING;
 pub use network::{Bound, ListenFault, Network, Serving, SystemNetwork, serve_all_that_come};
-pub use report::report;
-pub use start::start;
+pub use program::start;
+pub use status::report;
 pub use text_files::{SystemFiles, TextFault, TextFiles};

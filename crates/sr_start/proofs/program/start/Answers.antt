@@ -7,7 +7,7 @@ use Rattle.sr_serve.specs.Moment.{any_moment}
 use Rattle.sr_start.specs.Listening.{Listens, starts_not as listens_not}
 use Rattle.sr_options.specs.Options.{Asked}
 use Rattle.sr_options.proofs.CommandLemmas.{not_both}
-use Rattle.sr_start.proofs.start.start.Goals as goal
+use Rattle.sr_start.proofs.program.start.Goals as goal
 
 -- ---- the options are refused
 

@@ -13,7 +13,7 @@ use crate::fault::{Fault, outcome};
 use crate::listen::listen;
 use crate::network::Network;
 use crate::opening::open_book;
-use crate::report::{refuse, refuse_usage, report};
+use crate::status::{refuse, refuse_usage, report};
 use crate::text_files::TextFiles;
 use sr_book::Book;
 use sr_options::{Request, read_options, request_of};

@@ -2,7 +2,7 @@ use Rattle.std.proofs.Common.{[]}
 use Rattle.std.proofs.KnownBytes.{Consumes-nil, Appends-nil}
 use Rattle.sr_start.specs.Fault.{serves}
 use Rattle.sr_start.proofs.ServeLemmas.{not_opened}
-use Rattle.sr_start.proofs.start.connect.Goals as goal
+use Rattle.sr_start.proofs.program.connect.Goals as goal
 
 pub returns-in-Ok-clause-served : goal.returns-in-Ok-clause-served
 returns-in-Ok-clause-served g c =
