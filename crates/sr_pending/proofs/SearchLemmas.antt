@@ -1,6 +1,8 @@
 -- Where binary search finds pending entries that rise: those of a range, and the one with an id.
-use Rattle.std.proofs.Common.{◌≡◌, ℕ, zero, suc, ◌+◌, ◌-◌, ◌<◌, Bool, true, false, not, ◌||◌, List, [], ◌∷◌, ◌++◌, length, get_or, take, drop, filter, slice_get, Option, Some, None, inl, inr, refl, ap, sym, ◌∙◌, arith}
+use Rattle.std.proofs.Common.{◌≡◌, ℕ, zero, suc, ◌-◌, ◌<◌, Bool, true, false, not, ◌||◌, List, [], ◌∷◌, ◌++◌, length, get_or, take, drop, filter, slice_get, Option, Some, None, inl, inr, refl, ap, sym, ◌∙◌, arith}
 use Rattle.std.proofs.lemmas.Bool.{cases_lt}
+use Rattle.std.specs.List.{remove, slice_range}
+use Rattle.std.proofs.lemmas.List.{take_rest}
 use Rattle.std.specs.List.Sorted.{IsPartitionedBy}
 use Rattle.sr_ids.specs.declared.id.Id.{Id}
 use Rattle.sr_ids.specs.Id.{IsBelow}
@@ -134,10 +136,12 @@ has_id-no_place id (y ∷ ys) (suc i) rising splits other =
     rw (is_same_id-below y.id id (is_below-true y.id id splits.0)) (has_id-no_place id ys i rising.1 splits.1 other)
 
 -- the list behind a removal at the place
-pub without-removed : (id : Id) (xs ys : List Nack) (i : ℕ) (x : Nack) → AreRising xs → slice_get xs i ≡ Some x → x.id ≡ id → ys ≡ take i xs ++ drop (i + 1) xs → ys ≡ without id xs
-without-removed id xs ys i x rising here same removed =
-    let more : i + 1 ≡ suc i = omega arith in
-    removed ∙ ap (λ (n : ℕ). take i xs ++ drop n xs) more ∙ without-place id xs i x rising here same
+pub without-removed : (id : Id) (xs ys : List Nack) (i : ℕ) (x : Nack) → AreRising xs → slice_get xs i ≡ Some x → x.id ≡ id → ys ≡ remove xs i → ys ≡ without id xs
+without-removed id xs ys i x rising here same removed = removed ∙ without-place id xs i x rising here same
+
+-- all from a place on
+pub slice_range-rest : (xs : List Nack) (from len : ℕ) → len ≡ length xs → slice_range xs from len ≡ drop from xs
+slice_range-rest xs from len is = ap (λ (n : ℕ). take (n - from) (drop from xs)) is ∙ take_rest xs from
 
 -- where an entry has the id, binary search gives its place
 pub IsPlace-below : (id : Id) (xs : List Nack) → AreRising xs → has_id id xs ≡ true → IsPlace id xs (below id xs)

@@ -3,6 +3,7 @@ ghost use Rattle.std.specs.Prelude.{◌≡◌, IfOk};
 use sr_bytes::Name;
 use sr_ids::Id;
 use std::alloc::{AllocError, Global};
+use std::collections::VecDeque;
 
 /// An entry that was delivered to a consumer and is not acknowledged yet.
 ///
@@ -34,12 +35,12 @@ impl Nack {
 }
 
 /// Copies of the entries.
-pub(crate) fn copies(alloc: Global, nacks: &[Nack]) -> Result<Vec<Nack>, AllocError>
-    ensures { IfOk result (λ v. v.items ≡ nacks.now) }
+pub(crate) fn copies(alloc: Global, nacks: &VecDeque<Nack>) -> Result<VecDeque<Nack>, AllocError>
+    ensures { IfOk result (λ list. list.items ≡ nacks.now.items) }
 {
-    let mut list = Vec::with_capacity(alloc, nacks.len())?;
-    for nack in nacks {
-        list.push(nack.copy(alloc)?)?;
+    let mut list = VecDeque::with_capacity(alloc, nacks.len())?;
+    for place in 0..nacks.len() {
+        list.push_back(nacks[place].copy(alloc)?)?;
     }
     Ok(list)
 }

@@ -1,10 +1,11 @@
 ghost use Rattle.std.specs.Prelude.{◌≡◌, [], ◌∷◌, IfSome, IfNone};
 ghost use Rattle.std.specs.Option.{option_copied};
 ghost use Rattle.sr_pending.specs.Pending.{first_of, is_of, owned_by_named};
-ghost use Rattle.sr_pending.specs.steps.Search.{IsFirstOf};
+ghost use Rattle.std.specs.VecDeque.Iter.{deque_iter_rest};
 
 use crate::Nack;
 use sr_bytes::Name;
+use std::collections::vec_deque::Iter;
 use std::marker::Model;
 
 /// Pending entries in rising order, looked at where they lie.
@@ -26,8 +27,12 @@ impl<'a> Model for Nacks<'a> {
 
 impl<'a> Nacks<'a> {
     /// At most `count` of these entries, and of this owner if one is named.
-    pub(crate) fn new(rest: &'a [Nack], count: Option<u64>, owner: Option<&'a Name>) -> Nacks<'a>
-        ensures { result ≡ first_of count (owned_by_named (option_copied owner.entry) rest.now) }
+    pub(crate) fn new(
+        rest: Iter<'a, Nack>,
+        count: Option<u64>,
+        owner: Option<&'a Name>,
+    ) -> Nacks<'a>
+        ensures { result ≡ first_of count (owned_by_named (option_copied owner.entry) (deque_iter_rest rest.entry)) }
     {
         Nacks {
             owned: Owned { rest, owner },
@@ -65,19 +70,20 @@ impl<'a> Nacks<'a> {
 /// The entries of an owner, if one is named.
 #[derive(Drop)]
 struct Owned<'a> {
-    rest: &'a [Nack],
+    rest: Iter<'a, Nack>,
     owner: Option<&'a Name>,
 }
 
 impl<'a> Model for Owned<'a> {
     ghost use Rattle.std.specs.Prelude.{List};
     ghost use Rattle.std.specs.Option.{option_copied};
+    ghost use Rattle.std.specs.VecDeque.Iter.{deque_iter_rest};
     ghost use Rattle.sr_pending.specs.declared.nack.Nack.{Nack};
     ghost use Rattle.sr_pending.specs.Pending.{owned_by_named};
 
     ghost Value = { List Nack };
 
-    ghost view = { λ o. owned_by_named (option_copied o.owner) o.rest.now };
+    ghost view = { λ o. owned_by_named (option_copied o.owner) (deque_iter_rest o.rest) };
 }
 
 impl<'a> Owned<'a> {
@@ -86,22 +92,23 @@ impl<'a> Owned<'a> {
         ensures none { IfNone result (self.old ≡ []) }
         ensures ended { IfNone result (self.new ≡ []) }
     {
-        match first_of_owner(self.rest, self.owner) {
-            None => None,
-            Some(place) => {
-                let nack = &self.rest[place];
-                self.rest = &self.rest[place + 1..];
-                Some(nack)
+        while let Some(nack) = self.rest.next() {
+            if is_wanted(nack, self.owner) {
+                return Some(nack);
             }
         }
+        None
     }
 
     fn again(&self) -> Owned<'a>
         ensures { result ≡ self.now }
     {
-        Owned {
-            rest: self.rest,
-            owner: self.owner,
+        match self.rest.clone() {
+            Ok(rest) => Owned {
+                rest,
+                owner: self.owner,
+            },
+            Err(_) => unreachable!(),
         }
     }
 }
@@ -114,17 +121,4 @@ fn is_wanted(nack: &Nack, owner: Option<&Name>) -> bool
         None => true,
         Some(owner) => nack.owner == *owner,
     }
-}
-
-/// The place of the first entry of this owner's, if one is named.
-fn first_of_owner(nacks: &[Nack], owner: Option<&Name>) -> Option<usize>
-    ensures some { IfSome result (IsFirstOf (option_copied owner.entry) nacks.now) }
-    ensures none { IfNone result (owned_by_named (option_copied owner.entry) nacks.now ≡ []) }
-{
-    for (place, nack) in nacks.iter().enumerate() {
-        if is_wanted(nack, owner) {
-            return Some(place);
-        }
-    }
-    None
 }

@@ -1,5 +1,5 @@
 use crate::Nack;
-use crate::edit::{give_at, put_at, touch_at};
+use crate::edit::{give_at, put_at, remove_at, touch_at};
 use crate::nack::copies;
 use crate::nacks::Nacks;
 use crate::owner::{count_owned, keep_others};
@@ -8,6 +8,7 @@ use crate::search::{above, count_below, pending_place, place_of, range_of};
 use sr_bytes::Name;
 use sr_ids::Id;
 use std::alloc::{AllocError, Global};
+use std::collections::VecDeque;
 use std::marker::Model;
 
 /// The pending entries of a consumer group, by rising id.
@@ -17,12 +18,13 @@ use std::marker::Model;
 /// Source: Redis documentation, "Streams", section "Consumer groups".
 #[derive(Drop)]
 pub struct Pending {
-    nacks: Vec<Nack>,
+    nacks: VecDeque<Nack>,
     rooms: Vec<Room>,
 }
 
 impl Model for Pending {
-    ghost use Rattle.std.specs.Prelude.{◌-◌, vec_len, vec_capacity};
+    ghost use Rattle.std.specs.Prelude.{◌-◌};
+    ghost use Rattle.std.specs.VecDeque.{deque_len, deque_capacity};
     ghost use Rattle.sr_pending.specs.Pending.{PendingState};
     ghost use Rattle.sr_pending.specs.steps.Sound.{IsSound};
 
@@ -30,7 +32,7 @@ impl Model for Pending {
 
     ghost view = { λ p. record { nacks = p.nacks.items; rooms = p.rooms.items } };
 
-    ghost invariant = { λ p. IsSound p.nacks.items p.rooms.items (vec_capacity p.nacks - vec_len p.nacks) };
+    ghost invariant = { λ p. IsSound p.nacks.items p.rooms.items (deque_capacity p.nacks - deque_len p.nacks) };
 }
 
 impl Pending {
@@ -45,7 +47,7 @@ impl Pending {
         ensures rooms { result.rooms ≡ [] }
     {
         Pending {
-            nacks: Vec::new(alloc),
+            nacks: VecDeque::new(alloc),
             rooms: Vec::new(alloc),
         }
     }
@@ -55,7 +57,7 @@ impl Pending {
         ensures value { result ≡ length self.now.nacks }
         ensures bound { result < 2 ^ 63 }
     {
-        self.nacks.as_slice().len()
+        self.nacks.len()
     }
 
     /// For how many more entries of this owner there is room.
@@ -95,7 +97,7 @@ impl Pending {
         ensures room { UsesRoom nack.owner self.old.rooms self.new.rooms }
     {
         use_room(&mut self.rooms, &nack.owner);
-        let place = count_below(self.nacks.as_slice(), nack.id);
+        let place = count_below(&self.nacks, nack.id);
         put_at(&mut self.nacks, place, nack);
     }
 
@@ -111,7 +113,7 @@ impl Pending {
         ensures room { UsesRoom owner self.old.rooms self.new.rooms }
     {
         use_room(&mut self.rooms, &owner);
-        let place = pending_place(self.nacks.as_slice(), id);
+        let place = pending_place(&self.nacks, id);
         give_at(
             &mut self.nacks,
             place,
@@ -131,7 +133,7 @@ impl Pending {
         ensures nacks { self.new.nacks ≡ touched id time count self.old.nacks }
         ensures rooms { self.new.rooms ≡ self.old.rooms }
     {
-        match place_of(self.nacks.as_slice(), id) {
+        match place_of(&self.nacks, id) {
             None => {}
             Some(place) => touch_at(&mut self.nacks, place, id, time, count),
         }
@@ -145,10 +147,10 @@ impl Pending {
         ensures found { result ≡ has_id id self.old.nacks }
         ensures rooms { self.new.rooms ≡ self.old.rooms }
     {
-        match place_of(self.nacks.as_slice(), id) {
+        match place_of(&self.nacks, id) {
             None => false,
             Some(place) => {
-                drop(self.nacks.remove(place));
+                remove_at(&mut self.nacks, place);
                 true
             }
         }
@@ -172,7 +174,7 @@ impl Pending {
     pub fn contains(&self, id: Id) -> bool
         ensures { result ≡ has_id id self.now.nacks }
     {
-        match place_of(self.nacks.as_slice(), id) {
+        match place_of(&self.nacks, id) {
             Some(_place) => true,
             None => false,
         }
@@ -182,7 +184,7 @@ impl Pending {
     pub fn get(&self, id: Id) -> Option<&Nack>
         ensures { option_copied result ≡ nack_with id self.now.nacks }
     {
-        match place_of(self.nacks.as_slice(), id) {
+        match place_of(&self.nacks, id) {
             Some(place) => Some(&self.nacks[place]),
             None => None,
         }
@@ -201,7 +203,7 @@ impl Pending {
         ensures { result ≡
             first_of count (owned_by_named (option_copied owner.entry) (pending_between start end self.now.nacks)) }
     {
-        Nacks::new(range_of(self.nacks.as_slice(), start, end), count, owner)
+        Nacks::new(range_of(&self.nacks, start, end), count, owner)
     }
 
     /// The entries above the id, at most `count` of them, and of this owner if one is named.
@@ -211,14 +213,14 @@ impl Pending {
         ensures { result ≡
             first_of count (owned_by_named (option_copied owner.entry) (pending_above id self.now.nacks)) }
     {
-        Nacks::new(above(self.nacks.as_slice(), id), count, owner)
+        Nacks::new(above(&self.nacks, id), count, owner)
     }
 
     /// All entries.
     pub fn all(&self) -> Nacks<'_>
         ensures { result ≡ self.now.nacks }
     {
-        Nacks::new(self.nacks.as_slice(), None, None)
+        Nacks::new(self.nacks.iter(), None, None)
     }
 
     /// The entries from `start` on.
@@ -227,15 +229,15 @@ impl Pending {
     pub fn from_id(&self, start: Id) -> Nacks<'_>
         ensures { result ≡ filter (λ nack. not (is_below nack.id start)) self.now.nacks }
     {
-        let from = count_below(self.nacks.as_slice(), start);
-        Nacks::new(&self.nacks.as_slice()[from..], None, None)
+        let from = count_below(&self.nacks, start);
+        Nacks::new(self.nacks.range(from..), None, None)
     }
 
     /// The entries of this owner.
     pub fn of<'a>(&'a self, owner: &'a Name) -> Nacks<'a>
         ensures { result ≡ owned_by owner.now self.now.nacks }
     {
-        Nacks::new(self.nacks.as_slice(), None, Some(owner))
+        Nacks::new(self.nacks.iter(), None, Some(owner))
     }
 
     /// How many entries this owner has.
@@ -243,14 +245,14 @@ impl Pending {
         ensures value { result ≡ length (owned_by owner.now self.now.nacks) }
         ensures bound { result < 2 ^ 63 }
     {
-        count_owned(self.nacks.as_slice(), owner)
+        count_owned(&self.nacks, owner)
     }
 
     /// The least pending id.
     pub fn least_id(&self) -> Option<Id>
         ensures { result ≡ least_pending self.now.nacks }
     {
-        match self.nacks.first() {
+        match self.nacks.front() {
             Some(nack) => Some(nack.id),
             None => None,
         }
@@ -260,7 +262,7 @@ impl Pending {
     pub fn greatest_id(&self) -> Option<Id>
         ensures { result ≡ greatest_pending self.now.nacks }
     {
-        match self.nacks.last() {
+        match self.nacks.back() {
             Some(nack) => Some(nack.id),
             None => None,
         }
@@ -279,7 +281,7 @@ impl Pending {
         ensures nacks { IfOk result (λ p. p.nacks ≡ self.now.nacks) }
         ensures rooms { IfOk result (λ p. p.rooms ≡ []) }
     {
-        let nacks = copies(alloc, self.nacks.as_slice())?;
+        let nacks = copies(alloc, &self.nacks)?;
         let rooms = Vec::new(alloc);
         Ok(Pending { nacks, rooms })
     }

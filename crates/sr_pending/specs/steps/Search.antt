@@ -1,10 +1,10 @@
 -- Where binary search finds entries. No public clause cites it.
 
-use Rattle.std.specs.Prelude.{◌≡◌, ℕ, ◌+◌, List, ◌∷◌, Option, Some, not, drop, slice_get}
+use Rattle.std.specs.Prelude.{◌≡◌, ℕ, List, Some, not, slice_get}
 use Rattle.std.specs.List.{count_by}
 use Rattle.sr_ids.specs.declared.id.Id.{Id}
 use Rattle.sr_pending.specs.declared.nack.Nack.{Nack}
-use Rattle.sr_pending.specs.Pending.{is_below, owned_by_named}
+use Rattle.sr_pending.specs.Pending.{is_below}
 
 -- how many entries lie below the id
 abbrev pub below : Id → List Nack → ℕ
@@ -19,9 +19,3 @@ pub record IsPlace (id : Id) (nacks : List Nack) (place : ℕ) : Type 0 where
   pub nack : Nack
   pub here : slice_get nacks place ≡ Some nack
   pub same : nack.id ≡ id
-
--- the first of the owner's, if one is named, lies at this place
-pub record IsFirstOf (owner : Option (List ℕ)) (nacks : List Nack) (place : ℕ) : Type 0 where
-  pub nack : Nack
-  pub here : slice_get nacks place ≡ Some nack
-  pub rest : owned_by_named owner nacks ≡ nack ∷ owned_by_named owner (drop (place + 1) nacks)

@@ -10,16 +10,16 @@ use Rattle.sr_pending.proofs.search.place_of.Goals as goal
 
 pub returns-in-None-clause-none : goal.returns-in-None-clause-none
 returns-in-None-clause-none c =
-    let nacks = c.args.nacks.now in
+    let nacks = c.args.nacks.now.items in
     let before : Nack → Bool = λ e. is_below e.id c.args.id in
     let place = below c.args.id nacks in
     let past : length nacks ≤ c.count_below-place.result = search rules in
-    let nothing : slice_get nacks place ≡ None = rw c.count_below-place.ensures at (slice_get_past nacks c.count_below-place.result past) in
+    let nothing : slice_get nacks place ≡ None = rw c.count_below-place.ensures.value at (slice_get_past nacks c.count_below-place.result past) in
     has_id-no_place c.args.id nacks place c.requires (Splits-counted before nacks (below_first nacks c.args.id c.requires)) (λ x here same. absurd (let both = sym nothing ∙ here in cc))
 
 pub returns-then-eq-clause-found : goal.returns-then-eq-clause-found
 returns-then-eq-clause-found c =
-    let nacks = c.args.nacks.now in
+    let nacks = c.args.nacks.now.items in
     let place = c.count_below-place.result in
     let nack = c.in-Some.nack.now in
     let within : place < length nacks = search rules in
@@ -32,13 +32,13 @@ returns-then-eq-clause-found c =
 
 pub returns-else-eq-clause-none : goal.returns-else-eq-clause-none
 returns-else-eq-clause-none c =
-    let nacks = c.args.nacks.now in
+    let nacks = c.args.nacks.now.items in
     let before : Nack → Bool = λ e. is_below e.id c.args.id in
     let place = below c.args.id nacks in
     let nack = c.in-Some.nack.now in
     let within : c.count_below-place.result < length nacks = search rules in
     let read : nack ≡ get_or nacks c.count_below-place.result nack = search rules in
-    let here : slice_get nacks place ≡ Some nack = rw c.count_below-place.ensures at (slice_get_read nacks (length nacks) c.count_below-place.result nack refl within read) in
+    let here : slice_get nacks place ≡ Some nack = rw c.count_below-place.ensures.value at (slice_get_read nacks (length nacks) c.count_below-place.result nack refl within read) in
     let apart : is_same_id nack.id c.args.id ≡ false = sym c.eq.ensures ∙ c.if-eq.false in
     has_id-no_place c.args.id nacks place c.requires (Splits-counted before nacks (below_first nacks c.args.id c.requires)) (λ x there same.
     let one : nack ≡ x = let both = sym here ∙ there in cc in

@@ -6,6 +6,6 @@ use Rattle.sr_pending.proofs.pending.Pending.all.Goals as goal
 pub returns : goal.returns
 returns c =
     c.new.ensures
-    ∙ owned_by_named-none c.as_slice.result.now
-    ∙ c.as_slice.ensures.value
+    ∙ owned_by_named-none _
+    ∙ c.iter.ensures.rest
     ∙ ap (λ (p : PendingState). p.nacks) c.self.view_is

@@ -1,4 +1,4 @@
-use Rattle.std.proofs.Common.{ap, sym, ◌∙◌}
+use Rattle.std.proofs.Common.{ap, sym}
 use Rattle.sr_pending.specs.Pending.{PendingState}
 use Rattle.sr_pending.specs.steps.Search.{IsPlace}
 use Rattle.sr_pending.proofs.SearchLemmas.{has_id-place}
@@ -7,6 +7,6 @@ use Rattle.sr_pending.proofs.pending.Pending.contains.Goals as goal
 pub returns-in-Some : goal.returns-in-Some
 returns-in-Some c =
     let nacks = c.args.self.now.nacks in
-    let list = c.as_slice.ensures.value ∙ ap (λ (p : PendingState). p.nacks) c.self.view_is in
+    let list = ap (λ (p : PendingState). p.nacks) c.self.view_is in
     let at : IsPlace c.args.id nacks c.in-Some._place = rw list at c.in-Some.ensures.found in
     sym (has_id-place c.args.id nacks c.in-Some._place at.nack at.here at.same)

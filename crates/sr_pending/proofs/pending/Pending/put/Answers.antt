@@ -1,4 +1,5 @@
-use Rattle.std.proofs.Common.{◌≡◌, ℕ, ◌+◌, ◌-◌, ◌≤◌, false, ap, ◌∙◌, vec_len, vec_capacity, arith}
+use Rattle.std.proofs.Common.{◌≡◌, ℕ, ◌+◌, ◌-◌, ◌≤◌, false, ap, ◌∙◌, arith}
+use Rattle.std.specs.VecDeque.{deque_len, deque_capacity}
 use Rattle.std.specs.List.{insert}
 use Rattle.sr_pending.specs.Pending.{PendingState, has_id, with_nack}
 use Rattle.sr_pending.specs.steps.Search.{below}
@@ -12,15 +13,15 @@ added c =
     let list = c.self.inside.nacks.items in
     let shown : list ≡ c.args.self.now.nacks = ap (λ (p : PendingState). p.nacks) c.self.view_is in
     let fresh : has_id nack.id list ≡ false = rw shown c.requires.fresh in
-    let place : c.count_below-place.result ≡ below nack.id list = rw c.as_slice.ensures.value at c.count_below-place.ensures in
+    let place : c.count_below-place.result ≡ below nack.id list = c.count_below-place.ensures.value in
     c.put_at.ensures.items ∙ ap (λ (n : ℕ). insert list n nack) place ∙ insert-place nack list c.self.invariant.rising fresh
 
 pub invariant_of-self : goal.invariant_of-self
 invariant_of-self c =
     let old = c.self.inside.nacks in
     let new = c.put_at.new.nacks in
-    let spare : vec_capacity old - vec_len old ≤ (vec_capacity new - vec_len new) + 1 = omega (arith, c.put_at.ensures.len, c.put_at.ensures.capacity) in
-    IsSound-with_nack c.args.nack old.items new.items c.self.inside.rooms.items c.use_room.new.rooms.items (vec_capacity old - vec_len old) (vec_capacity new - vec_len new) c.self.invariant c.requires.countable (added c) c.use_room.ensures.in_all spare
+    let spare : deque_capacity old - deque_len old ≤ (deque_capacity new - deque_len new) + 1 = omega (arith, c.put_at.ensures.len, c.put_at.ensures.capacity) in
+    IsSound-with_nack c.args.nack old.items new.items c.self.inside.rooms.items c.use_room.new.rooms.items (deque_capacity old - deque_len old) (deque_capacity new - deque_len new) c.self.invariant c.requires.countable (added c) c.use_room.ensures.in_all spare
 
 pub returns-clause-nacks : goal.returns-clause-nacks
 returns-clause-nacks c =

@@ -1,4 +1,5 @@
-use Rattle.std.proofs.Common.{◌≡◌, ◌-◌, ◌≤◌, false, ap, sym, refl, vec_len, vec_capacity, arith}
+use Rattle.std.proofs.Common.{◌≡◌, ◌-◌, ◌≤◌, false, ap, sym, refl, arith}
+use Rattle.std.specs.VecDeque.{deque_len, deque_capacity}
 use Rattle.sr_pending.specs.declared.nack.Nack.{Nack}
 use Rattle.sr_pending.specs.Pending.{PendingState, has_id}
 use Rattle.sr_pending.proofs.ChangeLemmas.{map-none}
@@ -11,13 +12,12 @@ invariant_of-self c =
     let new = c.touch_at.new.nacks in
     let rooms = c.self.inside.rooms.items in
     let change : Nack → Nack = λ n. record { id = n.id; owner = n.owner; time = c.args.time; count = c.args.count } in
-    let spare : vec_capacity old - vec_len old ≤ vec_capacity new - vec_len new = omega (arith, c.touch_at.ensures.len, c.touch_at.ensures.capacity) in
-    IsSound-changed c.args.id change (λ _. refl) (λ _. (c.requires.time, c.requires.count)) old.items new.items rooms rooms (vec_capacity old - vec_len old) (vec_capacity new - vec_len new) c.self.invariant c.touch_at.ensures.items (omega arith) spare
+    let spare : deque_capacity old - deque_len old ≤ deque_capacity new - deque_len new = omega (arith, c.touch_at.ensures.len, c.touch_at.ensures.capacity) in
+    IsSound-changed c.args.id change (λ _. refl) (λ _. (c.requires.time, c.requires.count)) old.items new.items rooms rooms (deque_capacity old - deque_len old) (deque_capacity new - deque_len new) c.self.invariant c.touch_at.ensures.items (omega arith) spare
 
 pub returns-in-None-clause-nacks : goal.returns-in-None-clause-nacks
 returns-in-None-clause-nacks c =
-    let list = c.as_slice.ensures.value in
     let shown = ap (λ (p : PendingState). p.nacks) c.self.view_is in
     let change : Nack → Nack = λ n. record { id = n.id; owner = n.owner; time = c.args.time; count = c.args.count } in
-    let none : has_id c.args.id c.args.self.now.nacks ≡ false = rw (← shown, ← list) c.in-None.ensures.none in
+    let none : has_id c.args.id c.args.self.now.nacks ≡ false = rw (← shown) c.in-None.ensures.none in
     sym (map-none c.args.id change c.args.self.now.nacks none)
