@@ -1,4 +1,5 @@
 pub mod ChangeLemmas
+pub mod HeldLemmas
 pub mod ListingLemmas
 pub mod NackLemmas
 pub mod RoomLemmas

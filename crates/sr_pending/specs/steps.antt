@@ -1,3 +1,4 @@
+pub mod Held
 pub mod Room
 pub mod Search
 pub mod Sound

@@ -1,6 +1,6 @@
 ghost use Rattle.std.specs.Prelude.{◌≡◌, ◌+◌, ◌<◌, ◌≤◌};
 ghost use Rattle.std.specs.VecDeque.{deque_len, deque_capacity};
-ghost use Rattle.std.specs.List.{insert, remove};
+ghost use Rattle.std.specs.List.{insert, remove, slice_set};
 ghost use Rattle.sr_pending.specs.Pending.{AreRising, moved, touched};
 ghost use Rattle.sr_pending.specs.steps.Search.{IsPlace};
 
@@ -26,6 +26,7 @@ pub(crate) fn put_at(nacks: &mut VecDeque<Nack>, place: usize, nack: Nack)
 pub(crate) fn give_at(nacks: &mut VecDeque<Nack>, place: usize, nack: Nack)
     requires rising { AreRising nacks.old.items }
     requires place { IsPlace nack.id nacks.old.items place }
+    ensures set { nacks.new.items ≡ slice_set nacks.old.items place nack }
     ensures items { nacks.new.items ≡ moved nack.id nack.owner nack.time nack.count nacks.old.items }
     ensures len { deque_len nacks.new ≡ deque_len nacks.old }
     ensures capacity { deque_capacity nacks.new ≡ deque_capacity nacks.old }

@@ -2,6 +2,7 @@
 #![tactic(auto)]
 
 mod edit;
+mod held;
 mod nack;
 mod nacks;
 mod owner;

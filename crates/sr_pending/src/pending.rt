@@ -1,14 +1,15 @@
 use crate::Nack;
 use crate::edit::{give_at, put_at, remove_at, touch_at};
+use crate::held::{Held, add_key, add_one, clear, count_all, held_for, move_one, take_one};
 use crate::nack::copies;
 use crate::nacks::Nacks;
-use crate::owner::{count_owned, keep_others};
+use crate::owner::keep_others;
 use crate::room::{Room, add_room, in_all, room_for, use_room};
 use crate::search::{above, count_below, pending_place, place_of, range_of};
 use sr_bytes::Name;
 use sr_ids::Id;
 use std::alloc::{AllocError, Global};
-use std::collections::VecDeque;
+use std::collections::{HashMap, VecDeque};
 use std::marker::Model;
 
 /// The pending entries of a consumer group, by rising id.
@@ -20,6 +21,7 @@ use std::marker::Model;
 pub struct Pending {
     nacks: VecDeque<Nack>,
     rooms: Vec<Room>,
+    held: Held,
 }
 
 impl Model for Pending {
@@ -32,7 +34,7 @@ impl Model for Pending {
 
     ghost view = { λ p. record { nacks = p.nacks.items; rooms = p.rooms.items } };
 
-    ghost invariant = { λ p. IsSound p.nacks.items p.rooms.items (deque_capacity p.nacks - deque_len p.nacks) };
+    ghost invariant = { λ p. IsSound p.nacks.items p.rooms.items p.held (deque_capacity p.nacks - deque_len p.nacks) };
 }
 
 impl Pending {
@@ -49,6 +51,7 @@ impl Pending {
         Pending {
             nacks: VecDeque::new(alloc),
             rooms: Vec::new(alloc),
+            held: HashMap::new(alloc),
         }
     }
 
@@ -84,6 +87,7 @@ impl Pending {
         }
         self.nacks
             .reserve(in_all(self.rooms.as_slice()).saturating_add(more))?;
+        add_key(&mut self.held, alloc, owner)?;
         add_room(&mut self.rooms, alloc, owner, more)?;
         Ok(())
     }
@@ -97,6 +101,7 @@ impl Pending {
         ensures room { UsesRoom nack.owner self.old.rooms self.new.rooms }
     {
         use_room(&mut self.rooms, &nack.owner);
+        add_one(&mut self.held, &nack.owner);
         let place = count_below(&self.nacks, nack.id);
         put_at(&mut self.nacks, place, nack);
     }
@@ -114,6 +119,7 @@ impl Pending {
     {
         use_room(&mut self.rooms, &owner);
         let place = pending_place(&self.nacks, id);
+        move_one(&mut self.held, &self.nacks[place].owner, &owner);
         give_at(
             &mut self.nacks,
             place,
@@ -150,6 +156,7 @@ impl Pending {
         match place_of(&self.nacks, id) {
             None => false,
             Some(place) => {
+                take_one(&mut self.held, &self.nacks[place].owner);
                 remove_at(&mut self.nacks, place);
                 true
             }
@@ -167,6 +174,11 @@ impl Pending {
     {
         let owned = self.count_of(owner);
         keep_others(&mut self.nacks, owner);
+        clear(
+            &mut self.held,
+            owner,
+            room_for(self.rooms.as_slice(), owner),
+        );
         owned as u64
     }
 
@@ -245,7 +257,7 @@ impl Pending {
         ensures value { result ≡ length (owned_by owner.now self.now.nacks) }
         ensures bound { result < 2 ^ 63 }
     {
-        count_owned(&self.nacks, owner)
+        held_for(&self.held, owner)
     }
 
     /// The least pending id.
@@ -282,7 +294,8 @@ impl Pending {
         ensures rooms { IfOk result (λ p. p.rooms ≡ []) }
     {
         let nacks = copies(alloc, &self.nacks)?;
+        let held = count_all(alloc, &self.nacks)?;
         let rooms = Vec::new(alloc);
-        Ok(Pending { nacks, rooms })
+        Ok(Pending { nacks, rooms, held })
     }
 }

@@ -1,6 +1,8 @@
 use Rattle.std.proofs.Common.{◌-◌, ◌≤◌, not, arith}
 use Rattle.std.specs.VecDeque.{deque_len, deque_capacity}
-use Rattle.sr_pending.specs.Pending.{is_same_name}
+use Rattle.sr_pending.specs.Pending.{is_same_name, room_of}
+use Rattle.sr_pending.specs.steps.Held.{ClearsCount}
+use Rattle.sr_pending.proofs.HeldLemmas.{IsCounted-without_owner, Keeps-cleared}
 use Rattle.sr_pending.proofs.SoundLemmas.{IsSound-filter}
 use Rattle.sr_pending.proofs.pending.Pending.drop_owner.Goals as goal
 
@@ -9,4 +11,11 @@ invariant_of-self c =
     let old = c.self.inside.nacks in
     let new = c.keep_others.new.nacks in
     let spare : deque_capacity old - deque_len old ≤ deque_capacity new - deque_len new = omega (arith, c.keep_others.ensures.len, c.keep_others.ensures.capacity) in
-    IsSound-filter (λ n. not (is_same_name n.owner c.args.owner.now)) old.items new.items c.self.inside.rooms.items (deque_capacity old - deque_len old) (deque_capacity new - deque_len new) c.self.invariant c.keep_others.ensures.items spare
+    let rooms = c.self.inside.rooms.items in
+    let held = c.self.inside.held in
+    let now = c.clear.new.held in
+    let owner = c.args.owner.now in
+    let clears : ClearsCount owner (room_of owner rooms) held now = rw (c.room_for.ensures, c.as_slice.ensures.value) at c.clear.ensures in
+    let counted = IsCounted-without_owner held old.items c.self.invariant.counted owner (room_of owner rooms) now new.items clears c.keep_others.ensures.items in
+    let keyed = Keeps-cleared held now owner rooms c.self.invariant.keyed clears in
+    IsSound-filter old.items new.items rooms rooms held now (deque_capacity old - deque_len old) (deque_capacity new - deque_len new) c.self.invariant counted keyed (λ n. not (is_same_name n.owner owner)) c.keep_others.ensures.items (omega arith) spare
