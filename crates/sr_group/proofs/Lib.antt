@@ -1,9 +1,9 @@
 pub mod ConsumerLemmas
-pub mod CountLemmas
 pub mod DeliveryLemmas
 pub mod FoundLemmas
 pub mod GroupLemmas
 pub mod JudgeLemmas
+pub mod MovingLemmas
 pub mod NameLemmas
 pub mod ScanLemmas
 pub mod ShowLemmas

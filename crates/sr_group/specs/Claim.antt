@@ -1,7 +1,7 @@
 -- What XCLAIM and XAUTOCLAIM do with the ids that they are given or find.
 -- Source: Redis documentation, commands XCLAIM and XAUTOCLAIM.
 
-use Rattle.std.specs.Prelude.{ℕ, zero, suc, ◌-◌, ◌*◌, min, List, [], ◌∷◌, ◌++◌, Option, Some, None, Bool, true, false, not, ◌||◌, nat_lt, if◌then◌else◌, filter, take, slice_get}
+use Rattle.std.specs.Prelude.{ℕ, zero, suc, ◌-◌, ◌*◌, ◌^◌, ◌<◌, IfSome, min, List, [], ◌∷◌, ◌++◌, Option, Some, None, Bool, true, false, not, ◌||◌, nat_lt, if◌then◌else◌, filter, take, slice_get}
 use Rattle.sr_ids.specs.declared.id.Id.{Id}
 use Rattle.sr_ids.specs.Id.{least_id}
 use Rattle.sr_entries.specs.declared.entry.Entry.{Entry}
@@ -95,6 +95,25 @@ module _ (claim : Claim) (claimer : List ℕ) (moment : ℕ) (entries : List Ent
   -- those that a scan looks at: up to the one with which `count` are taken, and at most ten times as many
   abbrev pub scanned : ℕ → List Nack → List Nack
   scanned count nacks = up_to_taken count (take (10 * count) nacks)
+
+-- entries that are moved: who claims them, how, and their ids
+pub record MoveState : Type 0 where
+  pub claimer : List ℕ
+  pub claim : Claim
+  pub ids : List Id
+
+-- the delivery count that it asks for, if any, is one that a reply can hold
+abbrev pub HasCount : MoveState → Type 0
+HasCount move = IfSome move.claim.count (λ count. count < 2 ^ 63)
+
+-- the group after a move: a claim of its ids by its claimer
+abbrev pub after_move : ℕ → List Entry → GroupState → MoveState → GroupState
+after_move moment entries group move = group_after_claim move.claim move.claimer moment entries move.ids group
+
+-- the group after these moves, one after the other
+abbrev pub after_moves : ℕ → List Entry → List MoveState → GroupState → GroupState
+after_moves moment entries [] group = group
+after_moves moment entries (move ∷ moves) group = after_moves moment entries moves (after_move moment entries group move)
 
 -- the pending entries that are not below an id
 abbrev pub pending_from : Id → List Nack → List Nack

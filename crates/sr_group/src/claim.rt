@@ -5,7 +5,7 @@ ghost use Rattle.sr_ids.specs.declared.id.Id as ids;
 ghost use Rattle.sr_pending.specs.Pending.{IsCountable, is_below, nack_with};
 ghost use Rattle.sr_group.specs.Claim.{after_claim, count_given, fate_of, listed_claim, time_given};
 ghost use Rattle.sr_group.specs.Shown.{after_acts, listed_of};
-ghost use Rattle.sr_group.specs.steps.Judging.{IsJudged, IsUpTo, Judges, act_with, delivered, delivery_after, delivery_of};
+ghost use Rattle.sr_group.specs.steps.Judging.{IsJudged, IsUpTo, Judges, act_judged, act_with, delivered, delivery_after, delivery_of};
 ghost use Rattle.sr_group.specs.steps.Showing.{IsActOf};
 
 use crate::Group;
@@ -57,9 +57,20 @@ pub(crate) struct Call<'a> {
 
 /// When a pending entry was delivered last, and how many times it was delivered.
 #[derive(Clone, Copy)]
-struct Delivery {
-    time: u64,
-    count: u64,
+pub(crate) struct Delivery {
+    pub(crate) time: u64,
+    pub(crate) count: u64,
+}
+
+/// What becomes of a pending entry that a call names.
+#[derive(Clone, Copy)]
+pub(crate) enum Judgement {
+    /// Nothing: it was not idle for long enough.
+    Stays,
+    /// It is pending no longer, since the stream has it no longer.
+    Leaves,
+    /// It is the claimer's, delivered so.
+    Moves(Delivery),
 }
 
 /// When a claimed entry counts as delivered, if it is claimed at the moment.
@@ -98,7 +109,28 @@ pub(crate) fn is_there(entries: &Entries, id: Id) -> bool
     }
 }
 
-/// What the call does to a pending entry that was delivered so: nothing if it was not idle for long enough.
+/// What becomes of a pending entry that was delivered so.
+pub(crate) fn weigh(call: &Call<'_>, id: Id, delivery: Delivery) -> Judgement
+    requires moment { call.now.moment < 2 ^ 63 }
+    requires count { IfSome call.now.claim.count (λ count. count < 2 ^ 63) }
+    requires old { delivery.count < 2 ^ 63 }
+    ensures act { act_judged call.now.claimer.now id result ≡ act_with (fate_of
+        call.now.claim call.now.claimer.now call.now.moment call.now.entries.now.entries (delivered id delivery)) id }
+    ensures own { IfSome (act_judged call.now.claimer.now id result) (IsActOf call.now.claimer.now) }
+{
+    if !is_there(call.entries, id) {
+        return Judgement::Leaves;
+    }
+    if call.moment.saturating_sub(delivery.time) < call.claim.least_idle {
+        return Judgement::Stays;
+    }
+    Judgement::Moves(Delivery {
+        time: time_given(call.moment, call.claim.time),
+        count: count_given(&call.claim, delivery.count),
+    })
+}
+
+/// What the call does to a pending entry that was delivered so, if it does anything.
 fn judge(
     alloc: Global,
     call: &Call<'_>,
@@ -112,19 +144,19 @@ fn judge(
         call.now.claim call.now.claimer.now call.now.moment call.now.entries.now.entries (delivered id delivery)) id) }
     ensures own { IfOk result (λ act. IfSome act (IsActOf call.now.claimer.now)) }
 {
-    if !is_there(call.entries, id) {
-        return Ok(Some(Act::Forget(id)));
+    match weigh(call, id, delivery) {
+        Judgement::Stays => Ok(None),
+        Judgement::Leaves => Ok(Some(Act::Forget(id))),
+        Judgement::Moves(Delivery { time, count }) => {
+            let owner = call.claimer.copy(alloc)?;
+            Ok(Some(Act::Give(Nack {
+                id,
+                owner,
+                time,
+                count,
+            })))
+        }
     }
-    if call.moment.saturating_sub(delivery.time) < call.claim.least_idle {
-        return Ok(None);
-    }
-    let owner = call.claimer.copy(alloc)?;
-    Ok(Some(Act::Give(Nack {
-        id,
-        owner,
-        time: time_given(call.moment, call.claim.time),
-        count: count_given(&call.claim, delivery.count),
-    })))
 }
 
 /// The delivery of the entry with this id after an act, if it was delivered so before and still is pending.
@@ -163,7 +195,7 @@ fn delivery_after(act: &Act, id: Id, before: Option<Delivery>) -> Option<Deliver
 }
 
 /// The delivery of the pending entry with this id.
-fn first_delivery(pending: &Pending, id: Id) -> Option<Delivery>
+pub(crate) fn first_delivery(pending: &Pending, id: Id) -> Option<Delivery>
     ensures { result ≡ option_map delivery_of (nack_with id pending.now.nacks) }
 {
     let nack = pending.get(id)?;

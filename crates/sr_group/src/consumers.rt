@@ -1,4 +1,4 @@
-ghost use Rattle.std.specs.Prelude.{◌≡◌, ◌+◌, ◌<◌, ◌≤◌, ◌⊎◌, IsTrue, false, IfSome, IfNone, OnOk, OnErr};
+ghost use Rattle.std.specs.Prelude.{◌≡◌, ◌+◌, ◌-◌, ◌<◌, ◌≤◌, ◌⊎◌, IsTrue, false, IfSome, IfNone, OnOk, OnErr};
 ghost use Rattle.std.specs.Prelude.{option_map, vec_len, vec_capacity};
 ghost use Rattle.std.specs.List.{insert};
 ghost use Rattle.sr_group.specs.Group.{AreInOrder, consumer_with, has_consumer, seen_at, without_consumer};
@@ -77,7 +77,9 @@ pub(crate) fn make_place(consumers: &mut Vec<Consumer>, name: &Name) -> Result<(
 pub(crate) fn see(consumers: &mut Vec<Consumer>, name: Name, moment: u64)
     requires order { AreInOrder consumers.old.items }
     requires room { IsTrue (has_consumer name consumers.old.items) ⊎ (vec_len consumers.old < vec_capacity consumers.old) }
-    ensures { consumers.new.items ≡ seen_at name moment consumers.old.items }
+    ensures items { consumers.new.items ≡ seen_at name moment consumers.old.items }
+    ensures spare { vec_capacity consumers.old - vec_len consumers.old
+        ≤ vec_capacity consumers.new - vec_len consumers.new + 1 }
 {
     match place_of(consumers.as_slice(), &name) {
         Some(place) => see_at(consumers, place, name, moment),
@@ -92,7 +94,9 @@ pub(crate) fn see(consumers: &mut Vec<Consumer>, name: Name, moment: u64)
 fn see_at(consumers: &mut Vec<Consumer>, place: usize, name: Name, moment: u64)
     requires order { AreInOrder consumers.old.items }
     requires place { IsPlace name consumers.old.items place }
-    ensures { consumers.new.items ≡ seen_at name moment consumers.old.items }
+    ensures items { consumers.new.items ≡ seen_at name moment consumers.old.items }
+    ensures len { vec_len consumers.new ≡ vec_len consumers.old }
+    ensures capacity { vec_capacity consumers.new ≡ vec_capacity consumers.old }
 {
     consumers[place] = Consumer { name, seen: moment };
 }
@@ -101,7 +105,9 @@ fn see_at(consumers: &mut Vec<Consumer>, place: usize, name: Name, moment: u64)
 fn insert_at(consumers: &mut Vec<Consumer>, place: usize, consumer: Consumer)
     requires place { place ≤ vec_len consumers.old }
     requires spare { vec_len consumers.old < vec_capacity consumers.old }
-    ensures { consumers.new.items ≡ insert consumers.old.items place consumer }
+    ensures items { consumers.new.items ≡ insert consumers.old.items place consumer }
+    ensures len { vec_len consumers.new ≡ vec_len consumers.old + 1 }
+    ensures capacity { vec_capacity consumers.new ≡ vec_capacity consumers.old }
 {
     match consumers.insert(place, consumer) {
         Ok(()) => {}

@@ -1,13 +1,11 @@
 ghost use Rattle.std.specs.Prelude.{◌≡◌, ◌^◌, ◌<◌, [], ◌∷◌, Some, IfOk, IfSome, IfNone, length};
-ghost use Rattle.std.specs.List.{All};
-ghost use Rattle.sr_group.specs.Group.{AreInOrder, counts_of, earlier, idle_for, oldest_of};
-ghost use Rattle.sr_group.specs.steps.Listing.{counted};
+ghost use Rattle.sr_group.specs.Group.{counts_of, earlier, idle_for, oldest_of};
 
-use crate::consumers::{place_of, seen_by};
+use crate::consumers::seen_by;
 use crate::{Consumer, Group};
 use sr_bytes::Name;
 use sr_ids::Id;
-use sr_pending::{Nack, Nacks};
+use sr_pending::{Nack, Nacks, Pending};
 use std::alloc::{AllocError, Global};
 use std::marker::Model;
 
@@ -113,35 +111,19 @@ fn next_idle<'a>(rest: &mut Nacks<'a>, least_idle: u64, moment: u64) -> Option<&
     None
 }
 
-/// How many of these entries each of the consumers has.
+/// How many entries each of the consumers has.
 fn counts_for(
     alloc: Global,
     consumers: &[Consumer],
-    nacks: Nacks<'_>,
+    pending: &Pending,
 ) -> Result<Vec<u64>, AllocError>
-    requires order { AreInOrder consumers.now }
-    requires few { length nacks < 2 ^ 63 }
-    ensures { IfOk result (λ counts. counts.items ≡ counts_of consumers.now nacks.entry) }
+    ensures { IfOk result (λ counts. counts.items ≡ counts_of consumers.now pending.now.nacks) }
 {
-    let mut rest = nacks;
-    let mut counts = vec![in alloc; 0u64; consumers.len()]?;
-    while let Some(nack) = rest.next() {
-        count_one(&mut counts, consumers, &nack.owner);
+    let mut counts = Vec::with_capacity(alloc, consumers.len())?;
+    for consumer in consumers {
+        counts.push(pending.count_of(&consumer.name) as u64)?;
     }
     Ok(counts)
-}
-
-/// Counts one more entry of this owner.
-fn count_one(counts: &mut Vec<u64>, consumers: &[Consumer], owner: &Name)
-    requires order { AreInOrder consumers.now }
-    requires long { length counts.old.items ≡ length consumers.now }
-    requires few { All (λ count. count < 2 ^ 63) counts.old.items }
-    ensures { counts.new.items ≡ counted owner.now consumers.now counts.old.items }
-{
-    match place_of(consumers, owner) {
-        None => {}
-        Some(place) => counts[place] += 1,
-    }
 }
 
 /// The least delivery time of these entries.
@@ -181,7 +163,7 @@ impl Group {
         ensures counts { IfOk result (λ summary. summary.counts.items ≡ counts_of self.now.shown.consumers self.now.shown.nacks) }
     {
         let total = self.pending.len() as u64;
-        let counts = counts_for(alloc, self.consumers.as_slice(), self.pending.all())?;
+        let counts = counts_for(alloc, self.consumers.as_slice(), &self.pending)?;
         Ok(Summary {
             total,
             least: self.pending.least_id(),

@@ -61,7 +61,7 @@ fn apply(pending: &mut Pending, act: Act)
 }
 
 /// The entry is pending for its owner, whoever had it before.
-fn give(pending: &mut Pending, nack: Nack)
+pub(crate) fn give(pending: &mut Pending, nack: Nack)
     requires countable { IsCountable nack }
     requires room { 0 < room_of nack.owner pending.old.rooms }
     ensures nacks { pending.new.nacks ≡ with_nack nack pending.old.nacks }

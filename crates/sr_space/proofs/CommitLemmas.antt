@@ -3,12 +3,13 @@ use Rattle.std.proofs.Common.{◌≡◌, ℕ, ℤ, ◌+◌, ◌<◌, Bool, true,
 use Rattle.std.specs.Cmp.Lexicographic.{pointwise, bytes_decides}
 use Rattle.std.specs.List.{All}
 use Rattle.std.proofs.lemmas.List.Elements.{All-append, All-cons, All-head, All-nil, All-tail, All-weaker, filter-append}
-use Rattle.std.proofs.lemmas.List.Sums.{fold_more}
+use Rattle.std.proofs.lemmas.List.{take_more}
 use Rattle.sr_args.specs.declared.call.Call.{Call}
 use Rattle.sr_args.specs.declared.call.Call.TheVariants.{Xclaim}
 use Rattle.sr_args.specs.declared.call.TimeAsked.{TimeAsked}
 use Rattle.sr_bytes.specs.Order.{comes_before}
 use Rattle.sr_entries.specs.declared.entry.Entry.{Entry}
+use Rattle.sr_group.specs.Claim.{HasCount, MoveState, after_moves}
 use Rattle.sr_group.specs.Group.{GroupState}
 use Rattle.sr_group.proofs.NameLemmas.{comes_before-itself, comes_before-one_way}
 use Rattle.sr_ids.specs.declared.id.Id.{Id}
@@ -28,7 +29,7 @@ use Rattle.sr_space.specs.Keys.{Key, Keys, stream_at, with_stream}
 use Rattle.sr_space.specs.Touched.{left_at}
 use Rattle.sr_space.specs.commands.Xclaim.{claim_of, claimed}
 use Rattle.sr_space.specs.declared.grouped.Missing.TheVariants.{NoGroup}
-use Rattle.sr_space.specs.steps.Claiming.{IsClaim, IsClaimIn, group_after, group_after_all, stream_after, with_claims}
+use Rattle.sr_space.specs.steps.Claiming.{AreMovesOf, IsClaim, IsClaimIn, IsMoveOf, group_after, group_after_all, stream_after, with_claims}
 use Rattle.sr_space.proofs.KeyLaws.{stream_at-with_stream}
 use Rattle.sr_space.proofs.ReadGroupLemmas.{group_with-with_group}
 
@@ -214,11 +215,33 @@ module _ (moment : ℕ) (calls : List Call) (name : List ℕ) (stream : StreamSt
   pub stream_after-missing : has_group name stream.groups ≡ false → stream ≡ stream_after moment calls name stream
   stream_after-missing missing = rw (group_with-none name stream.groups missing) refl
 
+-- ---- calls as moves
+
+AreMovesOf-push : (calls : List Call) (moves : List MoveState) (call : Call) (move : MoveState) → AreMovesOf calls moves → IsMoveOf call move → AreMovesOf (calls ++ call ∷ []) (moves ++ move ∷ [])
+AreMovesOf-push [] [] call move are is = (is, tt)
+AreMovesOf-push [] (m ∷ moves) call move are is = absurd are
+AreMovesOf-push (c ∷ calls) [] call move are is = absurd are
+AreMovesOf-push (c ∷ calls) (m ∷ moves) call move are is = (are.0, AreMovesOf-push calls moves call move are.1 is)
+
 -- one more call
-pub group_after-turn : (moment : ℕ) (entries : List Entry) (calls : List Call) (i : ℕ) (call : Call) (group now after : GroupState) → i < length calls → call ≡ get_or calls i call
-    → now ≡ group_after_all moment entries (take i calls) group → after ≡ group_after moment entries now call → after ≡ group_after_all moment entries (take (i + 1) calls) group
-group_after-turn moment entries calls i call group now after within read so_far is =
-    is
-    ∙ ap (λ (g : GroupState). group_after moment entries g call) so_far
-    ∙ ap (λ (x : Call). group_after moment entries (group_after_all moment entries (take i calls) group) x) read
-    ∙ sym (fold_more (group_after moment entries) group calls i call within)
+pub AreMovesOf-more : (calls : List Call) (i : ℕ) (call : Call) (moves left : List MoveState) (move : MoveState) → i < length calls → call ≡ get_or calls i call
+    → AreMovesOf (take i calls) moves → IsMoveOf call move → left ≡ moves ++ move ∷ [] → AreMovesOf (take (i + 1) calls) left
+AreMovesOf-more calls i call moves left move within read are is pushed =
+    let more : take (i + 1) calls ≡ take i calls ++ call ∷ [] = take_more calls i call within ∙ ap (λ (c : Call). take i calls ++ c ∷ []) (sym read) in
+    rw (more, pushed) (AreMovesOf-push (take i calls) moves call move are is)
+
+-- the moves ask for counts that a reply can hold
+pub AreMovesOf-counts : (calls : List Call) (moves : List MoveState) → AreMovesOf calls moves → All HasCount moves
+AreMovesOf-counts [] [] are = All-nil HasCount
+AreMovesOf-counts [] (m ∷ moves) are = absurd are
+AreMovesOf-counts (c ∷ calls) [] are = absurd are
+AreMovesOf-counts (c ∷ calls) (m ∷ moves) are = All-cons HasCount m moves are.0.count (AreMovesOf-counts calls moves are.1)
+
+-- what they leave is what the calls leave
+pub after_moves-calls : (moment : ℕ) (entries : List Entry) (calls : List Call) (moves : List MoveState) (group : GroupState) → AreMovesOf calls moves
+    → after_moves (in_63_bits moment) entries moves group ≡ group_after_all moment entries calls group
+after_moves-calls moment entries [] [] group are = refl
+after_moves-calls moment entries [] (m ∷ moves) group are = absurd are
+after_moves-calls moment entries (c ∷ calls) [] group are = absurd are
+after_moves-calls moment entries (c ∷ calls) (m ∷ moves) group are =
+    ap (after_moves (in_63_bits moment) entries moves) (are.0.same moment entries group) ∙ after_moves-calls moment entries calls moves (group_after moment entries group c) are.1

@@ -1,15 +1,14 @@
 ghost use Rattle.std.specs.Prelude.{◌≡◌, All, IfOk, OnOk, OnErr};
 ghost use Rattle.sr_plan.specs.Calls.{claim_calls};
 ghost use Rattle.sr_space.specs.Commit.{after_calls};
-ghost use Rattle.sr_space.specs.steps.Claiming.{IsClaim, group_after, group_after_all, stream_after};
+ghost use Rattle.sr_space.specs.steps.Claiming.{AreMovesOf, IsClaim, IsMoveOf, stream_after};
 
 use crate::Space;
 use crate::bounds::in_63_bits;
 use crate::commands::xclaim::{ClaimAsked, claim_as};
 use sr_args::Call;
 use sr_bytes::Name;
-use sr_entries::Entries;
-use sr_group::Group;
+use sr_group::Move;
 use sr_plan::Verdict;
 use sr_stream::Stream;
 use std::alloc::{AllocError, Global};
@@ -44,8 +43,8 @@ impl Space {
     }
 }
 
-/// Carries out calls of XCLAIM in the group of this name, if the stream has it. All of them are carried out on a copy, which
-/// takes the group's place at the end: so after an `Err` the stream shows what it showed.
+/// Carries out calls of XCLAIM in the group of this name, if the stream has it, as moves of which each has its memory before
+/// the first is made: so after an `Err` the stream shows what it showed.
 fn claim_in(
     stream: &mut Stream,
     alloc: Global,
@@ -60,42 +59,28 @@ fn claim_in(
     if !stream.has_group(name) {
         return Ok(());
     }
+    let moves = moves_of(alloc, calls)?;
     stream.sound();
     let (entries, group) = stream.entries_and_group(name);
-    let copy = claimed_copy(group, alloc, entries, moment, calls)?;
-    *group = copy;
-    Ok(())
+    group.move_all(alloc, moves.as_slice(), in_63_bits(moment), entries)
 }
 
-/// A copy of a group after calls of XCLAIM, one after another.
-fn claimed_copy(
-    group: &Group,
-    alloc: Global,
-    entries: &Entries,
-    moment: u64,
-    calls: &[Call],
-) -> Result<Group, AllocError>
+/// Each call of XCLAIM as a move.
+fn moves_of(alloc: Global, calls: &[Call]) -> Result<Vec<Move<'_>>, AllocError>
     requires { All IsClaim calls.now }
-    ensures { IfOk result (λ copy.
-        copy.shown ≡ group_after_all moment entries.now.entries calls.now group.now.shown) }
+    ensures { IfOk result (λ moves. AreMovesOf calls.now moves.items) }
 {
-    let mut copy = group.copy(alloc)?;
+    let mut moves = Vec::with_capacity(alloc, calls.len())?;
     for call in calls {
-        claim(&mut copy, alloc, entries, moment, call)?;
+        moves.push(move_of(call))?;
     }
-    Ok(copy)
+    Ok(moves)
 }
 
-/// Carries out a call of XCLAIM on a group, and makes no reply.
-fn claim(
-    group: &mut Group,
-    alloc: Global,
-    entries: &Entries,
-    moment: u64,
-    call: &Call,
-) -> Result<(), AllocError>
+/// A call of XCLAIM as a move.
+fn move_of(call: &Call) -> Move<'_>
     requires { IsClaim call.now }
-    ensures { OnOk result (group.new.shown ≡ group_after moment entries.now.entries group.old.shown call.now) }
+    ensures { IsMoveOf call.now result }
 {
     let Call::Xclaim {
         key: _,
@@ -116,8 +101,5 @@ fn claim(
         count: *count,
         just_ids: *just_ids,
     };
-    let (ids, moment) = (ids.as_slice(), in_63_bits(moment));
-    let shown = group.claim(alloc, consumer, ids, claim_as(asked), moment, entries)?;
-    group.show(shown);
-    Ok(())
+    Move::new(consumer, claim_as(asked), ids.as_slice())
 }

@@ -9,6 +9,8 @@ use Rattle.sr_pending.specs.declared.nack.Nack.{Nack}
 use Rattle.sr_pending.specs.Pending.{is_below, is_same_id}
 use Rattle.sr_group.specs.declared.claim.Claim.{Claim}
 use Rattle.sr_group.specs.declared.claim.Delivery.{Delivery}
+use Rattle.sr_group.specs.declared.claim.Judgement.{Judgement}
+use Rattle.sr_group.specs.declared.claim.Judgement.TheVariants.{Stays, Leaves, Moves}
 use Rattle.sr_group.specs.declared.shown.Act.{Act}
 use Rattle.sr_group.specs.declared.shown.Act.TheVariants.{Give, Touch, Forget, Only}
 use Rattle.sr_group.specs.Claim.{Fate, Skipped, Dropped, GivenOver, after_claim, fate_with, after_fate, listed_claim, listed_with}
@@ -31,6 +33,13 @@ abbrev pub act_with : Fate → Id → Option Act
 act_with Skipped id = None
 act_with Dropped id = Some (Forget id)
 act_with (GivenOver nack) id = Some (Give nack)
+
+-- what is done to a pending entry that was judged so
+abbrev pub act_judged : List ℕ → Id → Judgement → Option Act
+act_judged claimer id Stays = None
+act_judged claimer id Leaves = Some (Forget id)
+act_judged claimer id (Moves delivery) =
+    Some (Give (record { id = id; owner = claimer; time = delivery.time; count = delivery.count }))
 
 -- when and how often a pending entry was delivered
 abbrev pub delivery_of : Nack → Delivery

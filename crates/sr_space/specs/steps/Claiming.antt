@@ -1,11 +1,11 @@
 -- Private clauses alone cite this: calls of XCLAIM that are carried out in one group, one after another.
 
-use Rattle.std.specs.Prelude.{◌≡◌, ℕ, ℤ, List, Option, Some, None, Bool, fold}
+use Rattle.std.specs.Prelude.{⊤, ◌≡◌, ℕ, ℤ, List, [], ◌∷◌, Option, Some, None, Bool, fold}
 use Rattle.sr_args.specs.declared.call.Call.{Call}
 use Rattle.sr_args.specs.declared.call.Call.TheVariants.{Xclaim}
 use Rattle.sr_args.specs.declared.call.TimeAsked.{TimeAsked}
 use Rattle.sr_entries.specs.declared.entry.Entry.{Entry}
-use Rattle.sr_group.specs.Claim.{group_after_claim}
+use Rattle.sr_group.specs.Claim.{HasCount, MoveState, after_move, group_after_claim}
 use Rattle.sr_group.specs.Group.{GroupState}
 use Rattle.sr_ids.specs.declared.id.Id.{Id}
 use Rattle.sr_stream.specs.Groups.{group_with, with_group}
@@ -33,6 +33,18 @@ abbrev pub group_after : ℕ → List Entry → GroupState → Call → GroupSta
 group_after moment entries group (Xclaim key name consumer least_idle ids time count just_ids) =
     group_after_claim (claim_of least_idle time count just_ids) consumer (in_63_bits moment) entries ids group
 group_after moment entries group call = group
+
+-- the move does what the call does
+pub record IsMoveOf (call : Call) (move : MoveState) : Type 0 where
+  pub same : (moment : ℕ) (entries : List Entry) (group : GroupState) → after_move (in_63_bits moment) entries group move ≡ group_after moment entries group call
+  pub count : HasCount move
+
+-- so does each of these moves for its call
+abbrev pub AreMovesOf : List Call → List MoveState → Type 0
+AreMovesOf [] [] = ⊤
+AreMovesOf [] (move ∷ moves) = ⊥
+AreMovesOf (call ∷ calls) [] = ⊥
+AreMovesOf (call ∷ calls) (move ∷ moves) = IsMoveOf call move × AreMovesOf calls moves
 
 -- the group after these calls, one after another
 abbrev pub group_after_all : ℕ → List Entry → List Call → GroupState → GroupState

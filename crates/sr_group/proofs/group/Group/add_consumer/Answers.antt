@@ -8,5 +8,5 @@ pub invariant_of-self-2 : goal.invariant_of-self-2
 invariant_of-self-2 c =
     let group = c.self.inside in
     let name = c.in_ok-name.name in
-    let seen : c.see.new.consumers.items ≡ seen_at name c.args.moment group.consumers.items = c.see.ensures ∙ ap (λ (l : List Consumer). seen_at name c.args.moment l) c.reserve.ensures.items in
+    let seen : c.see.new.consumers.items ≡ seen_at name c.args.moment group.consumers.items = c.see.ensures.items ∙ ap (λ (l : List Consumer). seen_at name c.args.moment l) c.reserve.ensures.items in
     IsGroup-seen name c.args.moment group.last group.consumers.items c.see.new.consumers.items group.pending.nacks c.self.invariant c.requires seen

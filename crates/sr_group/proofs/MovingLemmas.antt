@@ -1,0 +1,141 @@
+-- The room that moves need and use, and what a move leaves of a group.
+use Rattle.std.proofs.Common.{◌≡◌, ◌≢◌, ℕ, ◌+◌, ◌^◌, ◌<◌, ◌≤◌, Bool, true, false, cond, not, nat_lt, List, [], ◌∷◌, ◌++◌, Option, Some, None, length, get_or, map, take, refl, ap, sym, ◌∙◌, arith}
+use Rattle.std.specs.List.{All}
+use Rattle.std.specs.Cmp.Lexicographic.{bytes_decides}
+use Rattle.std.proofs.lemmas.List.{take_more}
+use Rattle.std.proofs.lemmas.List.Elements.{All-filter, All-weaker}
+use Rattle.sr_ids.specs.declared.id.Id.{Id}
+use Rattle.sr_entries.specs.declared.entry.Entry.{Entry}
+use Rattle.sr_entries.specs.Entries.{has_id}
+use Rattle.sr_pending.specs.declared.nack.Nack.{Nack}
+use Rattle.sr_pending.specs.declared.room.Room.{Room}
+use Rattle.sr_pending.specs.Pending.{AreRising, IsCountable, KeepsRooms, Reserves, is_same_id, is_same_name, redelivered, room_of}
+use Rattle.sr_pending.proofs.ChangeLemmas.{All-with_nack}
+use Rattle.sr_group.specs.declared.claim.Claim.{Claim}
+use Rattle.sr_group.specs.declared.consumer.Consumer.{Consumer}
+use Rattle.sr_group.specs.declared.moving.Wanted.{Wanted}
+use Rattle.sr_group.specs.Claim.{Fate, Skipped, Dropped, GivenOver, MoveState, after_claim, after_fate, after_move, after_moves, count_given, fate_of, fate_of_any, fate_with, time_given}
+use Rattle.sr_group.specs.Group.{GroupState, IsGroup, IsOwned, IsSeen, has_consumer, idle_at, seen_at}
+use Rattle.sr_group.specs.steps.Moving.{HaveRooms, Spends, needed}
+use Rattle.sr_group.proofs.ConsumerLemmas.{AreInOrder-seen_at, All-seen_at, has_consumer-seen, has_consumer-seen_at}
+
+-- ---- room
+
+-- what a move needs of this owner's room
+abbrev part : List ℕ → MoveState → ℕ
+part owner move = cond (is_same_name move.claimer owner) (length move.ids) 0
+
+needed-push : (owner : List ℕ) (moves : List MoveState) (move : MoveState) → needed owner (moves ++ move ∷ []) ≡ needed owner moves + part owner move
+needed-push owner [] move = omega arith
+needed-push owner (first ∷ moves) move = let rest = needed-push owner moves move in omega (arith, rest)
+
+-- no moves need no room
+pub HaveRooms-none : (rooms : List Room) → HaveRooms [] rooms rooms
+HaveRooms-none rooms owner = omega arith
+
+pub HaveRooms-kept : (old new : List Room) → HaveRooms [] old new → KeepsRooms old new
+HaveRooms-kept old new have owner = let all = have owner in omega (arith, all)
+
+-- room for one move was added
+pub HaveRooms-reserved : (move : MoveState) (n : ℕ) (old new : List Room) → n ≡ room_of move.claimer old + length move.ids → n ≤ room_of move.claimer new → Reserves move.claimer n old new → HaveRooms (move ∷ []) old new
+HaveRooms-reserved move n old new is enough reserves owner = by (is_same_name move.claimer owner) refl
+  where
+    by : (test : Bool) → is_same_name move.claimer owner ≡ test → room_of owner old + (cond test (length move.ids) 0 + 0) ≤ room_of owner new
+    by true e =
+        let same : move.claimer ≡ owner = (bytes_decides move.claimer owner).0 e in
+        let all : room_of move.claimer old + length move.ids ≤ room_of move.claimer new = omega (arith, is, enough) in
+        let own : room_of owner old + length move.ids ≤ room_of owner new = rw same at all in
+        omega (arith, own)
+    by false e =
+        let apart : owner ≢ move.claimer = λ same. let yes : is_same_name move.claimer owner ≡ true = (bytes_decides move.claimer owner).1 (sym same) in let both = sym e ∙ yes in cc in
+        let other = reserves.others owner apart in
+        omega (arith, other)
+
+-- and then for one more
+pub HaveRooms-more : (moves : List MoveState) (i : ℕ) (move : MoveState) (base old new : List Room) → i < length moves → move ≡ get_or moves i move
+    → HaveRooms (take i moves) base old → HaveRooms (move ∷ []) old new → HaveRooms (take (i + 1) moves) base new
+HaveRooms-more moves i move base old new within read first second owner =
+    let front = take i moves in
+    let more : take (i + 1) moves ≡ front ++ move ∷ [] = take_more moves i move within ∙ ap (λ (m : MoveState). front ++ m ∷ []) (sym read) in
+    let all : needed owner (take (i + 1) moves) ≡ needed owner front + part owner move = ap (needed owner) more ∙ needed-push owner front move in
+    let before : room_of owner base + needed owner front ≤ room_of owner old = first owner in
+    let here : room_of owner old + (part owner move + 0) ≤ room_of owner new = second owner in
+    omega (arith, all, before, here)
+
+-- the first move has its room
+pub HaveRooms-first : (move : MoveState) (moves : List MoveState) (base old : List Room) → HaveRooms (move ∷ moves) base old → length move.ids ≤ room_of move.claimer old
+HaveRooms-first move moves base old have =
+    let all : room_of move.claimer base + (part move.claimer move + needed move.claimer moves) ≤ room_of move.claimer old = have move.claimer in
+    let own : part move.claimer move ≡ length move.ids = rw ((bytes_decides move.claimer move.claimer).1 refl) refl in
+    omega (arith, all, own)
+
+-- and leaves that of the others
+pub HaveRooms-spent : (move : MoveState) (moves : List MoveState) (base old new : List Room) → HaveRooms (move ∷ moves) base old → Spends move.claimer (length move.ids) old new → HaveRooms moves base new
+HaveRooms-spent move moves base old new have spends owner = by (is_same_name move.claimer owner) refl (have owner)
+  where
+    by : (test : Bool) → is_same_name move.claimer owner ≡ test → room_of owner base + (cond test (length move.ids) 0 + needed owner moves) ≤ room_of owner old → room_of owner base + needed owner moves ≤ room_of owner new
+    by true e all =
+        let same : move.claimer ≡ owner = (bytes_decides move.claimer owner).0 e in
+        let spent : room_of move.claimer old ≤ room_of move.claimer new + length move.ids = spends.own in
+        let own : room_of owner old ≤ room_of owner new + length move.ids = rw same at spent in
+        omega (arith, all, own)
+    by false e all =
+        let apart : owner ≢ move.claimer = λ same. let yes : is_same_name move.claimer owner ≡ true = (bytes_decides move.claimer owner).1 (sym same) in let both = sym e ∙ yes in cc in
+        let other = spends.others owner apart in
+        omega (arith, all, other)
+
+-- ---- what a move leaves
+
+module _ (claim : Claim) (claimer : List ℕ) (moment : ℕ) (entries : List Entry) where
+  -- what is given over becomes the claimer's
+  given_owner : (nack other : Nack) → fate_of claim claimer moment entries nack ≡ GivenOver other → other.owner ≡ claimer
+  given_owner nack other is = by (has_id nack.id entries) (nat_lt (idle_at moment nack) claim.least_idle) is
+    where
+      by : (there early : Bool) → cond (not there) Dropped (cond early Skipped (GivenOver (redelivered claimer (time_given moment claim.time) (count_given claim.count claim.just_ids nack.count) nack))) ≡ GivenOver other → other.owner ≡ claimer
+      by false early e = cc
+      by true true e = cc
+      by true false e =
+          let one : redelivered claimer (time_given moment claim.time) (count_given claim.count claim.just_ids nack.count) nack ≡ other = cc in
+          ap (λ (n : Nack). n.owner) (sym one)
+
+  owner_of_any : (found : Option Nack) (other : Nack) → fate_of_any claim claimer moment entries found ≡ GivenOver other → other.owner ≡ claimer
+  owner_of_any None other is = cc
+  owner_of_any (Some nack) other is = given_owner nack other is
+
+  module _ (consumers : List Consumer) (there : has_consumer claimer consumers ≡ true) where
+    owned-after_fate : (fate : Fate) (id : Id) (xs : List Nack) → fate_with claim claimer moment entries id xs ≡ fate → All (IsOwned consumers) xs → All (IsOwned consumers) (after_fate fate id xs)
+    owned-after_fate Skipped id xs is owned = owned
+    owned-after_fate Dropped id xs is owned = All-filter (λ n. not (is_same_id n.id id)) (IsOwned consumers) xs owned
+    owned-after_fate (GivenOver nack) id xs is owned =
+        let here : IsOwned consumers nack = rw (owner_of_any _ nack is) there in
+        All-with_nack (IsOwned consumers) nack xs here owned
+
+    owned-after_claim : (ids : List Id) (xs : List Nack) → All (IsOwned consumers) xs → All (IsOwned consumers) (after_claim claim claimer moment entries ids xs)
+    owned-after_claim [] xs owned = owned
+    owned-after_claim (id ∷ ids) xs owned = owned-after_claim ids _ (owned-after_fate (fate_with claim claimer moment entries id xs) id xs refl owned)
+
+  -- the first of these entries was taken
+  pub taken-first : (one : Wanted) (all left : List Wanted) (nacks now : List Nack) → all ≡ one ∷ left → now ≡ after_fate (fate_with claim claimer moment entries one.id nacks) one.id nacks
+      → after_claim claim claimer moment entries (map (λ (w : Wanted). w.id) left) now ≡ after_claim claim claimer moment entries (map (λ (w : Wanted). w.id) all) nacks
+  taken-first one all left nacks now items is =
+      ap (after_claim claim claimer moment entries (map (λ (w : Wanted). w.id) left)) is
+      ∙ ap (λ (l : List Wanted). after_claim claim claimer moment entries (map (λ (w : Wanted). w.id) l) nacks) (sym items)
+
+  -- the claimer was seen, and got entries
+  pub IsGroup-moved : (ids : List Id) (last : Id) (consumers seen : List Consumer) (nacks left : List Nack)
+      → IsGroup (record { last = last; consumers = consumers; nacks = nacks }) → moment < 2 ^ 63 → seen ≡ seen_at claimer moment consumers
+      → left ≡ after_claim claim claimer moment entries ids nacks → AreRising left → All IsCountable left → IsGroup (record { last = last; consumers = seen; nacks = left })
+  IsGroup-moved ids last consumers seen nacks left old early is done rising countable = record {
+    consumers = rw is (AreInOrder-seen_at claimer moment consumers old.consumers);
+    seen = rw is (All-seen_at IsSeen claimer moment consumers early old.seen);
+    rising = rising;
+    countable = countable;
+    owned = rw (is, done) (owned-after_claim (seen_at claimer moment consumers) (has_consumer-seen claimer moment consumers) ids nacks
+        (All-weaker (IsOwned consumers) (IsOwned (seen_at claimer moment consumers)) (λ n owned. has_consumer-seen_at claimer n.owner moment consumers owned) nacks old.owned));
+  }
+
+-- the first of these moves was carried out
+pub moved-first : (moment : ℕ) (entries : List Entry) (move : MoveState) (all left : List MoveState) (group now : GroupState) → all ≡ move ∷ left → now ≡ after_move moment entries group move
+    → after_moves moment entries left now ≡ after_moves moment entries all group
+moved-first moment entries move all left group now items is =
+    ap (after_moves moment entries left) is ∙ ap (λ (l : List MoveState). after_moves moment entries l group) (sym items)
