@@ -1,11 +1,13 @@
 -- What the options of the command line ask for: a session over standard input and output, or a server for connections.
 -- Source: docs/COMMANDS.md.
 
-use Rattle.std.specs.Prelude.{◌≡◌, ◌≤◌, ℕ, List, true, false, Option, Some, None}
+use Rattle.std.specs.Prelude.{◌≡◌, ◌≤◌, ℕ, List, true, false, Option, Some, None, is_some}
 use Rattle.std.specs.Net.Grammar.{IsSocketText}
 use Rattle.std.specs.Str.Parse.{IsNumeral, digits_value, without_leading_plus}
 use Rattle.std.specs.declared.net.socket_addr.SocketAddr.{SocketAddr}
 use Rattle.sr_options.specs.Options.{Asked}
+use Rattle.sr_options.specs.declared.command.UsageFault.{UsageFault}
+use Rattle.sr_options.specs.declared.command.UsageFault.TheVariants.{Mode, Address, Workers}
 use Rattle.sr_options.specs.declared.request.Request.{Request}
 use Rattle.sr_options.specs.declared.request.Request.TheVariants as requests
 
@@ -40,3 +42,10 @@ AsksFor asked (requests.Listen listening) = AsksToListen asked listening.text.no
 pub record AsksForNothing (asked : Asked) : Type 0 where
   pub no_stdio : ¬ (AsksForStdio asked)
   pub no_address : ¬ (AsksForAddress asked)
+
+-- what is wrong first: the number of workers, then the address, then what is asked for
+abbrev pub IsFaultOf : Asked → UsageFault → Type 0
+IsFaultOf asked Workers = (number : ℕ) → ¬ (IsWorkers asked.workers number)
+IsFaultOf asked Address = ((number : ℕ) × IsWorkers asked.workers number) × (asked.stdio ≡ false)
+    × ((text : List ℕ) × (asked.listen ≡ Some text) × ((address : SocketAddr) → ¬ (IsSocketText text address)))
+IsFaultOf asked Mode = ((number : ℕ) × IsWorkers asked.workers number) × (asked.stdio ≡ is_some asked.listen)

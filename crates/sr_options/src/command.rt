@@ -1,5 +1,5 @@
-ghost use Rattle.std.specs.Prelude.{◌≡◌, ◌≤◌, ℕ, option_map, IfOk, IfSome, IsNone, OnErr};
-ghost use Rattle.sr_options.specs.Command.{AsksFor, AsksForNothing, IsWorkers};
+ghost use Rattle.std.specs.Prelude.{◌≡◌, ◌≤◌, ℕ, option_map, IfErr, IfOk, IfSome, IsNone, OnErr};
+ghost use Rattle.sr_options.specs.Command.{AsksFor, AsksForNothing, IsFaultOf, IsWorkers};
 ghost use Rattle.sr_options.specs.Options.{asked_of};
 
 use crate::options::Options;
@@ -28,6 +28,7 @@ pub enum UsageFault {
 pub fn request_of<'a>(options: &Options<'a>) -> Result<Request<'a>, UsageFault>
     ensures ok { IfOk result (AsksFor (asked_of options.now)) }
     ensures err { OnErr result (AsksForNothing (asked_of options.now)) }
+    ensures fault { IfErr result (IsFaultOf (asked_of options.now)) }
 {
     let Some(workers) = workers_of(options.workers) else {
         return Err(UsageFault::Workers);
