@@ -43,26 +43,11 @@ def spelled(*words):
     return b"*%d\r\n" % len(parts) + b"".join(b"$%d\r\n%s\r\n" % (len(part), part) for part in parts)
 
 
-class Connection:
-    """One connection. An error reply is raised by `call`, and returned by `reply`."""
+class Replies:
+    """The replies in RESP2 that a file holds."""
 
-    def __init__(self, port, seconds=SECONDS):
-        self.socket = socket.create_connection((HOST, port), timeout=seconds)
-        self.socket.setsockopt(socket.IPPROTO_TCP, socket.TCP_NODELAY, 1)
-        self.file = self.socket.makefile("rb")
-
-    def __enter__(self):
-        return self
-
-    def __exit__(self, *_):
-        self.close()
-
-    def close(self):
-        self.file.close()
-        self.socket.close()
-
-    def send(self, *words):
-        self.socket.sendall(spelled(*words))
+    def __init__(self, file):
+        self.file = file
 
     def reply(self):
         """The next reply: bytes, a number, None, a list, or an ErrorReply."""
@@ -89,6 +74,28 @@ class Connection:
         if len(text) < length + 2:
             raise ConnectionError("the server ended the connection")
         return text[:-2]
+
+
+class Connection(Replies):
+    """One connection. An error reply is raised by `call`, and returned by `reply`."""
+
+    def __init__(self, port, seconds=SECONDS):
+        self.socket = socket.create_connection((HOST, port), timeout=seconds)
+        self.socket.setsockopt(socket.IPPROTO_TCP, socket.TCP_NODELAY, 1)
+        super().__init__(self.socket.makefile("rb"))
+
+    def __enter__(self):
+        return self
+
+    def __exit__(self, *_):
+        self.close()
+
+    def close(self):
+        self.file.close()
+        self.socket.close()
+
+    def send(self, *words):
+        self.socket.sendall(spelled(*words))
 
     def call(self, *words):
         self.send(*words)
