@@ -19,6 +19,9 @@ test:
 	@scripts/replay crates/sr_server/out/sr_server README.md examples/*.session tests/sessions/*.session
 	@tests/requests.py crates/sr_server/out/sr_server
 	@tests/many_stranded.py crates/sr_server/out/sr_server
+	@tests/random_groups.py crates/sr_server/out/sr_server
+	@tests/bulk_move.py crates/sr_server/out/sr_server
+	@tests/long_stream.py crates/sr_server/out/sr_server
 	@tests/bytes.py crates/sr_server/out/sr_server
 	@scripts/policies crates/sr_server/out/sr_server examples/policies/*.toml
 	@tests/policies.py crates/sr_server/out/sr_server
@@ -34,6 +37,9 @@ replay:
 	@scripts/replay crates/sr_server/out/sr_server README.md examples/*.session tests/sessions/*.session
 	@tests/requests.py crates/sr_server/out/sr_server
 	@tests/many_stranded.py crates/sr_server/out/sr_server
+	@tests/random_groups.py crates/sr_server/out/sr_server
+	@tests/bulk_move.py crates/sr_server/out/sr_server
+	@tests/long_stream.py crates/sr_server/out/sr_server
 	@tests/bytes.py crates/sr_server/out/sr_server
 
 # The histories alone: events handed to a book, with their answers.
@@ -90,6 +96,7 @@ bench:
 	@python3 bench/streams.py crates/sr_server/out/sr_server
 	@python3 bench/claims.py crates/sr_server/out/sr_server
 	@python3 bench/groups.py crates/sr_server/out/sr_server
+	@python3 bench/trims.py crates/sr_server/out/sr_server
 	@python3 bench/records.py crates/sr_server/out/sr_server
 	@cd crates/book_driver && rt run -- < /dev/null
 	@python3 bench/recovery.py crates/sr_server/out/sr_server crates/book_driver/out/book_driver
