@@ -1,10 +1,11 @@
 #!/usr/bin/env python3
-"""Times a built server and a Redis server on consumer groups: python3 bench/groups.py PROGRAM
+"""Times a built server and a Redis server on consumer groups: python3 bench/groups.py PROGRAM [PENDING ..]
 
 Requests are made beforehand and sent without waiting for replies: to PROGRAM --stdio over a pipe, to `redis-server` (Debian:
 redis-server; left out if it is not installed) over a socket of its own. Each number is processor time of the server, its system
 calls counted: the least of three runs by turns, each with servers of their own. Pending are the first entries of a stream, all
-with one consumer. A row whose replies are wrong says so and has no number, and the status is then 1.
+with one consumer: these numbers of them, rising, or 1,000, 10,000 and 200,000. With 1,000,000 a row takes a minute or more. A row
+whose replies are wrong says so and has no number, and the status is then 1.
 """
 import os
 import random
@@ -19,6 +20,7 @@ import time
 from streams import Server, Wrong, adds, request
 
 MANY, ENTRIES, PENDING = 1_000_000, 250_000, (1_000, 10_000, 200_000)
+MORE = 50_000  # entries of a longer stream than ENTRIES that are not pending
 ROUNDS, TIMES = 20_000, 1_000
 RUNS = 3
 END = b"end-of-run"
@@ -89,11 +91,14 @@ class Ours:
 class Redis:
     """redis-server over a socket."""
 
+    def __init__(self, program="redis-server"):
+        self.program = program
+
     def __enter__(self):
         self.folder = tempfile.TemporaryDirectory()
         path = os.path.join(self.folder.name, "redis")
         options = ["--port", "0", "--unixsocket", path, "--save", "", "--appendonly", "no", "--dir", self.folder.name]
-        self.process = subprocess.Popen(["redis-server", *options], stdout=subprocess.DEVNULL)
+        self.process = subprocess.Popen([self.program, *options], stdout=subprocess.DEVNULL)
         while not os.path.exists(path):
             time.sleep(0.02)
         self.socket = socket.socket(socket.AF_UNIX)
@@ -171,24 +176,30 @@ def run(server, entries, pending, make):
         return took / count * 1e6, bytes_each
 
 
-def main(program):
+def length(pending, reads):
+    """How many entries the stream has: more are read than looked at."""
+    return max(MANY, pending + 12 * ROUNDS) if reads else max(ENTRIES, pending + MORE)
+
+
+def main(program, *numbers):
+    numbers = tuple(map(int, numbers)) or PENDING
     servers = [Ours(program)] + ([Redis()] if shutil.which("redis-server") else [])
     print(f"{'microseconds of processor time a request':48}{'pending':>9}{'sr_server':>11}{'Redis':>9}{'ratio':>7}")
     failed, bytes_each = False, []
     for name, make in ROWS:
         reads = make is read_and_acknowledge
-        for pending in (1, PENDING[-1]) if reads else PENDING:
+        for pending in (1, numbers[-1]) if reads else numbers:
             try:
-                runs = [[run(server, MANY if reads else ENTRIES, pending, make) for server in servers] for _ in range(RUNS)]
+                runs = [[run(server, length(pending, reads), pending, make) for server in servers] for _ in range(RUNS)]
             except Wrong as wrong:
                 print(f"{name:48}{pending:9,}  wrong: {wrong}", flush=True)
                 failed = True
                 continue
             least = [min(times) for times in zip(*([each[0] for each in turn] for turn in runs))]
-            bytes_each = [each[1] for each in runs[-1]] if pending == PENDING[-1] else bytes_each
+            bytes_each = [each[1] for each in runs[-1]] if pending == numbers[-1] else bytes_each
             ratio = f"{least[1]:9.2f}{least[0] / least[1]:7.2f}" if len(least) > 1 else ""
             print(f"{name:48}{pending:9,}{least[0]:11.2f}{ratio}", flush=True)
-    print("bytes of memory per pending entry, of 200,000:", ", ".join(f"{each:.0f}" for each in bytes_each))
+    print(f"bytes of memory per pending entry, of {numbers[-1]:,}:", ", ".join(f"{each:.0f}" for each in bytes_each))
     return failed
 
 
