@@ -70,6 +70,6 @@ def compared(name, commands, wanted, replies, noun="commands"):
     differing = [place for place, pair in enumerate(zip(wanted, replies)) if pair[0] != pair[1]]
     if differing:
         first = differing[0]
-        print(f"{first + 1:,}: {' '.join(map(str, commands[first]))}\n{difference(wanted[first], replies[first])}")
+        print(f"{first + 1:,}: {' '.join(map(str, commands[first]))[:1000]}\n{difference(wanted[first], replies[first])}")
     print(f"{name}: {len(commands):,} {noun}, {len(differing):,} differ")
     return 1 if differing else 0

@@ -36,13 +36,13 @@ class Commands:
 
     def key(self):
         """Of these the last is never made, and nor is the last name of a group."""
-        return self.random.choices("stu", [90, 8, 2])[0]
+        return self.random.choice(45 * "s" + 4 * "t" + "u")
 
     def name(self):
-        return self.random.choices("ghi", [65, 33, 2])[0]
+        return self.random.choice(33 * "g" + 16 * "h" + "i")
 
     def consumer(self):
-        return self.random.choices(CONSUMERS, [50, 20, 15, 10, 5])[0]
+        return self.random.choice("AAAAAAAAAABBBBCCCDDE")
 
     def few(self, most=20):
         return f"{self.random.randint(1, most)}"
@@ -57,12 +57,15 @@ class Commands:
     def pending_ids(self, key, name):
         """Some ids that are pending in a group, a run of them or from all over, and now and then others."""
         group = self.model.group(key, name)
-        ids = group.ids() if group else []
+        ids = list(group.pending) if group else []
         if not ids or self.likely(0.1):
             return [self.id(key) for _ in range(self.random.randint(1, 4))]
         number = self.random.randint(1, min(12, len(ids)))
-        place = self.random.randrange(len(ids) - number + 1)
-        some = ids[place : place + number] if self.likely(0.6) else self.random.choices(ids, k=number)
+        if self.likely(0.6):
+            place = self.random.randrange(len(ids) - number + 1)
+            some = sorted(ids)[place : place + number]
+        else:
+            some = self.random.choices(ids, k=number)
         return [text_of(entry_id).decode() for entry_id in some]
 
     def option(self, chance, *words):
