@@ -71,7 +71,7 @@ SMALL = [
 ]
 
 SEED, ENTRIES, DELIVERED = 1, 5_000, 4_800
-DEAD = ["D1", "D2", "D3"]
+DEAD = ["X1", "X2", "X3"]
 LIVE = {"A": 900, "B": 700, "C": 1500, "E": 600, "F": 0, "G": 50, "H": 900, "I": 800}  # limits
 OTHER = "W"
 # The rates of a class: each consumer may take three of the four classes.
@@ -137,7 +137,7 @@ class Setting:
 
     def change(self):
         """Delivers some again, claims some as if long ago, and deletes and acknowledges others."""
-        self.step("XREADGROUP", "GROUP", "g", "D1", "COUNT", "300", "STREAMS", "s", "1000")
+        self.step("XREADGROUP", "GROUP", "g", "X1", "COUNT", "300", "STREAMS", "s", "1000")
         ids = self.group().ids()
         for entry_id in self.random.sample(ids, len(ids) // 3):
             count = ["RETRYCOUNT", f"{self.random.randrange(9)}"] if self.random.random() < 0.5 else []
