@@ -1,10 +1,11 @@
 ghost use Rattle.std.specs.Prelude.{◌≡◌, ◌+◌, ◌<◌, ◌≤◌};
 ghost use Rattle.std.specs.VecDeque.{deque_len, deque_capacity};
 ghost use Rattle.std.specs.List.{insert, remove, slice_set};
-ghost use Rattle.sr_pending.specs.Pending.{AreRising, moved, touched};
+ghost use Rattle.sr_pending.specs.Pending.{AreRising, moved, touched, without_owner};
 ghost use Rattle.sr_pending.specs.steps.Search.{IsPlace};
 
 use crate::Nack;
+use sr_bytes::Name;
 use sr_ids::Id;
 use std::collections::VecDeque;
 
@@ -55,4 +56,13 @@ pub(crate) fn remove_at(nacks: &mut VecDeque<Nack>, place: usize)
     ensures capacity { deque_capacity nacks.new ≡ deque_capacity nacks.old }
 {
     drop(nacks.remove(place));
+}
+
+/// Removes the entries of this owner.
+pub(crate) fn keep_others(nacks: &mut VecDeque<Nack>, owner: &Name)
+    ensures items { nacks.new.items ≡ without_owner owner.now nacks.old.items }
+    ensures len { deque_len nacks.new ≤ deque_len nacks.old }
+    ensures capacity { deque_capacity nacks.new ≡ deque_capacity nacks.old }
+{
+    nacks.retain(|nack| !nack.owner.is(owner));
 }

@@ -76,7 +76,7 @@ pub(crate) fn count_all(alloc: Global, nacks: &VecDeque<Nack>) -> Result<Held, A
 {
     let mut held = HashMap::new(alloc);
     for place in 0..nacks.len() {
-        let owner = &nacks[place].owner;
+        let owner = nacks[place].owner.name();
         add_key(&mut held, alloc, owner)?;
         add_one(&mut held, owner);
     }

@@ -12,4 +12,5 @@ mod search;
 
 pub use nack::Nack;
 pub use nacks::Nacks;
+pub use owner::Owner;
 pub use pending::Pending;

@@ -1,6 +1,6 @@
 ghost use Rattle.std.specs.Prelude.{◌≡◌, IfOk};
 
-use sr_bytes::Name;
+use crate::Owner;
 use sr_ids::Id;
 use std::alloc::{AllocError, Global};
 use std::collections::VecDeque;
@@ -13,7 +13,7 @@ pub struct Nack {
     /// The id of the entry.
     pub id: Id,
     /// The consumer that it was delivered to last.
-    pub owner: Name,
+    pub owner: Owner,
     /// When it was delivered last, in milliseconds since 1970.
     pub time: u64,
     /// How many times it was delivered.
@@ -21,13 +21,13 @@ pub struct Nack {
 }
 
 impl Nack {
-    /// A second one with the same contents.
-    pub fn copy(&self, alloc: Global) -> Result<Nack, AllocError>
+    /// A second one with the same contents. It takes no memory.
+    pub fn copy(&self) -> Result<Nack, AllocError>
         ensures { IfOk result (λ nack. nack ≡ self.now) }
     {
         Ok(Nack {
             id: self.id,
-            owner: self.owner.copy(alloc)?,
+            owner: self.owner.copy()?,
             time: self.time,
             count: self.count,
         })
@@ -40,7 +40,7 @@ pub(crate) fn copies(alloc: Global, nacks: &VecDeque<Nack>) -> Result<VecDeque<N
 {
     let mut list = VecDeque::with_capacity(alloc, nacks.len())?;
     for place in 0..nacks.len() {
-        list.push_back(nacks[place].copy(alloc)?)?;
+        list.push_back(nacks[place].copy()?)?;
     }
     Ok(list)
 }

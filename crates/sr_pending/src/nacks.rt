@@ -119,6 +119,6 @@ fn is_wanted(nack: &Nack, owner: Option<&Name>) -> bool
 {
     match owner {
         None => true,
-        Some(owner) => nack.owner == *owner,
+        Some(owner) => nack.owner.is(owner),
     }
 }

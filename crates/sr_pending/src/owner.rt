@@ -1,16 +1,53 @@
-ghost use Rattle.std.specs.Prelude.{◌≡◌, ◌≤◌};
-ghost use Rattle.std.specs.VecDeque.{deque_len, deque_capacity};
-ghost use Rattle.sr_pending.specs.Pending.{without_owner};
+ghost use Rattle.std.specs.Prelude.{◌≡◌, ◌↔◌, IsTrue, IfOk};
 
-use crate::Nack;
 use sr_bytes::Name;
-use std::collections::VecDeque;
+use std::alloc::{AllocError, Global};
+use std::marker::Model;
+use std::sync::Arc;
 
-/// Removes the entries of this owner.
-pub(crate) fn keep_others(nacks: &mut VecDeque<Nack>, owner: &Name)
-    ensures items { nacks.new.items ≡ without_owner owner.now nacks.old.items }
-    ensures len { deque_len nacks.new ≤ deque_len nacks.old }
-    ensures capacity { deque_capacity nacks.new ≡ deque_capacity nacks.old }
-{
-    nacks.retain(|nack| nack.owner != *owner);
+/// The name of a consumer, which the entries that it has share: a copy takes no memory.
+#[derive(Drop)]
+pub struct Owner {
+    name: Arc<Name>,
+}
+
+impl Model for Owner {
+    ghost use Rattle.std.specs.Prelude.{List, ℕ};
+    ghost use Rattle.std.specs.Arc.{arc_value};
+
+    ghost Value = { List ℕ };
+
+    ghost view = { λ o. arc_value o.name };
+}
+
+impl Owner {
+    /// The consumer of this name.
+    pub fn new(alloc: Global, name: &Name) -> Result<Owner, AllocError>
+        ensures { IfOk result (λ owner. owner ≡ name.now) }
+    {
+        let name = Arc::new(alloc, name.copy(alloc)?)?;
+        Ok(Owner { name })
+    }
+
+    /// Its name.
+    pub fn name(&self) -> &Name
+        ensures { result.now ≡ self.now }
+    {
+        &self.name
+    }
+
+    /// The same consumer once more. It takes no memory; an `Err` comes only if there are as many copies as can be counted.
+    pub fn copy(&self) -> Result<Owner, AllocError>
+        ensures { IfOk result (λ owner. owner ≡ self.now) }
+    {
+        let name = Arc::try_clone(&self.name)?;
+        Ok(Owner { name })
+    }
+
+    /// Whether this is its name.
+    pub fn is(&self, name: &Name) -> bool
+        ensures { IsTrue result ↔ (self.now ≡ name.now) }
+    {
+        *self.name() == *name
+    }
 }

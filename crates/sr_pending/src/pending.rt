@@ -1,11 +1,10 @@
-use crate::Nack;
-use crate::edit::{give_at, put_at, remove_at, touch_at};
+use crate::edit::{give_at, keep_others, put_at, remove_at, touch_at};
 use crate::held::{Held, add_key, add_one, clear, count_all, held_for, move_one, take_one};
 use crate::nack::copies;
 use crate::nacks::Nacks;
-use crate::owner::keep_others;
 use crate::room::{Room, add_room, in_all, room_for, use_room};
 use crate::search::{above, count_below, pending_place, place_of, range_of};
+use crate::{Nack, Owner};
 use sr_bytes::Name;
 use sr_ids::Id;
 use std::alloc::{AllocError, Global};
@@ -100,8 +99,8 @@ impl Pending {
         ensures nacks { self.new.nacks ≡ with_nack nack self.old.nacks }
         ensures room { UsesRoom nack.owner self.old.rooms self.new.rooms }
     {
-        use_room(&mut self.rooms, &nack.owner);
-        add_one(&mut self.held, &nack.owner);
+        use_room(&mut self.rooms, nack.owner.name());
+        add_one(&mut self.held, nack.owner.name());
         let place = count_below(&self.nacks, nack.id);
         put_at(&mut self.nacks, place, nack);
     }
@@ -109,7 +108,7 @@ impl Pending {
     /// Gives a pending entry to another owner, in the room that this one has. It takes no memory.
     ///
     /// Source: Redis documentation, command XCLAIM.
-    pub fn move_to(&mut self, id: Id, owner: Name, time: u64, count: u64)
+    pub fn move_to(&mut self, id: Id, owner: Owner, time: u64, count: u64)
         requires pending { has_id id self.old.nacks ≡ true }
         requires time { time < 2 ^ 63 }
         requires count { count < 2 ^ 63 }
@@ -117,9 +116,9 @@ impl Pending {
         ensures nacks { self.new.nacks ≡ moved id owner time count self.old.nacks }
         ensures room { UsesRoom owner self.old.rooms self.new.rooms }
     {
-        use_room(&mut self.rooms, &owner);
+        use_room(&mut self.rooms, owner.name());
         let place = pending_place(&self.nacks, id);
-        move_one(&mut self.held, &self.nacks[place].owner, &owner);
+        move_one(&mut self.held, self.nacks[place].owner.name(), owner.name());
         give_at(
             &mut self.nacks,
             place,
@@ -156,7 +155,7 @@ impl Pending {
         match place_of(&self.nacks, id) {
             None => false,
             Some(place) => {
-                take_one(&mut self.held, &self.nacks[place].owner);
+                take_one(&mut self.held, self.nacks[place].owner.name());
                 remove_at(&mut self.nacks, place);
                 true
             }

@@ -20,7 +20,7 @@ added c =
 pub add_one-requires-clause-few : goal.add_one-requires-clause-few
 add_one-requires-clause-few c =
     let nacks = c.self.inside.nacks in
-    omega (arith, held_by-le c.self.inside.held nacks.items c.self.invariant.counted c.args.nack.owner, nacks.ok, nacks.small)
+    omega (arith, held_by-le c.self.inside.held nacks.items c.self.invariant.counted c.name-2.result.now, nacks.ok, nacks.small)
 
 pub invariant_of-self : goal.invariant_of-self
 invariant_of-self c =
@@ -32,8 +32,8 @@ invariant_of-self c =
     let rooms = c.self.inside.rooms.items in
     let left = c.use_room.new.rooms.items in
     let spare : deque_capacity old - deque_len old ≤ (deque_capacity new - deque_len new) + 1 = omega (arith, c.put_at.ensures.len, c.put_at.ensures.capacity) in
-    let counted = IsCounted-insert held old.items c.self.invariant.counted now c.count_below-place.result nack new.items c.add_one.ensures c.put_at.ensures.items in
-    let keyed = Keeps-used held now nack.owner rooms c.self.invariant.keyed left c.add_one.ensures.keys c.use_room.ensures.used in
+    let counted = IsCounted-insert held old.items c.self.invariant.counted now c.count_below-place.result nack new.items (rw c.name-2.ensures at c.add_one.ensures) c.put_at.ensures.items in
+    let keyed = Keeps-used held now nack.owner rooms c.self.invariant.keyed left c.add_one.ensures.keys (rw c.name.ensures at c.use_room.ensures.used) in
     IsSound-with_nack old.items new.items rooms left held now (deque_capacity old - deque_len old) (deque_capacity new - deque_len new) c.self.invariant counted keyed nack c.requires.countable (added c) c.use_room.ensures.in_all spare
 
 pub returns-clause-nacks : goal.returns-clause-nacks
