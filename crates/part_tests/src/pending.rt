@@ -1,7 +1,7 @@
 //! What no reply shows: for how many entries of which owner there is room.
 use sr_bytes::Name;
 use sr_ids::Id;
-use sr_pending::{Nack, Pending};
+use sr_pending::{Nack, Owner, Pending};
 use std::alloc::{AllocError, Global};
 
 fn id(ms: u64) -> Id {
@@ -13,9 +13,9 @@ fn name(alloc: Global, text: &str) -> Result<Name, AllocError> {
 }
 
 /// Puts a new entry, delivered at 10, if there is room for it.
-fn put(pending: &mut Pending, ms: u64, owner: Name) -> bool {
+fn put(pending: &mut Pending, ms: u64, owner: Owner) -> bool {
     let id = id(ms);
-    if pending.contains(id) || pending.room(&owner) == 0 {
+    if pending.contains(id) || pending.room(owner.name()) == 0 {
         return false;
     }
     pending.put(Nack {
@@ -35,7 +35,7 @@ fn make_room(pending: &mut Pending, alloc: Global, a: &Name, b: &Name) -> Result
 
 /// Adds an entry of the owner with this name.
 fn add(pending: &mut Pending, alloc: Global, ms: u64, owner: &Name) -> Result<bool, AllocError> {
-    let owner = owner.copy(alloc)?;
+    let owner = Owner::new(alloc, owner)?;
     Ok(put(pending, ms, owner))
 }
 

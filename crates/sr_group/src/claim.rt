@@ -15,7 +15,7 @@ use crate::shown::{Act, Scan, Shown};
 use sr_bytes::Name;
 use sr_entries::Entries;
 use sr_ids::Id;
-use sr_pending::{Nack, Pending};
+use sr_pending::{Nack, Owner, Pending};
 use std::alloc::{AllocError, Global};
 
 /// When a claimed entry counts as delivered.
@@ -132,11 +132,12 @@ pub(crate) fn weigh(call: &Call<'_>, id: Id, delivery: Delivery) -> Judgement
 
 /// What the call does to a pending entry that was delivered so, if it does anything.
 fn judge(
-    alloc: Global,
     call: &Call<'_>,
+    claimer: &Owner,
     id: Id,
     delivery: Delivery,
 ) -> Result<Option<Act>, AllocError>
+    requires same { claimer.now ≡ call.now.claimer.now }
     requires moment { call.now.moment < 2 ^ 63 }
     requires count { IfSome call.now.claim.count (λ count. count < 2 ^ 63) }
     requires old { delivery.count < 2 ^ 63 }
@@ -148,7 +149,7 @@ fn judge(
         Judgement::Stays => Ok(None),
         Judgement::Leaves => Ok(Some(Act::Forget(id))),
         Judgement::Moves(Delivery { time, count }) => {
-            let owner = call.claimer.copy(alloc)?;
+            let owner = claimer.copy()?;
             Ok(Some(Act::Give(Nack {
                 id,
                 owner,
@@ -238,13 +239,14 @@ fn greater(a: Id, b: Id) -> Id
 
 /// Judges one more id, as the acts so far leave the pending entries. They are of ids up to `greatest`.
 fn judge_next(
-    alloc: Global,
     call: &Call<'_>,
+    claimer: &Owner,
     pending: &Pending,
     acts: &mut Vec<Act>,
     greatest: Id,
     id: Id,
 ) -> Result<(), AllocError>
+    requires same { claimer.now ≡ call.now.claimer.now }
     requires moment { call.now.moment < 2 ^ 63 }
     requires count { IfSome call.now.claim.count (λ count. count < 2 ^ 63) }
     requires own { All (IsActOf call.now.claimer.now) acts.old.items }
@@ -259,7 +261,7 @@ fn judge_next(
     let Some(delivery) = delivery_now(acts.as_slice(), greatest, pending, id) else {
         return Ok(());
     };
-    let Some(act) = judge(alloc, call, id, delivery)? else {
+    let Some(act) = judge(call, claimer, id, delivery)? else {
         return Ok(());
     };
     acts.push(act)?;
@@ -279,10 +281,11 @@ fn judge_all(
         call.now.claim call.now.claimer.now call.now.moment call.now.entries.now.entries
         pending.now.nacks ids.now [] acts.items) }
 {
+    let claimer = Owner::new(alloc, call.claimer)?;
     let mut acts = Vec::new(alloc);
     let mut greatest = Id { ms: 0, seq: 0 };
     for id in ids {
-        judge_next(alloc, call, pending, &mut acts, greatest, *id)?;
+        judge_next(call, &claimer, pending, &mut acts, greatest, *id)?;
         greatest = greater(greatest, *id);
     }
     Ok(acts)

@@ -9,7 +9,7 @@ use crate::shown::{Act, Listed, Shown};
 use sr_bytes::Name;
 use sr_entries::{Entries, Span};
 use sr_ids::Id;
-use sr_pending::{Nack, Nacks};
+use sr_pending::{Nack, Nacks, Owner};
 use std::alloc::{AllocError, Global};
 
 impl Group {
@@ -145,22 +145,23 @@ fn acts_of(
 ) -> Result<Vec<Act>, AllocError>
     ensures { IfOk result (λ acts. acts.items ≡ map (steps.delivery_of reader.now moment noack) unread.entry) }
 {
+    let owner = Owner::new(alloc, reader)?;
     let mut rest = unread;
     let mut acts = Vec::with_capacity(alloc, rest.len())?;
     while let Some(entry) = rest.next() {
-        acts.push(act_of(alloc, reader, moment, entry.id(), noack)?)?;
+        acts.push(act_of(&owner, moment, entry.id(), noack)?)?;
     }
     Ok(acts)
 }
 
 /// What is done to an entry that is delivered.
-fn act_of(alloc: Global, reader: &Name, moment: u64, id: Id, noack: bool) -> Result<Act, AllocError>
+fn act_of(reader: &Owner, moment: u64, id: Id, noack: bool) -> Result<Act, AllocError>
     ensures { IfOk result (λ act. act ≡ steps.delivery_act reader.now moment noack id) }
 {
     if noack {
         return Ok(Act::Only(Listed { id, found: true }));
     }
-    let owner = reader.copy(alloc)?;
+    let owner = reader.copy()?;
     Ok(Act::Give(Nack {
         id,
         owner,

@@ -11,7 +11,7 @@ use crate::show::give;
 use sr_bytes::Name;
 use sr_entries::Entries;
 use sr_ids::Id;
-use sr_pending::{Nack, Pending};
+use sr_pending::{Nack, Owner, Pending};
 use std::alloc::{AllocError, Global};
 use std::marker::Model;
 
@@ -50,7 +50,7 @@ impl<'a> Move<'a> {
 #[derive(Drop)]
 pub(crate) struct Wanted {
     id: Id,
-    owner: Name,
+    owner: Owner,
 }
 
 /// A move with all the memory that it takes.
@@ -210,9 +210,10 @@ fn wanted_by(alloc: Global, claimer: &Name, ids: &[Id]) -> Result<Vec<Wanted>, A
     ensures ids { IfOk result (λ wanted. map (λ w. w.id) wanted.items ≡ ids.now) }
     ensures owners { IfOk result (λ wanted. All (λ w. w.owner ≡ claimer.now) wanted.items) }
 {
+    let owner = Owner::new(alloc, claimer)?;
     let mut wanted = Vec::with_capacity(alloc, ids.len())?;
     for id in ids {
-        let owner = claimer.copy(alloc)?;
+        let owner = owner.copy()?;
         wanted.push(Wanted { id: *id, owner })?;
     }
     Ok(wanted)

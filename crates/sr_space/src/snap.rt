@@ -91,7 +91,7 @@ fn are_too_many(stream: &Stream, group: &Group, dead: &[Name]) -> bool
     let mut nacks = group.pending();
     let mut room = MAX_STRANDED;
     while let Some(nack) = nacks.next() {
-        if is_among(dead, &nack.owner) && is_there(stream, nack.id) {
+        if is_among(dead, nack.owner.name()) && is_there(stream, nack.id) {
             if room == 0 {
                 return true;
             }

@@ -165,7 +165,7 @@ fn write_nack(draft: &mut Draft, nack: &Nack, moment: u64) -> Result<(), AllocEr
     let len = write_id(nack.id, &mut text);
     draft.header(4)?;
     draft.bulk(&text[..len])?;
-    draft.bulk(nack.owner.as_slice())?;
+    draft.bulk(nack.owner.name().as_slice())?;
     draft.int(moment.saturating_sub(nack.time) as i64)?;
     draft.int(nack.count as i64)?;
     Ok(())

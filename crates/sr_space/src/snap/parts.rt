@@ -38,7 +38,7 @@ pub(super) fn stranded_entries(
     let mut list = Vec::new(alloc);
     let mut nacks = group.pending();
     while let Some(nack) = nacks.next() {
-        if is_among(dead, &nack.owner) {
+        if is_among(dead, nack.owner.name()) {
             push_stranded(&mut list, alloc, policy, stream, nack)?;
         }
     }
@@ -78,7 +78,7 @@ fn stranded_entry(
 {
     Ok(Stranded {
         id: nack.id,
-        owner: nack.owner.copy(alloc)?,
+        owner: nack.owner.name().copy(alloc)?,
         weight: weight_of(fields),
         class: policy.class_of(alloc, fields)?,
     })
@@ -96,8 +96,8 @@ pub(super) fn gone_entries(
     let mut list = Vec::new(alloc);
     let mut nacks = group.pending();
     while let Some(nack) = nacks.next() {
-        if is_among(dead, &nack.owner) && !is_there(stream, nack.id) {
-            list.push((nack.id, nack.owner.copy(alloc)?))?;
+        if is_among(dead, nack.owner.name()) && !is_there(stream, nack.id) {
+            list.push((nack.id, nack.owner.name().copy(alloc)?))?;
         }
     }
     Ok(list)
