@@ -1,7 +1,7 @@
 ghost use Rattle.std.specs.Prelude.{◌≡◌, ◌+◌, ◌<◌, ◌≤◌, IfOk, IfErr, OnErr, vec_len};
 
 use crate::clock::SystemClock;
-use crossbeam_channel::{Receiver, SendError, Sender, unbounded};
+use crossbeam_channel::{Receiver, SendError, Sender, bounded};
 use sr_book::Book;
 use sr_resp::WriteTo;
 use sr_run::{HoldFault, Seat, SeatDesk, Shared, open};
@@ -22,6 +22,10 @@ pub const TURNS: u64 = 1 << 40;
 /// How long the timer sleeps between two looks at the deadlines, in milliseconds.
 const TICK: u64 = 10;
 
+/// How many connections are accepted before a worker is free. Further ones wait at the listener and take nothing of this process, so
+/// no number of them can use up its descriptors.
+const QUEUE: usize = 1;
+
 /// Whether a read may wait: what other connections add may answer it.
 const BLOCKING: bool = true;
 
@@ -38,7 +42,7 @@ pub enum ServeFault {
 
 /// Serves the connections of a listener until this many were accepted, and answers their number once all of them have ended.
 ///
-/// Each of the `workers` threads, 1 to 64, serves one connection at a time, and a further one waits for a free worker. A
+/// Each of the `workers` threads, 1 to 64, serves one connection at a time, and further ones wait for a free worker. A
 /// timer thread answers the reads whose deadline is reached. A session that ends closes its own connection alone. After a
 /// fault no connection is accepted, and those that were are served to their end.
 pub fn serve<R: Threads + Wait + rt::Clock + Sync>(
@@ -130,7 +134,7 @@ fn serve_all<L: Ledger + Send + Sync, R: Threads + Wait + rt::Clock + Sync>(
     requires some { 0 < vec_len seats }
     ensures ok { IfOk result (λ count. count ≡ accepts) }
 {
-    let Ok((sender, receiver)) = unbounded(alloc) else {
+    let Ok((sender, receiver)) = bounded(alloc, QUEUE) else {
         return Err(ServeFault::Memory);
     };
     let accepted = &receiver;
