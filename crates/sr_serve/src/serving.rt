@@ -22,8 +22,8 @@ pub const TURNS: u64 = 1 << 40;
 /// How long the timer sleeps between two looks at the deadlines, in milliseconds.
 const TICK: u64 = 10;
 
-/// How many connections are accepted before a worker is free. Further ones wait at the listener and take nothing of this process, so
-/// no number of them can use up its descriptors.
+/// How many accepted connections are kept for a free worker, beside the one with which the accepting thread waits. Further ones wait at
+/// the listener and take nothing of this process, so no number of them can use up its descriptors.
 const QUEUE: usize = 1;
 
 /// Whether a read may wait: what other connections add may answer it.
