@@ -116,16 +116,24 @@ def ids(first, count):
     return [b"1-%d" % n for n in range(first, first + count)]
 
 
-def read(reader, count):
-    return request(b"XREADGROUP", b"GROUP", b"g", reader, b"COUNT", b"%d" % count, b"STREAMS", b"s", b">")
+def read(reader, count, *options):
+    return request(b"XREADGROUP", b"GROUP", b"g", reader, b"COUNT", b"%d" % count, *options, b"STREAMS", b"s", b">")
 
 
-def fill(server, entries, pending):
-    """A stream of that many entries, of which the first are pending for A. The bytes that these took, each."""
+def fill(server, entries, pending, *options):
+    """A stream of that many entries, of which the first are delivered to A. The bytes that this took for each."""
     server.ask(adds(entries) + request(b"XGROUP", b"CREATE", b"s", b"g", b"0") + read(b"A", 1))
     before = server.memory()
-    server.ask(read(b"A", pending))
+    server.ask(read(b"A", pending, *options))
     return (server.memory() - before) / pending
+
+
+def bytes_of_pending(server, pending):
+    """The bytes of a pending entry: those of a delivery with it, less those of one with NOACK, which leaves but its reply behind."""
+    with server as connection:
+        kept = fill(connection, pending + MORE, pending)
+    with server as connection:
+        return kept - fill(connection, pending + MORE, pending, b"NOACK")
 
 
 def read_and_acknowledge(pending):
@@ -166,14 +174,14 @@ ROWS = [
 
 
 def run(server, entries, pending, make):
-    """The microseconds of a request, and the bytes of a pending entry."""
+    """The microseconds of a request."""
     with server as connection:
-        bytes_each = fill(connection, entries, pending)
+        fill(connection, entries, pending)
         requests, count, right = make(pending)
         took, replies = connection.ask(requests)
         if not right(replies):
             raise Wrong(replies[:80].decode())
-        return took / count * 1e6, bytes_each
+        return took / count * 1e6
 
 
 def length(pending, reads):
@@ -185,7 +193,7 @@ def main(program, *numbers):
     numbers = tuple(map(int, numbers)) or PENDING
     servers = [Ours(program)] + ([Redis()] if shutil.which("redis-server") else [])
     print(f"{'microseconds of processor time a request':48}{'pending':>9}{'sr_server':>11}{'Redis':>9}{'ratio':>7}")
-    failed, bytes_each = False, []
+    failed = False
     for name, make in ROWS:
         reads = make is read_and_acknowledge
         for pending in (1, numbers[-1]) if reads else numbers:
@@ -195,11 +203,10 @@ def main(program, *numbers):
                 print(f"{name:48}{pending:9,}  wrong: {wrong}", flush=True)
                 failed = True
                 continue
-            least = [min(times) for times in zip(*([each[0] for each in turn] for turn in runs))]
-            bytes_each = [each[1] for each in runs[-1]] if pending == numbers[-1] else bytes_each
+            least = [min(times) for times in zip(*runs)]
             ratio = f"{least[1]:9.2f}{least[0] / least[1]:7.2f}" if len(least) > 1 else ""
             print(f"{name:48}{pending:9,}{least[0]:11.2f}{ratio}", flush=True)
-    print(f"bytes of memory per pending entry, of {numbers[-1]:,}:", ", ".join(f"{each:.0f}" for each in bytes_each))
+    print(f"bytes of memory per pending entry, of {numbers[-1]:,}:", ", ".join(f"{bytes_of_pending(each, numbers[-1]):.0f}" for each in servers))
     return failed
 
 
