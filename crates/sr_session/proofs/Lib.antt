@@ -1,4 +1,5 @@
 pub mod AnsweredLemmas
+pub mod AskedLemmas
 pub mod DeskLemmas
 pub mod GatheredLemmas
 pub mod GrowthLemmas

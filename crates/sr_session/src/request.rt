@@ -5,14 +5,15 @@ ghost use Rattle.sr_resp.specs.Reply.{reply_text};
 ghost use Rattle.sr_args.specs.Command.{IsCommand};
 ghost use Rattle.sr_session.specs.Answered.{Answers, Holds, code_of, taken_as};
 ghost use Rattle.sr_session.specs.Desk.{IsIdle};
+ghost use Rattle.sr_session.specs.steps.Asked.{IsAsked};
 ghost use Rattle.sr_session.specs.steps.Calling.{Fails, IsDeskEnd, made_of};
 ghost use Rattle.sr_session.specs.steps.Gathered.{Moves, BreaksOff, Gathers, Stops, IsNoted};
+ghost use Rattle.sr_session.specs.steps.Underway.{IsPieceEnd};
 
 use crate::calling::answer;
 use crate::replies::Replies;
 use crate::{Clock, Desk, DeskFault, End, Gate};
-use sr_args::{CallFault, Command, read_call};
-use sr_bytes::Words;
+use sr_args::{CallFault, Command};
 use sr_resp::{ErrCode, Reply, Sink};
 use std::alloc::Global;
 
@@ -32,7 +33,7 @@ fn code_of_fault(fault: CallFault) -> ErrCode
 
 /// Answers one request of an open session that does not wait: its reply is gathered. Replies that were gathered before a
 /// call that may wait are sent first.
-pub(crate) fn answer_request<W: Sink, D: Desk, C: Clock, G: Gate>(
+pub(crate) fn answer_asked<W: Sink, D: Desk, C: Clock, G: Gate>(
     alloc: Global,
     writer: &mut W,
     desk: &mut D,
@@ -40,23 +41,25 @@ pub(crate) fn answer_request<W: Sink, D: Desk, C: Clock, G: Gate>(
     gate: &G,
     blocking: bool,
     session: u64,
-    words: &Words,
+    asked: Result<Command, CallFault>,
     replies: &mut Replies,
 ) -> Result<(), End>
-    requires words { 0 < length words.now }
     requires sound { W.failed writer.old ≡ false }
     requires idle { IsIdle session (D.shows desk.old) }
     ensures ok { OnOk result ((gets : List ℕ) × Appends (W.contents writer.old) (W.contents writer.new) gets
-        × Gathers (Answers (C.may_tell clock.now) blocking session) replies.old.gathered.items replies.old.sent
-        (D.shows desk.old) words.now gets replies.new.gathered.items replies.new.sent (D.shows desk.new)) }
+        × ((words : Words) → IsAsked words asked → Gathers (Answers (C.may_tell clock.now) blocking session)
+        replies.old.gathered.items replies.old.sent (D.shows desk.old) words
+        gets replies.new.gathered.items replies.new.sent (D.shows desk.new))) }
     ensures idle { OnOk result (IsIdle session (D.shows desk.new)) }
     ensures err { IfErr result (λ end. (gets : List ℕ) × Appends (W.contents writer.old) (W.contents writer.new) gets
-        × Stops (Answers (C.may_tell clock.now) blocking session) (Holds (C.may_tell clock.now) blocking session)
-        replies.old.gathered.items replies.old.sent (D.shows desk.old) words.now gets end (D.shows desk.new)) }
+        × ((words : Words) → IsAsked words asked → Stops (Answers (C.may_tell clock.now) blocking session)
+        (Holds (C.may_tell clock.now) blocking session)
+        replies.old.gathered.items replies.old.sent (D.shows desk.old) words gets end (D.shows desk.new))) }
+    ensures end { IfErr result IsPieceEnd }
     ensures noted { IsNoted result (W.failed writer.old) (W.failed writer.new) }
     ensures same { D.borrows desk.new ≡ D.borrows desk.old }
 {
-    match read_call(alloc, words) {
+    match asked {
         Ok(command) => answer_command(
             alloc, writer, desk, clock, gate, blocking, session, command, replies,
         ),
@@ -90,6 +93,7 @@ fn answer_command<W: Sink, D: Desk, C: Clock, G: Gate>(
         × ((words : Words) → IsCommand words command → Stops (Answers (C.may_tell clock.now) blocking session)
         (Holds (C.may_tell clock.now) blocking session)
         replies.old.gathered.items replies.old.sent (D.shows desk.old) words gets end (D.shows desk.new))) }
+    ensures end { IfErr result IsPieceEnd }
     ensures noted { IsNoted result (W.failed writer.old) (W.failed writer.new) }
     ensures same { D.borrows desk.new ≡ D.borrows desk.old }
 {
@@ -112,6 +116,7 @@ fn send_before<W: Sink, D: Desk>(
         × Moves replies.old.gathered.items replies.old.sent gets replies.new.gathered.items replies.new.sent) }
     ensures err { IfErr result (λ end. (gets : List ℕ) × Appends (W.contents writer.old) (W.contents writer.new) gets
         × BreaksOff replies.old.gathered.items replies.old.sent gets end) }
+    ensures end { IfErr result IsPieceEnd }
     ensures noted { IsNoted result (W.failed writer.old) (W.failed writer.new) }
     ensures shows { D.shows desk.new ≡ D.shows desk.old }
     ensures same { D.borrows desk.new ≡ D.borrows desk.old }

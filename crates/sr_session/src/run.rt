@@ -1,6 +1,6 @@
 ghost use Rattle.std.specs.Prelude.{◌≡◌, ◌≢◌, ◌+◌, ◌≤◌, ℕ, List, [], ◌++◌, Option, true, false, IfOk, IfErr, OnOk, OnErr};
 ghost use Rattle.std.specs.Io.KnownBytes.{Appends, Consumes};
-ghost use Rattle.sr_resp.specs.Stream.{Advances};
+ghost use Rattle.sr_resp.specs.Stream.{Advances, Progress};
 ghost use Rattle.sr_book.specs.Records.{BookState};
 ghost use Rattle.sr_book.specs.declared.answer.Answer.{Answer};
 ghost use Rattle.sr_session.specs.Answered.{Answers, Holds};
@@ -8,14 +8,16 @@ ghost use Rattle.sr_session.specs.Desk.{IsIdle, StepsAt};
 ghost use Rattle.sr_session.specs.Session.{EndsAs};
 ghost use Rattle.sr_session.specs.Source.{CountsReads};
 ghost use Rattle.sr_session.specs.Whole.{EndsUnjoined, HasJoined, HasLeft, RunsAs};
+ghost use Rattle.sr_session.specs.steps.Asked.{AreAsked};
 ghost use Rattle.sr_session.specs.steps.Calling.{FailsToJoin, IsDeskEnd};
 ghost use Rattle.sr_session.specs.steps.Gathered.{IsNoted};
 ghost use Rattle.sr_session.specs.steps.Underway.{IsAnswering, GoesOn, IsPieceEnd};
 ghost use Rattle.sr_session.specs.declared.run.End.TheVariants.{Memory};
 
 use crate::replies::Replies;
-use crate::request::answer_request;
+use crate::request::answer_asked;
 use crate::{Clock, Desk, DeskFault, Gate, ReadFailed, Source};
+use sr_args::{CallFault, Command, read_call};
 use sr_book::{Event, Out};
 use sr_resp::{ErrCode, ReadFault, Reader, Sink};
 use std::alloc::{AllocError, Global};
@@ -262,6 +264,8 @@ fn take_piece<W: Sink, D: Desk, C: Clock, G: Gate>(
 }
 
 /// Answers the requests that wait. Their replies are gathered; some may have been sent.
+///
+/// All of them are read before the first is carried out: a desk may keep others from its server from one event to the next.
 fn answer_waiting<W: Sink, D: Desk, C: Clock, G: Gate>(
     alloc: Global,
     requests: &mut Reader,
@@ -293,12 +297,65 @@ fn answer_waiting<W: Sink, D: Desk, C: Clock, G: Gate>(
     ensures noted { IsNoted result (W.failed writer.old) (W.failed writer.new) }
     ensures same { D.borrows desk.new ≡ D.borrows desk.old }
 {
+    let asked = read_waiting(alloc, requests)?;
+    answer_all(
+        alloc, writer, desk, clock, gate, blocking, session, asked, replies,
+    )?;
+    desk.pause();
+    Ok(())
+}
+
+/// Reads the requests that wait: the command that each is, or why it is none.
+fn read_waiting(
+    alloc: Global,
+    requests: &mut Reader,
+) -> Result<Vec<Result<Command, CallFault>>, AllocError>
+    ensures asked { IfOk result (λ asked. AreAsked requests.old.waiting asked.items) }
+    ensures ok { OnOk result (requests.new ≡ record requests.old { waiting = [] }) }
+    ensures failed { requests.new.failed ≡ requests.old.failed }
+{
+    let mut asked = Vec::new(alloc);
     while let Some(words) = requests.next_request() {
-        answer_request(
-            alloc, writer, desk, clock, gate, blocking, session, &words, replies,
+        asked.push(read_call(alloc, &words))?;
+    }
+    Ok(asked)
+}
+
+/// Answers requests that were read, one after another.
+fn answer_all<W: Sink, D: Desk, C: Clock, G: Gate>(
+    alloc: Global,
+    writer: &mut W,
+    desk: &mut D,
+    clock: &C,
+    gate: &G,
+    blocking: bool,
+    session: u64,
+    asked: Vec<Result<Command, CallFault>>,
+    replies: &mut Replies,
+) -> Result<(), End>
+    requires sound { W.failed writer.old ≡ false }
+    requires idle { IsIdle session (D.shows desk.old) }
+    ensures ok { OnOk result ((gets : List ℕ) × Appends (W.contents writer.old) (W.contents writer.new) gets
+        × ((progress : Progress) → AreAsked progress.waiting asked.items → (found : Option BookState) (taken written : List ℕ)
+        → IsAnswering (Answers (C.may_tell clock.now) blocking session) found taken written replies.old.gathered.items replies.old.sent
+        progress (D.shows desk.old)
+        → IsAnswering (Answers (C.may_tell clock.now) blocking session) found taken (written ++ gets) replies.new.gathered.items
+        replies.new.sent (record progress { waiting = [] }) (D.shows desk.new))) }
+    ensures idle { OnOk result (IsIdle session (D.shows desk.new)) }
+    ensures err { IfErr result (λ end. (gets : List ℕ) × Appends (W.contents writer.old) (W.contents writer.new) gets
+        × ((progress : Progress) → AreAsked progress.waiting asked.items → (found : Option BookState) (taken written : List ℕ)
+        → IsAnswering (Answers (C.may_tell clock.now) blocking session) found taken written replies.old.gathered.items replies.old.sent
+        progress (D.shows desk.old)
+        → EndsAs (Answers (C.may_tell clock.now) blocking session) (Holds (C.may_tell clock.now) blocking session) found taken (written ++ gets) (D.shows desk.new) end)) }
+    ensures end { IfErr result IsPieceEnd }
+    ensures noted { IsNoted result (W.failed writer.old) (W.failed writer.new) }
+    ensures same { D.borrows desk.new ≡ D.borrows desk.old }
+{
+    for one in asked {
+        answer_asked(
+            alloc, writer, desk, clock, gate, blocking, session, one, replies,
         )?;
     }
-    desk.pause();
     Ok(())
 }
 
