@@ -20,7 +20,7 @@ import time
 
 from streams import request
 
-STRANDED, CONSUMERS, OTHERS = (10, 100, 1_000, 4_096), (4, 16, 64), (0, 100_000)
+STRANDED, CONSUMERS, OTHERS = (10, 100, 1_000, 4_096), (4, 8, 16, 64), (0, 100_000)
 CLASSES = 4
 RUNS = 5
 
