@@ -182,13 +182,15 @@ impl Desk for Meddling<'_> {
     }
 }
 
-/// What another session does meanwhile, the commands, how their replies begin, and what was noted of them.
+/// What another session does meanwhile, the commands, how their replies begin, what comes after the price of A, which is from 0
+/// to 2 then (nothing, if that is not compared), and what was noted of them.
 #[derive(Clone, Copy, Drop)]
 struct Meanwhile<'a> {
     others: &'a str,
     is_full: bool,
     commands: &'a str,
     replies: &'a str,
+    ends: &'a str,
     steps: u64,
 }
 
@@ -199,13 +201,31 @@ const ROWS: &[Meanwhile<'_>] = &[
         is_full: false,
         commands: "RECOVER.RUN s g DEAD D",
         replies: "*5\r\n$4\r\ndone\r\n:2\r\n*1\r\n*2\r\n$3\r\n1-1\r\n$1\r\nA\r\n*2\r\n*2\r\n$1\r\nA\r\n:",
+        ends: "\r\n*2\r\n$1\r\nB\r\n:0\r\n*0\r\n",
         steps: 12_323,
+    },
+    Meanwhile {
+        others: "XADD s 9-1 c x",
+        is_full: false,
+        commands: "RECOVER.RUN s g DEAD D",
+        replies: "*5\r\n$4\r\ndone\r\n:4\r\n*1\r\n*2\r\n$3\r\n1-1\r\n$1\r\nB\r\n*2\r\n*2\r\n$1\r\nA\r\n:",
+        ends: "",
+        steps: 123,
+    },
+    Meanwhile {
+        others: "XREADGROUP GROUP g D STREAMS s 0",
+        is_full: false,
+        commands: "RECOVER.RUN s g DEAD D",
+        replies: "*5\r\n$4\r\ndone\r\n:4\r\n*1\r\n*2\r\n$3\r\n1-1\r\n$1\r\nB\r\n*2\r\n*2\r\n$1\r\nA\r\n:",
+        ends: "",
+        steps: 123,
     },
     Meanwhile {
         others: "XACK s g 3-1",
         is_full: false,
         commands: "RECOVER.RUN s g TRIES 1 DEAD D\nPING",
         replies: "-STALE the group changed while the plan was made\r\n+PONG\r\n",
+        ends: "",
         steps: 123,
     },
     Meanwhile {
@@ -213,6 +233,7 @@ const ROWS: &[Meanwhile<'_>] = &[
         is_full: false,
         commands: "RECOVER.RUN s g DEAD D",
         replies: "-NOGROUP no such key or consumer group\r\n",
+        ends: "",
         steps: 123,
     },
     Meanwhile {
@@ -220,6 +241,7 @@ const ROWS: &[Meanwhile<'_>] = &[
         is_full: false,
         commands: "RECOVER.PLAN s g DEAD D",
         replies: "*5\r\n$4\r\nplan\r\n:4\r\n*1\r\n*2\r\n$3\r\n1-1\r\n$1\r\nB\r\n*2\r\n*2\r\n$1\r\nA\r\n:",
+        ends: "",
         steps: 123,
     },
     Meanwhile {
@@ -227,6 +249,7 @@ const ROWS: &[Meanwhile<'_>] = &[
         is_full: true,
         commands: "RECOVER.RUN s g DEAD D\nPING",
         replies: "-OOM history is full\r\n+PONG\r\n",
+        ends: "",
         steps: 123,
     },
 ];
@@ -252,15 +275,31 @@ fn serve_meanwhile(
     Ok((end, written, steps.get()))
 }
 
-/// A plan is made anew when the group has changed.
+/// Whether what was written is what a row wants.
+fn is_wanted(row: &Meanwhile<'_>, written: &[u8]) -> bool {
+    let Some(rest) = written.strip_prefix(row.replies.as_bytes()) else {
+        return false;
+    };
+    let ends = row.ends.as_bytes();
+    if ends.is_empty() {
+        return true;
+    }
+    let zero_or_one = rest.strip_prefix(b"0").or(rest.strip_prefix(b"1"));
+    match zero_or_one.or(rest.strip_prefix(b"2")) {
+        Some(end) => end == ends,
+        None => false,
+    }
+}
+
+/// A plan is made anew exactly when what it rests on has changed.
 #[test]
 fn others_go_on_meanwhile(rt: HostRuntime) -> Result<(), Fail> {
     for row in ROWS {
         let mut book = prepared(&rt, FULL)?;
         let (end, written, steps) = serve_meanwhile(rt.alloc(), &mut book, row)?;
-        let as_wanted = end == End::Closed && written.starts_with(row.replies.as_bytes());
-        assert!(rt; as_wanted, "{}", row.commands);
-        assert_eq!(rt; steps, row.steps, "{}", row.commands);
+        let as_wanted = end == End::Closed && is_wanted(row, written.as_slice());
+        assert!(rt; as_wanted, "{}, then {}", row.others, row.commands);
+        assert_eq!(rt; steps, row.steps, "{}, then {}", row.others, row.commands);
     }
     Ok(())
 }
