@@ -9,7 +9,8 @@ plan, run    from the request of RECOVER.PLAN or RECOVER.RUN, sent to SERVER --s
 snapshot     an event Snapshot of `book_driver`, which is one step
 conclude     the event Conclude without and with its plan carried out, in `book_driver`: it makes the verdict first, outside the step
 
-The time inside steps is that of two snapshots and of what run takes beyond plan; the rest of run is the solver and the reply.
+The time inside steps is that of two snapshots, of what run takes beyond plan, and of comparing the two snapshots and making the reply
+twice. These last are in plan as in run, and not told apart from the rest of it: the solver, and the reply sent and read.
 """
 import os
 import random
