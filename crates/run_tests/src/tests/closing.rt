@@ -1,184 +1,234 @@
-// Runs that are closed, and runs that are not.
+// Rows over a held book and over one behind a lock, and how their runs end.
 ghost use Rattle.std.specs.Prelude.{◌≡◌};
 
-use super::{call, empty_book};
-use sr_book::{Event, Letter, Out};
+use super::records::compare;
+use super::rows::{DEADLINE, Hands, READERS, RECOVERY, Row, SCRIPTS, TWO_SEATS, Told, play};
+use super::{TWO, book_under};
+use sr_book::Out;
 use sr_resp::Reply;
-use sr_run::{CloseFault, Receipt, Seat, Shared, open};
+use sr_run::{CloseFault, Closed, Held, Seat, Shared, Unclosed, hold, open};
 use std::alloc::Global;
 use std::marker::Brand;
+use std::mem;
 use std::process::Abort;
 use std::random::RandomSource;
 use std::sync::Wait;
 use std::sync::ledger::{Blank, Ledger};
 use std::test::Fail;
 
-/// What is handed in.
-#[derive(Clone, Copy)]
-enum Handed {
-    AsTold,
-    OneRecordTwice,
-    ReplyForBlocked,
-    SeatMissing,
-    LetterOfAnother,
+/// What is altered of what a run was told.
+#[derive(Clone, Copy, Drop)]
+enum Altered {
+    Nothing,
+    /// A seat is missing.
+    Seat,
+    /// This receipt has another outcome, `:7`.
+    Outcome(usize),
+    /// This receipt has the index of record 3, which is another's.
+    Index(usize),
+    /// The first letter is session 2's, and not session 1's.
+    Addressee,
 }
 
-/// Opens a session. Answers whether it could.
-fn opens<L: Ledger, R: AllocGlobal + Wait>(rt: &R, shared: &Shared<L>, seat: &mut Seat<L>) -> bool {
-    match shared.act(rt, rt.alloc(), seat, 10, Event::Join) {
-        Ok(_answer) => true,
-        Err(_refused) => false,
-    }
+/// What the altered has in its place.
+#[derive(Drop)]
+struct Spare {
+    out: Out,
+    index: u64,
 }
 
-/// Opens two sessions.
-fn join<L: Ledger, R: AllocGlobal + Wait>(
-    rt: &R,
-    shared: &Shared<L>,
-    seat: &mut Seat<L>,
-) -> Result<(), Fail> {
-    if opens(rt, shared, seat) && opens(rt, shared, seat) {
-        Ok(())
-    } else {
-        Err(Fail::new("no session"))
-    }
-}
-
-/// Has a session call.
-fn exchange<L: Ledger, R: AllocGlobal + Wait>(
-    rt: &R,
-    shared: &Shared<L>,
-    seat: &mut Seat<L>,
-    session: u64,
-    line: &str,
-) -> Result<Receipt, Fail> {
-    let call = call(rt.alloc(), line)?;
-    let made = shared.exchange(rt, rt.alloc(), seat, 10, session, &call);
-    drop(call);
-    Ok(made?)
-}
-
-/// One session waits for an entry, and another adds it: records 3 and 4. Record 5 serves the first.
-fn receipts_of<L: Ledger, R: AllocGlobal + Wait>(
-    rt: &R,
-    shared: &Shared<L>,
-    seat: &mut Seat<L>,
-) -> Result<Vec<Receipt>, Fail> {
-    let mut receipts = Vec::with_capacity(rt.alloc(), 2)?;
-    for (session, line) in [(1, "XREAD BLOCK 0 STREAMS s $"), (2, "XADD s 1-1 a b")] {
-        receipts.push(exchange(rt, shared, seat, session, line)?)?;
-    }
-    Ok(receipts)
-}
-
-/// The letter of the session that was served, as if it was this session's.
-fn letters_of<L: Ledger, R: AllocGlobal + Wait>(
-    rt: &R,
-    shared: &Shared<L>,
-    seat: &mut Seat<L>,
-    session: u64,
-) -> Result<Vec<Letter>, Fail> {
-    let mut letters = Vec::with_capacity(rt.alloc(), 1)?;
-    let mut letter = shared.await_reply(rt, rt.alloc(), seat, 1)?;
-    letter.session = session;
-    letters.push(letter)?;
-    Ok(letters)
-}
-
-/// Alters a receipt.
-fn alter(alloc: Global, receipts: &mut [Receipt], handed: Handed) {
-    match handed {
-        Handed::AsTold | Handed::SeatMissing | Handed::LetterOfAnother => {}
-        Handed::OneRecordTwice => {
-            if let Some(receipt) = receipts.last_mut() {
-                receipt.index = 3;
+/// Alters what was told, or, the second time, puts it back.
+fn alter(told: &mut Told, spare: &mut Spare, altered: Altered) {
+    match altered {
+        Altered::Nothing | Altered::Seat => {}
+        Altered::Outcome(at) => {
+            if let Some(receipt) = told.receipts.get_mut(at) {
+                mem::swap(&mut receipt.out, &mut spare.out);
             }
         }
-        Handed::ReplyForBlocked => {
-            if let Some(receipt) = receipts.first_mut() {
-                receipt.out = Out::Reply(Reply::int(alloc, 7));
+        Altered::Index(at) => {
+            if let Some(receipt) = told.receipts.get_mut(at) {
+                mem::swap(&mut receipt.index, &mut spare.index);
+            }
+        }
+        Altered::Addressee => {
+            if let Some(letter) = told.letters.first_mut() {
+                letter.session ^= 3;
             }
         }
     }
 }
 
-/// Has the seats of a run go through it, and closes it.
-fn closed_by<L: Ledger, R: AllocGlobal + Wait>(
+/// Takes a seat away, if one is to be missing.
+fn missing<L: Ledger>(seats: &mut Vec<Seat<L>>, altered: Altered) -> Option<Seat<L>> {
+    match altered {
+        Altered::Seat => seats.pop(),
+        _ => None,
+    }
+}
+
+/// Closes a run with what was told, altered. If it is refused so, what was handed back is closed with all that was told.
+fn close<L: Ledger>(
+    alloc: Global,
+    shared: Shared<L>,
+    mut seats: Vec<Seat<L>>,
+    told: &mut Told,
+    altered: Altered,
+) -> Result<(Option<CloseFault>, Closed), Fail> {
+    let mut spare = Spare {
+        out: Out::Reply(Reply::int(alloc, 7)),
+        index: 3,
+    };
+    alter(told, &mut spare, altered);
+    let seat = missing(&mut seats, altered);
+    match shared.close(alloc, seats, &told.receipts, &told.letters) {
+        Ok(closed) => Ok((None, closed)),
+        Err(unclosed) => {
+            alter(told, &mut spare, altered);
+            let fault = unclosed.fault;
+            let closed = close_again(alloc, unclosed, seat, told)?;
+            Ok((Some(fault), closed))
+        }
+    }
+}
+
+/// Closes a run that was not closed, with the seat that was missing.
+fn close_again<L: Ledger>(
+    alloc: Global,
+    unclosed: Unclosed<L>,
+    seat: Option<Seat<L>>,
+    told: &Told,
+) -> Result<Closed, Fail> {
+    let Unclosed {
+        fault: _,
+        shared,
+        mut seats,
+    } = unclosed;
+    if let Some(seat) = seat {
+        seats.push(seat)?;
+    }
+    match shared.close(alloc, seats, &told.receipts, &told.letters) {
+        Ok(closed) => Ok(closed),
+        Err(_unclosed) => Err(Fail::new("not closed")),
+    }
+}
+
+/// Plays a row behind a lock, and closes it.
+fn play_shared<L: Ledger, R: AllocGlobal + Abort + Wait>(
     rt: &R,
     shared: Shared<L>,
     mut seats: Vec<Seat<L>>,
-    handed: Handed,
-) -> Result<Result<u64, CloseFault>, Fail> {
-    let Some(seat) = seats.last_mut() else {
-        return Err(Fail::new("no seat"));
-    };
-    join(rt, &shared, seat)?;
-    let mut receipts = receipts_of(rt, &shared, seat)?;
-    alter(rt.alloc(), receipts.as_mut_slice(), handed);
-    let addressee = match handed {
-        Handed::LetterOfAnother => 2,
-        _ => 1,
-    };
-    let letters = letters_of(rt, &shared, seat, addressee)?;
-    if let Handed::SeatMissing = handed {
-        let _missing = seats.pop();
-    }
-    Ok(end(rt.alloc(), shared, seats, &receipts, &letters))
-}
-
-/// How many events a run had that is closed with this, or why it is not.
-fn end<L: Ledger>(
-    alloc: Global,
-    shared: Shared<L>,
-    seats: Vec<Seat<L>>,
-    receipts: &[Receipt],
-    letters: &[Letter],
-) -> Result<u64, CloseFault> {
-    match shared.close(alloc, seats, receipts, letters) {
-        Ok(closed) => Ok(closed.acts),
-        Err(refused) => Err(refused.fault),
+    told: &mut Told,
+    row: Row,
+    altered: Altered,
+) -> Result<(Option<CloseFault>, Closed), Fail> {
+    let played = play(
+        rt,
+        &mut Hands::Shared(&shared),
+        seats.as_mut_slice(),
+        told,
+        row.lines,
+    );
+    match played {
+        Ok(()) => close(rt.alloc(), shared, seats, told, altered),
+        Err(fail) => Err(fail),
     }
 }
 
-/// Fails the test unless the run closes with this many events, or with this fault.
+/// Fails the test unless a row behind a lock, closed with this altered, has this fault, and then its events and records.
 fn closes_by<L: Ledger, R: AllocGlobal + Abort + RandomSource + Wait>(
     rt: &R,
     blank: Blank,
-    handed: Handed,
-    want: Result<u64, CloseFault>,
+    row: Row,
+    altered: Altered,
+    want: Option<CloseFault>,
 ) -> Result<(), Fail>
     requires name { blank.name ≡ L.name }
     requires whole { blank.parts ≡ L.parts }
     requires parts { blank.parts ≡ 2 }
 {
-    let (shared, seats) = open::<L>(rt.alloc(), empty_book(rt)?, 2, blank)?;
-    let closed = closed_by(rt, shared, seats, handed)?;
-    assert!(rt; closed == want);
-    Ok(())
+    let (shared, seats) = open::<L>(rt.alloc(), book_under(rt, TWO)?, 2, blank)?;
+    let mut told = Told::new(rt.alloc());
+    let (fault, closed) = play_shared(rt, shared, seats, &mut told, row, altered)?;
+    assert!(rt; fault == want);
+    assert_eq!(rt; closed.acts, row.acts);
+    compare(rt, row.lines, closed.book.records())
+}
+
+/// Fails the test unless a row over a held book has its events and records, and receipts and letters that agree with them.
+fn play_held<L: Ledger, R: AllocGlobal + Abort + RandomSource + Wait>(
+    rt: &R,
+    held: &mut Held<L>,
+    seats: &mut [Seat<L>],
+    told: &mut Told,
+    row: Row,
+) -> Result<(), Fail> {
+    play(rt, &mut Hands::Held(held), seats, told, row.lines)?;
+    let agree = held.audit(rt.alloc(), &told.receipts, &told.letters);
+    assert!(rt; agree == Ok(()));
+    assert_eq!(rt; held.acts(), row.acts);
+    compare(rt, row.lines, held.book().records())
+}
+
+fn holds_by<L: Ledger, R: AllocGlobal + Abort + RandomSource + Wait>(
+    rt: &R,
+    blank: Blank,
+    row: Row,
+) -> Result<(), Fail>
+    requires name { blank.name ≡ L.name }
+    requires whole { blank.parts ≡ L.parts }
+    requires parts { blank.parts ≡ 2 }
+{
+    let (mut held, mut seats) = hold::<L>(rt.alloc(), book_under(rt, TWO)?, 2, blank)?;
+    let mut told = Told::new(rt.alloc());
+    play_held(rt, &mut held, seats.as_mut_slice(), &mut told, row)
 }
 
 fn closes<R: AllocGlobal + Abort + RandomSource + Wait>(
     rt: &R,
-    handed: Handed,
-    want: Result<u64, CloseFault>,
+    row: Row,
+    altered: Altered,
+    want: Option<CloseFault>,
 ) -> Result<(), Fail> {
-    closes_by::<Brand, R>(rt, Blank::new(2), handed, want)
+    closes_by::<Brand, R>(rt, Blank::new(2), row, altered, want)
+}
+
+/// Plays a row over a held book, and then over one behind a lock, which is closed.
+fn plays<R: AllocGlobal + Abort + RandomSource + Wait>(rt: &R, row: Row) -> Result<(), Fail> {
+    holds_by::<Brand, R>(rt, Blank::new(2), row)?;
+    closes(rt, row, Altered::Nothing, None)
 }
 
 #[test]
-fn a_run_is_closed_with_what_was_told(rt: HostRuntime) -> Result<(), Fail> {
-    closes(&rt, Handed::AsTold, Ok(4))
+fn readers_are_served_in_the_order_in_which_they_blocked(rt: HostRuntime) -> Result<(), Fail> {
+    plays(&rt, READERS)
 }
 
 #[test]
-fn a_run_is_not_closed_with_anything_else(rt: HostRuntime) -> Result<(), Fail> {
-    for (handed, fault) in [
-        (Handed::SeatMissing, CloseFault::Short),
-        (Handed::OneRecordTwice, CloseFault::Strange { at: 1 }),
-        (Handed::ReplyForBlocked, CloseFault::Mismatch { at: 0 }),
-        (Handed::LetterOfAnother, CloseFault::Stray { at: 0 }),
+fn a_deadline_is_reached_at_its_moment(rt: HostRuntime) -> Result<(), Fail> {
+    plays(&rt, DEADLINE)
+}
+
+#[test]
+fn a_recovery_takes_the_cheapest_plan_of_two(rt: HostRuntime) -> Result<(), Fail> {
+    plays(&rt, RECOVERY)
+}
+
+#[test]
+fn an_entry_of_one_session_is_read_by_another_at_its_own_seat(rt: HostRuntime) -> Result<(), Fail> {
+    plays(&rt, TWO_SEATS)
+}
+
+#[test]
+fn a_run_is_closed_with_what_was_told_and_nothing_else(rt: HostRuntime) -> Result<(), Fail> {
+    for (row, altered, fault) in [
+        (READERS, Altered::Seat, CloseFault::Short),
+        (READERS, Altered::Outcome(1), CloseFault::Mismatch { at: 1 }),
+        (READERS, Altered::Addressee, CloseFault::Stray { at: 0 }),
+        (SCRIPTS, Altered::Outcome(3), CloseFault::Mismatch { at: 3 }),
+        (SCRIPTS, Altered::Index(2), CloseFault::Strange { at: 2 }),
     ] {
-        closes(&rt, handed, Err(fault))?;
+        closes(&rt, row, altered, Some(fault))?;
     }
     Ok(())
 }

@@ -1,14 +1,12 @@
 // What a session writes at a seat, and what the seat is told of letters.
 ghost use Rattle.std.specs.Prelude.{◌≡◌, true};
 
-use super::call;
+use super::{book_under, call};
 use sr_book::{Book, Event, Letter};
-use sr_policy::Policy;
 use sr_resp::WriteTo;
 use sr_run::{Seat, SeatDesk, Shared, open};
 use sr_session::{Clock, Desk, DeskFault, End, NoGate, PlainDesk, ReadFrom, run_session};
-use std::alloc::Global;
-use std::hash::RandomState;
+use std::alloc::{AllocError, Global};
 use std::marker::Brand;
 use std::process::Abort;
 use std::random::RandomSource;
@@ -25,7 +23,7 @@ RECOVER.RUN s g DEAD D
 XLEN s";
 
 /// The replies to them: the entry goes to A, at a cost of 2, and no price is needed.
-pub(super) const REPLIES: &[u8] = b"+PONG\r\n+OK\r\n$3\r\n1-1\r\n\
+const REPLIES: &[u8] = b"+PONG\r\n+OK\r\n$3\r\n1-1\r\n\
 *1\r\n*2\r\n$1\r\ns\r\n*1\r\n*2\r\n$3\r\n1-1\r\n*2\r\n$1\r\nc\r\n$1\r\nx\r\n\
 *5\r\n$4\r\ndone\r\n:2\r\n*1\r\n*2\r\n$3\r\n1-1\r\n$1\r\nA\r\n*1\r\n*2\r\n$1\r\nA\r\n:0\r\n*0\r\n\
 :1\r\n";
@@ -49,6 +47,7 @@ impl Clock for Stopped {
 enum Scene {
     Session,
     Letters,
+    Pause,
 }
 
 /// The requests, as a client spells them.
@@ -65,16 +64,8 @@ fn spelled(alloc: Global) -> Result<Vec<u8>, Fail> {
     Ok(bytes)
 }
 
-/// A book under the policy.
-pub(super) fn book(rt: &(impl AllocGlobal + RandomSource)) -> Result<Book, Fail> {
-    let Ok(policy) = Policy::read(rt.alloc(), POLICY) else {
-        return Err(Fail::new("a policy"));
-    };
-    Ok(Book::new(rt.alloc(), policy, RandomState::new(rt)?))
-}
-
-/// What a session writes at a desk.
-pub(super) fn talk<D: Desk>(alloc: Global, desk: &mut D) -> Result<Vec<u8>, Fail> {
+/// What a session writes at a desk. It fails for memory if that was refused to a command.
+fn talk<D: Desk>(alloc: Global, desk: &mut D) -> Result<Vec<u8>, Fail> {
     let requests = spelled(alloc)?;
     let mut written = Vec::new(alloc);
     let mut reader = ReadFrom::new(requests.as_slice());
@@ -89,7 +80,11 @@ pub(super) fn talk<D: Desk>(alloc: Global, desk: &mut D) -> Result<Vec<u8>, Fail
         false,
         9,
     );
-    if ended.end == End::Closed && ended.left {
+    let refused = written.windows(4).any(|bytes| bytes == b"-OOM".as_slice());
+    if refused || ended.end == End::Memory || !ended.left {
+        return Err(Fail::from(AllocError));
+    }
+    if ended.end == End::Closed {
         Ok(written)
     } else {
         Err(Fail::new("the session ended otherwise"))
@@ -108,7 +103,7 @@ fn session<L: Ledger, R: AllocGlobal + Abort + RandomSource + Wait>(
     shared: &Shared<L>,
     seat: &mut Seat<L>,
 ) -> Result<(), Fail> {
-    let by_itself = alone(rt.alloc(), book(rt)?)?;
+    let by_itself = alone(rt.alloc(), book_under(rt, POLICY)?)?;
     assert!(rt; by_itself.as_slice() == REPLIES);
     let seated = talk(rt.alloc(), &mut SeatDesk::new(rt, shared, seat))?;
     assert!(rt; seated.as_slice() == REPLIES);
@@ -117,10 +112,11 @@ fn session<L: Ledger, R: AllocGlobal + Abort + RandomSource + Wait>(
     Ok(())
 }
 
-/// Hands a desk an event at 10.
+/// Hands a desk an event at 10. It counts as refused for memory if a reader was not served for that.
 fn step<D: Desk>(alloc: Global, desk: &mut D, event: Event) -> Result<(), DeskFault> {
     match desk.step(alloc, 10, event) {
-        Ok(_answer) => Ok(()),
+        Ok(answer) if answer.settled => Ok(()),
+        Ok(_answer) => Err(DeskFault::Memory),
         Err(fault) => Err(fault),
     }
 }
@@ -149,8 +145,8 @@ fn letters_at<D: Desk>(rt: &(impl AllocGlobal + Abort), desk: &mut D) -> Result<
     assert!(rt; idle == Err(DeskFault::Idle));
     step_call(alloc, desk, 1, "XREAD BLOCK 0 STREAMS s $")?;
     step_call(alloc, desk, 2, "XADD s 1-1 a b")?;
-    let served = index_of(desk.await_reply(alloc, 1));
-    assert!(rt; served == Ok(5));
+    let served = index_of(desk.await_reply(alloc, 1))?;
+    assert_eq!(rt; served, 5);
     step(alloc, desk, Event::Leave { session: 1 })?;
     let left = index_of(desk.await_reply(alloc, 1));
     assert!(rt; left == Err(DeskFault::NoSession));
@@ -168,7 +164,31 @@ fn letters<L: Ledger, R: AllocGlobal + Abort + Wait>(
     Ok(())
 }
 
-/// Has something happen at the one seat of a shared book.
+/// Has session 1 call at a desk, which pauses then.
+fn call_and_pause<D: Desk>(alloc: Global, desk: &mut D) -> Result<(), Fail> {
+    step(alloc, desk, Event::Join)?;
+    let called = step_call(alloc, desk, 1, "XADD s 1-1 a b");
+    desk.pause();
+    called
+}
+
+/// While a desk pauses, another seat comes to its turn. It would wait for good if the desk kept the lock.
+fn pause<L: Ledger, R: AllocGlobal + Abort + Wait>(
+    rt: &R,
+    shared: &Shared<L>,
+    seat: &mut Seat<L>,
+    other: &mut Seat<L>,
+) -> Result<(), Fail> {
+    let mut desk = SeatDesk::new(rt, shared, seat);
+    let paused = call_and_pause(rt.alloc(), &mut desk);
+    let due = shared.tick(rt, rt.alloc(), other, 10);
+    drop(desk);
+    paused?;
+    assert!(rt; due == Ok(false));
+    Ok(())
+}
+
+/// Has something happen at the two seats of a shared book.
 fn at_a_seat<L: Ledger, R: AllocGlobal + Abort + RandomSource + Wait>(
     rt: &R,
     blank: Blank,
@@ -176,20 +196,21 @@ fn at_a_seat<L: Ledger, R: AllocGlobal + Abort + RandomSource + Wait>(
 ) -> Result<(), Fail>
     requires name { blank.name ≡ L.name }
     requires whole { blank.parts ≡ L.parts }
-    requires parts { blank.parts ≡ 1 }
+    requires parts { blank.parts ≡ 2 }
 {
-    let (shared, mut seats) = open::<L>(rt.alloc(), book(rt)?, 1, blank)?;
-    let Some(mut seat) = seats.pop() else {
-        return Err(Fail::new("a seat"));
+    let (shared, mut seats) = open::<L>(rt.alloc(), book_under(rt, POLICY)?, 2, blank)?;
+    let (Some(mut seat), Some(mut other)) = (seats.pop(), seats.pop()) else {
+        return Err(Fail::new("two seats"));
     };
     match scene {
         Scene::Session => session(rt, &shared, &mut seat),
         Scene::Letters => letters(rt, &shared, &mut seat),
+        Scene::Pause => pause(rt, &shared, &mut seat, &mut other),
     }
 }
 
 fn plays<R: AllocGlobal + Abort + RandomSource + Wait>(rt: &R, scene: Scene) -> Result<(), Fail> {
-    at_a_seat::<Brand, R>(rt, Blank::new(1), scene)
+    at_a_seat::<Brand, R>(rt, Blank::new(2), scene)
 }
 
 #[test]
@@ -200,4 +221,9 @@ fn a_session_at_a_seat_writes_what_it_writes_alone(rt: HostRuntime) -> Result<()
 #[test]
 fn a_session_has_a_letter_once_it_waited_and_until_it_leaves(rt: HostRuntime) -> Result<(), Fail> {
     plays(&rt, Scene::Letters)
+}
+
+#[test]
+fn another_seat_has_its_turn_while_a_desk_pauses(rt: HostRuntime) -> Result<(), Fail> {
+    plays(&rt, Scene::Pause)
 }

@@ -7,12 +7,13 @@ use sr_book::Out;
 use sr_policy::Policy;
 use sr_resp::append_reply;
 use sr_run::{Ran, Receipt, RunFault, SeatFault, run_workers};
-use sr_session::{Clock, NoGate};
+use sr_session::{Clock, Gate, NoGate};
 use std::alloc::{AllocError, Global};
 use std::hash::RandomState;
 use std::process::Abort;
 use std::random::RandomSource;
 use std::sync::Wait;
+use std::sync::atomic::{AtomicU64, Ordering};
 use std::test::Fail;
 use std::thread::Threads;
 
@@ -25,6 +26,20 @@ impl Clock for Still {
     fn now(&self) -> u64 {
         10
     }
+}
+
+/// Counts the calls that workers come to.
+#[derive(Drop)]
+struct Calls {
+    count: AtomicU64,
+}
+
+impl Gate for Calls {
+    fn before_call(&self, _: u64) {
+        self.count.fetch_add(1, Ordering::SeqCst);
+    }
+
+    fn between(&self, _: u64) {}
 }
 
 /// The calls that lines are.
@@ -47,27 +62,56 @@ fn replies_of(alloc: Global, receipts: &[Receipt]) -> Result<Vec<u8>, AllocError
     Ok(text)
 }
 
+/// Whether memory was refused. A thread takes some to be started.
+fn is_memory(fault: RunFault) -> bool {
+    match fault {
+        RunFault::Memory | RunFault::Thread => true,
+        RunFault::Worker { at: _, fault } => fault == SeatFault::Memory,
+        RunFault::Count | RunFault::Close(_) => false,
+    }
+}
+
+/// Runs scripts at 10, past a gate. It fails for memory if that was refused.
+fn run_past<G: Gate + Sync, R: AllocGlobal + RandomSource + Threads + Wait + Sync>(
+    rt: &R,
+    scripts: Vec<Vec<Call>>,
+    gate: &G,
+) -> Result<Result<Ran, RunFault>, Fail> {
+    let alloc = rt.alloc();
+    let hasher = RandomState::new(rt)?;
+    let policy = Policy::empty(alloc);
+    match run_workers(rt, alloc, scripts, policy, &Still, gate, hasher) {
+        Err(fault) if is_memory(fault) => Err(Fail::from(AllocError)),
+        ran => Ok(ran),
+    }
+}
+
 /// Runs scripts at 10.
 fn run<R: AllocGlobal + RandomSource + Threads + Wait + Sync>(
     rt: &R,
     scripts: Vec<Vec<Call>>,
 ) -> Result<Result<Ran, RunFault>, Fail> {
-    let alloc = rt.alloc();
-    let hasher = RandomState::new(rt)?;
-    let policy = Policy::empty(alloc);
-    Ok(run_workers(rt, alloc, scripts, policy, &Still, &NoGate, hasher))
+    run_past(rt, scripts, &NoGate)
+}
+
+/// The scripts whose lines these are.
+fn scripts(alloc: Global, lists: &[&[&str]]) -> Result<Vec<Vec<Call>>, Fail> {
+    let mut scripts = Vec::with_capacity(alloc, lists.len())?;
+    for lines in lists {
+        scripts.push(script(alloc, lines)?)?;
+    }
+    Ok(scripts)
 }
 
 /// One worker adds to a stream, and another acknowledges in vain.
 fn two_scripts(alloc: Global) -> Result<Vec<Vec<Call>>, Fail> {
-    let mut scripts = Vec::with_capacity(alloc, 2)?;
-    for lines in [
-        ["XADD s 1-1 a b", "XLEN s", "XADD s 2-1 a b", "XLEN s"].as_slice(),
-        ["XACK s g 1-1", "XACK s g 1-1"].as_slice(),
-    ] {
-        scripts.push(script(alloc, lines)?)?;
-    }
-    Ok(scripts)
+    scripts(
+        alloc,
+        &[
+            &["XADD s 1-1 a b", "XLEN s", "XADD s 2-1 a b", "XLEN s"],
+            &["XACK s g 1-1", "XACK s g 1-1"],
+        ],
+    )
 }
 
 /// The replies to a script that was run.
@@ -101,17 +145,39 @@ fn two_scripts_have_their_replies(rt: HostRuntime) -> Result<(), Fail> {
     }
 }
 
-#[test]
-fn a_call_of_a_session_that_waits_stops_its_worker(rt: HostRuntime) -> Result<(), Fail> {
-    let alloc = rt.alloc();
-    let waiting = script(alloc, &["XREAD BLOCK 0 STREAMS s $", "PING"])?;
-    let want = RunFault::Worker {
-        at: 0,
-        fault: SeatFault::Busy,
+/// How many calls workers came to, and what stopped one of them.
+fn stopped<R: AllocGlobal + RandomSource + Threads + Wait + Sync>(
+    rt: &R,
+    scripts: Vec<Vec<Call>>,
+) -> Result<(u64, RunFault), Fail> {
+    let calls = Calls {
+        count: AtomicU64::new(0),
     };
-    match run(&rt, vec![in alloc; waiting]?)? {
-        Ok(_ran) => assert!(rt; false),
-        Err(fault) => assert!(rt; fault == want),
+    match run_past(rt, scripts, &calls)? {
+        Ok(_ran) => Err(Fail::new("no worker was stopped")),
+        Err(fault) => Ok((calls.count.load(Ordering::SeqCst), fault)),
+    }
+}
+
+/// The second worker calls for a session that waits, and is stopped there, before its third call. The first one makes all its calls.
+#[test]
+fn a_worker_is_stopped_by_a_refused_call_and_the_other_goes_on(
+    rt: HostRuntime,
+) -> Result<(), Fail> {
+    let alloc = rt.alloc();
+    let waits = ["XREAD BLOCK 0 STREAMS t $", "PING", "PING"].as_slice();
+    let adds = [
+        "XADD s 1-1 a b",
+        "XLEN s",
+        "XADD s 2-1 a b",
+        "XLEN s",
+        "PING",
+    ]
+    .as_slice();
+    for (at, count, lines) in [(0, 2, [waits].as_slice()), (1, 7, [adds, waits].as_slice())] {
+        let stopped = stopped(&rt, scripts(alloc, lines)?)?;
+        let fault = SeatFault::Busy;
+        assert!(rt; stopped == (count, RunFault::Worker { at, fault }), "{at}");
     }
     Ok(())
 }

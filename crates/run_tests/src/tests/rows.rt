@@ -1,0 +1,470 @@
+// Rows that were worked out by hand, and how they are played: over a held book or one behind a lock, by sessions at two seats.
+use super::command;
+use sr_args::{Call, Command};
+use sr_book::{Answer, Event, Letter, Out};
+use sr_plan::Verdict;
+use sr_policy::Snapshot;
+use sr_resp::append_reply;
+use sr_run::{Held, Receipt, Seat, SeatFault, Shared};
+use std::alloc::{AllocError, Global};
+use std::process::Abort;
+use std::sync::Wait;
+use std::sync::ledger::Ledger;
+use std::test::Fail;
+
+/// A moment, a session, its call or what else happens, and what is said of it.
+pub(super) type Line = (u64, u64, &'static str, &'static str);
+
+/// A run, and how many events it has.
+#[derive(Clone, Copy, Drop)]
+pub(super) struct Row {
+    pub(super) lines: &'static [Line],
+    pub(super) acts: u64,
+}
+
+/// Two readers of a group wait. Record 8 serves the first and record 11 the second.
+pub(super) const READERS: Row = Row {
+    lines: &[
+        (10, 0, "join", "joined 1"),
+        (10, 0, "join", "joined 2"),
+        (10, 0, "join", "joined 3"),
+        (10, 3, "XGROUP CREATE s g $ MKSTREAM", "+OK\r\n"),
+        (10, 1, "XREADGROUP GROUP g A BLOCK 0 STREAMS s >", "blocked"),
+        (10, 2, "XREADGROUP GROUP g B BLOCK 0 STREAMS s >", "blocked"),
+        (10, 3, "XADD s 1-1 a b", "$3\r\n1-1\r\n"),
+        (
+            10,
+            1,
+            "letter",
+            "8 *1\r\n*2\r\n$1\r\ns\r\n*1\r\n*2\r\n$3\r\n1-1\r\n*2\r\n$1\r\na\r\n$1\r\nb\r\n",
+        ),
+        (10, 2, "look", "waits"),
+        (10, 2, "PING", "busy"),
+        (10, 3, "letter", "idle"),
+        (10, 1, "leave", "left"),
+        (10, 1, "letter", "no session"),
+        (10, 3, "XADD s 2-1 a c", "$3\r\n2-1\r\n"),
+        (
+            10,
+            2,
+            "letter",
+            "11 *1\r\n*2\r\n$1\r\ns\r\n*1\r\n*2\r\n$3\r\n2-1\r\n*2\r\n$1\r\na\r\n$1\r\nc\r\n",
+        ),
+    ],
+    acts: 9,
+};
+
+/// A read waits until its deadline, since what is added is trimmed at once.
+pub(super) const DEADLINE: Row = Row {
+    lines: &[
+        (10, 0, "join", "joined 1"),
+        (10, 0, "join", "joined 2"),
+        (10, 1, "XREAD BLOCK 100 STREAMS s $", "blocked"),
+        (20, 2, "XADD s MAXLEN 0 * a b", "$4\r\n20-0\r\n"),
+        (109, 0, "tick", "false"),
+        (109, 1, "look", "waits"),
+        (110, 0, "tick", "true"),
+        (110, 1, "letter", "5 *-1\r\n"),
+        (111, 0, "tick", "false"),
+    ],
+    acts: 5,
+};
+
+/// D dies with two entries. B takes the first and A the second, at 2 + 4 less than any other plan: each has one place.
+pub(super) const RECOVERY: Row = Row {
+    lines: &[
+        (10, 0, "join", "joined 1"),
+        (10, 1, "XGROUP CREATE s g $ MKSTREAM", "+OK\r\n"),
+        (10, 1, "XADD s 1-1 c x", "$3\r\n1-1\r\n"),
+        (10, 1, "XADD s 2-1 c y", "$3\r\n2-1\r\n"),
+        (
+            10,
+            1,
+            "XREADGROUP GROUP g D STREAMS s >",
+            "*1\r\n*2\r\n$1\r\ns\r\n*2\r\n\
+             *2\r\n$3\r\n1-1\r\n*2\r\n$1\r\nc\r\n$1\r\nx\r\n*2\r\n$3\r\n2-1\r\n*2\r\n$1\r\nc\r\n$1\r\ny\r\n",
+        ),
+        (100, 1, "RECOVER.RUN s g DEAD D", "snapshot"),
+        (
+            100,
+            1,
+            "conclude",
+            "*5\r\n$4\r\ndone\r\n:6\r\n*2\r\n*2\r\n$3\r\n1-1\r\n$1\r\nB\r\n*2\r\n$3\r\n2-1\r\n$1\r\nA\r\n",
+        ),
+        (
+            100,
+            1,
+            "XPENDING s g - + 9",
+            "*2\r\n*4\r\n$3\r\n1-1\r\n$1\r\nB\r\n:0\r\n:1\r\n*4\r\n$3\r\n2-1\r\n$1\r\nA\r\n:0\r\n:1\r\n",
+        ),
+    ],
+    acts: 8,
+};
+
+/// Session 1 adds an entry, and session 2, at the other seat, reads it.
+pub(super) const TWO_SEATS: Row = Row {
+    lines: &[
+        (10, 0, "join", "joined 1"),
+        (10, 0, "join", "joined 2"),
+        (10, 1, "XADD s 1-1 a b", "$3\r\n1-1\r\n"),
+        (
+            10,
+            2,
+            "XRANGE s - +",
+            "*1\r\n*2\r\n$3\r\n1-1\r\n*2\r\n$1\r\na\r\n$1\r\nb\r\n",
+        ),
+    ],
+    acts: 4,
+};
+
+/// What two scripts do that workers run, one after the other.
+pub(super) const SCRIPTS: Row = Row {
+    lines: &[
+        (10, 0, "join", "joined 1"),
+        (10, 0, "join", "joined 2"),
+        (10, 1, "XADD s 1-1 a b", "$3\r\n1-1\r\n"),
+        (10, 1, "XLEN s", ":1\r\n"),
+        (10, 1, "XADD s 2-1 a b", "$3\r\n2-1\r\n"),
+        (10, 1, "XLEN s", ":2\r\n"),
+        (10, 2, "XACK s g 1-1", ":0\r\n"),
+        (10, 2, "XACK s g 1-1", ":0\r\n"),
+        (10, 1, "leave", "left"),
+        (10, 2, "leave", "left"),
+    ],
+    acts: 10,
+};
+
+/// What a run was told. Of its snapshots the last.
+#[derive(Drop)]
+pub(super) struct Told {
+    pub(super) receipts: Vec<Receipt>,
+    pub(super) letters: Vec<Letter>,
+    pub(super) snapshot: Option<Snapshot>,
+}
+
+impl Told {
+    pub(super) fn new(alloc: Global) -> Told {
+        Told {
+            receipts: Vec::new(alloc),
+            letters: Vec::new(alloc),
+            snapshot: None,
+        }
+    }
+}
+
+/// A book that seats use: held, or behind a lock.
+#[derive(Drop)]
+pub(super) enum Hands<'a, L: Ledger> {
+    Held(&'a mut Held<L>),
+    Shared(&'a Shared<L>),
+}
+
+impl<L: Ledger> Hands<'_, L> {
+    /// Whether one who asks for a letter waits for it.
+    fn waits(&self) -> bool {
+        match self {
+            Hands::Held(_) => false,
+            Hands::Shared(_) => true,
+        }
+    }
+
+    /// Carries out an event. It counts as refused for memory if a reader was not served for that: it would be waited for in vain.
+    fn act<R: AllocGlobal + Wait>(
+        &mut self,
+        rt: &R,
+        seat: &mut Seat<L>,
+        told: u64,
+        event: Event,
+    ) -> Result<Answer, SeatFault> {
+        let acted = match self {
+            Hands::Held(held) => held.act(rt.alloc(), seat, told, event),
+            Hands::Shared(shared) => shared.act(rt, rt.alloc(), seat, told, event),
+        };
+        match acted {
+            Ok(answer) if answer.settled => Ok(answer),
+            Ok(_answer) => Err(SeatFault::Memory),
+            Err(refused) => Err(refused.fault),
+        }
+    }
+
+    /// Makes a call of a session.
+    fn exchange<R: AllocGlobal + Wait>(
+        &mut self,
+        rt: &R,
+        seat: &mut Seat<L>,
+        told: u64,
+        session: u64,
+        call: &Call,
+    ) -> Result<Receipt, SeatFault> {
+        match self {
+            Hands::Held(held) => held.exchange(rt.alloc(), seat, told, session, call),
+            Hands::Shared(shared) => shared.exchange(rt, rt.alloc(), seat, told, session, call),
+        }
+    }
+
+    /// Answers reads whose deadline is reached.
+    fn tick<R: AllocGlobal + Wait>(
+        &mut self,
+        rt: &R,
+        seat: &mut Seat<L>,
+        told: u64,
+    ) -> Result<bool, SeatFault> {
+        match self {
+            Hands::Held(held) => held.tick(rt.alloc(), seat, told),
+            Hands::Shared(shared) => shared.tick(rt, rt.alloc(), seat, told),
+        }
+    }
+
+    /// The letter of a session, which is waited for if the book is behind a lock.
+    fn letter<R: AllocGlobal + Wait>(
+        &self,
+        rt: &R,
+        seat: &mut Seat<L>,
+        session: u64,
+    ) -> Result<Option<Letter>, SeatFault> {
+        match self {
+            Hands::Held(held) => held.look(rt.alloc(), seat, session),
+            Hands::Shared(shared) => Ok(Some(shared.await_reply(rt, rt.alloc(), seat, session)?)),
+        }
+    }
+}
+
+/// The event of a line. A conclusion is that of the last snapshot.
+pub(super) fn event_of(
+    alloc: Global,
+    session: u64,
+    line: &str,
+    snapshot: &mut Option<Snapshot>,
+) -> Result<Event, Fail> {
+    match line {
+        "join" => Ok(Event::Join),
+        "tick" => Ok(Event::Expire),
+        "leave" => Ok(Event::Leave { session }),
+        "conclude" => conclusion(alloc, session, snapshot),
+        _ => asked(session, command(alloc, line)?),
+    }
+}
+
+/// The conclusion of a snapshot, by which its plan is carried out.
+fn conclusion(alloc: Global, session: u64, snapshot: &mut Option<Snapshot>) -> Result<Event, Fail> {
+    let Some(snapshot) = snapshot.take() else {
+        return Err(Fail::new("no snapshot"));
+    };
+    let verdict = Verdict::make(alloc, snapshot)?;
+    Ok(Event::Conclude {
+        session,
+        verdict,
+        apply: true,
+        last: false,
+    })
+}
+
+/// The first event of a command.
+fn asked(session: u64, command: Command) -> Result<Event, Fail> {
+    match command {
+        Command::Call(call) => Ok(Event::Call { session, call }),
+        Command::Recover {
+            key,
+            group,
+            dead,
+            ..
+        } => Ok(Event::Snapshot {
+            session,
+            key,
+            group,
+            dead,
+        }),
+        Command::Board { .. } => Err(Fail::new("a board")),
+    }
+}
+
+/// What is said of an outcome.
+fn out_text(alloc: Global, out: &Out) -> Result<Vec<u8>, AllocError> {
+    let mut text = Vec::new(alloc);
+    match out {
+        Out::Joined(session) => return joined_text(alloc, *session),
+        Out::Reply(reply) => append_reply(&mut text, reply)?,
+        Out::Blocked => text.extend_from_slice(b"blocked")?,
+        Out::Snap(_) => text.extend_from_slice(b"snapshot")?,
+        Out::Stale(_) => text.extend_from_slice(b"stale")?,
+        Out::Expired(_) => text.extend_from_slice(b"expired")?,
+        Out::Left => text.extend_from_slice(b"left")?,
+    }
+    Ok(text)
+}
+
+fn joined_text(alloc: Global, session: u64) -> Result<Vec<u8>, AllocError> {
+    let text = format!(in alloc; "joined {session}")?;
+    Vec::from_slice(alloc, text.as_bytes())
+}
+
+/// What is said of a refusal. One for memory is handed on.
+fn fault_text(alloc: Global, fault: SeatFault) -> Result<Vec<u8>, Fail> {
+    match fault {
+        SeatFault::Busy => Ok(Vec::from_slice(alloc, b"busy")?),
+        SeatFault::Idle => Ok(Vec::from_slice(alloc, b"idle")?),
+        SeatFault::NoSession => Ok(Vec::from_slice(alloc, b"no session")?),
+        SeatFault::Memory | SeatFault::Full | SeatFault::Regress { .. } => Err(Fail::from(fault)),
+    }
+}
+
+/// What is said of a letter: the index of its record, and its reply.
+fn letter_text(alloc: Global, letter: &Letter) -> Result<Vec<u8>, AllocError> {
+    let index = format!(in alloc; "{} ", letter.index)?;
+    let mut text = Vec::from_slice(alloc, index.as_bytes())?;
+    append_reply(&mut text, &letter.reply)?;
+    Ok(text)
+}
+
+/// Makes a call, and keeps the receipt.
+///
+/// Behind a lock an XADD is handed in as an event, since a receipt does not say whether a reader was refused memory.
+fn call<L: Ledger, R: AllocGlobal + Wait>(
+    rt: &R,
+    hands: &mut Hands<'_, L>,
+    seat: &mut Seat<L>,
+    told: &mut Told,
+    moment: u64,
+    session: u64,
+    call: Call,
+) -> Result<Vec<u8>, Fail> {
+    let made = match &call {
+        Call::Xadd { .. } if hands.waits() => add(rt, hands, seat, moment, session, &call),
+        _ => hands.exchange(rt, seat, moment, session, &call),
+    };
+    match made {
+        Ok(receipt) => {
+            let text = out_text(rt.alloc(), &receipt.out)?;
+            told.receipts.push(receipt)?;
+            Ok(text)
+        }
+        Err(fault) => fault_text(rt.alloc(), fault),
+    }
+}
+
+/// Makes a call as an event.
+fn add<L: Ledger, R: AllocGlobal + Wait>(
+    rt: &R,
+    hands: &mut Hands<'_, L>,
+    seat: &mut Seat<L>,
+    moment: u64,
+    session: u64,
+    call: &Call,
+) -> Result<Receipt, SeatFault> {
+    let (Ok(sent), Ok(call)) = (call.copy(rt.alloc()), call.copy(rt.alloc())) else {
+        return Err(SeatFault::Memory);
+    };
+    let event = Event::Call {
+        session,
+        call: sent,
+    };
+    let Answer { index, out, .. } = hands.act(rt, seat, moment, event)?;
+    Ok(Receipt {
+        seat: seat.number(),
+        index,
+        session,
+        call,
+        out,
+    })
+}
+
+/// Hands in an event that is no call, and keeps the snapshot if it gives one.
+fn act<L: Ledger, R: AllocGlobal + Wait>(
+    rt: &R,
+    hands: &mut Hands<'_, L>,
+    seat: &mut Seat<L>,
+    told: &mut Told,
+    moment: u64,
+    event: Event,
+) -> Result<Vec<u8>, Fail> {
+    let Answer { out, .. } = hands.act(rt, seat, moment, event)?;
+    let text = out_text(rt.alloc(), &out)?;
+    if let Out::Snap(snapshot) = out {
+        told.snapshot = Some(snapshot);
+    }
+    Ok(text)
+}
+
+/// Asks for the letter of a session, and keeps it. One who is to have one and waits was refused memory.
+fn letter<L: Ledger, R: AllocGlobal + Wait>(
+    rt: &R,
+    hands: &Hands<'_, L>,
+    seat: &mut Seat<L>,
+    told: &mut Told,
+    session: u64,
+    line: &str,
+) -> Result<Vec<u8>, Fail> {
+    match hands.letter(rt, seat, session) {
+        Ok(Some(letter)) => {
+            let text = letter_text(rt.alloc(), &letter)?;
+            told.letters.push(letter)?;
+            Ok(text)
+        }
+        Ok(None) if line == "look" => Ok(Vec::from_slice(rt.alloc(), b"waits")?),
+        Ok(None) => Err(Fail::from(SeatFault::Memory)),
+        Err(fault) => fault_text(rt.alloc(), fault),
+    }
+}
+
+/// Answers reads whose deadline is reached, and says whether there was one.
+fn tick<L: Ledger, R: AllocGlobal + Wait>(
+    rt: &R,
+    hands: &mut Hands<'_, L>,
+    seat: &mut Seat<L>,
+    moment: u64,
+) -> Result<Vec<u8>, Fail> {
+    let due = hands.tick(rt, seat, moment)?;
+    let text = if due { "true" } else { "false" };
+    Ok(Vec::from_slice(rt.alloc(), text.as_bytes())?)
+}
+
+/// Plays a line at a seat. What is said of it.
+fn play_line<L: Ledger, R: AllocGlobal + Wait>(
+    rt: &R,
+    hands: &mut Hands<'_, L>,
+    seat: &mut Seat<L>,
+    told: &mut Told,
+    (moment, session, line, _): Line,
+) -> Result<Vec<u8>, Fail> {
+    match line {
+        "letter" | "look" => letter(rt, hands, seat, told, session, line),
+        "tick" => tick(rt, hands, seat, moment),
+        _ => match event_of(rt.alloc(), session, line, &mut told.snapshot)? {
+            Event::Call {
+                session,
+                call: asked,
+            } => call(rt, hands, seat, told, moment, session, asked),
+            event => act(rt, hands, seat, told, moment, event),
+        },
+    }
+}
+
+/// Whether that is to be said of a line. The prices of a plan are left open.
+fn is_said(line: &str, want: &str, said: &[u8]) -> bool {
+    if line == "conclude" {
+        said.starts_with(want.as_bytes())
+    } else {
+        said == want.as_bytes()
+    }
+}
+
+/// Plays lines, each at the seat of its session. Behind a lock nobody looks at one who waits.
+pub(super) fn play<L: Ledger, R: AllocGlobal + Abort + Wait>(
+    rt: &R,
+    hands: &mut Hands<'_, L>,
+    seats: &mut [Seat<L>],
+    told: &mut Told,
+    lines: &[Line],
+) -> Result<(), Fail> {
+    for played in lines {
+        let (_, session, line, want) = *played;
+        let Some(seat) = seats.get_mut((session % 2) as usize) else {
+            return Err(Fail::new("no seat"));
+        };
+        if line != "look" || !hands.waits() {
+            let said = play_line(rt, hands, seat, told, *played)?;
+            assert!(rt; is_said(line, want, said.as_slice()), "{session} {line}");
+        }
+    }
+    Ok(())
+}
