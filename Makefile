@@ -23,6 +23,7 @@ test:
 	@tests/bulk_move.py crates/sr_server/out/sr_server
 	@tests/long_stream.py crates/sr_server/out/sr_server
 	@tests/bytes.py crates/sr_server/out/sr_server
+	@tests/listening.py crates/sr_server/out/sr_server
 	@scripts/policies crates/sr_server/out/sr_server examples/policies/*.toml
 	@tests/policies.py crates/sr_server/out/sr_server
 	@scripts/histories crates/book_driver/out/book_driver examples/histories/*.history tests/histories/*.history
@@ -41,6 +42,7 @@ replay:
 	@tests/bulk_move.py crates/sr_server/out/sr_server
 	@tests/long_stream.py crates/sr_server/out/sr_server
 	@tests/bytes.py crates/sr_server/out/sr_server
+	@tests/listening.py crates/sr_server/out/sr_server
 
 # The histories alone: events handed to a book, with their answers.
 histories:

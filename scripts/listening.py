@@ -4,7 +4,9 @@
         connection.call("PING")
 """
 
+import functools
 import os
+import resource
 import select
 import shutil
 import signal
@@ -160,13 +162,16 @@ class Server(Process):
 
     name = "sr_server"
 
-    def __init__(self, program, policy=None, workers=None):
+    def __init__(self, program, policy=None, workers=None, descriptors=None):
+        """`descriptors` is how many files and sockets it may have open."""
+        limit = descriptors and functools.partial(resource.setrlimit, resource.RLIMIT_NOFILE, (descriptors, descriptors))
         options = [] if policy is None else ["--policy", str(policy)]
         options += [] if workers is None else ["--workers", str(workers)]
         for tries in range(TRIES):
             self.port = free_port()
             address = f"{HOST}:{self.port}"
-            self.process = subprocess.Popen([program, "--listen", address, *options], stdin=subprocess.DEVNULL, stdout=subprocess.PIPE)
+            words = [program, "--listen", address, *options]
+            self.process = subprocess.Popen(words, stdin=subprocess.DEVNULL, stdout=subprocess.PIPE, preexec_fn=limit)
             line = self.first_line()
             if line == f"listening on {address}\n".encode():
                 return

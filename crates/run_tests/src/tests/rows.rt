@@ -22,6 +22,27 @@ pub(super) struct Row {
     pub(super) acts: u64,
 }
 
+/// The letters of two readers: the indexes of their records, and the entries 1-1 and 2-1.
+const FIRST: &str =
+    "8 *1\r\n*2\r\n$1\r\ns\r\n*1\r\n*2\r\n$3\r\n1-1\r\n*2\r\n$1\r\na\r\n$1\r\nb\r\n";
+
+const SECOND: &str =
+    "11 *1\r\n*2\r\n$1\r\ns\r\n*1\r\n*2\r\n$3\r\n2-1\r\n*2\r\n$1\r\na\r\n$1\r\nc\r\n";
+
+/// Entry 1-1.
+const ENTRY: &str = "*1\r\n*2\r\n$3\r\n1-1\r\n*2\r\n$1\r\na\r\n$1\r\nb\r\n";
+
+/// Entries of both classes, as they are delivered to D.
+const BOTH: &str = "*1\r\n*2\r\n$1\r\ns\r\n*2\r\n*2\r\n$3\r\n1-1\r\n*2\r\n$1\r\nc\r\n$1\r\nx\r\n\
+    *2\r\n$3\r\n2-1\r\n*2\r\n$1\r\nc\r\n$1\r\ny\r\n";
+
+/// The plan for them, up to its prices, and what is pending then.
+const PLAN: &str = "*5\r\n$4\r\ndone\r\n:6\r\n\
+    *2\r\n*2\r\n$3\r\n1-1\r\n$1\r\nB\r\n*2\r\n$3\r\n2-1\r\n$1\r\nA\r\n";
+
+const MOVED: &str = "*2\r\n*4\r\n$3\r\n1-1\r\n$1\r\nB\r\n:0\r\n:1\r\n\
+    *4\r\n$3\r\n2-1\r\n$1\r\nA\r\n:0\r\n:1\r\n";
+
 /// Two readers of a group wait. Record 8 serves the first and record 11 the second.
 pub(super) const READERS: Row = Row {
     lines: &[
@@ -32,24 +53,14 @@ pub(super) const READERS: Row = Row {
         (10, 1, "XREADGROUP GROUP g A BLOCK 0 STREAMS s >", "blocked"),
         (10, 2, "XREADGROUP GROUP g B BLOCK 0 STREAMS s >", "blocked"),
         (10, 3, "XADD s 1-1 a b", "$3\r\n1-1\r\n"),
-        (
-            10,
-            1,
-            "letter",
-            "8 *1\r\n*2\r\n$1\r\ns\r\n*1\r\n*2\r\n$3\r\n1-1\r\n*2\r\n$1\r\na\r\n$1\r\nb\r\n",
-        ),
+        (10, 1, "letter", FIRST),
         (10, 2, "look", "waits"),
         (10, 2, "PING", "busy"),
         (10, 3, "letter", "idle"),
         (10, 1, "leave", "left"),
         (10, 1, "letter", "no session"),
         (10, 3, "XADD s 2-1 a c", "$3\r\n2-1\r\n"),
-        (
-            10,
-            2,
-            "letter",
-            "11 *1\r\n*2\r\n$1\r\ns\r\n*1\r\n*2\r\n$3\r\n2-1\r\n*2\r\n$1\r\na\r\n$1\r\nc\r\n",
-        ),
+        (10, 2, "letter", SECOND),
     ],
     acts: 9,
 };
@@ -70,33 +81,17 @@ pub(super) const DEADLINE: Row = Row {
     acts: 5,
 };
 
-/// D dies with two entries. B takes the first and A the second, at 2 + 4 less than any other plan: each has one place.
+/// D dies with an entry of each class, of weight 2. B takes the first at 4 and A the second at 2; the other way round it were 2 and 200.
 pub(super) const RECOVERY: Row = Row {
     lines: &[
         (10, 0, "join", "joined 1"),
         (10, 1, "XGROUP CREATE s g $ MKSTREAM", "+OK\r\n"),
         (10, 1, "XADD s 1-1 c x", "$3\r\n1-1\r\n"),
         (10, 1, "XADD s 2-1 c y", "$3\r\n2-1\r\n"),
-        (
-            10,
-            1,
-            "XREADGROUP GROUP g D STREAMS s >",
-            "*1\r\n*2\r\n$1\r\ns\r\n*2\r\n\
-             *2\r\n$3\r\n1-1\r\n*2\r\n$1\r\nc\r\n$1\r\nx\r\n*2\r\n$3\r\n2-1\r\n*2\r\n$1\r\nc\r\n$1\r\ny\r\n",
-        ),
+        (10, 1, "XREADGROUP GROUP g D STREAMS s >", BOTH),
         (100, 1, "RECOVER.RUN s g DEAD D", "snapshot"),
-        (
-            100,
-            1,
-            "conclude",
-            "*5\r\n$4\r\ndone\r\n:6\r\n*2\r\n*2\r\n$3\r\n1-1\r\n$1\r\nB\r\n*2\r\n$3\r\n2-1\r\n$1\r\nA\r\n",
-        ),
-        (
-            100,
-            1,
-            "XPENDING s g - + 9",
-            "*2\r\n*4\r\n$3\r\n1-1\r\n$1\r\nB\r\n:0\r\n:1\r\n*4\r\n$3\r\n2-1\r\n$1\r\nA\r\n:0\r\n:1\r\n",
-        ),
+        (100, 1, "conclude", PLAN),
+        (100, 1, "XPENDING s g - + 9", MOVED),
     ],
     acts: 8,
 };
@@ -107,12 +102,7 @@ pub(super) const TWO_SEATS: Row = Row {
         (10, 0, "join", "joined 1"),
         (10, 0, "join", "joined 2"),
         (10, 1, "XADD s 1-1 a b", "$3\r\n1-1\r\n"),
-        (
-            10,
-            2,
-            "XRANGE s - +",
-            "*1\r\n*2\r\n$3\r\n1-1\r\n*2\r\n$1\r\na\r\n$1\r\nb\r\n",
-        ),
+        (10, 2, "XRANGE s - +", ENTRY),
     ],
     acts: 4,
 };
@@ -278,32 +268,34 @@ fn asked(session: u64, command: Command) -> Result<Event, Fail> {
     }
 }
 
+/// A word that is said.
+fn word(alloc: Global, word: &str) -> Result<Vec<u8>, AllocError> {
+    Vec::from_slice(alloc, word.as_bytes())
+}
+
 /// What is said of an outcome.
 fn out_text(alloc: Global, out: &Out) -> Result<Vec<u8>, AllocError> {
     let mut text = Vec::new(alloc);
     match out {
-        Out::Joined(session) => return joined_text(alloc, *session),
+        Out::Joined(session) => {
+            let joined = format!(in alloc; "joined {session}")?;
+            text.extend_from_slice(joined.as_bytes())?;
+        }
         Out::Reply(reply) => append_reply(&mut text, reply)?,
         Out::Blocked => text.extend_from_slice(b"blocked")?,
         Out::Snap(_) => text.extend_from_slice(b"snapshot")?,
-        Out::Stale(_) => text.extend_from_slice(b"stale")?,
-        Out::Expired(_) => text.extend_from_slice(b"expired")?,
+        Out::Stale(_) | Out::Expired(_) => text.extend_from_slice(b"another")?,
         Out::Left => text.extend_from_slice(b"left")?,
     }
     Ok(text)
 }
 
-fn joined_text(alloc: Global, session: u64) -> Result<Vec<u8>, AllocError> {
-    let text = format!(in alloc; "joined {session}")?;
-    Vec::from_slice(alloc, text.as_bytes())
-}
-
 /// What is said of a refusal. One for memory is handed on.
 fn fault_text(alloc: Global, fault: SeatFault) -> Result<Vec<u8>, Fail> {
     match fault {
-        SeatFault::Busy => Ok(Vec::from_slice(alloc, b"busy")?),
-        SeatFault::Idle => Ok(Vec::from_slice(alloc, b"idle")?),
-        SeatFault::NoSession => Ok(Vec::from_slice(alloc, b"no session")?),
+        SeatFault::Busy => Ok(word(alloc, "busy")?),
+        SeatFault::Idle => Ok(word(alloc, "idle")?),
+        SeatFault::NoSession => Ok(word(alloc, "no session")?),
         SeatFault::Memory | SeatFault::Full | SeatFault::Regress { .. } => Err(Fail::from(fault)),
     }
 }
@@ -400,22 +392,10 @@ fn letter<L: Ledger, R: AllocGlobal + Wait>(
             told.letters.push(letter)?;
             Ok(text)
         }
-        Ok(None) if line == "look" => Ok(Vec::from_slice(rt.alloc(), b"waits")?),
+        Ok(None) if line == "look" => Ok(word(rt.alloc(), "waits")?),
         Ok(None) => Err(Fail::from(SeatFault::Memory)),
         Err(fault) => fault_text(rt.alloc(), fault),
     }
-}
-
-/// Answers reads whose deadline is reached, and says whether there was one.
-fn tick<L: Ledger, R: AllocGlobal + Wait>(
-    rt: &R,
-    hands: &mut Hands<'_, L>,
-    seat: &mut Seat<L>,
-    moment: u64,
-) -> Result<Vec<u8>, Fail> {
-    let due = hands.tick(rt, seat, moment)?;
-    let text = if due { "true" } else { "false" };
-    Ok(Vec::from_slice(rt.alloc(), text.as_bytes())?)
 }
 
 /// Plays a line at a seat. What is said of it.
@@ -428,7 +408,10 @@ fn play_line<L: Ledger, R: AllocGlobal + Wait>(
 ) -> Result<Vec<u8>, Fail> {
     match line {
         "letter" | "look" => letter(rt, hands, seat, told, session, line),
-        "tick" => tick(rt, hands, seat, moment),
+        "tick" => {
+            let due = hands.tick(rt, seat, moment)?;
+            Ok(word(rt.alloc(), if due { "true" } else { "false" })?)
+        }
         _ => match event_of(rt.alloc(), session, line, &mut told.snapshot)? {
             Event::Call {
                 session,

@@ -1,0 +1,219 @@
+#!/usr/bin/env python3
+"""Has clients use a server over sockets: reads that wait, clients that vanish, and more connections than it has workers.
+
+usage: tests/listening.py PROGRAM
+
+PROGRAM is sr_server, or `redis-server` (Debian: redis-server), with which the answers to `answered` were compared: it has no workers. The
+server that gets 1,500 connections may have 256 descriptors open, so it ends if it accepts more of them than it serves.
+
+Prints each answer that differs, and how many there are; the status is 1 if one differs, or if the server ended or took too long.
+"""
+
+import os
+import resource
+import select
+import signal
+import socket
+import struct
+import sys
+import time
+
+sys.path.insert(0, os.path.join(os.path.dirname(os.path.abspath(__file__)), "..", "scripts"))
+import listening  # noqa: E402  (the one of scripts/)
+
+SECONDS = 30  # for all of it
+PATIENCE = 8  # seconds for one answer
+QUIET = 0.2  # seconds after which nothing more is expected
+WORKERS = 4
+FEW = 2  # workers, when more connections come
+MANY, DESCRIPTORS = 1_500, 256
+BEYOND = 2  # connections that are accepted beyond the workers: one that waits for a worker, and one that waits for its place
+OWN = 100  # descriptors that this program needs for itself
+
+ENTRIES = [[b"s", [[b"1-1", [b"a", b"b"]]]], [b"s", [[b"2-1", [b"a", b"c"]]]]]
+
+
+class Late(Exception):
+    """All of it took too long."""
+
+
+class Tally:
+    """Counts answers, and prints those that differ."""
+
+    def __init__(self):
+        self.answers, self.differing = 0, 0
+
+    def compare(self, what, wanted, found):
+        self.answers += 1
+        if found != wanted:
+            self.wrong(f"{what}: expected {wanted!r}, not {found!r}")
+
+    def wrong(self, text):
+        self.differing += 1
+        print(f"listening: {text}", flush=True)
+
+
+def quiet(*connections, seconds=QUIET):
+    """Whether none of them is answered for a while."""
+    return not readable(*connections, seconds=seconds)
+
+
+def readable(*connections, seconds=PATIENCE):
+    """Those of the connections that are answered first, or none."""
+    ready, _, _ = select.select([connection.socket for connection in connections], [], [], seconds)
+    return [connection for connection in connections if connection.socket in ready]
+
+
+def vanish(connection):
+    """Ends a connection as a client that is killed does, by a reset."""
+    connection.socket.setsockopt(socket.SOL_SOCKET, socket.SO_LINGER, struct.pack("ii", 1, 0))
+    connection.close()
+
+
+def wait_for_entry(tally, reader, other):
+    """A read that waits is answered when another client adds an entry."""
+    tally.compare("PING", b"PONG", other.call("PING"))
+    tally.compare("XGROUP", b"OK", other.call("XGROUP", "CREATE", "s", "g", "$", "MKSTREAM"))
+    reader.send("XREADGROUP", "GROUP", "g", "A", "BLOCK", 0, "STREAMS", "s", ">")
+    tally.compare("a read that waits has no answer", True, quiet(reader))
+    tally.compare("PING while another waits", b"PONG", other.call("PING"))
+    tally.compare("XADD", b"1-1", other.call("XADD", "s", "1-1", "a", "b"))
+    tally.compare("a read that waited", [ENTRIES[0]], reader.reply())
+
+
+def wait_for_deadline(tally, reader):
+    """A read that waits for 50 milliseconds is answered then, though no client does anything."""
+    began = time.monotonic()
+    tally.compare("a deadline", None, reader.call("XREAD", "BLOCK", 50, "STREAMS", "s", "$"))
+    seconds = time.monotonic() - began
+    tally.compare(f"50 milliseconds, which took {seconds:.3f} seconds", True, 0.045 < seconds < PATIENCE / 2)
+
+
+def vanish_while_waiting(tally, server, reader, other):
+    """Clients vanish while they wait, one politely: the others are served, and in the end so are as many as before."""
+    gone = [server.connect(PATIENCE) for _ in range(2)]
+    for connection in gone:
+        connection.send("XREAD", "BLOCK", 0, "STREAMS", "s", "$")
+    tally.compare("reads that wait have no answer", True, quiet(*gone))
+    gone[0].close()
+    vanish(gone[1])
+    reader.send("XREADGROUP", "GROUP", "g", "A", "BLOCK", 0, "STREAMS", "s", ">")
+    tally.compare("a read beside those that vanished", True, quiet(reader))
+    tally.compare("PING after clients vanished", b"PONG", other.call("PING"))
+    tally.compare("XADD after clients vanished", b"2-1", other.call("XADD", "s", "2-1", "a", "c"))
+    tally.compare("a read that waited beside them", [ENTRIES[1]], reader.reply())
+    for number in range(WORKERS - 2):
+        gone[number] = server.connect(PATIENCE)
+        tally.compare("PING in the place of one that vanished", b"PONG", gone[number].call("PING"))
+    for connection in gone:
+        connection.close()
+
+
+def answered(tally, server):
+    """What clients are answered that are no more than the workers."""
+    with server.connect(PATIENCE) as reader, server.connect(PATIENCE) as other:
+        wait_for_entry(tally, reader, other)
+        wait_for_deadline(tally, reader)
+        vanish_while_waiting(tally, server, reader, other)
+
+
+def more_than_workers(tally, server):
+    """Connections beyond the workers wait, and are served as others end."""
+    served = [server.connect(PATIENCE) for _ in range(FEW)]
+    for connection in served:
+        tally.compare("PING of the first connections", b"PONG", connection.call("PING"))
+    waiting = [server.connect(PATIENCE) for _ in range(2)]
+    for connection in waiting:
+        connection.send("PING")
+    tally.compare("connections beyond the workers have no answer", True, quiet(*waiting, seconds=2 * QUIET))
+    for connection in served:
+        connection.close()
+        ready = readable(*waiting)
+        tally.compare("how many are served once one ends", 1, len(ready))
+        for late in ready:
+            tally.compare("PING of one that waited", b"PONG", late.reply())
+            late.socket.shutdown(socket.SHUT_WR)  # its worker is free now, and takes the next one
+            waiting.remove(late)
+
+
+def started(number, port):
+    """That many connections, each begun and none waited for: a listener takes only some of them."""
+    connections = []
+    for _ in range(number):
+        connection = socket.socket()
+        connection.setblocking(False)
+        connection.connect_ex((listening.HOST, port))
+        connections.append(connection)
+    return connections
+
+
+def many(tally, server, number):
+    """Very many connections are opened and held. The server accepts no more than it can serve soon, and goes on."""
+    with server.connect(PATIENCE) as first, server.connect(PATIENCE) as second:
+        for connection in (first, second):
+            tally.compare("PING before the many", b"PONG", connection.call("PING"))
+        before = server.handles()
+        held = started(number, server.port)
+        time.sleep(5 * QUIET)
+        accepted = server.handles() - before
+        tally.compare(f"{number:,} connections, of which it accepted {accepted}", True, accepted <= BEYOND)
+        for connection in (first, second):
+            tally.compare("PING beside the many", b"PONG", connection.call("PING"))
+        for connection in held:
+            connection.close()
+    with server.connect(PATIENCE) as connection:
+        tally.compare("PING after the many", b"PONG", connection.call("PING"))
+
+
+def raised_limit():
+    """How many descriptors this program may have: enough for the many, if it is allowed so many."""
+    soft, hard = resource.getrlimit(resource.RLIMIT_NOFILE)
+    limit = MANY + OWN if hard == resource.RLIM_INFINITY else min(hard, MANY + OWN)
+    if soft != resource.RLIM_INFINITY and soft < limit:
+        resource.setrlimit(resource.RLIMIT_NOFILE, (limit, hard))
+    return limit
+
+
+def play(part, tally, server, *numbers):
+    """Plays a part with a server of its own. A client that is not answered ends it."""
+    with server:
+        try:
+            part(tally, server, *numbers)
+            tally.compare(f"{part.__name__}: the server runs", True, server.alive())
+        except (OSError, listening.ErrorReply, listening.Fault) as fault:
+            tally.wrong(f"{part.__name__}: {type(fault).__name__}: {fault}")
+
+
+def run(program, tally):
+    if os.path.basename(program) == "redis-server":
+        play(answered, tally, listening.Redis())
+        return
+    play(answered, tally, listening.Server(program, workers=WORKERS))
+    play(more_than_workers, tally, listening.Server(program, workers=FEW))
+    number = min(MANY, raised_limit() - OWN)
+    play(many, tally, listening.Server(program, workers=FEW, descriptors=DESCRIPTORS), number)
+
+
+def end(*_):
+    raise Late
+
+
+def main():
+    if len(sys.argv) != 2:
+        sys.exit(__doc__.split("\n\n")[1])
+    listening.stop_when_ended()
+    signal.signal(signal.SIGALRM, end)
+    signal.alarm(SECONDS)
+    tally = Tally()
+    try:
+        run(sys.argv[1], tally)
+    except Late:
+        tally.wrong(f"not done after {SECONDS} seconds")
+    except (OSError, listening.Fault) as fault:
+        tally.wrong(f"the server did not begin: {fault}")
+    print(f"listening: {tally.answers} answers, {tally.differing} differ")
+    return 1 if tally.differing else 0
+
+
+if __name__ == "__main__":
+    sys.exit(main())
