@@ -81,13 +81,11 @@ fn talk<D: Desk>(alloc: Global, desk: &mut D) -> Result<Vec<u8>, Fail> {
         9,
     );
     let refused = written.windows(4).any(|bytes| bytes == b"-OOM".as_slice());
-    if refused || ended.end == End::Memory || !ended.left {
-        return Err(Fail::from(AllocError));
-    }
-    if ended.end == End::Closed {
-        Ok(written)
-    } else {
-        Err(Fail::new("the session ended otherwise"))
+    // A writer that is a list fails for memory alone.
+    match ended.end {
+        End::Closed if ended.left && !refused => Ok(written),
+        End::Closed | End::Memory | End::SendFault { .. } => Err(Fail::from(AllocError)),
+        _ => Err(Fail::new("the session ended otherwise")),
     }
 }
 
