@@ -2,6 +2,9 @@
 
 .PHONY: run demo test replay histories plans check memory refusals compare clients soak bench bench-net bench-solver check-solver
 
+# The histories of which each allocation is refused in turn.
+REFUSED = examples/histories/*.history tests/histories/runs.history tests/histories/waiting.history tests/histories/adding.history
+
 # Builds the server and sends it the commands of examples/first.session as a client spells them.
 run:
 	@cd crates/sr_server && rt run -- --stdio < stdin
@@ -29,6 +32,8 @@ test:
 	@scripts/histories crates/book_driver/out/book_driver examples/histories/*.history tests/histories/*.history
 	@scripts/replay_at crates/book_driver/out/book_driver tests/moments/*.session
 	@tests/heavy_entry.py crates/book_driver/out/book_driver
+	@if command -v cc > /dev/null; then scripts/refusals crates/book_driver/out/book_driver $(REFUSED); \
+	    else echo 'refusals: left out, since there is no cc'; fi
 	@scripts/plans crates/plan_check/out/plan_check examples/plans/*.plan
 	@tests/plan_check.py crates/plan_check/out/plan_check
 
@@ -71,7 +76,7 @@ memory:
 # succeeds at the second try. It needs cc.
 refusals:
 	@cd crates/book_driver && rt run -- < /dev/null
-	@scripts/refusals crates/book_driver/out/book_driver examples/histories/*.history tests/histories/runs.history tests/histories/waiting.history tests/histories/adding.history
+	@scripts/refusals crates/book_driver/out/book_driver $(REFUSED)
 
 # Builds the server, sends it and a Redis server (Debian: redis-server) the same random commands, also over sockets with readers that
 # block, and prints replies that differ.
