@@ -16,7 +16,8 @@ demo:
 	@scripts/demo crates/sr_server/out/sr_server crates/plan_check/out/plan_check
 
 # The whole gate: every proof from nothing, the must-fail edits, the tests and the program's stored run. Then the programs that
-# were proved replay the sessions and histories of the README, of examples/ and of tests/, read policy files and check plans.
+# were proved replay the sessions and histories of the README, of examples/ and of tests/, read policy files and check plans, and the
+# demo has to print what the README shows.
 test:
 	rt ci
 	@scripts/replay crates/sr_server/out/sr_server README.md examples/*.session tests/sessions/*.session
@@ -36,6 +37,7 @@ test:
 	    else echo 'refusals: left out, since there is no cc'; fi
 	@scripts/plans crates/plan_check/out/plan_check examples/plans/*.plan
 	@tests/plan_check.py crates/plan_check/out/plan_check
+	@scripts/demo crates/sr_server/out/sr_server crates/plan_check/out/plan_check README.md
 
 # The sessions alone.
 replay:
