@@ -30,7 +30,7 @@ fn drive(
 }
 
 /// Keeps the snapshot of an answer.
-fn keep(answer: Answer, snapshot: &mut Option<Snapshot>) {
+pub(super) fn keep(answer: Answer, snapshot: &mut Option<Snapshot>) {
     if let Out::Snap(taken) = answer.out {
         *snapshot = Some(taken);
     }

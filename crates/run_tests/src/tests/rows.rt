@@ -1,5 +1,6 @@
 // Rows that were worked out by hand, and how they are played: over a held book or one behind a lock, by sessions at two seats.
 use super::command;
+use super::records::keep;
 use sr_args::{Call, Command};
 use sr_book::{Answer, Event, Letter, Out};
 use sr_plan::Verdict;
@@ -369,11 +370,9 @@ fn act<L: Ledger, R: AllocGlobal + Wait>(
     moment: u64,
     event: Event,
 ) -> Result<Vec<u8>, Fail> {
-    let Answer { out, .. } = hands.act(rt, seat, moment, event)?;
-    let text = out_text(rt.alloc(), &out)?;
-    if let Out::Snap(snapshot) = out {
-        told.snapshot = Some(snapshot);
-    }
+    let answer = hands.act(rt, seat, moment, event)?;
+    let text = out_text(rt.alloc(), &answer.out)?;
+    keep(answer, &mut told.snapshot);
     Ok(text)
 }
 
