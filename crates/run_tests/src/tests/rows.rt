@@ -6,7 +6,7 @@ use sr_book::{Answer, Event, Letter, Out};
 use sr_plan::Verdict;
 use sr_policy::Snapshot;
 use sr_resp::append_reply;
-use sr_run::{Held, Receipt, Seat, SeatFault, Shared};
+use sr_run::{ActFault, Held, Receipt, Seat, SeatFault, Shared};
 use std::alloc::{AllocError, Global};
 use std::process::Abort;
 use std::sync::Wait;
@@ -172,9 +172,8 @@ impl<L: Ledger> Hands<'_, L> {
             Hands::Shared(shared) => shared.act(rt, rt.alloc(), seat, told, event),
         };
         match acted {
-            Ok(answer) if answer.settled => Ok(answer),
-            Ok(_answer) => Err(SeatFault::Memory),
-            Err(refused) => Err(refused.fault),
+            Ok(answer) => settled(answer),
+            Err(refused) => Err(fault_of(refused)),
         }
     }
 
@@ -319,20 +318,52 @@ fn call<L: Ledger, R: AllocGlobal + Wait>(
     told: &mut Told,
     moment: u64,
     session: u64,
-    call: Call,
+    call: &Call,
 ) -> Result<Vec<u8>, Fail> {
-    let made = match &call {
-        Call::Xadd { .. } if hands.waits() => add(rt, hands, seat, moment, session, &call),
-        _ => hands.exchange(rt, seat, moment, session, &call),
-    };
-    match made {
-        Ok(receipt) => {
-            let text = out_text(rt.alloc(), &receipt.out)?;
-            told.receipts.push(receipt)?;
-            Ok(text)
-        }
+    match made(rt, hands, seat, moment, session, call) {
+        Ok(receipt) => keep_receipt(rt.alloc(), told, receipt),
         Err(fault) => fault_text(rt.alloc(), fault),
     }
+}
+
+/// Makes a call. What holds a receipt or an answer has one exit each: at every exit these are dear to prove.
+fn made<L: Ledger, R: AllocGlobal + Wait>(
+    rt: &R,
+    hands: &mut Hands<'_, L>,
+    seat: &mut Seat<L>,
+    moment: u64,
+    session: u64,
+    call: &Call,
+) -> Result<Receipt, SeatFault> {
+    match call {
+        Call::Xadd { .. } if hands.waits() => add(rt, hands, seat, moment, session, call),
+        _ => hands.exchange(rt, seat, moment, session, call),
+    }
+}
+
+/// Keeps a receipt, and says what its outcome is.
+fn keep_receipt(alloc: Global, told: &mut Told, receipt: Receipt) -> Result<Vec<u8>, Fail> {
+    let text = out_text(alloc, &receipt.out);
+    let kept = told.receipts.push(receipt).is_ok();
+    if kept {
+        Ok(text?)
+    } else {
+        Err(Fail::from(AllocError))
+    }
+}
+
+/// An answer after which no reader is left waiting for want of memory.
+fn settled(answer: Answer) -> Result<Answer, SeatFault> {
+    if answer.settled {
+        Ok(answer)
+    } else {
+        Err(SeatFault::Memory)
+    }
+}
+
+/// Why an event was refused, which is dropped.
+fn fault_of(refused: ActFault) -> SeatFault {
+    refused.fault
 }
 
 /// Makes a call as an event.
@@ -344,21 +375,37 @@ fn add<L: Ledger, R: AllocGlobal + Wait>(
     session: u64,
     call: &Call,
 ) -> Result<Receipt, SeatFault> {
-    let (Ok(sent), Ok(call)) = (call.copy(rt.alloc()), call.copy(rt.alloc())) else {
-        return Err(SeatFault::Memory);
-    };
-    let event = Event::Call {
-        session,
-        call: sent,
-    };
-    let Answer { index, out, .. } = hands.act(rt, seat, moment, event)?;
-    Ok(Receipt {
-        seat: seat.number(),
-        index,
-        session,
-        call,
-        out,
-    })
+    let event = event_of_copy(rt.alloc(), session, call)?;
+    let answer = hands.act(rt, seat, moment, event)?;
+    receipt_of(rt.alloc(), seat.number(), session, call, answer)
+}
+
+/// The event of a copy of this call.
+fn event_of_copy(alloc: Global, session: u64, call: &Call) -> Result<Event, SeatFault> {
+    match call.copy(alloc) {
+        Ok(call) => Ok(Event::Call { session, call }),
+        Err(_) => Err(SeatFault::Memory),
+    }
+}
+
+/// The receipt of a call that was answered so.
+fn receipt_of(
+    alloc: Global,
+    seat: u64,
+    session: u64,
+    call: &Call,
+    answer: Answer,
+) -> Result<Receipt, SeatFault> {
+    match call.copy(alloc) {
+        Ok(call) => Ok(Receipt {
+            seat,
+            index: answer.index,
+            session,
+            call,
+            out: answer.out,
+        }),
+        Err(_) => Err(SeatFault::Memory),
+    }
 }
 
 /// Hands in an event that is no call, and keeps the snapshot if it gives one.
@@ -415,7 +462,7 @@ fn play_line<L: Ledger, R: AllocGlobal + Wait>(
             Event::Call {
                 session,
                 call: asked,
-            } => call(rt, hands, seat, told, moment, session, asked),
+            } => call(rt, hands, seat, told, moment, session, &asked),
             event => act(rt, hands, seat, told, moment, event),
         },
     }
