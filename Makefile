@@ -3,7 +3,8 @@
 .PHONY: run demo test replay histories plans check memory refusals compare clients soak bench bench-net bench-solver check-solver
 
 # The histories of which each allocation is refused in turn.
-REFUSED = examples/histories/*.history tests/histories/runs.history tests/histories/waiting.history tests/histories/adding.history
+REFUSED = examples/histories/*.history tests/histories/runs.history tests/histories/waiting.history tests/histories/adding.history \
+    tests/histories/commands.history
 
 # Builds the server and sends it the commands of examples/first.session as a client spells them.
 run:
