@@ -4,7 +4,7 @@
 
 # The histories of which each allocation is refused in turn.
 REFUSED = examples/histories/*.history tests/histories/runs.history tests/histories/waiting.history tests/histories/adding.history \
-    tests/histories/commands.history
+    tests/histories/commands.history tests/histories/carried-out.history
 
 # Builds the server and sends it the commands of examples/first.session as a client spells them.
 run:
