@@ -1,136 +1,170 @@
-// What no clause says: that a whole run succeeds while there is memory, that no waiting read has an answer after an event
-// unless memory was refused, and that an event that memory was refused to leaves the book.
-use sr_args::{Call, CallFault, Command, read_call};
-use sr_book::{Answer, Book, BookFault, Event, Out};
-use sr_bytes::Words;
+// What no program shows: a list of events at once, and an event that comes back. Runs event by event are in tests/histories.
+use sr_args::{Call, Position, Streams};
+use sr_book::{Answer, Book, BookFault, Event, Out, StepFault};
+use sr_bytes::{Fields, Name};
+use sr_ids::Spec;
 use sr_policy::Policy;
-use sr_resp::append_reply;
 use std::alloc::{AllocError, Global};
 use std::hash::RandomState;
-use std::process::Abort;
-use std::random::RandomSource;
 use std::test::Fail;
 
-mod memory;
-mod runs;
+/// The index and the kind of each answer, in the order of `event_at`; 0 for an event that is refused. Record 5 serves the read.
+const ANSWERS: [(u64, &str); 7] = [
+    (1, "joined"),
+    (2, "joined"),
+    (3, "blocked"),
+    (0, "busy"),
+    (4, "reply"),
+    (6, "reply"),
+    (7, "left"),
+];
 
-/// The words of a line, which stand between single spaces.
-fn words_of(alloc: Global, line: &str) -> Result<Words, AllocError> {
-    let mut words = Words::new(alloc);
-    for word in line.split(' ') {
-        words.add(word.as_bytes())?;
+/// The name of stream s.
+fn key(alloc: Global) -> Result<Name, AllocError> {
+    Ok(Name::new(Vec::from_slice(alloc, b"s")?))
+}
+
+/// A read that waits for an entry of s.
+fn read(alloc: Global) -> Result<Call, AllocError> {
+    let mut list = Vec::new(alloc);
+    list.push((key(alloc)?, Position::Last))?;
+    Ok(Call::Xread {
+        count: None,
+        block: Some(0),
+        streams: Streams::new(list),
+    })
+}
+
+/// An entry for s.
+fn add(alloc: Global) -> Result<Call, AllocError> {
+    Ok(Call::Xadd {
+        key: key(alloc)?,
+        make: true,
+        trim: None,
+        id: Spec::Auto,
+        fields: Fields::new(alloc),
+    })
+}
+
+/// The events in their order. Session 1 waits, and is refused; session 2 adds an entry, and session 1 goes on and leaves.
+fn event_at(alloc: Global, place: usize) -> Result<Event, AllocError> {
+    match place {
+        0 | 1 => Ok(Event::Join),
+        2 => Ok(Event::Call {
+            session: 1,
+            call: read(alloc)?,
+        }),
+        4 => Ok(Event::Call {
+            session: 2,
+            call: add(alloc)?,
+        }),
+        3 | 5 => Ok(Event::Call {
+            session: 1,
+            call: Call::Ping { message: None },
+        }),
+        _ => Ok(Event::Leave { session: 1 }),
     }
-    Ok(words)
 }
 
-/// The call that a line is. Any refusal but that of memory fails the test.
-fn call_of(rt: &(impl AllocGlobal + Abort), line: &str) -> Result<Call, AllocError> {
-    let words = words_of(rt.alloc(), line)?;
-    assert!(rt; words.len() > 0);
-    match read_call(rt.alloc(), &words) {
-        Ok(Command::Call(call)) => Ok(call),
-        Ok(Command::Board { .. } | Command::Recover { .. }) => {
-            assert!(rt; false, "not a call: {line}");
-            Err(AllocError)
-        }
-        Err(fault) => {
-            assert_eq!(rt; fault, CallFault::Memory, "{line}");
-            Err(AllocError)
-        }
+/// All of them, each at moment 10.
+fn events(alloc: Global) -> Result<Vec<(u64, Event)>, AllocError> {
+    let mut events = Vec::new(alloc);
+    for place in 0..ANSWERS.len() {
+        let event = event_at(alloc, place)?;
+        events.push((10, event))?;
     }
+    Ok(events)
 }
 
-/// The event that a line is.
-fn event_of(
-    rt: &(impl AllocGlobal + Abort),
-    session: u64,
-    line: &str,
-) -> Result<Event, AllocError> {
-    match line {
-        "join" => Ok(Event::Join),
-        "leave" => Ok(Event::Leave { session }),
-        "expire" => Ok(Event::Expire),
-        _ => {
-            let call = call_of(rt, line)?;
-            Ok(Event::Call { session, call })
-        }
-    }
-}
-
-/// Appends a word and a number.
-fn append_number(
-    alloc: Global,
-    text: &mut Vec<u8>,
-    word: &str,
-    number: u64,
-) -> Result<(), AllocError> {
-    let said = format!(in alloc; "{word} {number}")?;
-    text.extend_from_slice(said.as_bytes())
-}
-
-/// Appends what came of an event: the reply to a call, or words.
-fn append_out(alloc: Global, text: &mut Vec<u8>, out: &Out) -> Result<(), AllocError> {
+/// What came of an event, in a word.
+fn word_of(out: &Out) -> &'static str {
     match out {
-        Out::Joined(session) => append_number(alloc, text, "joined", *session),
-        Out::Reply(reply) => append_reply(text, reply),
-        Out::Blocked => text.extend_from_slice(b"blocked"),
-        Out::Snap(_) => text.extend_from_slice(b"snapshot"),
-        Out::Stale(_) => text.extend_from_slice(b"stale"),
-        Out::Expired(count) => append_number(alloc, text, "expired", *count),
-        Out::Left => text.extend_from_slice(b"left"),
+        Out::Joined(_) => "joined",
+        Out::Reply(_) => "reply",
+        Out::Blocked => "blocked",
+        Out::Left => "left",
+        Out::Snap(_) | Out::Stale(_) | Out::Expired(_) => "other",
     }
 }
 
-/// Why an event was refused, in words.
-fn fault_word(fault: BookFault) -> &'static str {
-    match fault {
-        BookFault::Memory => "memory",
-        BookFault::Busy => "busy",
-        BookFault::Full => "full",
-        BookFault::NoSession => "no session",
+/// The index and the kind of an answer.
+fn told(driven: &Result<Answer, BookFault>) -> (u64, &'static str) {
+    match driven {
+        Ok(answer) if answer.settled => (answer.index, word_of(&answer.out)),
+        Ok(answer) => (answer.index, "not settled"),
+        Err(BookFault::Busy) => (0, "busy"),
+        Err(_) => (0, "refused"),
     }
 }
 
-/// Appends why an event was refused. A refusal of memory is handed on.
-fn append_fault(text: &mut Vec<u8>, fault: BookFault) -> Result<(), AllocError> {
-    if fault == BookFault::Memory {
-        return Err(AllocError);
+/// Whether these are the answers.
+fn are_right(answers: &[Result<Answer, BookFault>]) -> bool {
+    for (driven, (index, word)) in answers.iter().zip(ANSWERS) {
+        let said = told(driven);
+        if said.0 != index || said.1 != word {
+            return false;
+        }
     }
-    text.extend_from_slice(fault_word(fault).as_bytes())
+    answers.len() == ANSWERS.len()
 }
 
-/// Appends an answer. It fails if the index is not that of the next record, or if a waiting read still has an answer.
-fn append_answer(
-    rt: &(impl AllocGlobal + Abort),
-    text: &mut Vec<u8>,
-    answer: &Answer,
-    next: u64,
-) -> Result<(), AllocError> {
-    assert_eq!(rt; answer.index, next);
-    if !answer.settled {
-        return Err(AllocError);
+/// Drives a book by the events. Answers whether the answers are right, and how many records there are.
+fn drive(alloc: Global, book: &mut Book) -> Result<(bool, usize), AllocError> {
+    let answers = book.drive(alloc, events(alloc)?)?;
+    Ok((are_right(answers.as_slice()), book.records().len()))
+}
+
+/// The same for a new book.
+fn drive_new(alloc: Global, hasher: RandomState) -> Result<(bool, usize), AllocError> {
+    let mut book = Book::new(alloc, Policy::empty(alloc), hasher);
+    drive(alloc, &mut book)
+}
+
+#[test]
+fn drives_a_list_of_events(rt: HostRuntime) -> Result<(), Fail> {
+    let hasher = RandomState::new(&rt)?;
+    let (are_right, records) = drive_new(rt.alloc(), hasher)?;
+    assert!(rt; are_right);
+    assert_eq!(rt; records, 7);
+    Ok(())
+}
+
+/// Whether an event is session 99 asking for the length of s.
+fn asks_for_length(event: &Event) -> bool {
+    match event {
+        Event::Call {
+            session: 99,
+            call: Call::Xlen { key },
+        } => key.as_slice() == b"s".as_slice(),
+        _ => false,
     }
-    append_out(rt.alloc(), text, &answer.out)
 }
 
-/// Appends the letter of a session: the index of its record, and the reply.
-fn append_letter(
-    alloc: Global,
-    text: &mut Vec<u8>,
-    book: &Book,
-    session: u64,
-) -> Result<(), AllocError> {
-    let Some(letter) = book.collect(alloc, session)? else {
-        return text.extend_from_slice(b"none");
-    };
-    append_number(alloc, text, "by", letter.index)?;
-    append_number(alloc, text, " to", letter.session)?;
-    text.extend_from_slice(b" ")?;
-    append_reply(text, &letter.reply)
+/// Whether such an event was refused, since session 99 never opened, and came back.
+fn is_given_back(stepped: &Result<Answer, StepFault>) -> bool {
+    match stepped {
+        Ok(_) => false,
+        Err(refused) => refused.fault == BookFault::NoSession && asks_for_length(&refused.event),
+    }
 }
 
-/// A book without records, of a server with an empty policy.
-fn no_records(rt: &(impl AllocGlobal + RandomSource)) -> Result<Book, Fail> {
-    let policy = Policy::empty(rt.alloc());
-    Ok(Book::new(rt.alloc(), policy, RandomState::new(rt)?))
+/// Hands a call of session 99 to a book.
+fn step(alloc: Global, book: &mut Book, call: Call) -> bool {
+    let stepped = book.step(alloc, 10, Event::Call { session: 99, call });
+    is_given_back(&stepped)
+}
+
+/// The same for a new book.
+fn step_new(alloc: Global, hasher: RandomState, call: Call) -> bool {
+    let mut book = Book::new(alloc, Policy::empty(alloc), hasher);
+    step(alloc, &mut book, call)
+}
+
+#[test]
+fn a_refused_event_is_given_back(rt: HostRuntime) -> Result<(), Fail> {
+    let hasher = RandomState::new(&rt)?;
+    let key = key(rt.alloc())?;
+    let is_back = step_new(rt.alloc(), hasher, Call::Xlen { key });
+    assert!(rt; is_back);
+    Ok(())
 }
