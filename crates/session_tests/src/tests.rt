@@ -1,25 +1,21 @@
-// What no clause says: that a session succeeds while there is memory, what it writes for bytes worked by hand, when it
-// writes, how often it asks the clock, and that a failed allocation changes no answer.
+// What no clause says and no program shows: what a session makes of readers and writers that fail, how often it reads and asks the
+// clock, and, in the modules, what it makes of a desk's answers.
 ghost use Rattle.std.specs.Prelude.{◌≡◌, ◌≤◌, None, true, false, IfOk};
 
 use sr_book::Book;
 use sr_policy::Policy;
 use sr_resp::{Sink, WriteFailed, WriteTo};
 use sr_session::{Clock, End, NoGate, PlainDesk, ReadFailed, ReadFrom, Source, run_session};
-use std::alloc::{AllocError, Global};
+use std::alloc::Global;
 use std::cell::Cell;
 use std::hash::RandomState;
 use std::io;
 use std::io::{Error, ErrorKind, Read};
-use std::process::Abort;
 use std::random::RandomSource;
 use std::test::Fail;
 
 mod desks;
 mod recovery;
-
-/// `XLEN s`
-const XLEN: &[u8] = b"*2\r\n$4\r\nXLEN\r\n$1\r\ns\r\n";
 
 /// `PING`, `XADD s 1-1 a b`, `XLEN s` and `XRANGE s - +`
 const RUN: &[u8; 116] =
@@ -28,9 +24,6 @@ const RUN: &[u8; 116] =
 /// The replies to them.
 const REPLIES: &[u8; 55] =
     b"+PONG\r\n$3\r\n1-1\r\n:1\r\n*1\r\n*2\r\n$3\r\n1-1\r\n*2\r\n$1\r\na\r\n$1\r\nb\r\n";
-
-/// The reply if memory runs out.
-const REFUSED: &[u8] = b"-OOM out of memory\r\n";
 
 /// It is 5 milliseconds past 1970.
 struct Stopped;
@@ -43,43 +36,34 @@ impl Clock for Stopped {
     }
 }
 
-/// Gives `first` bytes at the first read, and `later` bytes at each later one. After its bytes it ends or fails.
+/// Gives at most `size` bytes at each read. After its bytes it ends, or fails.
 #[derive(Drop)]
 struct Pieces<'a> {
     bytes: &'a [u8],
-    first: usize,
-    later: usize,
+    size: usize,
     fails: bool,
     ended: bool,
     failed: bool,
 }
 
 impl<'a> Pieces<'a> {
-    fn new(bytes: &'a [u8], first: usize, later: usize) -> Pieces<'a>
+    fn new(bytes: &'a [u8], size: usize, fails: bool) -> Pieces<'a>
         ensures { (result.ended ≡ false) × (result.failed ≡ false) }
     {
         Pieces {
             bytes,
-            first,
-            later,
-            fails: false,
+            size,
+            fails,
             ended: false,
             failed: false,
         }
     }
 
-    /// The same pieces, of which none was read.
-    fn unread(self) -> Pieces<'a>
+    /// All bytes at one read, and then the end.
+    fn whole(bytes: &'a [u8]) -> Pieces<'a>
         ensures { (result.ended ≡ false) × (result.failed ≡ false) }
     {
-        Pieces {
-            bytes: self.bytes,
-            first: self.first,
-            later: self.later,
-            fails: self.fails,
-            ended: false,
-            failed: false,
-        }
+        Pieces::new(bytes, 4096, false)
     }
 }
 
@@ -97,11 +81,10 @@ impl Source for Pieces<'_> {
             self.failed = true;
             return Err(ReadFailed);
         }
-        let count = self.first.min(self.bytes.len()).min(buffer.len());
+        let count = self.size.min(self.bytes.len()).min(buffer.len());
         let (front, behind) = self.bytes.split_at(count);
         buffer[..count].copy_from_slice(front);
         self.bytes = behind;
-        self.first = self.later;
         if count == 0 {
             self.ended = true;
         }
@@ -147,31 +130,42 @@ impl Sink for Kept {
     }
 }
 
-/// How a session ends at a server without keys, and what it wrote.
-fn talk(
-    rt: &(impl AllocGlobal + RandomSource),
-    reader: Pieces<'_>,
+/// How a session of these bytes goes.
+#[derive(Clone, Copy, Drop)]
+struct Talk<'a> {
+    bytes: &'a [u8],
+    /// The most bytes that a read gives.
+    size: usize,
+    /// Whether the read after the last byte fails.
+    fails: bool,
+    /// How many bytes the writer takes.
     room: usize,
     turns: u64,
-) -> Result<(End, Vec<u8>), Fail> {
-    let hasher = RandomState::new(rt)?;
-    let writer = Kept::with_room(rt.alloc(), room)?;
-    Ok(talk_over(rt.alloc(), hasher, reader.unread(), writer, turns))
 }
 
-/// The same over this reader and writer. Books are made in functions of one exit: at each exit a book is dear to prove.
-fn talk_over(
+/// The run, with room and turns enough.
+const TALK: Talk<'_> = Talk {
+    bytes: RUN,
+    size: 4096,
+    fails: false,
+    room: 512,
+    turns: 256,
+};
+
+/// Whether a session at a server without keys ends so, and what it writes is this. Books are made in functions of one exit: at each
+/// exit a book is dear to prove.
+fn ends_over(
     alloc: Global,
     hasher: RandomState,
-    reader: Pieces<'_>,
     writer: Kept,
-    turns: u64,
-) -> (End, Vec<u8>)
-    requires unread { (reader.ended ≡ false) × (reader.failed ≡ false) }
+    talk: Talk<'_>,
+    end: End,
+    text: &[u8],
+) -> bool
     requires unwritten { writer.failed ≡ false }
 {
     let mut book = Book::new(alloc, Policy::empty(alloc), hasher);
-    let mut reader = reader;
+    let mut reader = Pieces::new(talk.bytes, talk.size, talk.fails);
     let mut writer = writer;
     let ended = run_session(
         alloc,
@@ -181,53 +175,21 @@ fn talk_over(
         &Stopped,
         &NoGate,
         false,
-        turns,
+        talk.turns,
     );
-    (ended.end, writer.bytes)
+    ended.end == end && writer.bytes.as_slice() == text
 }
 
-/// Whether a session with room and turns enough ends so, and writes this.
-fn gives(
+/// Whether it ends so, and writes this.
+fn ends(
     rt: &(impl AllocGlobal + RandomSource),
-    reader: Pieces<'_>,
+    talk: Talk<'_>,
     end: End,
     text: &[u8],
 ) -> Result<bool, Fail> {
-    let (ended, written) = talk(rt, reader, 512, 256)?;
-    Ok(ended == end && written.as_slice() == text)
-}
-
-#[test]
-fn cuts_change_no_answer(rt: HostRuntime) -> Result<(), Fail> {
-    let rows: [(&[u8], &[u8], End); 6] = [
-        (XLEN, b":0\r\n", End::Closed),
-        (
-            b"*6\r\n$6\r\nXGROUP\r\n$6\r\nCREATE\r\n$1\r\ns\r\n$1\r\ng\r\n$1\r\n0\r\n$8\r\nMKSTREAM\r\n*3\r\n$8\r\nXPENDING\r\n$1\r\ns\r\n$1\r\ng\r\n",
-            b"+OK\r\n*4\r\n:0\r\n$-1\r\n$-1\r\n*-1\r\n",
-            End::Closed,
-        ),
-        (
-            b"*2\r\n$4\r\nXLEN\r\n$1\r\ns\r\n*2\r\n$4\r\nXLEN\r\n$1\r\ns\r\n",
-            b":0\r\n:0\r\n",
-            End::Closed,
-        ),
-        (b"$1\r\n", b"-ERR Protocol error\r\n", End::Protocol),
-        (
-            b"*0\r\n*-1\r\n*1\r\n$4\r\nping\r\n",
-            b"+PONG\r\n",
-            End::Closed,
-        ),
-        (RUN, REPLIES, End::Closed),
-    ];
-    for (bytes, text, end) in rows {
-        for cut in 1..=bytes.len() {
-            let two = Pieces::new(bytes, cut, 4096);
-            assert!(rt; gives(&rt, two, end, text)?, "{bytes:?} cut at {cut}");
-            let many = Pieces::new(bytes, cut, 1);
-            assert!(rt; gives(&rt, many, end, text)?, "{bytes:?} cut from {cut} on");
-        }
-    }
-    Ok(())
+    let hasher = RandomState::new(rt)?;
+    let writer = Kept::with_room(rt.alloc(), talk.room)?;
+    Ok(ends_over(rt.alloc(), hasher, writer, talk, end, text))
 }
 
 /// How many bytes answer so many bytes of the run.
@@ -243,25 +205,17 @@ fn answered(taken: usize) -> usize
     }
 }
 
+/// That the end of the input answers as much is in `tests/requests.py`.
 #[test]
-fn a_part_of_a_request_is_not_answered(rt: HostRuntime) -> Result<(), Fail> {
+fn what_came_before_a_failed_read_is_answered(rt: HostRuntime) -> Result<(), Fail> {
     for taken in 0..=RUN.len() {
-        let text = &REPLIES[..answered(taken)];
-        let closed = Pieces::new(&RUN[..taken], 4096, 4096);
-        assert!(rt; gives(&rt, closed, End::Closed, text)?, "{taken} bytes");
-        let mut broken = Pieces::new(&RUN[..taken], 4096, 4096);
-        broken.fails = true;
-        assert!(rt;
-            gives(&rt, broken, End::ReadFault, text)?,
-            "a fault after {taken} bytes"
-        );
-    }
-    for taken in 0..XLEN.len() {
-        let part = Pieces::new(&XLEN[..taken], 4096, 4096);
-        assert!(rt;
-            gives(&rt, part, End::Closed, b"")?,
-            "{taken} bytes of XLEN"
-        );
+        let talk = Talk {
+            bytes: &RUN[..taken],
+            fails: true,
+            ..TALK
+        };
+        let are_told = ends(&rt, talk, End::ReadFault, &REPLIES[..answered(taken)])?;
+        assert!(rt; are_told, "a fault after {taken} bytes");
     }
     Ok(())
 }
@@ -275,9 +229,12 @@ fn reads_as_often_as_it_may(rt: HostRuntime) -> Result<(), Fail> {
         (116, 55, End::Turns),
         (117, 55, End::Closed),
     ] {
-        let (ended, written) = talk(&rt, Pieces::new(RUN, 1, 1), 256, turns)?;
-        assert_eq!(rt; ended, end, "{turns} turns");
-        assert!(rt; written.as_slice() == &REPLIES[..count], "{turns} turns");
+        let talk = Talk {
+            size: 1,
+            turns,
+            ..TALK
+        };
+        assert!(rt; ends(&rt, talk, end, &REPLIES[..count])?, "{turns} turns");
     }
     Ok(())
 }
@@ -286,14 +243,15 @@ fn reads_as_often_as_it_may(rt: HostRuntime) -> Result<(), Fail> {
 fn a_failed_write_says_what_was_sent(rt: HostRuntime) -> Result<(), Fail> {
     for sent in 0..REPLIES.len() {
         for size in [1, 4096] {
-            let (end, written) = talk(&rt, Pieces::new(RUN, size, size), sent, 256)?;
-            assert_eq!(rt; end, End::SendFault { sent });
-            assert!(rt; written.as_slice() == &REPLIES[..sent], "{sent} bytes");
+            let talk = Talk {
+                size,
+                room: sent,
+                ..TALK
+            };
+            let is_told = ends(&rt, talk, End::SendFault { sent }, &REPLIES[..sent])?;
+            assert!(rt; is_told, "{sent} bytes");
         }
     }
-    let (end, written) = talk(&rt, Pieces::new(XLEN, 4096, 4096), 3, 256)?;
-    assert_eq!(rt; end, End::SendFault { sent: 3 });
-    assert!(rt; written.as_slice() == b":0\r".as_slice());
     Ok(())
 }
 
@@ -332,8 +290,8 @@ impl Read for Interrupted<'_> {
     }
 }
 
-/// How a session of the run ends whose reads are interrupted, and what it wrote.
-fn read_again(alloc: Global, hasher: RandomState, fails: bool) -> (End, Vec<u8>) {
+/// Whether a session of the run whose reads are interrupted ends so, with all replies.
+fn reads_again(alloc: Global, hasher: RandomState, fails: bool, end: End) -> bool {
     let mut book = Book::new(alloc, Policy::empty(alloc), hasher);
     let mut written = Vec::new(alloc);
     let mut reader = ReadFrom::new(Interrupted {
@@ -353,55 +311,15 @@ fn read_again(alloc: Global, hasher: RandomState, fails: bool) -> (End, Vec<u8>)
         9,
     );
     drop(writer);
-    (ended.end, written)
+    ended.end == end && written.as_slice() == REPLIES.as_slice()
 }
 
 #[test]
 fn an_interrupted_read_is_tried_again(rt: HostRuntime) -> Result<(), Fail> {
     for (fails, end) in [(false, End::Closed), (true, End::ReadFault)] {
         let hasher = RandomState::new(&rt)?;
-        let (found, written) = read_again(rt.alloc(), hasher, fails);
-        assert_eq!(rt; found, end);
-        assert!(rt; written.as_slice() == REPLIES.as_slice());
+        assert!(rt; reads_again(rt.alloc(), hasher, fails, end), "{end:?}");
     }
-    Ok(())
-}
-
-/// Whether the replies were written, each of which is one of two. They may break off if memory ran out.
-fn are_replies(written: &[u8], replies: [(&[u8], &[u8]); 4], end: End) -> bool {
-    let mut rest = written;
-    for (reply, other) in replies {
-        if rest.is_empty() && end == End::Memory {
-            return true;
-        }
-        let Some(behind) = rest.strip_prefix(reply).or(rest.strip_prefix(other)) else {
-            return false;
-        };
-        rest = behind;
-    }
-    rest.is_empty()
-}
-
-/// It shows the most when each of its allocations fails in turn.
-#[test]
-fn refused_memory_changes_no_answer(rt: HostRuntime) -> Result<(), Fail> {
-    let (end, written) = talk(&rt, Pieces::new(RUN, 20, 20), 256, 256)?;
-    let list: &[u8] = b"*1\r\n*2\r\n$3\r\n1-1\r\n*2\r\n$1\r\na\r\n$1\r\nb\r\n";
-    let added: [(&[u8], &[u8]); 4] = [
-        (b"+PONG\r\n", REFUSED),
-        (b"$3\r\n1-1\r\n", b"$3\r\n1-1\r\n"),
-        (b":1\r\n", REFUSED),
-        (list, REFUSED),
-    ];
-    let refused: [(&[u8], &[u8]); 4] = [
-        (b"+PONG\r\n", REFUSED),
-        (REFUSED, REFUSED),
-        (b":0\r\n", REFUSED),
-        (b"*0\r\n", REFUSED),
-    ];
-    assert!(rt; end == End::Closed || end == End::Memory);
-    let written = written.as_slice();
-    assert!(rt; are_replies(written, added, end) || are_replies(written, refused, end));
     Ok(())
 }
 
@@ -420,17 +338,16 @@ impl Clock for Counting<'_> {
     }
 }
 
-/// How a session of these bytes ends, and how often it asks the clock.
-fn clocked(alloc: Global, hasher: RandomState, bytes: &[u8], writer: Kept) -> (End, u64)
+/// Whether a session of these bytes asks the clock so often.
+fn asks(alloc: Global, hasher: RandomState, bytes: &[u8], writer: Kept, calls: u64) -> bool
     requires unwritten { writer.failed ≡ false }
 {
     let mut book = Book::new(alloc, Policy::empty(alloc), hasher);
     let asked = Cell::new(0);
-    let mut reader = Pieces::new(bytes, 4096, 4096);
     let mut writer = writer;
     let ended = run_session(
         alloc,
-        &mut reader,
+        &mut Pieces::whole(bytes),
         &mut writer,
         &mut PlainDesk::new(&mut book),
         &Counting { asked: &asked },
@@ -438,7 +355,7 @@ fn clocked(alloc: Global, hasher: RandomState, bytes: &[u8], writer: Kept) -> (E
         false,
         9,
     );
-    (ended.end, asked.get())
+    ended.end == End::Closed && asked.get() == calls
 }
 
 /// The clock is asked once for each call, and not for a request that is refused; and once each to join and to leave.
@@ -453,8 +370,8 @@ fn a_call_asks_the_clock_once(rt: HostRuntime) -> Result<(), Fail> {
         let bytes = spelled(rt.alloc(), lines)?;
         let writer = Kept::with_room(rt.alloc(), 512)?;
         let hasher = RandomState::new(&rt)?;
-        let found = clocked(rt.alloc(), hasher, bytes.as_slice(), writer);
-        assert_eq!(rt; found, (End::Closed, calls), "{lines}");
+        let as_often = asks(rt.alloc(), hasher, bytes.as_slice(), writer, calls);
+        assert!(rt; as_often, "{lines}");
     }
     Ok(())
 }

@@ -1,7 +1,7 @@
 // What a session makes of a desk's answers: when it writes, how it ends, and what it leaves in the book.
-ghost use Rattle.std.specs.Prelude.{◌≡◌, None, false};
+ghost use Rattle.std.specs.Prelude.{None, false};
 
-use super::{Kept, Pieces, Stopped, spelled};
+use super::{Pieces, Stopped, spelled};
 use sr_args::Call;
 use sr_book::{Act, Answer, Book, Event, Letter, Out, Record};
 use sr_policy::Policy;
@@ -15,9 +15,18 @@ use std::test::Fail;
 
 /// Keeps what it gets, and tells others how much.
 #[derive(Drop)]
-struct Told<'a> {
-    bytes: Vec<u8>,
+pub(super) struct Told<'a> {
+    pub(super) bytes: Vec<u8>,
     count: &'a Cell<usize>,
+}
+
+impl<'a> Told<'a> {
+    pub(super) fn new(alloc: Global, count: &'a Cell<usize>) -> Told<'a> {
+        Told {
+            bytes: Vec::new(alloc),
+            count,
+        }
+    }
 }
 
 impl Sink for Told<'_> {
@@ -66,8 +75,41 @@ fn taken(event: Event) -> Asked {
     asked
 }
 
-/// What a desk answers to an event that is accepted.
-fn accepted(out: Out) -> Answer {
+/// What a desk refuses, and why.
+#[derive(Clone, Copy, Debug, Drop)]
+enum Refused {
+    Nothing,
+    Join(DeskFault),
+    Call(DeskFault),
+    Letter(DeskFault),
+    Leave(DeskFault),
+}
+
+/// Why an event is refused that asks for this.
+fn fault_of(refused: Refused, asked: Asked) -> Option<DeskFault> {
+    match (refused, asked) {
+        (Refused::Join(fault), Asked::Join) => Some(fault),
+        (Refused::Call(fault), Asked::Wait) => Some(fault),
+        (Refused::Call(fault), Asked::Reply) => Some(fault),
+        (Refused::Leave(fault), Asked::Leave) => Some(fault),
+        _ => None,
+    }
+}
+
+/// The reply that is this count.
+fn reply_of(alloc: Global, count: usize) -> Reply {
+    Reply::int(alloc, i64::try_from(count).unwrap_or(i64::MAX))
+}
+
+/// The answer to what is asked for.
+fn answer_to(alloc: Global, asked: Asked, count: usize) -> Answer {
+    let out = match asked {
+        Asked::Join => Out::Joined(1),
+        Asked::Wait => Out::Blocked,
+        Asked::Reply => Out::Reply(reply_of(alloc, count)),
+        Asked::Expire => Out::Expired(0),
+        Asked::Leave => Out::Left,
+    };
     Answer {
         index: 1,
         out,
@@ -75,15 +117,12 @@ fn accepted(out: Out) -> Answer {
     }
 }
 
-/// Answers each call by the number of bytes that were written before it. A call with BLOCK waits, and is answered so too.
+/// Answers each call that it does not refuse by the number of bytes that were written before it. A call with BLOCK waits, and is answered
+/// so too.
 #[derive(Drop)]
 struct Noting<'a> {
     count: &'a Cell<usize>,
-}
-
-/// The reply that is this count.
-fn reply_of(alloc: Global, count: usize) -> Reply {
-    Reply::int(alloc, i64::try_from(count).unwrap_or(i64::MAX))
+    refused: Refused,
 }
 
 impl Desk for Noting<'_> {
@@ -92,26 +131,60 @@ impl Desk for Noting<'_> {
     ghost borrows = { λ _. 0 };
 
     fn step(&mut self, alloc: Global, _: u64, event: Event) -> Result<Answer, DeskFault> {
-        let out = match taken(event) {
-            Asked::Join => Out::Joined(1),
-            Asked::Wait => Out::Blocked,
-            Asked::Reply => Out::Reply(reply_of(alloc, self.count.get())),
-            Asked::Expire => Out::Expired(0),
-            Asked::Leave => Out::Left,
-        };
-        Ok(accepted(out))
+        let asked = taken(event);
+        match fault_of(self.refused, asked) {
+            Some(fault) => Err(fault),
+            None => Ok(answer_to(alloc, asked, self.count.get())),
+        }
     }
 
     fn await_reply(&mut self, alloc: Global, session: u64) -> Result<Letter, DeskFault> {
-        Ok(Letter {
-            index: 1,
-            session,
-            reply: reply_of(alloc, self.count.get()),
-        })
+        match self.refused {
+            Refused::Letter(fault) => Err(fault),
+            _ => Ok(Letter {
+                index: 1,
+                session,
+                reply: reply_of(alloc, self.count.get()),
+            }),
+        }
     }
 
     fn pause(&mut self) {}
 }
+
+/// Whether a session of these bytes, which come in one read, ends so at a desk that refuses this, and writes this.
+fn ends(
+    alloc: Global,
+    bytes: &[u8],
+    blocking: bool,
+    refused: Refused,
+    ended: Ended,
+    text: &str,
+) -> bool {
+    let count = Cell::new(0);
+    let mut writer = Told::new(alloc, &count);
+    let mut desk = Noting {
+        count: &count,
+        refused,
+    };
+    let found = run_session(
+        alloc,
+        &mut Pieces::whole(bytes),
+        &mut writer,
+        &mut desk,
+        &Stopped,
+        &NoGate,
+        blocking,
+        9,
+    );
+    found == ended && writer.bytes.as_slice() == text.as_bytes()
+}
+
+/// A session that reads to the end of its input, and leaves.
+const CLOSED: Ended = Ended {
+    end: End::Closed,
+    left: true,
+};
 
 /// Replies that are gathered go out before a call that may wait, and otherwise after the whole piece.
 #[test]
@@ -135,242 +208,83 @@ fn gathered_replies_are_sent_before_a_call_that_may_wait(rt: HostRuntime) -> Res
         ),
     ] {
         let bytes = spelled(rt.alloc(), lines)?;
-        let count = Cell::new(0);
-        let mut writer = Told {
-            bytes: Vec::new(rt.alloc()),
-            count: &count,
-        };
-        let mut reader = Pieces::new(bytes.as_slice(), 4096, 4096);
-        let ended = run_session(
+        let nothing = Refused::Nothing;
+        let as_wanted = ends(
             rt.alloc(),
-            &mut reader,
-            &mut writer,
-            &mut Noting { count: &count },
-            &Stopped,
-            &NoGate,
+            bytes.as_slice(),
             blocking,
-            9,
+            nothing,
+            CLOSED,
+            replies,
         );
-        assert_eq!(rt; ended.end, End::Closed, "{lines}");
-        assert!(rt; ended.left, "{lines}");
-        assert!(rt; writer.bytes.as_slice() == replies.as_bytes(), "{lines}");
+        assert!(rt; as_wanted, "{lines}");
     }
     Ok(())
 }
 
-/// Refuses what it is told to refuse: a join, a call, a letter or a leave. It answers what it does not refuse by 7.
-#[derive(Clone, Copy, Drop)]
-struct Refusing {
-    join: Option<DeskFault>,
-    call: Option<DeskFault>,
-    letter: Option<DeskFault>,
-    leave: Option<DeskFault>,
-}
-
-/// It refuses nothing.
-const OPEN: Refusing = Refusing {
-    join: None,
-    call: None,
-    letter: None,
-    leave: None,
-};
-
-/// What is accepted unless it is refused.
-fn unless(fault: Option<DeskFault>, out: Out) -> Result<Answer, DeskFault> {
-    match fault {
-        Some(fault) => {
-            drop(out);
-            Err(fault)
-        }
-        None => Ok(accepted(out)),
-    }
-}
-
-impl Desk for Refusing {
-    ghost shows = { λ _. None };
-
-    ghost borrows = { λ _. 0 };
-
-    fn step(&mut self, alloc: Global, _: u64, event: Event) -> Result<Answer, DeskFault> {
-        match taken(event) {
-            Asked::Join => unless(self.join, Out::Joined(7)),
-            Asked::Wait => unless(self.call, Out::Blocked),
-            Asked::Reply => unless(self.call, Out::Reply(reply_of(alloc, 7))),
-            Asked::Expire => unless(None, Out::Expired(0)),
-            Asked::Leave => unless(self.leave, Out::Left),
-        }
-    }
-
-    fn await_reply(&mut self, alloc: Global, session: u64) -> Result<Letter, DeskFault> {
-        match self.letter {
-            Some(fault) => Err(fault),
-            None => Ok(Letter {
-                index: 1,
-                session,
-                reply: reply_of(alloc, 7),
-            }),
-        }
-    }
-
-    fn pause(&mut self) {}
-}
-
-/// How a session of `PING`, `XREAD BLOCK 0 STREAMS s $` and `PING` ends at a desk, and what it wrote.
-fn refused(rt: &impl AllocGlobal, desk: Refusing) -> Result<(Ended, Vec<u8>), Fail> {
-    let alloc = rt.alloc();
-    let bytes = spelled(alloc, "PING\nXREAD BLOCK 0 STREAMS s $\nPING")?;
-    let mut desk = desk;
-    let mut reader = Pieces::new(bytes.as_slice(), 4096, 4096);
-    let mut writer = Kept::with_room(alloc, 512)?;
-    let ended = run_session(
-        alloc,
-        &mut reader,
-        &mut writer,
-        &mut desk,
-        &Stopped,
-        &NoGate,
-        true,
-        9,
-    );
-    Ok((ended, writer.bytes))
-}
-
-/// Memory and a full history are answered as errors, and the session goes on. Every other fault of a call ends it.
+/// Memory and a full history are answered as errors, and the session goes on; every other fault of a call ends it. So does a letter that is
+/// not there; if memory is lacking for one, that is how it ends. A session that cannot join reads and writes nothing. `left` says whether
+/// the leave was carried out.
 #[test]
-fn faults_of_a_call(rt: HostRuntime) -> Result<(), Fail> {
-    let memory: &[u8] = b"-OOM out of memory\r\n-OOM out of memory\r\n-OOM out of memory\r\n";
-    let full: &[u8] = b"-OOM history is full\r\n-OOM history is full\r\n-OOM history is full\r\n";
-    for (fault, end, text) in [
-        (DeskFault::Memory, End::Closed, memory),
-        (DeskFault::Full, End::Closed, full),
-        (DeskFault::Busy, End::Desk, b"".as_slice()),
-        (DeskFault::NoSession, End::Desk, b"".as_slice()),
-        (DeskFault::Regress { index: 3 }, End::Desk, b"".as_slice()),
-        (DeskFault::Idle, End::Desk, b"".as_slice()),
+fn faults_of_a_desk(rt: HostRuntime) -> Result<(), Fail> {
+    let bytes = spelled(rt.alloc(), "PING\nXREAD BLOCK 0 STREAMS s $\nPING")?;
+    let regress = DeskFault::Regress { index: 3 };
+    for (refused, end, left, text) in [
+        (
+            Refused::Call(DeskFault::Memory),
+            End::Closed,
+            true,
+            "-OOM out of memory\r\n-OOM out of memory\r\n-OOM out of memory\r\n",
+        ),
+        (
+            Refused::Call(DeskFault::Full),
+            End::Closed,
+            true,
+            "-OOM history is full\r\n-OOM history is full\r\n-OOM history is full\r\n",
+        ),
+        (Refused::Call(DeskFault::Busy), End::Desk, true, ""),
+        (Refused::Call(DeskFault::NoSession), End::Desk, true, ""),
+        (Refused::Call(regress), End::Desk, true, ""),
+        (Refused::Call(DeskFault::Idle), End::Desk, true, ""),
+        (
+            Refused::Letter(DeskFault::Memory),
+            End::Memory,
+            true,
+            ":0\r\n",
+        ),
+        (Refused::Letter(DeskFault::Idle), End::Desk, true, ":0\r\n"),
+        (
+            Refused::Letter(DeskFault::NoSession),
+            End::Desk,
+            true,
+            ":0\r\n",
+        ),
+        (Refused::Join(DeskFault::Memory), End::Memory, false, ""),
+        (Refused::Join(DeskFault::Full), End::Desk, false, ""),
+        (Refused::Join(regress), End::Desk, false, ""),
+        (
+            Refused::Leave(DeskFault::Memory),
+            End::Closed,
+            false,
+            ":0\r\n:4\r\n:4\r\n",
+        ),
+        (
+            Refused::Leave(DeskFault::Full),
+            End::Closed,
+            false,
+            ":0\r\n:4\r\n:4\r\n",
+        ),
+        (
+            Refused::Leave(regress),
+            End::Closed,
+            false,
+            ":0\r\n:4\r\n:4\r\n",
+        ),
+        (Refused::Nothing, End::Closed, true, ":0\r\n:4\r\n:4\r\n"),
     ] {
-        let desk = Refusing {
-            call: Some(fault),
-            ..OPEN
-        };
-        let (ended, written) = refused(&rt, desk)?;
-        assert_eq!(rt; ended, Ended { end, left: true }, "{fault:?}");
-        assert!(rt; written.as_slice() == text, "{fault:?}");
-    }
-    Ok(())
-}
-
-/// A letter that is not there ends the session. If memory is lacking for one, that is how it ends.
-#[test]
-fn faults_of_a_letter(rt: HostRuntime) -> Result<(), Fail> {
-    for (fault, end) in [
-        (DeskFault::Memory, End::Memory),
-        (DeskFault::Idle, End::Desk),
-        (DeskFault::NoSession, End::Desk),
-    ] {
-        let desk = Refusing {
-            letter: Some(fault),
-            ..OPEN
-        };
-        let (ended, written) = refused(&rt, desk)?;
-        assert_eq!(rt; ended, Ended { end, left: true }, "{fault:?}");
-        assert!(rt; written.as_slice() == b":7\r\n".as_slice(), "{fault:?}");
-    }
-    let (ended, written) = refused(&rt, OPEN)?;
-    assert_eq!(rt;
-        ended,
-        Ended {
-            end: End::Closed,
-            left: true
-        }
-    );
-    assert!(rt; written.as_slice() == b":7\r\n:7\r\n:7\r\n".as_slice());
-    Ok(())
-}
-
-/// A session that cannot join reads and writes nothing; `left` says whether the leave was carried out.
-#[test]
-fn faults_at_the_door(rt: HostRuntime) -> Result<(), Fail> {
-    for (fault, end) in [
-        (DeskFault::Memory, End::Memory),
-        (DeskFault::Full, End::Desk),
-        (DeskFault::Regress { index: 3 }, End::Desk),
-    ] {
-        let closed = Refusing {
-            join: Some(fault),
-            ..OPEN
-        };
-        let (ended, written) = refused(&rt, closed)?;
-        assert_eq!(rt; ended, Ended { end, left: false }, "{fault:?}");
-        assert!(rt; written.is_empty(), "{fault:?}");
-        let kept = Refusing {
-            leave: Some(fault),
-            ..OPEN
-        };
-        let (ended, _) = refused(&rt, kept)?;
-        assert_eq!(rt;
-            ended,
-            Ended {
-                end: End::Closed,
-                left: false
-            },
-            "{fault:?}"
-        );
-    }
-    Ok(())
-}
-
-/// How a session of these bytes ends at a book, and what it wrote.
-fn served(
-    alloc: Global,
-    book: &mut Book,
-    bytes: &[u8],
-    writer: Kept,
-    blocking: bool,
-) -> (Ended, Vec<u8>)
-    requires unwritten { writer.failed ≡ false }
-{
-    let mut reader = Pieces::new(bytes, 4096, 4096);
-    let mut writer = writer;
-    let ended = run_session(
-        alloc,
-        &mut reader,
-        &mut writer,
-        &mut PlainDesk::new(book),
-        &Stopped,
-        &NoGate,
-        blocking,
-        9,
-    );
-    (ended, writer.bytes)
-}
-
-/// The same at a book without records.
-fn served_anew(
-    alloc: Global,
-    hasher: RandomState,
-    bytes: &[u8],
-    writer: Kept,
-    blocking: bool,
-) -> (Ended, Vec<u8>)
-    requires unwritten { writer.failed ≡ false }
-{
-    let mut book = Book::new(alloc, Policy::empty(alloc), hasher);
-    served(alloc, &mut book, bytes, writer, blocking)
-}
-
-/// A read of a stream that is empty waits only if calls may wait. No one else calls, so it has no reply.
-#[test]
-fn a_read_that_waits_is_not_answered(rt: HostRuntime) -> Result<(), Fail> {
-    let bytes = spelled(rt.alloc(), "XREAD BLOCK 0 STREAMS s $")?;
-    for (blocking, end, text) in [
-        (true, End::Desk, b"".as_slice()),
-        (false, End::Closed, b"*-1\r\n".as_slice()),
-    ] {
-        let hasher = RandomState::new(&rt)?;
-        let writer = Kept::with_room(rt.alloc(), 512)?;
-        let (ended, written) = served_anew(rt.alloc(), hasher, bytes.as_slice(), writer, blocking);
-        assert_eq!(rt; ended, Ended { end, left: true }, "{blocking}");
-        assert!(rt; written.as_slice() == text, "{blocking}");
+        let ended = Ended { end, left };
+        let as_wanted = ends(rt.alloc(), bytes.as_slice(), true, refused, ended, text);
+        assert!(rt; as_wanted, "{refused:?}");
     }
     Ok(())
 }
@@ -406,39 +320,55 @@ fn are_these(records: &[Record], words: &[&str]) -> bool {
     true
 }
 
-/// How a session of these bytes ends, and whether its records are of these.
-fn recorded(
+/// Whether a session of these bytes, at a book without records, ends so and writes this, and its records are of these.
+fn records(
     alloc: Global,
     hasher: RandomState,
     bytes: &[u8],
-    writer: Kept,
+    end: End,
+    text: &str,
     words: &[&str],
-) -> (Ended, bool)
-    requires unwritten { writer.failed ≡ false }
-{
+) -> bool {
     let mut book = Book::new(alloc, Policy::empty(alloc), hasher);
-    let (ended, written) = served(alloc, &mut book, bytes, writer, false);
-    drop(written);
+    let count = Cell::new(0);
+    let mut writer = Told::new(alloc, &count);
+    let found = run_session(
+        alloc,
+        &mut Pieces::whole(bytes),
+        &mut writer,
+        &mut PlainDesk::new(&mut book),
+        &Stopped,
+        &NoGate,
+        true,
+        9,
+    );
     let records = book.records();
-    (
-        ended,
-        records.len() == words.len() && are_these(records, words),
-    )
+    found == Ended { end, left: true }
+        && writer.bytes.as_slice() == text.as_bytes()
+        && records.len() == words.len()
+        && are_these(records, words)
 }
 
-/// A session's records are its join, its calls and its leave, each at the clock's moment. Words that are not a command have none.
+/// A session's records are its join, its calls and its leave, each at the clock's moment. Words that are not a command have none. A read of
+/// a stream that is empty waits if calls may wait; no one else calls, so it has no reply.
 #[test]
 fn records_are_the_join_the_calls_and_the_leave(rt: HostRuntime) -> Result<(), Fail> {
-    let bytes = spelled(
-        rt.alloc(),
-        "PING\nFOO\nXADD s 1-1 a b\nXADD s 1-1 a b\nXLEN s",
-    )?;
-    let hasher = RandomState::new(&rt)?;
-    let writer = Kept::with_room(rt.alloc(), 512)?;
-    let words = ["join", "ping", "xadd", "xadd", "xlen", "leave"];
-    let (ended, are_recorded) = recorded(rt.alloc(), hasher, bytes.as_slice(), writer, &words);
-    assert!(rt; ended.end == End::Closed && ended.left);
-    assert!(rt; are_recorded);
+    let calls: [&str; 6] = ["join", "ping", "xadd", "xadd", "xlen", "leave"];
+    let waits: [&str; 3] = ["join", "another call", "leave"];
+    for (lines, end, text, words) in [
+        (
+            "PING\nFOO\nXADD s 1-1 a b\nXADD s 1-1 a b\nXLEN s",
+            End::Closed,
+            "+PONG\r\n-ERR unknown command\r\n$3\r\n1-1\r\n-ERR The ID specified in XADD is equal or smaller than the target stream top item\r\n:1\r\n",
+            calls.as_slice(),
+        ),
+        ("XREAD BLOCK 0 STREAMS s $", End::Desk, "", waits.as_slice()),
+    ] {
+        let bytes = spelled(rt.alloc(), lines)?;
+        let hasher = RandomState::new(&rt)?;
+        let as_wanted = records(rt.alloc(), hasher, bytes.as_slice(), end, text, words);
+        assert!(rt; as_wanted, "{lines}");
+    }
     Ok(())
 }
 
@@ -484,15 +414,10 @@ impl Desk for Watched<'_> {
     }
 }
 
-/// What a desk is asked in a session of these bytes, which come in one read.
-fn notes_of(alloc: Global, bytes: &[u8], hasher: RandomState) -> Vec<u8> {
+/// Whether a desk is asked this in a session of these bytes, which come in one read.
+fn notes(alloc: Global, hasher: RandomState, bytes: &[u8], want: &str) -> bool {
     let count = Cell::new(0);
     let mut book = Book::new(alloc, Policy::empty(alloc), hasher);
-    let mut writer = Told {
-        bytes: Vec::new(alloc),
-        count: &count,
-    };
-    let mut reader = Pieces::new(bytes, 4096, 4096);
     let mut desk = Watched {
         book: &mut book,
         count: &count,
@@ -501,22 +426,15 @@ fn notes_of(alloc: Global, bytes: &[u8], hasher: RandomState) -> Vec<u8> {
     };
     let _ended = run_session(
         alloc,
-        &mut reader,
-        &mut writer,
+        &mut Pieces::whole(bytes),
+        &mut Told::new(alloc, &count),
         &mut desk,
         &Stopped,
         &NoGate,
         true,
         9,
     );
-    desk.noted
-}
-
-/// The same of these requests.
-fn noted(rt: &(impl AllocGlobal + RandomSource), lines: &str) -> Result<Vec<u8>, Fail> {
-    let hasher = RandomState::new(rt)?;
-    let bytes = spelled(rt.alloc(), lines)?;
-    Ok(notes_of(rt.alloc(), bytes.as_slice(), hasher))
+    desk.noted.as_slice() == want.as_bytes()
 }
 
 /// No pause comes between the requests of one read. One comes after them all, before their replies are written; one
@@ -536,8 +454,10 @@ fn a_pause_comes_before_a_write_and_before_a_plan(rt: HostRuntime) -> Result<(),
             "ssspsspws",
         ),
     ] {
-        let found = noted(&rt, lines)?;
-        assert!(rt; found.as_slice() == want.as_bytes(), "{lines}");
+        let bytes = spelled(rt.alloc(), lines)?;
+        let hasher = RandomState::new(&rt)?;
+        let as_wanted = notes(rt.alloc(), hasher, bytes.as_slice(), want);
+        assert!(rt; as_wanted, "{lines}");
     }
     Ok(())
 }

@@ -1,15 +1,14 @@
-// Recoveries while another session goes on, and with memory that runs out. What they reply otherwise is in tests/moments.
-ghost use Rattle.std.specs.Prelude.{None, false};
+// Recoveries while another session goes on. What they reply otherwise is in tests/moments.
+ghost use Rattle.std.specs.Prelude.{None};
 
-use super::{Kept, Pieces, REFUSED, Stopped, spelled};
+use super::desks::Told;
+use super::{Pieces, Stopped, spelled};
 use sr_book::{Answer, Book, Event, Letter};
 use sr_policy::Policy;
-use sr_resp::{Sink, WriteFailed};
 use sr_session::{Desk, DeskFault, End, Gate, NoGate, PlainDesk, run_session};
 use std::alloc::{AllocError, Global};
 use std::cell::Cell;
 use std::hash::RandomState;
-use std::process::Abort;
 use std::random::RandomSource;
 use std::test::Fail;
 
@@ -27,55 +26,12 @@ A = 1
 B = 100
 "#;
 
-/// Entries of both classes are pending for D.
-const BOTH: &str = "XADD s 1-1 c x
-XADD s 2-1 c y
-XGROUP CREATE s g 0
-XREADGROUP GROUP g D STREAMS s >";
-
 /// One entry is pending for D, and one for A, which has no room then.
 const FULL: &str = "XADD s 1-1 c x
 XGROUP CREATE s g 0
 XREADGROUP GROUP g D STREAMS s >
 XADD s 3-1 c x
 XREADGROUP GROUP g A STREAMS s >";
-
-/// How a session of these requests ends, and what it wrote.
-fn serve<D: Desk, G: Gate>(
-    alloc: Global,
-    desk: &mut D,
-    gate: &G,
-    requests: &[u8],
-) -> Result<(End, Vec<u8>), Fail> {
-    let mut reader = Pieces::new(requests, 4096, 4096);
-    let mut writer = Kept::with_room(alloc, 4096)?;
-    let ended = run_session(
-        alloc,
-        &mut reader,
-        &mut writer,
-        desk,
-        &Stopped,
-        gate,
-        false,
-        9,
-    );
-    Ok((ended.end, writer.bytes))
-}
-
-/// How the commands of these lines end at a desk of this book, and what is written for them.
-fn told(alloc: Global, book: &mut Book, lines: &str) -> Result<(End, Vec<u8>), Fail> {
-    let requests = spelled(alloc, lines)?;
-    let mut desk = PlainDesk::new(book);
-    serve(alloc, &mut desk, &NoGate, requests.as_slice())
-}
-
-/// A book under the policy, after the commands of these lines.
-fn prepared(rt: &(impl AllocGlobal + RandomSource), lines: &str) -> Result<Book, Fail> {
-    let policy = Policy::read(rt.alloc(), TWO).or(Err(AllocError))?;
-    let mut book = Book::new(rt.alloc(), policy, RandomState::new(rt)?);
-    let _written = told(rt.alloc(), &mut book, lines)?;
-    Ok(book)
-}
 
 /// Notes what happens in a recovery: 1 for a snapshot, 2 between, and 3 for a verdict.
 fn note(steps: &Cell<u64>, step: u64) {
@@ -96,26 +52,13 @@ impl Gate for Noted<'_> {
     }
 }
 
-/// Keeps nothing of what it gets.
-#[derive(Drop)]
-struct Ignored;
-
-impl Sink for Ignored {
-    ghost contents = { λ _. None };
-
-    ghost failed = { λ _. false };
-
-    fn write(&mut self, bytes: &[u8]) -> Result<usize, WriteFailed> {
-        Ok(bytes.len())
-    }
-}
-
-/// Another session has its requests answered.
+/// A session has these requests answered at this book.
 fn meddle(alloc: Global, book: &mut Book, requests: &[u8]) {
+    let count = Cell::new(0);
     let _ended = run_session(
         alloc,
-        &mut Pieces::new(requests, 4096, 4096),
-        &mut Ignored,
+        &mut Pieces::whole(requests),
+        &mut Told::new(alloc, &count),
         &mut PlainDesk::new(book),
         &Stopped,
         &NoGate,
@@ -254,27 +197,6 @@ const ROWS: &[Meanwhile<'_>] = &[
     },
 ];
 
-/// How the commands of a row end at this book, what is written for them, and what is noted.
-fn serve_meanwhile(
-    alloc: Global,
-    book: &mut Book,
-    row: &Meanwhile<'_>,
-) -> Result<(End, Vec<u8>, u64), Fail> {
-    let others = spelled(alloc, row.others)?;
-    let requests = spelled(alloc, row.commands)?;
-    let steps = Cell::new(0);
-    let mut desk = Meddling {
-        book,
-        others: others.as_slice(),
-        is_full: row.is_full,
-        meddled: false,
-        steps: &steps,
-    };
-    let gate = Noted { steps: &steps };
-    let (end, written) = serve(alloc, &mut desk, &gate, requests.as_slice())?;
-    Ok((end, written, steps.get()))
-}
-
 /// Whether what was written is what a row wants.
 fn is_wanted(row: &Meanwhile<'_>, written: &[u8]) -> bool {
     let Some(rest) = written.strip_prefix(row.replies.as_bytes()) else {
@@ -291,45 +213,68 @@ fn is_wanted(row: &Meanwhile<'_>, written: &[u8]) -> bool {
     }
 }
 
+/// Requests as a client sends them: those before, those of another session, and the commands of a row.
+#[derive(Clone, Copy, Drop)]
+struct Sent<'a> {
+    before: &'a [u8],
+    others: &'a [u8],
+    commands: &'a [u8],
+}
+
+/// Whether the commands of a row are answered as it wants, at a book under this policy. It has one exit, since it holds a book.
+fn is_answered(
+    alloc: Global,
+    hasher: RandomState,
+    policy: Policy,
+    sent: Sent<'_>,
+    row: &Meanwhile<'_>,
+) -> bool {
+    let mut book = Book::new(alloc, policy, hasher);
+    meddle(alloc, &mut book, sent.before);
+    let steps = Cell::new(0);
+    let mut desk = Meddling {
+        book: &mut book,
+        others: sent.others,
+        is_full: row.is_full,
+        meddled: false,
+        steps: &steps,
+    };
+    let count = Cell::new(0);
+    let mut writer = Told::new(alloc, &count);
+    let ended = run_session(
+        alloc,
+        &mut Pieces::whole(sent.commands),
+        &mut writer,
+        &mut desk,
+        &Stopped,
+        &Noted { steps: &steps },
+        false,
+        9,
+    );
+    ended.end == End::Closed && is_wanted(row, writer.bytes.as_slice()) && steps.get() == row.steps
+}
+
+/// The same, at a new book under the policy.
+fn goes_on(rt: &(impl AllocGlobal + RandomSource), row: &Meanwhile<'_>) -> Result<bool, Fail> {
+    let alloc = rt.alloc();
+    let before = spelled(alloc, FULL)?;
+    let others = spelled(alloc, row.others)?;
+    let commands = spelled(alloc, row.commands)?;
+    let hasher = RandomState::new(rt)?;
+    let sent = Sent {
+        before: before.as_slice(),
+        others: others.as_slice(),
+        commands: commands.as_slice(),
+    };
+    let policy = Policy::read(alloc, TWO).or(Err(AllocError))?;
+    Ok(is_answered(alloc, hasher, policy, sent, row))
+}
+
 /// A plan is made anew exactly when what it rests on has changed.
 #[test]
 fn others_go_on_meanwhile(rt: HostRuntime) -> Result<(), Fail> {
     for row in ROWS {
-        let mut book = prepared(&rt, FULL)?;
-        let (end, written, steps) = serve_meanwhile(rt.alloc(), &mut book, row)?;
-        let as_wanted = end == End::Closed && is_wanted(row, written.as_slice());
-        assert!(rt; as_wanted, "{}, then {}", row.others, row.commands);
-        assert_eq!(rt; steps, row.steps, "{}, then {}", row.others, row.commands);
+        assert!(rt; goes_on(&rt, row)?, "{}, then {}", row.others, row.commands);
     }
-    Ok(())
-}
-
-/// What is pending: both entries for D, or one for A and one for B.
-const STAYS: &[u8] = b"*4\r\n:2\r\n$3\r\n1-1\r\n$3\r\n2-1\r\n*1\r\n*2\r\n$1\r\nD\r\n$1\r\n2\r\n";
-
-const MOVED: &[u8] =
-    b"*4\r\n:2\r\n$3\r\n1-1\r\n$3\r\n2-1\r\n*2\r\n*2\r\n$1\r\nA\r\n$1\r\n1\r\n*2\r\n$1\r\nB\r\n$1\r\n1\r\n";
-
-/// Whether what is pending at last goes with what a recovery was answered.
-fn go_together(end: End, run: &[u8], last: &[u8]) -> bool {
-    let is_done = run.starts_with(b"*5\r\n$4\r\ndone\r\n:6\r\n");
-    let is_answered = is_done || run == REFUSED || (run.is_empty() && end == End::Memory);
-    let is_unread = last == REFUSED || last.is_empty();
-    let is_whole = last == STAYS || last == MOVED || is_unread;
-    is_answered && is_whole && (last != MOVED || run != REFUSED) && (last != STAYS || !is_done)
-}
-
-/// It shows the most when each of its allocations fails in turn.
-#[test]
-fn refused_memory_moves_all_or_nothing(rt: HostRuntime) -> Result<(), Fail> {
-    let mut book = prepared(&rt, BOTH)?;
-    let (_, first) = told(rt.alloc(), &mut book, "XPENDING s g")?;
-    if first.as_slice() != STAYS {
-        return Ok(());
-    }
-    let (end, run) = told(rt.alloc(), &mut book, "RECOVER.RUN s g DEAD D")?;
-    let (_, last) = told(rt.alloc(), &mut book, "XPENDING s g")?;
-    assert!(rt; end == End::Closed || end == End::Memory);
-    assert!(rt; go_together(end, run.as_slice(), last.as_slice()));
     Ok(())
 }
