@@ -1,5 +1,5 @@
 #!/usr/bin/env python3
-"""Sends sr_server requests byte by byte, cut in two and whole, and compares its replies and its status with what is written here.
+"""Sends sr_server requests byte by byte, cut in two, in part and whole, and compares its replies and its status with what is written here.
 
 usage: tests/requests.py PROGRAM
 
@@ -45,10 +45,33 @@ ROWS = [
     (b"*0000000000\r\n*2\r\n$0\r\n\r\n$1\r\n\n\r\n", None, UNKNOWN),
 ]
 
-# Bytes that are read the same wherever they are cut in two, and the replies. The second has a word that looks like the end of one.
+
+
+def words(texts):
+    """An array of texts, as requests and replies have it."""
+    return b"*%d\r\n" % len(texts) + b"".join(b"$%d\r\n%s\r\n" % (len(text), text) for text in texts)
+
+
+def spelled(*commands):
+    """Commands as a client sends them."""
+    return b"".join(words(command.encode().split()) for command in commands)
+
+
+# Four requests, the replies to them, and how many bytes of both end with each of them.
+RUN = spelled("PING", "XADD s 1-1 a b", "XLEN s", "XRANGE s - +")
+
+REPLIES = PONG + b"$3\r\n1-1\r\n:1\r\n*1\r\n*2\r\n$3\r\n1-1\r\n*2\r\n$1\r\na\r\n$1\r\nb\r\n"
+
+ENDS = [(14, 7), (58, 16), (79, 20), (116, 55)]
+
+# Bytes that are read the same wherever they are cut in two, also if the later part comes byte by byte, and the replies. The second has a
+# word that looks like the end of one.
 CUT = [
     (b"*0\r\n*-1\r\n*1\r\n$4\r\nping\r\n*2\r\n$3\r\nGET\r\n$2\r\n\r\n\r\n", PONG + UNKNOWN),
     (b"*0\r\n*-1\r\n*1\r\n$4\r\nping\r\n*2\r\n$4\r\nPING\r\n$2\r\n\r\n\r\n", PONG + b"$2\r\n\r\n\r\n"),
+    (RUN, REPLIES),
+    (spelled("XLEN s", "XLEN s"), b":0\r\n:0\r\n"),
+    (spelled("XGROUP CREATE s g 0 MKSTREAM", "XPENDING s g"), b"+OK\r\n*4\r\n:0\r\n$-1\r\n$-1\r\n*-1\r\n"),
 ]
 
 # 16 words of the greatest length, which are as many bytes as the words of a request may have, and the beginning of one more.
@@ -58,11 +81,6 @@ LONG = b"*17\r\n" + 16 * (b"$1048576\r\n" + 1048576 * b"a" + b"\r\n") + b"$"
 ENTRIES = [[b"a", b"b", b"", b"\r\n", b"long", length * b"x"] for length in (254, 255, 256, 70000)] + [
     [b"", b"b", 254 * b"c", 255 * b"d", 256 * b"e", 70000 * b"f"],
 ]
-
-
-def words(texts):
-    """An array of texts, as requests and replies have it."""
-    return b"*%d\r\n" % len(texts) + b"".join(b"$%d\r\n%s\r\n" % (len(text), text) for text in texts)
 
 
 def wait_until_taken(run):
@@ -105,6 +123,11 @@ def cases():
     for text, replies in CUT:
         for place in range(len(text) + 1):
             yield [text[:place], text[place:]], (replies, 0)
+            yield [text[:place], *each(text[place:])], (replies, 0)
+    # A part of a request is not answered.
+    for place in range(len(RUN) + 1):
+        taken = max([given for end, given in ENDS if end <= place], default=0)
+        yield [RUN[:place]], (REPLIES[:taken], 0)
     yield [LONG + b"0"], (b"", 0)
     yield [LONG + b"1"], (PROTOCOL, 1)
     for texts in ENTRIES:
