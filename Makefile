@@ -28,6 +28,8 @@ test:
 	@tests/bulk_move.py crates/sr_server/out/sr_server
 	@tests/long_stream.py crates/sr_server/out/sr_server
 	@tests/bytes.py crates/sr_server/out/sr_server
+	@if command -v cc > /dev/null; then tests/refused_memory.py crates/sr_server/out/sr_server; \
+	    else echo 'refused_memory: left out, since there is no cc'; fi
 	@tests/listening.py crates/sr_server/out/sr_server
 	@scripts/policies crates/sr_server/out/sr_server examples/policies/*.toml
 	@tests/policies.py crates/sr_server/out/sr_server
@@ -50,6 +52,8 @@ replay:
 	@tests/bulk_move.py crates/sr_server/out/sr_server
 	@tests/long_stream.py crates/sr_server/out/sr_server
 	@tests/bytes.py crates/sr_server/out/sr_server
+	@if command -v cc > /dev/null; then tests/refused_memory.py crates/sr_server/out/sr_server; \
+	    else echo 'refused_memory: left out, since there is no cc'; fi
 	@tests/listening.py crates/sr_server/out/sr_server
 
 # The histories alone: events handed to a book, with their answers.

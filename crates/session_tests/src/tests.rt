@@ -1,5 +1,5 @@
-// What no clause says and no program shows: what a session makes of readers and writers that fail, how often it reads and asks the
-// clock, and, in the modules, what it makes of a desk's answers.
+// What no clause says and no program shows: what a session makes of readers and writers that fail, how often it reads, and, in the
+// modules, what it makes of a desk's answers.
 ghost use Rattle.std.specs.Prelude.{◌≡◌, ◌≤◌, None, true, false, IfOk};
 
 use sr_book::Book;
@@ -7,7 +7,6 @@ use sr_policy::Policy;
 use sr_resp::{Sink, WriteFailed, WriteTo};
 use sr_session::{Clock, End, NoGate, PlainDesk, ReadFailed, ReadFrom, Source, run_session};
 use std::alloc::Global;
-use std::cell::Cell;
 use std::hash::RandomState;
 use std::io;
 use std::io::{Error, ErrorKind, Read};
@@ -152,6 +151,11 @@ const TALK: Talk<'_> = Talk {
     turns: 256,
 };
 
+/// Whether an end and what was written are these.
+fn is_told(found: End, end: End, written: &[u8], text: &[u8]) -> bool {
+    found == end && written == text
+}
+
 /// Whether a session at a server without keys ends so, and what it writes is this. Books are made in functions of one exit: at each
 /// exit a book is dear to prove.
 fn ends_over(
@@ -177,7 +181,7 @@ fn ends_over(
         false,
         talk.turns,
     );
-    ended.end == end && writer.bytes.as_slice() == text
+    is_told(ended.end, end, writer.bytes.as_slice(), text)
 }
 
 /// Whether it ends so, and writes this.
@@ -311,7 +315,7 @@ fn reads_again(alloc: Global, hasher: RandomState, fails: bool, end: End) -> boo
         9,
     );
     drop(writer);
-    ended.end == end && written.as_slice() == REPLIES.as_slice()
+    is_told(ended.end, end, written.as_slice(), REPLIES)
 }
 
 #[test]
@@ -319,59 +323,6 @@ fn an_interrupted_read_is_tried_again(rt: HostRuntime) -> Result<(), Fail> {
     for (fails, end) in [(false, End::Closed), (true, End::ReadFault)] {
         let hasher = RandomState::new(&rt)?;
         assert!(rt; reads_again(rt.alloc(), hasher, fails, end), "{end:?}");
-    }
-    Ok(())
-}
-
-/// Counts how often it is asked for the time.
-#[derive(Drop)]
-struct Counting<'a> {
-    asked: &'a Cell<u64>,
-}
-
-impl Clock for Counting<'_> {
-    ghost may_tell = { λ _ _. true };
-
-    fn now(&self) -> u64 {
-        self.asked.set(self.asked.get().saturating_add(1));
-        5
-    }
-}
-
-/// Whether a session of these bytes asks the clock so often.
-fn asks(alloc: Global, hasher: RandomState, bytes: &[u8], writer: Kept, calls: u64) -> bool
-    requires unwritten { writer.failed ≡ false }
-{
-    let mut book = Book::new(alloc, Policy::empty(alloc), hasher);
-    let asked = Cell::new(0);
-    let mut writer = writer;
-    let ended = run_session(
-        alloc,
-        &mut Pieces::whole(bytes),
-        &mut writer,
-        &mut PlainDesk::new(&mut book),
-        &Counting { asked: &asked },
-        &NoGate,
-        false,
-        9,
-    );
-    ended.end == End::Closed && asked.get() == calls
-}
-
-/// The clock is asked once for each call, and not for a request that is refused; and once each to join and to leave.
-#[test]
-fn a_call_asks_the_clock_once(rt: HostRuntime) -> Result<(), Fail> {
-    for (lines, calls) in [
-        ("PING", 3),
-        ("PING\nXADD s * a b\nXLEN s\nXRANGE s - +", 6),
-        ("FOO\nPING a b\nXADD s x a b", 2),
-        ("XADD s 0-0 a b\nFOO\nXADD s 1-1 a b\nXADD s 1-1 a b", 5),
-    ] {
-        let bytes = spelled(rt.alloc(), lines)?;
-        let writer = Kept::with_room(rt.alloc(), 512)?;
-        let hasher = RandomState::new(&rt)?;
-        let as_often = asks(rt.alloc(), hasher, bytes.as_slice(), writer, calls);
-        assert!(rt; as_often, "{lines}");
     }
     Ok(())
 }

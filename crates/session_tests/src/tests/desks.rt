@@ -1,12 +1,12 @@
 // What a session makes of a desk's answers: when it writes, how it ends, and what it leaves in the book.
-ghost use Rattle.std.specs.Prelude.{None, false};
+ghost use Rattle.std.specs.Prelude.{None, true, false};
 
 use super::{Pieces, Stopped, spelled};
 use sr_args::Call;
 use sr_book::{Act, Answer, Book, Event, Letter, Out, Record};
 use sr_policy::Policy;
 use sr_resp::{Reply, Sink, WriteFailed};
-use sr_session::{Desk, DeskFault, End, Ended, NoGate, PlainDesk, run_session};
+use sr_session::{Clock, Desk, DeskFault, End, Ended, NoGate, PlainDesk, run_session};
 use std::alloc::Global;
 use std::cell::Cell;
 use std::hash::RandomState;
@@ -152,6 +152,11 @@ impl Desk for Noting<'_> {
     fn pause(&mut self) {}
 }
 
+/// Whether that is how it ended, and what was written.
+fn is_told(found: Ended, ended: Ended, written: &[u8], text: &str) -> bool {
+    found == ended && written == text.as_bytes()
+}
+
 /// Whether a session of these bytes, which come in one read, ends so at a desk that refuses this, and writes this.
 fn ends(
     alloc: Global,
@@ -177,114 +182,119 @@ fn ends(
         blocking,
         9,
     );
-    found == ended && writer.bytes.as_slice() == text.as_bytes()
+    is_told(found, ended, writer.bytes.as_slice(), text)
 }
 
-/// A session that reads to the end of its input, and leaves.
-const CLOSED: Ended = Ended {
-    end: End::Closed,
-    left: true,
-};
+/// Whether calls may wait, requests, and the replies to them.
+const GATHERED: &[(bool, &str, &str)] = &[
+    (true, "PING\nPING\nPING", ":0\r\n:0\r\n:0\r\n"),
+    (
+        true,
+        "PING\nPING\nXREAD BLOCK 0 STREAMS s $\nPING",
+        ":0\r\n:0\r\n:8\r\n:8\r\n",
+    ),
+    (
+        true,
+        "XREAD BLOCK 9 STREAMS s $\nXREAD BLOCK 9 STREAMS s $\nPING\nXREAD BLOCK 9 STREAMS s $",
+        ":0\r\n:4\r\n:4\r\n:12\r\n",
+    ),
+    (
+        false,
+        "PING\nXREAD BLOCK 0 STREAMS s $\nPING",
+        ":0\r\n:0\r\n:0\r\n",
+    ),
+];
 
 /// Replies that are gathered go out before a call that may wait, and otherwise after the whole piece.
 #[test]
 fn gathered_replies_are_sent_before_a_call_that_may_wait(rt: HostRuntime) -> Result<(), Fail> {
-    for (blocking, lines, replies) in [
-        (true, "PING\nPING\nPING", ":0\r\n:0\r\n:0\r\n"),
-        (
-            true,
-            "PING\nPING\nXREAD BLOCK 0 STREAMS s $\nPING",
-            ":0\r\n:0\r\n:8\r\n:8\r\n",
-        ),
-        (
-            true,
-            "XREAD BLOCK 9 STREAMS s $\nXREAD BLOCK 9 STREAMS s $\nPING\nXREAD BLOCK 9 STREAMS s $",
-            ":0\r\n:4\r\n:4\r\n:12\r\n",
-        ),
-        (
-            false,
-            "PING\nXREAD BLOCK 0 STREAMS s $\nPING",
-            ":0\r\n:0\r\n:0\r\n",
-        ),
-    ] {
+    let ended = Ended {
+        end: End::Closed,
+        left: true,
+    };
+    for (blocking, lines, text) in GATHERED {
         let bytes = spelled(rt.alloc(), lines)?;
-        let nothing = Refused::Nothing;
-        let as_wanted = ends(
+        let as_told = ends(
             rt.alloc(),
             bytes.as_slice(),
-            blocking,
-            nothing,
-            CLOSED,
-            replies,
+            *blocking,
+            Refused::Nothing,
+            ended,
+            text,
         );
-        assert!(rt; as_wanted, "{lines}");
+        assert!(rt; as_told, "{lines}");
     }
     Ok(())
 }
 
+const THREE: &str = ":0\r\n:4\r\n:4\r\n";
+
+const NO_MEMORY: &str = "-OOM out of memory\r\n-OOM out of memory\r\n-OOM out of memory\r\n";
+
+const NO_INDEX: &str = "-OOM history is full\r\n-OOM history is full\r\n-OOM history is full\r\n";
+
+/// What a desk refuses, how a session of three calls ends of which the second waits, whether its leave was carried out, and what it writes.
+const FAULTS: &[(Refused, End, bool, &str)] = &[
+    (Refused::Nothing, End::Closed, true, THREE),
+    (
+        Refused::Call(DeskFault::Memory),
+        End::Closed,
+        true,
+        NO_MEMORY,
+    ),
+    (Refused::Call(DeskFault::Full), End::Closed, true, NO_INDEX),
+    (Refused::Call(DeskFault::Busy), End::Desk, true, ""),
+    (Refused::Call(DeskFault::NoSession), End::Desk, true, ""),
+    (
+        Refused::Call(DeskFault::Regress { index: 3 }),
+        End::Desk,
+        true,
+        "",
+    ),
+    (Refused::Call(DeskFault::Idle), End::Desk, true, ""),
+    (
+        Refused::Letter(DeskFault::Memory),
+        End::Memory,
+        true,
+        ":0\r\n",
+    ),
+    (Refused::Letter(DeskFault::Idle), End::Desk, true, ":0\r\n"),
+    (
+        Refused::Letter(DeskFault::NoSession),
+        End::Desk,
+        true,
+        ":0\r\n",
+    ),
+    (Refused::Join(DeskFault::Memory), End::Memory, false, ""),
+    (Refused::Join(DeskFault::Full), End::Desk, false, ""),
+    (
+        Refused::Join(DeskFault::Regress { index: 3 }),
+        End::Desk,
+        false,
+        "",
+    ),
+    (Refused::Leave(DeskFault::Memory), End::Closed, false, THREE),
+    (Refused::Leave(DeskFault::Full), End::Closed, false, THREE),
+    (
+        Refused::Leave(DeskFault::Regress { index: 3 }),
+        End::Closed,
+        false,
+        THREE,
+    ),
+];
+
 /// Memory and a full history are answered as errors, and the session goes on; every other fault of a call ends it. So does a letter that is
-/// not there; if memory is lacking for one, that is how it ends. A session that cannot join reads and writes nothing. `left` says whether
-/// the leave was carried out.
+/// not there; if memory is lacking for one, that is how it ends. A session that cannot join reads and writes nothing.
 #[test]
 fn faults_of_a_desk(rt: HostRuntime) -> Result<(), Fail> {
     let bytes = spelled(rt.alloc(), "PING\nXREAD BLOCK 0 STREAMS s $\nPING")?;
-    let regress = DeskFault::Regress { index: 3 };
-    for (refused, end, left, text) in [
-        (
-            Refused::Call(DeskFault::Memory),
-            End::Closed,
-            true,
-            "-OOM out of memory\r\n-OOM out of memory\r\n-OOM out of memory\r\n",
-        ),
-        (
-            Refused::Call(DeskFault::Full),
-            End::Closed,
-            true,
-            "-OOM history is full\r\n-OOM history is full\r\n-OOM history is full\r\n",
-        ),
-        (Refused::Call(DeskFault::Busy), End::Desk, true, ""),
-        (Refused::Call(DeskFault::NoSession), End::Desk, true, ""),
-        (Refused::Call(regress), End::Desk, true, ""),
-        (Refused::Call(DeskFault::Idle), End::Desk, true, ""),
-        (
-            Refused::Letter(DeskFault::Memory),
-            End::Memory,
-            true,
-            ":0\r\n",
-        ),
-        (Refused::Letter(DeskFault::Idle), End::Desk, true, ":0\r\n"),
-        (
-            Refused::Letter(DeskFault::NoSession),
-            End::Desk,
-            true,
-            ":0\r\n",
-        ),
-        (Refused::Join(DeskFault::Memory), End::Memory, false, ""),
-        (Refused::Join(DeskFault::Full), End::Desk, false, ""),
-        (Refused::Join(regress), End::Desk, false, ""),
-        (
-            Refused::Leave(DeskFault::Memory),
-            End::Closed,
-            false,
-            ":0\r\n:4\r\n:4\r\n",
-        ),
-        (
-            Refused::Leave(DeskFault::Full),
-            End::Closed,
-            false,
-            ":0\r\n:4\r\n:4\r\n",
-        ),
-        (
-            Refused::Leave(regress),
-            End::Closed,
-            false,
-            ":0\r\n:4\r\n:4\r\n",
-        ),
-        (Refused::Nothing, End::Closed, true, ":0\r\n:4\r\n:4\r\n"),
-    ] {
-        let ended = Ended { end, left };
-        let as_wanted = ends(rt.alloc(), bytes.as_slice(), true, refused, ended, text);
-        assert!(rt; as_wanted, "{refused:?}");
+    for (refused, end, left, text) in FAULTS {
+        let ended = Ended {
+            end: *end,
+            left: *left,
+        };
+        let as_told = ends(rt.alloc(), bytes.as_slice(), true, *refused, ended, text);
+        assert!(rt; as_told, "{refused:?}");
     }
     Ok(())
 }
@@ -310,64 +320,103 @@ fn word_of(record: &Record) -> &str {
     }
 }
 
-/// Whether the records are of these, in their order, each at moment 5.
+/// Tells 1, then 2 and so on.
+#[derive(Drop)]
+struct Counting {
+    asked: Cell<u64>,
+}
+
+impl Clock for Counting {
+    ghost may_tell = { λ _ _. true };
+
+    fn now(&self) -> u64 {
+        self.asked.set(self.asked.get().saturating_add(1));
+        self.asked.get()
+    }
+}
+
+/// Requests, how their session ends, what it writes, and what its records are of.
+#[derive(Clone, Copy, Debug, Drop)]
+struct Recorded<'a> {
+    lines: &'a str,
+    end: End,
+    text: &'a str,
+    words: &'a [&'a str],
+}
+
+const RECORDED: &[Recorded<'_>] = &[
+    Recorded {
+        lines: "PING\nFOO\nXADD s 0-0 a b\nXADD s 1-1 a b\nXADD s 1-1 a b\nXLEN s",
+        end: End::Closed,
+        text: "+PONG\r\n-ERR unknown command\r\n-ERR The ID specified in XADD must be greater than 0-0\r\n$3\r\n1-1\r\n-ERR The ID specified in XADD is equal or smaller than the target stream top item\r\n:1\r\n",
+        words: &["join", "ping", "xadd", "xadd", "xadd", "xlen", "leave"],
+    },
+    Recorded {
+        lines: "PING a b\nXADD s x a b",
+        end: End::Closed,
+        text: "-ERR wrong number of arguments\r\n-ERR Invalid stream ID specified as stream command argument\r\n",
+        words: &["join", "leave"],
+    },
+    Recorded {
+        lines: "XREAD BLOCK 0 STREAMS s $",
+        end: End::Desk,
+        text: "",
+        words: &["join", "another call", "leave"],
+    },
+];
+
+/// Whether the records are of these, in their order, at moments 1, 2 and so on.
 fn are_these(records: &[Record], words: &[&str]) -> bool {
+    let mut moment = 0u64;
     for (record, word) in records.iter().zip(words) {
-        if word_of(record) != *word || record.moment != 5 {
+        moment = moment.saturating_add(1);
+        if word_of(record) != *word || record.moment != moment {
             return false;
         }
     }
-    true
+    records.len() == words.len()
 }
 
-/// Whether a session of these bytes, at a book without records, ends so and writes this, and its records are of these.
-fn records(
-    alloc: Global,
-    hasher: RandomState,
-    bytes: &[u8],
-    end: End,
-    text: &str,
-    words: &[&str],
-) -> bool {
+/// Whether a session that ended so, wrote this and has these records went as its row says.
+fn is_recorded(found: Ended, written: &[u8], records: &[Record], row: &Recorded<'_>) -> bool {
+    found.end == row.end
+        && found.left
+        && written == row.text.as_bytes()
+        && are_these(records, row.words)
+}
+
+/// Whether a session of these bytes, which are those of the row, goes as it says at a book without records.
+fn records(alloc: Global, hasher: RandomState, bytes: &[u8], row: &Recorded<'_>) -> bool {
     let mut book = Book::new(alloc, Policy::empty(alloc), hasher);
     let count = Cell::new(0);
     let mut writer = Told::new(alloc, &count);
+    let clock = Counting {
+        asked: Cell::new(0),
+    };
     let found = run_session(
         alloc,
         &mut Pieces::whole(bytes),
         &mut writer,
         &mut PlainDesk::new(&mut book),
-        &Stopped,
+        &clock,
         &NoGate,
         true,
         9,
     );
-    let records = book.records();
-    found == Ended { end, left: true }
-        && writer.bytes.as_slice() == text.as_bytes()
-        && records.len() == words.len()
-        && are_these(records, words)
+    is_recorded(found, writer.bytes.as_slice(), book.records(), row)
 }
 
-/// A session's records are its join, its calls and its leave, each at the clock's moment. Words that are not a command have none. A read of
-/// a stream that is empty waits if calls may wait; no one else calls, so it has no reply.
+/// A session's records are its join, its calls and its leave. The clock is asked once for each of them, and not for words that are not a
+/// command, which have no record. A read of a stream that is empty waits; no one else calls, so it has no reply.
 #[test]
 fn records_are_the_join_the_calls_and_the_leave(rt: HostRuntime) -> Result<(), Fail> {
-    let calls: [&str; 6] = ["join", "ping", "xadd", "xadd", "xlen", "leave"];
-    let waits: [&str; 3] = ["join", "another call", "leave"];
-    for (lines, end, text, words) in [
-        (
-            "PING\nFOO\nXADD s 1-1 a b\nXADD s 1-1 a b\nXLEN s",
-            End::Closed,
-            "+PONG\r\n-ERR unknown command\r\n$3\r\n1-1\r\n-ERR The ID specified in XADD is equal or smaller than the target stream top item\r\n:1\r\n",
-            calls.as_slice(),
-        ),
-        ("XREAD BLOCK 0 STREAMS s $", End::Desk, "", waits.as_slice()),
-    ] {
-        let bytes = spelled(rt.alloc(), lines)?;
+    for row in RECORDED {
+        let bytes = spelled(rt.alloc(), row.lines)?;
         let hasher = RandomState::new(&rt)?;
-        let as_wanted = records(rt.alloc(), hasher, bytes.as_slice(), end, text, words);
-        assert!(rt; as_wanted, "{lines}");
+        assert!(rt;
+            records(rt.alloc(), hasher, bytes.as_slice(), row),
+            "{row:?}"
+        );
     }
     Ok(())
 }
@@ -437,23 +486,26 @@ fn notes(alloc: Global, hasher: RandomState, bytes: &[u8], want: &str) -> bool {
     desk.noted.as_slice() == want.as_bytes()
 }
 
+/// Requests, and what the desk is asked for them.
+const PAUSES: &[(&str, &str)] = &[
+    ("PING\nPING\nPING", "sssspws"),
+    ("FOO", "spws"),
+    (
+        "XADD s 1-1 a b\nXREAD BLOCK 9 STREAMS s 0\nPING",
+        "sspwsspws",
+    ),
+    ("PING\nXREAD BLOCK 0 STREAMS s $\nPING", "sspwsas"),
+    (
+        "XGROUP CREATE s g $ MKSTREAM\nRECOVER.PLAN s g DEAD D\nPING",
+        "ssspsspws",
+    ),
+];
+
 /// No pause comes between the requests of one read. One comes after them all, before their replies are written; one
 /// before the replies that go out before a call that may wait; and one before a plan is made.
 #[test]
 fn a_pause_comes_before_a_write_and_before_a_plan(rt: HostRuntime) -> Result<(), Fail> {
-    for (lines, want) in [
-        ("PING\nPING\nPING", "sssspws"),
-        ("FOO", "spws"),
-        (
-            "XADD s 1-1 a b\nXREAD BLOCK 9 STREAMS s 0\nPING",
-            "sspwsspws",
-        ),
-        ("PING\nXREAD BLOCK 0 STREAMS s $\nPING", "sspwsas"),
-        (
-            "XGROUP CREATE s g $ MKSTREAM\nRECOVER.PLAN s g DEAD D\nPING",
-            "ssspsspws",
-        ),
-    ] {
+    for (lines, want) in PAUSES {
         let bytes = spelled(rt.alloc(), lines)?;
         let hasher = RandomState::new(&rt)?;
         let as_wanted = notes(rt.alloc(), hasher, bytes.as_slice(), want);

@@ -104,16 +104,30 @@ impl Meddling<'_> {
     }
 }
 
+/// What a book answers to an event, unless the history is full.
+fn step_unless(
+    is_full: bool,
+    book: &mut Book,
+    alloc: Global,
+    moment: u64,
+    event: Event,
+) -> Result<Answer, DeskFault> {
+    if is_full {
+        drop(event);
+        Err(DeskFault::Full)
+    } else {
+        PlainDesk::new(book).step(alloc, moment, event)
+    }
+}
+
 impl Desk for Meddling<'_> {
     ghost shows = { λ _. None };
 
     ghost borrows = { λ _. 0 };
 
     fn step(&mut self, alloc: Global, moment: u64, event: Event) -> Result<Answer, DeskFault> {
-        if self.is_stopped(alloc, &event) {
-            return Err(DeskFault::Full);
-        }
-        PlainDesk::new(self.book).step(alloc, moment, event)
+        let is_full = self.is_stopped(alloc, &event);
+        step_unless(is_full, self.book, alloc, moment, event)
     }
 
     fn await_reply(&mut self, _: Global, _: u64) -> Result<Letter, DeskFault> {
@@ -213,6 +227,11 @@ fn is_wanted(row: &Meanwhile<'_>, written: &[u8]) -> bool {
     }
 }
 
+/// Whether a session that ended so, wrote this and noted these steps went as a row wants.
+fn is_met(row: &Meanwhile<'_>, end: End, written: &[u8], steps: u64) -> bool {
+    end == End::Closed && is_wanted(row, written) && steps == row.steps
+}
+
 /// Requests as a client sends them: those before, those of another session, and the commands of a row.
 #[derive(Clone, Copy, Drop)]
 struct Sent<'a> {
@@ -251,7 +270,7 @@ fn is_answered(
         false,
         9,
     );
-    ended.end == End::Closed && is_wanted(row, writer.bytes.as_slice()) && steps.get() == row.steps
+    is_met(row, ended.end, writer.bytes.as_slice(), steps.get())
 }
 
 /// The same, at a new book under the policy.
