@@ -1,6 +1,6 @@
 # All that is needed is the Rattle toolchain, whose command is `rt`, and the python3 that it runs on.
 
-.PHONY: run demo test replay histories plans check memory refusals compare clients soak bench bench-net bench-solver check-solver
+.PHONY: run try demo test replay histories plans check memory refusals compare clients soak bench bench-net bench-solver check-solver
 
 # The histories of which each allocation is refused in turn.
 REFUSED = examples/histories/*.history tests/histories/runs.history tests/histories/waiting.history tests/histories/adding.history \
@@ -9,6 +9,11 @@ REFUSED = examples/histories/*.history tests/histories/runs.history tests/histor
 # Builds the server and sends it the commands of examples/first.session as a client spells them.
 run:
 	@cd crates/sr_server && rt run -- --stdio < stdin
+
+# A first look within a minute or two of the clone: builds the server as it is, before any proof, and serves until it is interrupted.
+# Nothing of it is kept, and only the proved program of the other rules counts: make try, or make try ADDR=127.0.0.1:7000
+try:
+	@cd crates/sr_server && rt try --seconds 86400 -- --listen $(or $(ADDR),127.0.0.1:6379) --policy $(CURDIR)/examples/policies/renderers.toml
 
 # Shows a recovery on one screen: a worker dies with twelve jobs, and others get them at the least cost.
 demo:

@@ -46,7 +46,6 @@ ROWS = [
 ]
 
 
-
 def words(texts):
     """An array of texts, as requests and replies have it."""
     return b"*%d\r\n" % len(texts) + b"".join(b"$%d\r\n%s\r\n" % (len(text), text) for text in texts)
