@@ -97,13 +97,13 @@ pub(super) const RECOVERY: Row = Row {
     acts: 8,
 };
 
-/// Session 1 adds an entry, and session 2, at the other seat, reads it.
+/// Session 1 adds an entry, and session 2, at the other seat, reads it later: a call's moment is that which it is told.
 pub(super) const TWO_SEATS: Row = Row {
     lines: &[
         (10, 0, "join", "joined 1"),
         (10, 0, "join", "joined 2"),
         (10, 1, "XADD s 1-1 a b", "$3\r\n1-1\r\n"),
-        (10, 2, "XRANGE s - +", ENTRY),
+        (12, 2, "XRANGE s - +", ENTRY),
     ],
     acts: 4,
 };
