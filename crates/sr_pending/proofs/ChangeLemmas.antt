@@ -7,10 +7,10 @@ use Rattle.sr_ids.specs.declared.id.Id.{Id}
 use Rattle.sr_ids.specs.Id.{IsBelow}
 use Rattle.sr_ids.proofs.IdLemmas.{IsBelow-cases, IsBelow-one_way}
 use Rattle.sr_pending.specs.declared.nack.Nack.{Nack}
-use Rattle.sr_pending.specs.Pending.{AreAbove, AreRising, has_id, is_below, is_same_id, with_nack}
+use Rattle.sr_pending.specs.Pending.{AreAbove, AreRising, has_id, is_below, is_same_id, with_nack, without}
 use Rattle.sr_pending.specs.steps.Search.{below}
-use Rattle.sr_pending.proofs.NackLemmas.{AreAbove-below, AreRising-filter, is_below-from, is_below-true, is_same_id-refl}
-use Rattle.sr_pending.proofs.SearchLemmas.{before_place, below_first, has_id-above, has_id-not_first}
+use Rattle.sr_pending.proofs.NackLemmas.{AreAbove-below, AreAbove-get, AreRising-filter, is_below-from, is_below-true, is_same_id-below, is_same_id-refl}
+use Rattle.sr_pending.proofs.SearchLemmas.{before_place, below_first, has_id-above, has_id-not_first, without-none}
 use Rattle.sr_pending.proofs.Splitting.{Splits, Splits-counted, drop-Splits}
 
 -- the entries that pass, if they come first
@@ -140,3 +140,37 @@ module _ (id : Id) (change : Nack → Nack) where
 
       each : (x : Nack) → P x → P (changed_at x)
       each x here = by x here (is_same_id x.id id)
+
+-- no entry has an id that was taken out
+pub has_id-without : (id : Id) (xs : List Nack) → has_id id (without id xs) ≡ false
+has_id-without id [] = refl
+has_id-without id (x ∷ xs) = by (is_same_id x.id id) refl (has_id-without id xs)
+  where
+    by : (test : Bool) → is_same_id x.id id ≡ test → has_id id (without id xs) ≡ false → has_id id (cond (not test) (x ∷ without id xs) (without id xs)) ≡ false
+    by true e rest = rest
+    by false e rest = rw e rest
+
+-- of entries above an id, none is below it and all are above it
+none_below : (id : Id) (xs : List Nack) → AreAbove id xs → filter (λ x. is_below x.id id) xs ≡ []
+none_below id [] above = refl
+none_below id (x ∷ xs) above = rw (is_below-not id x.id above.0) (none_below id xs above.1)
+
+all_above : (id : Id) (xs : List Nack) → AreAbove id xs → filter (λ x. is_below id x.id) xs ≡ xs
+all_above id [] above = refl
+all_above id (x ∷ xs) above = rw (is_below-from id x.id above.0) (ap (λ (l : List Nack). x ∷ l) (all_above id xs above.1))
+
+-- an entry taken out, and another with its id put in, is one in place of the other
+pub with_nack-moved : (xs : List Nack) (i : ℕ) (x y : Nack) → AreRising xs → slice_get xs i ≡ Some x → x.id ≡ y.id → with_nack y (without y.id xs) ≡ set xs i y
+with_nack-moved [] i x y rising here same = cc
+with_nack-moved (z ∷ zs) zero x y rising here same =
+    let first : z ≡ x = cc in
+    let first_id : z.id ≡ y.id = ap (λ (e : Nack). e.id) first ∙ same in
+    let test : is_same_id z.id y.id ≡ true = rw first_id (is_same_id-refl y.id) in
+    let above : AreAbove y.id zs = rw first_id at rising.0 in
+    let gone : without y.id (z ∷ zs) ≡ zs = rw test (without-none y.id zs (has_id-above y.id zs above)) in
+    ap (with_nack y) gone ∙ ap (λ (l : List Nack). l ++ y ∷ filter (λ o. is_below y.id o.id) zs) (none_below y.id zs above) ∙ ap (λ (l : List Nack). y ∷ l) (all_above y.id zs above)
+with_nack-moved (z ∷ zs) (suc i) x y rising here same =
+    let lt : IsBelow z.id y.id = rw same at (AreAbove-get z.id zs i x rising.0 here) in
+    let stays : without y.id (z ∷ zs) ≡ z ∷ without y.id zs = rw (is_same_id-below z.id y.id lt) refl in
+    let joined : with_nack y (z ∷ without y.id zs) ≡ z ∷ with_nack y (without y.id zs) = rw (is_below-from z.id y.id lt, is_below-not z.id y.id lt) refl in
+    ap (with_nack y) stays ∙ joined ∙ ap (λ (l : List Nack). z ∷ l) (with_nack-moved zs i x y rising.1 here same)

@@ -1,138 +1,186 @@
--- How many entries each owner has: after a number in the map changes, and after the entries do.
-use Rattle.std.proofs.Common.{◌≡◌, ℕ, ◌+◌, ◌<◌, ◌≤◌, Bool, true, false, cond, not, List, [], ◌∷◌, length, map, get_or, set, take, Option, Some, suc, refl, ap, sym, ◌∙◌, arith}
+-- The ids of each owner: after a deque in the map changes, and after the entries do.
+use Rattle.std.proofs.Common.{◌≡◌, ℕ, ◌-◌, ◌<◌, ◌≤◌, Bool, true, false, cond, not, List, [], ◌∷◌, ◌++◌, length, map, get_or, set, filter, slice_get, Some, refl, ap, subst, sym, ◌∙◌, arith}
 use Rattle.std.specs.HashMap.{HashMap, Updates, get}
-use Rattle.std.specs.Option.{unwrap_or}
+use Rattle.std.specs.declared.collections.VecDeque.{VecDeque}
+use Rattle.std.specs.VecDeque.{deque_capacity, deque_len}
 use Rattle.std.specs.Cmp.Lexicographic.{bytes_decides}
-use Rattle.std.proofs.lemmas.List.Sums.{length-filter, count_by-le-length, get_or-le-sum_by, sum_by-cons, sum_by-insert, sum_by-remove, sum_by-set}
-use Rattle.std.proofs.lemmas.List.Filters.{length-filter_more}
-use Rattle.std.proofs.lemmas.Map.{count_at-update}
-use Rattle.std.specs.List.{insert, remove, sum_by}
+use Rattle.std.specs.List.{insert, remove}
+use Rattle.std.proofs.lemmas.List.{length-map}
+use Rattle.std.proofs.lemmas.List.Elements.{filter-append}
+use Rattle.std.proofs.lemmas.Option.{get_or_from_slice_get, slice_get_within}
 use Rattle.sr_ids.specs.declared.id.Id.{Id}
 use Rattle.sr_pending.specs.declared.nack.Nack.{Nack}
-use Rattle.sr_pending.specs.declared.room.Room.{Room}
-use Rattle.sr_pending.specs.steps.Room.{AddsRoom}
-use Rattle.sr_pending.specs.Pending.{UsesRoom, is_same_id, is_same_name, owned_by, room_of, without_owner}
-use Rattle.sr_pending.specs.steps.Held.{AddsOne, ClearsCount, HasKey, IsCounted, Keeps, KeepsCounts, KeepsKeys, MovesOne, TakesOne, held_by, one_for}
-use Rattle.sr_pending.proofs.ChangeLemmas.{changed_at}
+use Rattle.sr_pending.specs.Pending.{AreRising, has_id, is_below, is_same_id, is_same_name, owned_by, with_nack, without, without_owner}
+use Rattle.sr_pending.specs.steps.Held.{AreRisingIds, Gives, IsIndexed, KeepsIds, PutsId, TakesId, ids_below, ids_by, ids_in, ids_of, spare_by, spare_in}
+use Rattle.sr_pending.specs.steps.Search.{IsPlace, below}
+use Rattle.sr_pending.proofs.NackLemmas.{AreRising-filter}
+use Rattle.sr_pending.proofs.SearchLemmas.{IsPlace-below, without-place, without-removed}
+use Rattle.sr_pending.proofs.ChangeLemmas.{changed_at, has_id-without, insert-place, with_nack-moved}
+use Rattle.sr_pending.proofs.FilterLemmas.{filter-filter, filter-first_no, filter-first_yes, filter-insert_no, filter-remove_no, has_id-filter, has_id-kept}
+use Rattle.sr_pending.proofs.IdsLemmas.{ids_below-of, map-insert, map-remove}
 
--- this owner's number becomes n
-module _ {S : Type 0} (owner : List ℕ) (old new : HashMap (List ℕ) ℕ S) (n : ℕ) (updates : Updates is_same_name old new owner (Some n)) where
-  number : (other : List ℕ) → held_by new other ≡ cond (is_same_name owner other) n (held_by old other)
-  number other = ap (λ (o : Option ℕ). unwrap_or o 0) (updates.0 other) ∙ count_at-update is_same_name (get is_same_name old) owner n other
+-- this owner's deque becomes this one
+module _ {Z S : Type 0} (owner : List ℕ) (old new : HashMap (List ℕ) (VecDeque Id Z) S) (ids : VecDeque Id Z) (updates : Updates is_same_name old new owner (Some ids)) where
+  at_key : (other : List ℕ) → is_same_name owner other ≡ true → get is_same_name new other ≡ Some ids
+  at_key other e = ap (get is_same_name new) (sym ((bytes_decides owner other).0 e)) ∙ updates.1
 
-  keys : KeepsKeys old new
-  keys other has = by (is_same_name owner other) (updates.0 other)
+  pub KeepsIds-update : ids.items ≡ ids_by old owner → spare_by old owner ≤ deque_capacity ids - deque_len ids → KeepsIds old new
+  KeepsIds-update still le = record { ids = λ other. kept other (is_same_name owner other) refl; spare = λ other. spared other (is_same_name owner other) refl }
     where
-      by : (test : Bool) → get is_same_name new other ≡ cond test (Some n) (get is_same_name old other) → HasKey new other
-      by true is = rw is refl
-      by false is = rw is has
+      kept : (other : List ℕ) (test : Bool) → is_same_name owner other ≡ test → ids_by new other ≡ ids_by old other
+      kept other true e = ap ids_in (at_key other e) ∙ still ∙ ap (ids_by old) ((bytes_decides owner other).0 e)
+      kept other false e = ap ids_in (updates.2 other e)
 
-  same : (other : List ℕ) → is_same_name owner other ≡ true → held_by old other ≡ held_by old owner
-  same other test = ap (held_by old) (sym ((bytes_decides owner other).0 test))
+      spared : (other : List ℕ) (test : Bool) → is_same_name owner other ≡ test → spare_by old other ≤ spare_by new other
+      spared other true e = omega (arith, ap spare_in (at_key other e), ap (spare_by old) ((bytes_decides owner other).0 e))
+      spared other false e = omega (arith, ap spare_in (updates.2 other e))
 
-  pub AddsOne-update : n ≡ held_by old owner + 1 → AddsOne owner old new
-  AddsOne-update more = record { counts = λ other. number other ∙ by other (is_same_name owner other) refl; keys = keys }
+-- an owner's part of the entries
+abbrev is_owned : List ℕ → Nack → Bool
+is_owned owner nack = is_same_name nack.owner owner
+
+owned_by-with_nack : (x : Nack) (xs : List Nack) → owned_by x.owner (with_nack x xs) ≡ with_nack x (owned_by x.owner xs)
+owned_by-with_nack x xs =
+    let p : Nack → Bool = is_owned x.owner in
+    let before : Nack → Bool = λ other. is_below other.id x.id in
+    let behind : Nack → Bool = λ other. is_below x.id other.id in
+    filter-append p (filter before xs) (x ∷ filter behind xs)
+    ∙ ap (λ (l : List Nack). filter p (filter before xs) ++ l) (filter-first_yes p x (filter behind xs) ((bytes_decides x.owner x.owner).1 refl))
+    ∙ ap (λ (l : List Nack). l ++ x ∷ filter p (filter behind xs)) (filter-filter p before xs)
+    ∙ ap (λ (l : List Nack). filter before (filter p xs) ++ x ∷ l) (filter-filter p behind xs)
+
+-- the entries that the map has the ids of
+module _ {Z S : Type 0} (held : HashMap (List ℕ) (VecDeque Id Z) S) (xs : List Nack) (rising : AreRising xs) (indexed : IsIndexed held xs) where
+  pub AreRisingIds-held : (owner : List ℕ) → AreRisingIds (ids_by held owner)
+  AreRisingIds-held owner = record { nacks = owned_by owner xs; rising = AreRising-filter (is_owned owner) xs rising; same = indexed owner }
+
+  pub AreRisingIds-found : (owner : List ℕ) (ids : List Id) → ids ≡ ids_by held owner → AreRisingIds ids
+  AreRisingIds-found owner ids found = rw found (AreRisingIds-held owner)
+
+  pub IsIndexed-put : (new : HashMap (List ℕ) (VecDeque Id Z) S) (x : Nack) → has_id x.id xs ≡ false → PutsId x.owner x.id held new → IsIndexed new (with_nack x xs)
+  IsIndexed-put new x fresh gives other = by (is_same_name x.owner other) refl
     where
-      by : (other : List ℕ) (test : Bool) → is_same_name owner other ≡ test → cond test n (held_by old other) ≡ held_by old other + cond test 1 0
-      by other true e = omega (arith, same other e)
-      by other false e = omega arith
+      mine : List Nack
+      mine = owned_by x.owner xs
 
-  pub TakesOne-update : n + 1 ≡ held_by old owner → TakesOne owner old new
-  TakesOne-update less = record { counts = λ other. ap (λ (k : ℕ). k + one_for owner other) (number other) ∙ by other (is_same_name owner other) refl; keys = keys }
+      place : ids_below x.id (ids_by held x.owner) ≡ below x.id mine
+      place = ap (ids_below x.id) (indexed x.owner) ∙ ids_below-of x.id mine
+
+      there : ids_by new x.owner ≡ ids_of (owned_by x.owner (with_nack x xs))
+      there =
+          gives.ids
+          ∙ ap (λ (n : ℕ). insert (ids_by held x.owner) n x.id) place
+          ∙ ap (λ (l : List Id). insert l (below x.id mine) x.id) (indexed x.owner)
+          ∙ sym (map-insert (λ (n : Nack). n.id) mine (below x.id mine) x)
+          ∙ ap ids_of (insert-place x mine (AreRising-filter (is_owned x.owner) xs rising) (has_id-filter (is_owned x.owner) x.id xs fresh))
+          ∙ sym (ap ids_of (owned_by-with_nack x xs))
+
+      by : (test : Bool) → is_same_name x.owner other ≡ test → ids_by new other ≡ ids_of (owned_by other (with_nack x xs))
+      by true e = subst (λ (o : List ℕ). ids_by new o ≡ ids_of (owned_by o (with_nack x xs))) ((bytes_decides x.owner other).0 e) there
+      by false e =
+          ap ids_in (gives.others other e)
+          ∙ indexed other
+          ∙ sym (ap ids_of (filter-insert_no (is_owned other) xs (below x.id xs) x e))
+          ∙ ap (λ (l : List Nack). ids_of (owned_by other l)) (insert-place x xs rising fresh)
+
+  module _ (i : ℕ) (x : Nack) (here : slice_get xs i ≡ Some x) where
+    -- the entries that its owner has
+    abbrev mine : List Nack
+    mine = owned_by x.owner xs
+
+    found : IsPlace x.id mine (below x.id mine)
+    found = IsPlace-below x.id mine (AreRising-filter (is_owned x.owner) xs rising) (has_id-kept (is_owned x.owner) xs i x here ((bytes_decides x.owner x.owner).1 refl))
+
+    place : ids_below x.id (ids_by held x.owner) ≡ below x.id mine
+    place = ap (ids_below x.id) (indexed x.owner) ∙ ids_below-of x.id mine
+
+    pub ids_below-among : (id : Id) (owner : List ℕ) → x.id ≡ id → x.owner ≡ owner → ids_below id (ids_by held owner) < length (ids_by held owner)
+    ids_below-among id owner same owns = subst (λ (o : List ℕ). ids_below id (ids_by held o) < length (ids_by held o)) owns (subst (λ (j : Id). ids_below j (ids_by held x.owner) < length (ids_by held x.owner)) same there)
+      where
+        there : ids_below x.id (ids_by held x.owner) < length (ids_by held x.owner)
+        there = omega (arith, place, slice_get_within mine (below x.id mine) found.nack found.here, ap (λ (l : List Id). length l) (indexed x.owner), length-map mine (λ (n : Nack). n.id))
+
+    taken : (new : HashMap (List ℕ) (VecDeque Id Z) S) → TakesId x.owner x.id held new → IsIndexed new (without x.id xs)
+    taken new gives other = by (is_same_name x.owner other) refl
+      where
+        there : ids_by new x.owner ≡ ids_of (owned_by x.owner (without x.id xs))
+        there =
+            gives.ids
+            ∙ ap (λ (n : ℕ). remove (ids_by held x.owner) n) place
+            ∙ ap (λ (l : List Id). remove l (below x.id mine)) (indexed x.owner)
+            ∙ sym (map-remove (λ (n : Nack). n.id) mine (below x.id mine))
+            ∙ ap ids_of (without-removed x.id mine (remove mine (below x.id mine)) (below x.id mine) found.nack (AreRising-filter (is_owned x.owner) xs rising) found.here found.same refl)
+            ∙ ap ids_of (filter-filter (λ n. not (is_same_id n.id x.id)) (is_owned x.owner) xs)
+
+        by : (test : Bool) → is_same_name x.owner other ≡ test → ids_by new other ≡ ids_of (owned_by other (without x.id xs))
+        by true e = subst (λ (o : List ℕ). ids_by new o ≡ ids_of (owned_by o (without x.id xs))) ((bytes_decides x.owner other).0 e) there
+        by false e =
+            ap ids_in (gives.others other e)
+            ∙ indexed other
+            ∙ sym (ap ids_of (filter-remove_no (is_owned other) xs i x here e))
+            ∙ ap (λ (l : List Nack). ids_of (owned_by other l)) (without-place x.id xs i x rising here refl)
+
+    pub IsIndexed-taken : (id : Id) (owner : List ℕ) → x.id ≡ id → x.owner ≡ owner → (new : HashMap (List ℕ) (VecDeque Id Z) S) → TakesId owner id held new → IsIndexed new (without id xs)
+    IsIndexed-taken id owner same owns new takes =
+        let its : TakesId x.owner id held new = subst (λ (o : List ℕ). TakesId o id held new) (sym owns) takes in
+        let one : TakesId x.owner x.id held new = subst (λ (j : Id). TakesId x.owner j held new) (sym same) its in
+        subst (λ (j : Id). IsIndexed new (without j xs)) same (taken new one)
+
+-- the id goes from one owner to another, and their entry does
+pub IsIndexed-moved : {Z S : Type 0} (held : HashMap (List ℕ) (VecDeque Id Z) S) (xs : List Nack) (rising : AreRising xs) (indexed : IsIndexed held xs) (i : ℕ) (x : Nack) (here : slice_get xs i ≡ Some x) (from : List ℕ) (y : Nack) → x.id ≡ y.id → x.owner ≡ from → (mid new : HashMap (List ℕ) (VecDeque Id Z) S) → TakesId from y.id held mid → PutsId y.owner y.id mid new → (ys : List Nack) → ys ≡ set xs i y → IsIndexed new ys
+IsIndexed-moved held xs rising indexed i x here from y same owns mid new takes puts ys is =
+    let others : List Nack = without y.id xs in
+    let left : IsIndexed mid others = IsIndexed-taken held xs rising indexed i x here y.id from same owns mid takes in
+    let put : IsIndexed new (with_nack y others) = IsIndexed-put mid others (AreRising-filter (λ n. not (is_same_id n.id y.id)) xs rising) left new y (has_id-without y.id xs) puts in
+    subst (λ (l : List Nack). IsIndexed new l) (with_nack-moved xs i x y rising here same ∙ sym is) put
+
+-- an entry that was read has the owner that its name was read from
+pub owner-read : (xs : List Nack) (i : ℕ) (x at : Nack) (owner : List ℕ) → slice_get xs i ≡ Some at → x ≡ get_or xs i x → owner ≡ x.owner → at.owner ≡ owner
+owner-read xs i x at owner here read is = sym (is ∙ ap (λ (n : Nack). n.owner) (read ∙ get_or_from_slice_get xs i at x here))
+
+-- the same where nothing is searched for
+module _ {Z S : Type 0} (held : HashMap (List ℕ) (VecDeque Id Z) S) (xs : List Nack) (indexed : IsIndexed held xs) where
+  pub IsIndexed-changed : (id : Id) (change : Nack → Nack) → ((nack : Nack) → (change nack).id ≡ nack.id) → ((nack : Nack) → (change nack).owner ≡ nack.owner) → IsIndexed held (map (changed_at id change) xs)
+  IsIndexed-changed id change keeps_id keeps_owner owner = indexed owner ∙ sym (still xs)
     where
-      by : (other : List ℕ) (test : Bool) → is_same_name owner other ≡ test → cond test n (held_by old other) + cond test 1 0 ≡ held_by old other
-      by other true e = omega (arith, same other e)
-      by other false e = omega arith
-
-  pub KeepsCounts-update : n ≡ held_by old owner → KeepsCounts old new
-  KeepsCounts-update still = record { counts = λ other. number other ∙ by other (is_same_name owner other) refl; keys = keys }
-    where
-      by : (other : List ℕ) (test : Bool) → is_same_name owner other ≡ test → cond test n (held_by old other) ≡ held_by old other
-      by other true e = omega (arith, same other e)
-      by other false e = refl
-
--- what an entry counts for this owner
-abbrev part : List ℕ → Nack → ℕ
-part owner nack = one_for nack.owner owner
-
-owned : (owner : List ℕ) (xs : List Nack) → length (owned_by owner xs) ≡ sum_by (part owner) xs
-owned owner xs = length-filter (λ nack. is_same_name nack.owner owner) xs
-
--- the entries that the map counts
-module _ {S : Type 0} (held : HashMap (List ℕ) ℕ S) (xs : List Nack) (counted : IsCounted held xs) where
-  pub held_by-le : (owner : List ℕ) → held_by held owner ≤ length xs
-  held_by-le owner = omega (arith, counted owner, owned owner xs, count_by-le-length (λ (nack : Nack). is_same_name nack.owner owner) xs)
-
-  module _ (i : ℕ) (x : Nack) (within : i < length xs) (read : x ≡ get_or xs i x) where
-    pub held_by-some : 0 < held_by held x.owner
-    held_by-some =
-        let itself : part x.owner x ≡ 1 = rw ((bytes_decides x.owner x.owner).1 refl) refl in
-        omega (arith, counted x.owner, owned x.owner xs, get_or-le-sum_by (part x.owner) xs i x within, ap (part x.owner) read, itself)
-
-    pub IsCounted-remove : (new : HashMap (List ℕ) ℕ S) (ys : List Nack) → TakesOne x.owner held new → ys ≡ remove xs i → IsCounted new ys
-    IsCounted-remove new ys takes is other = rw is (omega (arith, takes.counts other, counted other, owned other xs, owned other (remove xs i), sum_by-remove (part other) xs i x within, ap (part other) read))
-
-    pub IsCounted-set : (new : HashMap (List ℕ) ℕ S) (y : Nack) (ys : List Nack) → MovesOne x.owner y.owner held new → ys ≡ set xs i y → IsCounted new ys
-    IsCounted-set new y ys moves is other = rw is (omega (arith, moves.counts other, counted other, owned other xs, owned other (set xs i y), sum_by-set (part other) xs i y x within, ap (part other) read))
-
-  pub IsCounted-insert : (new : HashMap (List ℕ) ℕ S) (i : ℕ) (x : Nack) (ys : List Nack) → AddsOne x.owner held new → ys ≡ insert xs i x → IsCounted new ys
-  IsCounted-insert new i x ys adds is other = rw is (omega (arith, adds.counts other, counted other, owned other xs, owned other (insert xs i x), sum_by-insert (part other) xs i x))
-
-  pub IsCounted-changed : (id : Id) (change : Nack → Nack) → ((nack : Nack) → (change nack).owner ≡ nack.owner) → (ys : List Nack) → ys ≡ map (changed_at id change) xs → IsCounted held ys
-  IsCounted-changed id change keeps ys is other = rw is (omega (arith, counted other, owned other xs, owned other (map (changed_at id change) xs), still xs))
-    where
-      one : (x : Nack) → part other (changed_at id change x) ≡ part other x
-      one x = by (is_same_id x.id id)
-        where
-          by : (test : Bool) → part other (cond test (change x) x) ≡ part other x
-          by true = ap (λ (owner : List ℕ). one_for owner other) (keeps x)
-          by false = refl
-
-      still : (zs : List Nack) → sum_by (part other) (map (changed_at id change) zs) ≡ sum_by (part other) zs
+      still : (zs : List Nack) → ids_of (owned_by owner (map (changed_at id change) zs)) ≡ ids_of (owned_by owner zs)
       still [] = refl
-      still (z ∷ zs) = omega (arith, sum_by-cons (part other) (changed_at id change z) (map (changed_at id change) zs), sum_by-cons (part other) z zs, one z, still zs)
-
-  pub IsCounted-without_owner : (owner : List ℕ) (room : ℕ) (new : HashMap (List ℕ) ℕ S) (ys : List Nack) → ClearsCount owner room held new → ys ≡ without_owner owner xs → IsCounted new ys
-  IsCounted-without_owner owner room new ys clears is other = rw is (clears.counts other ∙ ap (λ (n : ℕ). cond (is_same_name owner other) 0 n) (counted other) ∙ sym (left (is_same_name owner other) refl xs))
-    where
-      left : (test : Bool) → is_same_name owner other ≡ test → (zs : List Nack) → length (owned_by other (without_owner owner zs)) ≡ cond test 0 (length (owned_by other zs))
-      left true e [] = refl
-      left false e [] = refl
-      left test e (z ∷ zs) = by (is_same_name z.owner owner) refl (is_same_name z.owner other) refl test e (left test e zs)
+      still (z ∷ zs) = by (is_same_id z.id id) (still zs)
         where
-          by : (a : Bool) → is_same_name z.owner owner ≡ a → (b : Bool) → is_same_name z.owner other ≡ b → (test : Bool) → is_same_name owner other ≡ test → length (owned_by other (without_owner owner zs)) ≡ cond test 0 (length (owned_by other zs))
-              → length (owned_by other (cond (not a) (z ∷ without_owner owner zs) (without_owner owner zs))) ≡ cond test 0 (length (cond b (z ∷ owned_by other zs) (owned_by other zs)))
-          by true p true q true e rest = rest
-          by true p true q false e rest =
-              let one : owner ≡ other = sym ((bytes_decides z.owner owner).0 p) ∙ (bytes_decides z.owner other).0 q in
-              absurd (let both = sym e ∙ (bytes_decides owner other).1 one in cc)
-          by true p false q test e rest = rest
-          by false p true q true e rest =
-              let one : z.owner ≡ owner = (bytes_decides z.owner other).0 q ∙ sym ((bytes_decides owner other).0 e) in
-              absurd (let both = sym p ∙ (bytes_decides z.owner owner).1 one in cc)
-          by false p true q false e rest = rw q (ap (λ (n : ℕ). suc n) rest)
-          by false p false q test e rest = rw q rest
+          tail : List Nack
+          tail = owned_by owner (map (changed_at id change) zs)
 
--- one more of the entries is counted
-pub IsCounted-more : {S : Type 0} (held keyed new : HashMap (List ℕ) ℕ S) (xs : List Nack) (i : ℕ) (x : Nack) → IsCounted held (take i xs) → i < length xs → x ≡ get_or xs i x → KeepsCounts held keyed → AddsOne x.owner keyed new → IsCounted new (take (i + 1) xs)
-IsCounted-more held keyed new xs i x counted within read keeps adds other =
-    omega (arith, adds.counts other, keeps.counts other, counted other, length-filter_more (λ (nack : Nack). is_same_name nack.owner other) xs i x within, ap (part other) read)
+          one : (y : Nack) (test : Bool) → y.id ≡ z.id → ids_of tail ≡ ids_of (owned_by owner zs) → ids_of (cond test (y ∷ tail) tail) ≡ ids_of (cond test (z ∷ owned_by owner zs) (owned_by owner zs))
+          one y true e rest = ap (λ (i : Id). i ∷ ids_of tail) e ∙ ap (λ (l : List Id). z.id ∷ l) rest
+          one y false e rest = rest
 
--- each owner with room has its key still
-module _ {S : Type 0} (held new : HashMap (List ℕ) ℕ S) (owner : List ℕ) (rooms : List Room) (keyed : Keeps held rooms) where
-  pub Keeps-used : (left : List Room) → KeepsKeys held new → UsesRoom owner rooms left → Keeps new left
-  Keeps-used left keys uses other some = keys other (keyed other (by (is_same_name other owner) refl))
+          by : (test : Bool) → ids_of tail ≡ ids_of (owned_by owner zs) → ids_of (owned_by owner (cond test (change z) z ∷ map (changed_at id change) zs)) ≡ ids_of (owned_by owner (z ∷ zs))
+          by true rest =
+              ap (λ (o : List ℕ). ids_of (cond (is_same_name o owner) (change z ∷ tail) tail)) (keeps_owner z)
+              ∙ one (change z) (is_same_name z.owner owner) (keeps_id z) rest
+          by false rest = one z (is_same_name z.owner owner) refl rest
+
+  pub IsIndexed-without_owner : (new : HashMap (List ℕ) (VecDeque Id Z) S) (owner : List ℕ) (room : ℕ) → Gives owner [] room held new → IsIndexed new (without_owner owner xs)
+  IsIndexed-without_owner new owner room gives other = by (is_same_name owner other) refl
     where
-      by : (test : Bool) → is_same_name other owner ≡ test → 0 < room_of other rooms
-      by true e = let same = (bytes_decides other owner).0 e in rw same (omega (arith, uses.used))
-      by false e = omega (arith, some, uses.others other (λ same. absurd (let both = sym e ∙ (bytes_decides other owner).1 same in cc)))
+      none : (zs : List Nack) → owned_by owner (without_owner owner zs) ≡ []
+      none [] = refl
+      none (z ∷ zs) = by (is_same_name z.owner owner) refl (none zs)
+        where
+          by : (test : Bool) → is_same_name z.owner owner ≡ test → owned_by owner (without_owner owner zs) ≡ [] → owned_by owner (cond (not test) (z ∷ without_owner owner zs) (without_owner owner zs)) ≡ []
+          by true e rest = rest
+          by false e rest = filter-first_no (is_owned owner) z (without_owner owner zs) e ∙ rest
 
-  pub Keeps-added : (more : ℕ) (after : List Room) → KeepsKeys held new → HasKey new owner → AddsRoom owner more rooms after → Keeps new after
-  Keeps-added more after keys key adds other some = by (is_same_name other owner) refl
-    where
-      by : (test : Bool) → is_same_name other owner ≡ test → HasKey new other
-      by true e = let same = (bytes_decides other owner).0 e in rw same key
-      by false e = keys other (keyed other (omega (arith, some, adds.others other (λ same. absurd (let both = sym e ∙ (bytes_decides other owner).1 same in cc)))))
+      same : is_same_name owner other ≡ false → (zs : List Nack) → owned_by other (without_owner owner zs) ≡ owned_by other zs
+      same apart [] = refl
+      same apart (z ∷ zs) = by (is_same_name z.owner owner) refl (same apart zs)
+        where
+          by : (test : Bool) → is_same_name z.owner owner ≡ test → owned_by other (without_owner owner zs) ≡ owned_by other zs → owned_by other (cond (not test) (z ∷ without_owner owner zs) (without_owner owner zs)) ≡ owned_by other (z ∷ zs)
+          by true e rest =
+              let its : is_same_name z.owner other ≡ false = ap (λ (o : List ℕ). is_same_name o other) ((bytes_decides z.owner owner).0 e) ∙ apart in
+              rest ∙ sym (filter-first_no (is_owned other) z zs its)
+          by false e rest = ap (λ (l : List Nack). cond (is_same_name z.owner other) (z ∷ l) l) rest
 
-  pub Keeps-cleared : ClearsCount owner (room_of owner rooms) held new → Keeps new rooms
-  Keeps-cleared clears other some = clears.keys other (λ e. let same = (bytes_decides owner other).0 e in rw same some) (keyed other some)
+      by : (test : Bool) → is_same_name owner other ≡ test → ids_by new other ≡ ids_of (owned_by other (without_owner owner xs))
+      by true e = subst (λ (o : List ℕ). ids_by new o ≡ ids_of (owned_by o (without_owner owner xs))) ((bytes_decides owner other).0 e) (gives.ids ∙ sym (ap ids_of (none xs)))
+      by false e = ap ids_in (gives.others other e) ∙ indexed other ∙ sym (ap ids_of (same e xs))

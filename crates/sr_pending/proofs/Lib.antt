@@ -1,8 +1,11 @@
 pub mod ChangeLemmas
+pub mod FilterLemmas
 pub mod HeldLemmas
+pub mod IdsLemmas
 pub mod ListingLemmas
 pub mod NackLemmas
 pub mod RoomLemmas
 pub mod SearchLemmas
 pub mod SoundLemmas
+pub mod SpareLemmas
 pub mod Splitting

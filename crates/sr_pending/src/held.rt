@@ -1,84 +1,117 @@
-ghost use Rattle.std.specs.Prelude.{◌≡◌, ◌^◌, ◌<◌, IfOk, OnOk};
-ghost use Rattle.sr_pending.specs.steps.Held.{AddsOne, ClearsCount, HasKey, IsCounted, KeepsCounts, MovesOne, TakesOne, held_by};
+ghost use Rattle.std.specs.Prelude.{◌≡◌, ◌^◌, ◌<◌, ◌≤◌, [], length, IfOk, OnOk};
+ghost use Rattle.sr_pending.specs.steps.Held.{Appends, AreRisingIds, Gives, HasKey, IsIndexed, KeepsIds, PutsId, TakesId, ids_below, ids_by, spare_by};
 
 use crate::Nack;
+use crate::ids::{insert_id, remove_id};
 use sr_bytes::Name;
+use sr_ids::Id;
 use std::alloc::{AllocError, Global};
 use std::collections::{HashMap, VecDeque};
 
-/// How many entries each owner has.
-pub(crate) type Held = HashMap<Name, usize>;
+/// The ids of the entries that each owner has, rising.
+pub(crate) type Held = HashMap<Name, VecDeque<Id>>;
 
 /// How many entries this owner has.
 pub(crate) fn held_for(held: &Held, owner: &Name) -> usize
-    ensures { result ≡ held_by held.now owner.now }
+    ensures value { result ≡ length (ids_by held.now owner.now) }
+    ensures bound { result < 2 ^ 63 }
 {
-    held.get(owner).copied().unwrap_or(0)
+    match held.get(owner) {
+        Some(ids) => ids.len(),
+        None => 0,
+    }
 }
 
-/// Makes a key for this owner, so that its number can change without memory.
-pub(crate) fn add_key(held: &mut Held, alloc: Global, owner: &Name) -> Result<(), AllocError>
-    ensures counts { KeepsCounts held.old held.new }
+/// Makes a key for this owner.
+fn add_key(held: &mut Held, alloc: Global, owner: &Name) -> Result<(), AllocError>
+    ensures keeps { KeepsIds held.old held.new }
     ensures key { OnOk result (HasKey held.new owner.now) }
 {
     if !held.contains_key(owner) {
-        held.insert(owner.copy(alloc)?, 0)?;
+        held.insert(owner.copy(alloc)?, VecDeque::new(alloc))?;
     }
     Ok(())
 }
 
-/// Adds one to what this owner has, without memory.
-pub(crate) fn add_one(held: &mut Held, owner: &Name)
-    requires key { HasKey held.old owner.now }
-    requires few { held_by held.old owner.now < 2 ^ 63 }
-    ensures { AddsOne owner.now held.old held.new }
+/// Makes a key for this owner, and memory for `room` more of its ids.
+pub(crate) fn add_spare(
+    held: &mut Held,
+    alloc: Global,
+    owner: &Name,
+    room: usize,
+) -> Result<(), AllocError>
+    ensures keeps { KeepsIds held.old held.new }
+    ensures spare { OnOk result (room ≤ spare_by held.new owner.now) }
 {
-    if let Some(count) = held.get_mut(owner) {
-        *count += 1;
+    add_key(held, alloc, owner)?;
+    grow(held, owner, room)
+}
+
+/// Makes memory for `room` more ids of this owner, which has a key.
+fn grow(held: &mut Held, owner: &Name, room: usize) -> Result<(), AllocError>
+    requires { HasKey held.old owner.now }
+    ensures keeps { KeepsIds held.old held.new }
+    ensures spare { OnOk result (room ≤ spare_by held.new owner.now) }
+{
+    match held.get_mut(owner) {
+        Some(ids) => ids.reserve(room),
+        None => Ok(()),
     }
 }
 
-/// Takes one from what this owner has.
-pub(crate) fn take_one(held: &mut Held, owner: &Name)
-    requires { 0 < held_by held.old owner.now }
-    ensures { TakesOne owner.now held.old held.new }
+/// Gives this owner the id, without memory.
+pub(crate) fn put_id(held: &mut Held, owner: &Name, id: Id)
+    requires rising { AreRisingIds (ids_by held.old owner.now) }
+    requires spare { 0 < spare_by held.old owner.now }
+    ensures { PutsId owner.now id held.old held.new }
 {
-    if let Some(count) = held.get_mut(owner) {
-        *count -= 1;
+    if let Some(ids) = held.get_mut(owner) {
+        insert_id(ids, id);
     }
 }
 
-/// One entry of `from` becomes one of `to`, without memory.
-pub(crate) fn move_one(held: &mut Held, from: &Name, to: &Name)
-    requires some { 0 < held_by held.old from.now }
-    requires key { HasKey held.old to.now }
-    requires few { held_by held.old to.now < 2 ^ 63 }
-    ensures { MovesOne from.now to.now held.old held.new }
+/// Takes the id from this owner, which has it.
+pub(crate) fn take_id(held: &mut Held, owner: &Name, id: Id)
+    requires rising { AreRisingIds (ids_by held.old owner.now) }
+    requires among { ids_below id (ids_by held.old owner.now) < length (ids_by held.old owner.now) }
+    ensures { TakesId owner.now id held.old held.new }
 {
-    take_one(held, from);
-    add_one(held, to);
+    if let Some(ids) = held.get_mut(owner) {
+        remove_id(ids, id);
+    }
 }
 
-/// Sets what this owner has to 0, and drops its key if it has no room.
+/// Takes all ids from this owner, and drops its key if it has no room.
 pub(crate) fn clear(held: &mut Held, owner: &Name, room: usize)
-    ensures { ClearsCount owner.now room held.old held.new }
+    requires { room ≤ spare_by held.old owner.now }
+    ensures { Gives owner.now [] room held.old held.new }
 {
     if room == 0 {
         drop(held.remove(owner));
-    } else if let Some(count) = held.get_mut(owner) {
-        *count = 0;
+    } else if let Some(ids) = held.get_mut(owner) {
+        ids.clear();
     }
 }
 
-/// How many of these entries each owner has.
-pub(crate) fn count_all(alloc: Global, nacks: &VecDeque<Nack>) -> Result<Held, AllocError>
-    ensures { IfOk result (λ held. IsCounted held nacks.now.items) }
+/// Gives this owner the id, which lies above those that it has.
+fn push_id(held: &mut Held, alloc: Global, owner: &Name, id: Id) -> Result<(), AllocError>
+    ensures { OnOk result (Appends owner.now id held.old held.new) }
+{
+    add_key(held, alloc, owner)?;
+    if let Some(ids) = held.get_mut(owner) {
+        ids.push_back(id)?;
+    }
+    Ok(())
+}
+
+/// The ids of these entries, by owner.
+pub(crate) fn index_all(alloc: Global, nacks: &VecDeque<Nack>) -> Result<Held, AllocError>
+    ensures { IfOk result (λ held. IsIndexed held nacks.now.items) }
 {
     let mut held = HashMap::new(alloc);
     for place in 0..nacks.len() {
-        let owner = nacks[place].owner.name();
-        add_key(&mut held, alloc, owner)?;
-        add_one(&mut held, owner);
+        let nack = &nacks[place];
+        push_id(&mut held, alloc, nack.owner.name(), nack.id)?;
     }
     Ok(held)
 }

@@ -3,6 +3,7 @@
 
 mod edit;
 mod held;
+mod ids;
 mod nack;
 mod nacks;
 mod owner;

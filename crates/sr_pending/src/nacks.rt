@@ -1,17 +1,20 @@
-ghost use Rattle.std.specs.Prelude.{◌≡◌, [], ◌∷◌, IfSome, IfNone};
-ghost use Rattle.std.specs.Option.{option_copied};
-ghost use Rattle.sr_pending.specs.Pending.{first_of, is_of, owned_by_named};
+ghost use Rattle.std.specs.Prelude.{◌≡◌, [], ◌∷◌, true, IfSome, IfNone};
+ghost use Rattle.std.specs.List.{All};
 ghost use Rattle.std.specs.VecDeque.Iter.{deque_iter_rest};
+ghost use Rattle.sr_pending.specs.Pending.{AreRising, first_of, has_id};
+ghost use Rattle.sr_pending.specs.steps.Listing.{looked_up};
 
 use crate::Nack;
-use sr_bytes::Name;
+use crate::search::pending_place;
+use sr_ids::Id;
+use std::collections::VecDeque;
 use std::collections::vec_deque::Iter;
 use std::marker::Model;
 
 /// Pending entries in rising order, looked at where they lie.
 #[derive(Drop)]
 pub struct Nacks<'a> {
-    owned: Owned<'a>,
+    source: Source<'a>,
     left: Option<u64>,
 }
 
@@ -19,23 +22,36 @@ impl<'a> Model for Nacks<'a> {
     ghost use Rattle.std.specs.Prelude.{List};
     ghost use Rattle.sr_pending.specs.declared.nack.Nack.{Nack};
     ghost use Rattle.sr_pending.specs.Pending.{first_of};
+    ghost use Rattle.sr_pending.specs.steps.Source.{listed};
 
     ghost Value = { List Nack };
 
-    ghost view = { λ n. first_of n.left n.owned };
+    ghost view = { λ n. first_of n.left (listed n.source) };
 }
 
 impl<'a> Nacks<'a> {
-    /// At most `count` of these entries, and of this owner if one is named.
-    pub(crate) fn new(
-        rest: Iter<'a, Nack>,
-        count: Option<u64>,
-        owner: Option<&'a Name>,
-    ) -> Nacks<'a>
-        ensures { result ≡ first_of count (owned_by_named (option_copied owner.entry) (deque_iter_rest rest.entry)) }
+    /// At most `count` of these entries.
+    pub(crate) fn all(rest: Iter<'a, Nack>, count: Option<u64>) -> Nacks<'a>
+        ensures { result ≡ first_of count (deque_iter_rest rest.entry) }
     {
         Nacks {
-            owned: Owned { rest, owner },
+            source: Source::All(rest),
+            left: count,
+        }
+    }
+
+    /// At most `count` of the entries with these ids, which are all pending.
+    pub(crate) fn owned(
+        nacks: &'a VecDeque<Nack>,
+        ids: Iter<'a, Id>,
+        count: Option<u64>,
+    ) -> Nacks<'a>
+        requires rising { AreRising nacks.now.items }
+        requires pending { All (λ id. has_id id nacks.now.items ≡ true) (deque_iter_rest ids) }
+        ensures { result ≡ first_of count (looked_up nacks.now.items (deque_iter_rest ids.entry)) }
+    {
+        Nacks {
+            source: Source::Owned(Owned { nacks, ids }),
             left: count,
         }
     }
@@ -47,11 +63,11 @@ impl<'a> Nacks<'a> {
         ensures ended { IfNone result (self.new ≡ []) }
     {
         match self.left {
-            None => self.owned.next(),
+            None => self.source.next(),
             Some(0) => None,
             Some(n) => {
                 self.left = Some(n - 1);
-                self.owned.next()
+                self.source.next()
             }
         }
     }
@@ -61,64 +77,91 @@ impl<'a> Nacks<'a> {
         ensures { result ≡ self.now }
     {
         Nacks {
-            owned: self.owned.again(),
+            source: self.source.again(),
             left: self.left,
         }
     }
 }
 
-/// The entries of an owner, if one is named.
+/// Where the entries come from: the list itself, or the ids of one owner.
+#[derive(Drop)]
+enum Source<'a> {
+    All(Iter<'a, Nack>),
+    Owned(Owned<'a>),
+}
+
+impl<'a> Source<'a> {
+    ghost use Rattle.sr_pending.specs.steps.Source.{listed};
+
+    /// The next entry. None if there is no other.
+    fn next(&mut self) -> Option<&'a Nack>
+        ensures some { IfSome result (λ nack. listed self.old ≡ nack.now ∷ listed self.new) }
+        ensures none { IfNone result (listed self.old ≡ []) }
+        ensures ended { IfNone result (listed self.new ≡ []) }
+    {
+        match self {
+            Source::All(rest) => rest.next(),
+            Source::Owned(owned) => owned.next(),
+        }
+    }
+
+    /// The same entries once more.
+    fn again(&self) -> Source<'a>
+        ensures { listed result ≡ listed self.now }
+    {
+        match self {
+            Source::All(rest) => match rest.clone() {
+                Ok(rest) => Source::All(rest),
+                Err(_) => unreachable!(),
+            },
+            Source::Owned(owned) => Source::Owned(owned.again()),
+        }
+    }
+}
+
+/// Entries that are found by their ids.
 #[derive(Drop)]
 struct Owned<'a> {
-    rest: Iter<'a, Nack>,
-    owner: Option<&'a Name>,
+    nacks: &'a VecDeque<Nack>,
+    ids: Iter<'a, Id>,
 }
 
 impl<'a> Model for Owned<'a> {
-    ghost use Rattle.std.specs.Prelude.{List};
-    ghost use Rattle.std.specs.Option.{option_copied};
+    ghost use Rattle.std.specs.Prelude.{◌≡◌, true, List};
+    ghost use Rattle.std.specs.List.{All};
     ghost use Rattle.std.specs.VecDeque.Iter.{deque_iter_rest};
     ghost use Rattle.sr_pending.specs.declared.nack.Nack.{Nack};
-    ghost use Rattle.sr_pending.specs.Pending.{owned_by_named};
+    ghost use Rattle.sr_pending.specs.Pending.{AreRising, has_id};
+    ghost use Rattle.sr_pending.specs.steps.Listing.{looked_up};
 
     ghost Value = { List Nack };
 
-    ghost view = { λ o. owned_by_named (option_copied o.owner) (deque_iter_rest o.rest) };
+    ghost view = { λ o. looked_up o.nacks.now.items (deque_iter_rest o.ids) };
+
+    ghost invariant = { λ o. AreRising o.nacks.now.items × All (λ id. has_id id o.nacks.now.items ≡ true) (deque_iter_rest o.ids) };
 }
 
 impl<'a> Owned<'a> {
+    /// The next entry, found by binary search. None if there is no other.
     fn next(&mut self) -> Option<&'a Nack>
         ensures some { IfSome result (λ nack. self.old ≡ nack.now ∷ self.new) }
         ensures none { IfNone result (self.old ≡ []) }
         ensures ended { IfNone result (self.new ≡ []) }
     {
-        while let Some(nack) = self.rest.next() {
-            if is_wanted(nack, self.owner) {
-                return Some(nack);
-            }
-        }
-        None
+        let id = *self.ids.next()?;
+        Some(&self.nacks[pending_place(self.nacks, id)])
     }
 
+    /// The same entries once more.
     fn again(&self) -> Owned<'a>
         ensures { result ≡ self.now }
     {
-        match self.rest.clone() {
-            Ok(rest) => Owned {
-                rest,
-                owner: self.owner,
+        match self.ids.clone() {
+            Ok(ids) => Owned {
+                nacks: self.nacks,
+                ids,
             },
             Err(_) => unreachable!(),
         }
-    }
-}
-
-/// Whether it is this owner's, if one is named.
-fn is_wanted(nack: &Nack, owner: Option<&Name>) -> bool
-    ensures { result ≡ is_of (option_copied owner.entry) nack.now }
-{
-    match owner {
-        None => true,
-        Some(owner) => nack.owner.is(owner),
     }
 }

@@ -1,9 +1,10 @@
 use crate::edit::{give_at, keep_others, put_at, remove_at, touch_at};
-use crate::held::{Held, add_key, add_one, clear, count_all, held_for, move_one, take_one};
+use crate::held::{Held, add_spare, clear, held_for, index_all, put_id, take_id};
+use crate::ids::{ids_above, ids_between};
 use crate::nack::copies;
 use crate::nacks::Nacks;
 use crate::room::{Room, add_room, in_all, room_for, use_room};
-use crate::search::{above, count_below, pending_place, place_of, range_of};
+use crate::search::{above, count_below, nothing, pending_place, place_of, range_of};
 use crate::{Nack, Owner};
 use sr_bytes::Name;
 use sr_ids::Id;
@@ -86,7 +87,7 @@ impl Pending {
         }
         self.nacks
             .reserve(in_all(self.rooms.as_slice()).saturating_add(more))?;
-        add_key(&mut self.held, alloc, owner)?;
+        add_spare(&mut self.held, alloc, owner, n)?;
         add_room(&mut self.rooms, alloc, owner, more)?;
         Ok(())
     }
@@ -100,7 +101,7 @@ impl Pending {
         ensures room { UsesRoom nack.owner self.old.rooms self.new.rooms }
     {
         use_room(&mut self.rooms, nack.owner.name());
-        add_one(&mut self.held, nack.owner.name());
+        put_id(&mut self.held, nack.owner.name(), nack.id);
         let place = count_below(&self.nacks, nack.id);
         put_at(&mut self.nacks, place, nack);
     }
@@ -118,7 +119,8 @@ impl Pending {
     {
         use_room(&mut self.rooms, owner.name());
         let place = pending_place(&self.nacks, id);
-        move_one(&mut self.held, self.nacks[place].owner.name(), owner.name());
+        take_id(&mut self.held, self.nacks[place].owner.name(), id);
+        put_id(&mut self.held, owner.name(), id);
         give_at(
             &mut self.nacks,
             place,
@@ -155,7 +157,7 @@ impl Pending {
         match place_of(&self.nacks, id) {
             None => false,
             Some(place) => {
-                take_one(&mut self.held, self.nacks[place].owner.name());
+                take_id(&mut self.held, self.nacks[place].owner.name(), id);
                 remove_at(&mut self.nacks, place);
                 true
             }
@@ -214,7 +216,13 @@ impl Pending {
         ensures { result ≡
             first_of count (owned_by_named (option_copied owner.entry) (pending_between start end self.now.nacks)) }
     {
-        Nacks::new(range_of(&self.nacks, start, end), count, owner)
+        match owner {
+            None => Nacks::all(range_of(&self.nacks, start, end), count),
+            Some(owner) => match self.held.get(owner) {
+                None => Nacks::all(nothing(&self.nacks), count),
+                Some(ids) => Nacks::owned(&self.nacks, ids_between(ids, start, end), count),
+            },
+        }
     }
 
     /// The entries above the id, at most `count` of them, and of this owner if one is named.
@@ -224,14 +232,20 @@ impl Pending {
         ensures { result ≡
             first_of count (owned_by_named (option_copied owner.entry) (pending_above id self.now.nacks)) }
     {
-        Nacks::new(above(&self.nacks, id), count, owner)
+        match owner {
+            None => Nacks::all(above(&self.nacks, id), count),
+            Some(owner) => match self.held.get(owner) {
+                None => Nacks::all(nothing(&self.nacks), count),
+                Some(ids) => Nacks::owned(&self.nacks, ids_above(ids, id), count),
+            },
+        }
     }
 
     /// All entries.
     pub fn all(&self) -> Nacks<'_>
         ensures { result ≡ self.now.nacks }
     {
-        Nacks::new(self.nacks.iter(), None, None)
+        Nacks::all(self.nacks.iter(), None)
     }
 
     /// The entries from `start` on.
@@ -241,14 +255,17 @@ impl Pending {
         ensures { result ≡ filter (λ nack. not (is_below nack.id start)) self.now.nacks }
     {
         let from = count_below(&self.nacks, start);
-        Nacks::new(self.nacks.range(from..), None, None)
+        Nacks::all(self.nacks.range(from..), None)
     }
 
     /// The entries of this owner.
     pub fn of<'a>(&'a self, owner: &'a Name) -> Nacks<'a>
         ensures { result ≡ owned_by owner.now self.now.nacks }
     {
-        Nacks::new(self.nacks.iter(), None, Some(owner))
+        match self.held.get(owner) {
+            None => Nacks::all(nothing(&self.nacks), None),
+            Some(ids) => Nacks::owned(&self.nacks, ids.iter(), None),
+        }
     }
 
     /// How many entries this owner has.
@@ -293,7 +310,7 @@ impl Pending {
         ensures rooms { IfOk result (λ p. p.rooms ≡ []) }
     {
         let nacks = copies(alloc, &self.nacks)?;
-        let held = count_all(alloc, &self.nacks)?;
+        let held = index_all(alloc, &self.nacks)?;
         let rooms = Vec::new(alloc);
         Ok(Pending { nacks, rooms, held })
     }

@@ -1,4 +1,4 @@
-ghost use Rattle.std.specs.Prelude.{◌≡◌, ◌≤◌, IfSome, IfNone, false, true};
+ghost use Rattle.std.specs.Prelude.{◌≡◌, ◌≤◌, [], IfSome, IfNone, false, true};
 ghost use Rattle.std.specs.VecDeque.{deque_len};
 ghost use Rattle.std.specs.VecDeque.Iter.{deque_iter_rest};
 ghost use Rattle.sr_pending.specs.Pending.{AreRising, pending_above, pending_between, has_id};
@@ -65,4 +65,11 @@ pub(crate) fn above(nacks: &VecDeque<Nack>, id: Id) -> Iter<'_, Nack>
     ensures { deque_iter_rest result ≡ pending_above id nacks.now.items }
 {
     nacks.range(count_upto(nacks, id)..)
+}
+
+/// None of the entries.
+pub(crate) fn nothing(nacks: &VecDeque<Nack>) -> Iter<'_, Nack>
+    ensures { deque_iter_rest result ≡ [] }
+{
+    nacks.range(0..0)
 }

@@ -1,59 +1,90 @@
--- How many entries each owner has, as it is kept: a map from owners to numbers. No public clause cites it.
+-- The ids that each owner has, as they are kept: a map from owners to deques of ids. No public clause cites it.
 
-use Rattle.std.specs.Prelude.{◌≡◌, ℕ, ◌+◌, ◌<◌, List, true, if◌then◌else◌, length}
+use Rattle.std.specs.Prelude.{◌≡◌, ℕ, ◌-◌, ◌≤◌, List, [], ◌∷◌, ◌++◌, Option, Some, None, false, if◌then◌else◌, map, not}
 use Rattle.std.specs.HashMap.{HashMap, get}
-use Rattle.std.specs.Map.{count_at}
+use Rattle.std.specs.VecDeque.{deque_capacity, deque_len}
+use Rattle.std.specs.declared.collections.VecDeque.{VecDeque}
+use Rattle.std.specs.List.{count_by, insert, remove}
 use Rattle.std.specs.Option.{IsSome}
+use Rattle.sr_ids.specs.declared.id.Id.{Id}
 use Rattle.sr_pending.specs.declared.nack.Nack.{Nack}
 use Rattle.sr_pending.specs.declared.room.Room.{Room}
-use Rattle.sr_pending.specs.Pending.{is_same_name, owned_by, room_of}
+use Rattle.sr_pending.specs.Pending.{AreRising, is_below, is_same_name, owned_by, room_of}
 
--- 1 for this owner, and 0 for any other
-abbrev pub one_for : List ℕ → List ℕ → ℕ
-one_for owner other = if is_same_name owner other then 1 else 0
+-- the ids of these entries
+abbrev pub ids_of : List Nack → List Id
+ids_of nacks = map (λ nack. nack.id) nacks
 
-module _ {S : Type 0} where
-  -- how many entries the map gives this owner: 0 if it has no key
-  abbrev pub held_by : HashMap (List ℕ) ℕ S → List ℕ → ℕ
-  held_by held owner = count_at (get is_same_name held) owner
+-- the ids are those of entries that rise
+pub record AreRisingIds (ids : List Id) : Type 0 where
+  pub nacks : List Nack
+  pub rising : AreRising nacks
+  pub same : ids ≡ ids_of nacks
 
-  -- this owner has a key, so that its number changes in place
-  abbrev pub HasKey : HashMap (List ℕ) ℕ S → List ℕ → Type 0
+-- how many ids lie below this one
+abbrev pub ids_below : Id → List Id → ℕ
+ids_below id ids = count_by (λ other. is_below other id) ids
+
+-- how many ids lie at or below this one
+abbrev pub ids_upto : Id → List Id → ℕ
+ids_upto id ids = count_by (λ other. not (is_below id other)) ids
+
+module _ {Z : Type 0} where
+  -- the ids in a deque: none if there is no deque
+  abbrev pub ids_in : Option (VecDeque Id Z) → List Id
+  ids_in None = []
+  ids_in (Some ids) = ids.items
+
+  -- how many more ids it takes without memory
+  abbrev pub spare_in : Option (VecDeque Id Z) → ℕ
+  spare_in None = 0
+  spare_in (Some ids) = deque_capacity ids - deque_len ids
+
+module _ {Z S : Type 0} where
+  -- the ids that the map gives this owner
+  abbrev pub ids_by : HashMap (List ℕ) (VecDeque Id Z) S → List ℕ → List Id
+  ids_by held owner = ids_in (get is_same_name held owner)
+
+  -- how many more ids of this owner it takes without memory
+  abbrev pub spare_by : HashMap (List ℕ) (VecDeque Id Z) S → List ℕ → ℕ
+  spare_by held owner = spare_in (get is_same_name held owner)
+
+  -- this owner has a key
+  abbrev pub HasKey : HashMap (List ℕ) (VecDeque Id Z) S → List ℕ → Type 0
   HasKey held owner = IsSome (get is_same_name held owner)
 
-  -- each owner's number is that of its entries
-  abbrev pub IsCounted : HashMap (List ℕ) ℕ S → List Nack → Type 0
-  IsCounted held nacks = (owner : List ℕ) → held_by held owner ≡ length (owned_by owner nacks)
+  -- each owner's ids are those of its entries
+  abbrev pub IsIndexed : HashMap (List ℕ) (VecDeque Id Z) S → List Nack → Type 0
+  IsIndexed held nacks = (owner : List ℕ) → ids_by held owner ≡ ids_of (owned_by owner nacks)
 
-  -- each owner with room has a key
-  abbrev pub Keeps : HashMap (List ℕ) ℕ S → List Room → Type 0
-  Keeps held rooms = (owner : List ℕ) → 0 < room_of owner rooms → HasKey held owner
+  -- each owner's ids find the room that was reserved for it
+  abbrev pub HasSpare : HashMap (List ℕ) (VecDeque Id Z) S → List Room → Type 0
+  HasSpare held rooms = (owner : List ℕ) → room_of owner rooms ≤ spare_by held owner
 
-  -- no key goes
-  abbrev pub KeepsKeys : HashMap (List ℕ) ℕ S → HashMap (List ℕ) ℕ S → Type 0
-  KeepsKeys old new = (owner : List ℕ) → HasKey old owner → HasKey new owner
+  -- each owner's ids stay, and the memory for more
+  pub record KeepsIds (old new : HashMap (List ℕ) (VecDeque Id Z) S) : Type 0 where
+    pub ids : (owner : List ℕ) → ids_by new owner ≡ ids_by old owner
+    pub spare : (owner : List ℕ) → spare_by old owner ≤ spare_by new owner
 
-  -- each number stays, and each key
-  pub record KeepsCounts (old new : HashMap (List ℕ) ℕ S) : Type 0 where
-    pub counts : (owner : List ℕ) → held_by new owner ≡ held_by old owner
-    pub keys : KeepsKeys old new
+  -- this owner's ids become these, with memory for so many more, and no other owner's change
+  pub record Gives (owner : List ℕ) (given : List Id) (room : ℕ) (old new : HashMap (List ℕ) (VecDeque Id Z) S) : Type 0 where
+    pub ids : ids_by new owner ≡ given
+    pub spare : room ≤ spare_by new owner
+    pub others : (other : List ℕ) → is_same_name owner other ≡ false → get is_same_name new other ≡ get is_same_name old other
 
-  -- this owner has one more
-  pub record AddsOne (owner : List ℕ) (old new : HashMap (List ℕ) ℕ S) : Type 0 where
-    pub counts : (other : List ℕ) → held_by new other ≡ held_by old other + one_for owner other
-    pub keys : KeepsKeys old new
+  -- the id comes to this owner's, at its place, in memory that it has
+  abbrev pub PutsId : List ℕ → Id → HashMap (List ℕ) (VecDeque Id Z) S → HashMap (List ℕ) (VecDeque Id Z) S → Type 0
+  PutsId owner id old new =
+      let ids = ids_by old owner in
+      Gives owner (insert ids (ids_below id ids) id) (spare_by old owner - 1) old new
 
-  -- this owner has one less
-  pub record TakesOne (owner : List ℕ) (old new : HashMap (List ℕ) ℕ S) : Type 0 where
-    pub counts : (other : List ℕ) → held_by new other + one_for owner other ≡ held_by old other
-    pub keys : KeepsKeys old new
+  -- the id goes from this owner's, and leaves its memory
+  abbrev pub TakesId : List ℕ → Id → HashMap (List ℕ) (VecDeque Id Z) S → HashMap (List ℕ) (VecDeque Id Z) S → Type 0
+  TakesId owner id old new =
+      let ids = ids_by old owner in
+      Gives owner (remove ids (ids_below id ids)) (spare_by old owner) old new
 
-  -- one owner has one less, and then the other one more
-  pub record MovesOne (from to : List ℕ) (old new : HashMap (List ℕ) ℕ S) : Type 0 where
-    pub counts : (other : List ℕ) → held_by new other + one_for from other ≡ held_by old other + one_for to other
-    pub keys : KeepsKeys old new
-
-  -- this owner has none, and keeps its key if it has room
-  pub record ClearsCount (owner : List ℕ) (room : ℕ) (old new : HashMap (List ℕ) ℕ S) : Type 0 where
-    pub counts : (other : List ℕ) → held_by new other ≡ (if is_same_name owner other then 0 else held_by old other)
-    pub keys : (other : List ℕ) → (is_same_name owner other ≡ true → 0 < room) → HasKey old other → HasKey new other
+  -- this owner's ids get one more at their end
+  abbrev pub Appends : List ℕ → Id → HashMap (List ℕ) (VecDeque Id Z) S → HashMap (List ℕ) (VecDeque Id Z) S → Type 0
+  Appends owner id old new =
+      (other : List ℕ) → ids_by new other ≡ ids_by old other ++ (if is_same_name owner other then id ∷ [] else [])

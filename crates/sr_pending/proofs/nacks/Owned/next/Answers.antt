@@ -1,21 +1,29 @@
-use Rattle.std.proofs.Common.{List, length, ap, sym, ◌∙◌, arith}
-use Rattle.std.specs.Option.{option_copied}
+use Rattle.std.proofs.Common.{◌≡◌, ◌∷◌, true, ap, sym, ◌∙◌}
+use Rattle.std.specs.VecDeque.Iter.{deque_iter_rest}
+use Rattle.std.proofs.lemmas.List.Elements.{All-rest}
+use Rattle.std.proofs.lemmas.Option.{get_or_from_slice_get}
+use Rattle.sr_ids.specs.declared.id.Id.{Id}
 use Rattle.sr_pending.specs.declared.nack.Nack.{Nack}
-use Rattle.sr_pending.proofs.ListingLemmas.{owned_by_named-first, owned_by_named-past}
+use Rattle.sr_pending.specs.Pending.{has_id}
+use Rattle.sr_pending.specs.steps.Listing.{looked_up}
+use Rattle.sr_pending.specs.steps.Search.{IsPlace}
+use Rattle.sr_pending.proofs.ListingLemmas.{looked_up-first}
+use Rattle.sr_pending.proofs.SearchLemmas.{nack_with-place}
 use Rattle.sr_pending.proofs.nacks.Owned.next.Goals as goal
 
-pub returns-then-is_wanted-clause-some : goal.returns-then-is_wanted-clause-some
-returns-then-is_wanted-clause-some c =
-    let owner = option_copied c.loop-nack.self-inside.owner in
+pub invariant_of-self-2 : goal.invariant_of-self-2
+invariant_of-self-2 c =
+    let nacks = c.self.inside.nacks.now.items in
+    (c.self.invariant.0, All-rest (λ (id : Id). has_id id nacks ≡ true) c.in_ok-id.field-0.now (deque_iter_rest c.next.new.self) (deque_iter_rest c.self.inside.ids) c.in_ok-id.ensures.steps c.self.invariant.1)
+
+pub returns-clause-some : goal.returns-clause-some
+returns-clause-some c =
+    let nacks = c.self.inside.nacks.now.items in
+    let id = c.in_ok-id.field-0.now in
+    let place = c.pending_place.result in
+    let at : IsPlace id nacks place = c.pending_place.ensures in
+    let rest = deque_iter_rest c.next.new.self in
+    let read : c.index.result.now ≡ at.nack = c.index.ensures ∙ get_or_from_slice_get nacks place at.nack c.index.result.now at.here in
     sym c.self.view_is
-    ∙ sym c.loop-nack.invariant
-    ∙ owned_by_named-first owner _ c.in-Some.nack.now _ c.in-Some.ensures.steps (sym c.is_wanted.ensures ∙ c.if-is_wanted.true)
-
-pub loop-nack-smaller : goal.loop-nack-smaller
-loop-nack-smaller c = omega (arith, ap (λ (l : List Nack). length l) c.in-Some.ensures.steps)
-
-pub loop-nack-preserved : goal.loop-nack-preserved
-loop-nack-preserved c =
-    let owner = option_copied c.loop-nack.self-inside.owner in
-    sym (owned_by_named-past owner _ c.in-Some.nack.now _ c.in-Some.ensures.steps (sym c.is_wanted.ensures ∙ c.if-is_wanted.false))
-    ∙ c.loop-nack.invariant
+    ∙ looked_up-first nacks id at.nack (deque_iter_rest c.self.inside.ids) rest c.in_ok-id.ensures.steps (nack_with-place id nacks place at.nack c.self.invariant.0 at.here at.same)
+    ∙ ap (λ (x : Nack). x ∷ looked_up nacks rest) (sym read)

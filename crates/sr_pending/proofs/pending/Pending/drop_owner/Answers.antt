@@ -1,8 +1,10 @@
-use Rattle.std.proofs.Common.{◌-◌, ◌≤◌, not, arith}
+use Rattle.std.proofs.Common.{◌-◌, ◌≤◌, not, List, [], subst, sym, arith}
 use Rattle.std.specs.VecDeque.{deque_len, deque_capacity}
+use Rattle.sr_pending.specs.declared.nack.Nack.{Nack}
 use Rattle.sr_pending.specs.Pending.{is_same_name, room_of}
-use Rattle.sr_pending.specs.steps.Held.{ClearsCount}
-use Rattle.sr_pending.proofs.HeldLemmas.{IsCounted-without_owner, Keeps-cleared}
+use Rattle.sr_pending.specs.steps.Held.{Gives, HasSpare, IsIndexed}
+use Rattle.sr_pending.proofs.HeldLemmas.{IsIndexed-without_owner}
+use Rattle.sr_pending.proofs.SpareLemmas.{HasSpare-given}
 use Rattle.sr_pending.proofs.SoundLemmas.{IsSound-filter}
 use Rattle.sr_pending.proofs.pending.Pending.drop_owner.Goals as goal
 
@@ -15,7 +17,8 @@ invariant_of-self c =
     let held = c.self.inside.held in
     let now = c.clear.new.held in
     let owner = c.args.owner.now in
-    let clears : ClearsCount owner (room_of owner rooms) held now = rw (c.room_for.ensures, c.as_slice.ensures.value) at c.clear.ensures in
-    let counted = IsCounted-without_owner held old.items c.self.invariant.counted owner (room_of owner rooms) now new.items clears c.keep_others.ensures.items in
-    let keyed = Keeps-cleared held now owner rooms c.self.invariant.keyed clears in
-    IsSound-filter old.items new.items rooms rooms held now (deque_capacity old - deque_len old) (deque_capacity new - deque_len new) c.self.invariant counted keyed (λ n. not (is_same_name n.owner owner)) c.keep_others.ensures.items (omega arith) spare
+    let gives : Gives owner [] (room_of owner rooms) held now = rw (c.room_for.ensures, c.as_slice.ensures.value) at c.clear.ensures in
+    let left = IsIndexed-without_owner held old.items c.self.invariant.indexed now owner (room_of owner rooms) gives in
+    let indexed : IsIndexed now new.items = subst (λ (l : List Nack). IsIndexed now l) (sym c.keep_others.ensures.items) left in
+    let spared : HasSpare now rooms = HasSpare-given held now owner rooms c.self.invariant.spared [] (room_of owner rooms) gives (omega arith) in
+    IsSound-filter old.items new.items rooms rooms held now (deque_capacity old - deque_len old) (deque_capacity new - deque_len new) c.self.invariant indexed spared (λ n. not (is_same_name n.owner owner)) c.keep_others.ensures.items (omega arith) spare

@@ -1,7 +1,6 @@
 use Rattle.std.proofs.Common.{ℕ, not, List, drop, filter, ap, ◌∙◌}
 use Rattle.sr_pending.specs.declared.nack.Nack.{Nack}
 use Rattle.sr_pending.specs.Pending.{PendingState, is_below}
-use Rattle.sr_pending.proofs.ListingLemmas.{owned_by_named-none}
 use Rattle.sr_pending.proofs.SearchLemmas.{drop-below, slice_range-rest}
 use Rattle.sr_pending.proofs.pending.Pending.from_id.Goals as goal
 
@@ -9,8 +8,7 @@ pub returns : goal.returns
 returns c =
     let list = c.self.inside.nacks.items in
     let start = c.args.start in
-    c.new.ensures
-    ∙ owned_by_named-none _
+    c.all.ensures
     ∙ c.range.ensures.rest
     ∙ slice_range-rest list c.count_below-from.result _ c.self.inside.nacks.ok.0
     ∙ ap (λ (n : ℕ). drop n list) c.count_below-from.ensures.value

@@ -1,23 +1,40 @@
-use Rattle.std.proofs.Common.{◌-◌, ◌≤◌, refl, arith}
+use Rattle.std.proofs.Common.{◌-◌, ◌≤◌, not, refl, arith}
 use Rattle.std.specs.VecDeque.{deque_len, deque_capacity}
-use Rattle.std.proofs.lemmas.Option.{slice_get_within}
 use Rattle.sr_pending.specs.declared.nack.Nack.{Nack}
+use Rattle.sr_pending.specs.Pending.{is_same_id, without}
+use Rattle.sr_pending.specs.steps.Held.{HasSpare, spare_by}
 use Rattle.sr_pending.specs.steps.Room.{rooms_in_all}
-use Rattle.sr_pending.proofs.HeldLemmas.{IsCounted-set, Keeps-used, held_by-le, held_by-some}
+use Rattle.sr_pending.proofs.HeldLemmas.{AreRisingIds-held, IsIndexed-moved, IsIndexed-taken, ids_below-among, owner-read}
+use Rattle.sr_pending.proofs.NackLemmas.{AreRising-filter}
+use Rattle.sr_pending.proofs.SpareLemmas.{HasSpare-given, HasSpare-used}
 use Rattle.sr_pending.proofs.SoundLemmas.{IsSound-changed}
 use Rattle.sr_pending.proofs.pending.Pending.move_to.Goals as goal
 
-pub move_one-requires-clause-some : goal.move_one-requires-clause-some
-move_one-requires-clause-some c =
-    let nacks = c.self.inside.nacks.items in
+pub take_id-requires-clause-rising : goal.take_id-requires-clause-rising
+take_id-requires-clause-rising c =
+    AreRisingIds-held c.self.inside.held c.self.inside.nacks.items c.self.invariant.rising c.self.invariant.indexed c.name-2.result.now
+
+pub take_id-requires-clause-among : goal.take_id-requires-clause-among
+take_id-requires-clause-among c =
+    let list = c.self.inside.nacks.items in
     let place = c.pending_place-place.result in
     let at = c.pending_place-place.ensures in
-    rw c.name-2.ensures (held_by-some c.self.inside.held nacks c.self.invariant.counted place c.index.result.now (slice_get_within nacks place at.nack at.here) c.index.ensures)
+    let from = c.name-2.result.now in
+    let owned = owner-read list place c.index.result.now at.nack from at.here c.index.ensures c.name-2.ensures in
+    ids_below-among c.self.inside.held list c.self.invariant.rising c.self.invariant.indexed place at.nack at.here c.args.id from at.same owned
 
-pub move_one-requires-clause-few : goal.move_one-requires-clause-few
-move_one-requires-clause-few c =
-    let nacks = c.self.inside.nacks in
-    omega (arith, held_by-le c.self.inside.held nacks.items c.self.invariant.counted c.name-3.result.now, nacks.ok, nacks.small)
+pub put_id-requires-clause-rising : goal.put_id-requires-clause-rising
+put_id-requires-clause-rising c =
+    let list = c.self.inside.nacks.items in
+    let place = c.pending_place-place.result in
+    let at = c.pending_place-place.ensures in
+    let held = c.self.inside.held in
+    let mid = c.take_id.new.held in
+    let from = c.name-2.result.now in
+    let rising = c.self.invariant.rising in
+    let owned = owner-read list place c.index.result.now at.nack from at.here c.index.ensures c.name-2.ensures in
+    let taken = IsIndexed-taken held list rising c.self.invariant.indexed place at.nack at.here c.args.id from at.same owned mid c.take_id.ensures in
+    AreRisingIds-held mid (without c.args.id list) (AreRising-filter (λ n. not (is_same_id n.id c.args.id)) list rising) taken c.name-3.result.now
 
 pub invariant_of-self : goal.invariant_of-self
 invariant_of-self c =
@@ -26,14 +43,19 @@ invariant_of-self c =
     let rooms = c.self.inside.rooms.items in
     let left = c.use_room.new.rooms.items in
     let held = c.self.inside.held in
-    let now = c.move_one.new.held in
+    let mid = c.take_id.new.held in
+    let now = c.put_id.new.held in
+    let place = c.pending_place-place.result in
     let at = c.pending_place-place.ensures in
-    let moves = rw c.name-3.ensures at (rw c.name-2.ensures at c.move_one.ensures) in
-    let given : Nack = record { id = c.args.id; owner = c.args.owner; time = c.args.time; count = c.args.count } in
-    let change : Nack → Nack = λ n. record { id = n.id; owner = c.args.owner; time = c.args.time; count = c.args.count } in
+    let from = c.name-2.result.now in
+    let to = c.args.owner in
+    let given : Nack = record { id = c.args.id; owner = to; time = c.args.time; count = c.args.count } in
+    let change : Nack → Nack = λ n. record { id = n.id; owner = to; time = c.args.time; count = c.args.count } in
     let spare : deque_capacity old - deque_len old ≤ deque_capacity new - deque_len new = omega (arith, c.give_at.ensures.len, c.give_at.ensures.capacity) in
     let used : rooms_in_all left ≤ rooms_in_all rooms = omega (arith, c.use_room.ensures.in_all) in
-    let within = slice_get_within old.items c.pending_place-place.result at.nack at.here in
-    let counted = IsCounted-set held old.items c.self.invariant.counted c.pending_place-place.result c.index.result.now within c.index.ensures now given new.items moves c.give_at.ensures.set in
-    let keyed = Keeps-used held now c.args.owner rooms c.self.invariant.keyed left moves.keys (rw c.name.ensures at c.use_room.ensures.used) in
-    IsSound-changed old.items new.items rooms left held now (deque_capacity old - deque_len old) (deque_capacity new - deque_len new) c.self.invariant counted keyed c.args.id change (λ _. refl) (λ _. (c.requires.time, c.requires.count)) c.give_at.ensures.items used spare
+    let owned = owner-read old.items place c.index.result.now at.nack from at.here c.index.ensures c.name-2.ensures in
+    let puts = rw c.name-3.ensures at c.put_id.ensures in
+    let indexed = IsIndexed-moved held old.items c.self.invariant.rising c.self.invariant.indexed place at.nack at.here from given at.same owned mid now c.take_id.ensures puts new.items c.give_at.ensures.set in
+    let first : HasSpare mid rooms = HasSpare-given held mid from rooms c.self.invariant.spared _ (spare_by held from) c.take_id.ensures (c.self.invariant.spared from) in
+    let spared = HasSpare-used mid now to rooms first c.args.id left puts (rw c.name.ensures at c.use_room.ensures.used) in
+    IsSound-changed old.items new.items rooms left held now (deque_capacity old - deque_len old) (deque_capacity new - deque_len new) c.self.invariant indexed spared c.args.id change (λ _. refl) (λ _. (c.requires.time, c.requires.count)) c.give_at.ensures.items used spare

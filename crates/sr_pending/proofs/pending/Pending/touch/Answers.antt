@@ -1,9 +1,10 @@
-use Rattle.std.proofs.Common.{◌≡◌, ◌-◌, ◌≤◌, false, ap, sym, refl, arith}
+use Rattle.std.proofs.Common.{◌≡◌, ◌-◌, ◌≤◌, false, List, ap, subst, sym, refl, arith}
 use Rattle.std.specs.VecDeque.{deque_len, deque_capacity}
 use Rattle.sr_pending.specs.declared.nack.Nack.{Nack}
 use Rattle.sr_pending.specs.Pending.{PendingState, has_id}
+use Rattle.sr_pending.specs.steps.Held.{IsIndexed}
 use Rattle.sr_pending.proofs.ChangeLemmas.{map-none}
-use Rattle.sr_pending.proofs.HeldLemmas.{IsCounted-changed}
+use Rattle.sr_pending.proofs.HeldLemmas.{IsIndexed-changed}
 use Rattle.sr_pending.proofs.SoundLemmas.{IsSound-changed}
 use Rattle.sr_pending.proofs.pending.Pending.touch.Goals as goal
 
@@ -15,8 +16,9 @@ invariant_of-self c =
     let change : Nack → Nack = λ n. record { id = n.id; owner = n.owner; time = c.args.time; count = c.args.count } in
     let spare : deque_capacity old - deque_len old ≤ deque_capacity new - deque_len new = omega (arith, c.touch_at.ensures.len, c.touch_at.ensures.capacity) in
     let held = c.self.inside.held in
-    let counted = IsCounted-changed held old.items c.self.invariant.counted c.args.id change (λ _. refl) new.items c.touch_at.ensures.items in
-    IsSound-changed old.items new.items rooms rooms held held (deque_capacity old - deque_len old) (deque_capacity new - deque_len new) c.self.invariant counted c.self.invariant.keyed c.args.id change (λ _. refl) (λ _. (c.requires.time, c.requires.count)) c.touch_at.ensures.items (omega arith) spare
+    let changed = IsIndexed-changed held old.items c.self.invariant.indexed c.args.id change (λ _. refl) (λ _. refl) in
+    let indexed : IsIndexed held new.items = subst (λ (l : List Nack). IsIndexed held l) (sym c.touch_at.ensures.items) changed in
+    IsSound-changed old.items new.items rooms rooms held held (deque_capacity old - deque_len old) (deque_capacity new - deque_len new) c.self.invariant indexed c.self.invariant.spared c.args.id change (λ _. refl) (λ _. (c.requires.time, c.requires.count)) c.touch_at.ensures.items (omega arith) spare
 
 pub returns-in-None-clause-nacks : goal.returns-in-None-clause-nacks
 returns-in-None-clause-nacks c =

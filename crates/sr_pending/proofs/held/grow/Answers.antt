@@ -1,0 +1,18 @@
+use Rattle.std.proofs.Common.{rules, ◌≡◌, ◌-◌, Some, ◌∙◌, arith}
+use Rattle.std.specs.HashMap.{Updates}
+use Rattle.std.specs.VecDeque.{deque_capacity, deque_len}
+use Rattle.sr_pending.specs.Pending.{is_same_name}
+use Rattle.sr_pending.specs.steps.Held.{ids_by, spare_by}
+use Rattle.sr_pending.proofs.HeldLemmas.{KeepsIds-update}
+use Rattle.sr_pending.proofs.held.grow.Goals as goal
+
+pub returns-in-Some-clause-keeps : goal.returns-in-Some-clause-keeps
+returns-in-Some-clause-keeps c =
+    let owner = c.args.owner.now in
+    let held = c.args.held.now in
+    let was = c.in-Some.ids.now in
+    let is = c.reserve.new.self in
+    let updates : Updates is_same_name held (c.get_mut.follows.lender is) owner (Some is) = search rules in
+    let had : was.items ≡ ids_by held owner = search rules in
+    let had_spare : spare_by held owner ≡ deque_capacity was - deque_len was = search rules in
+    KeepsIds-update owner held (c.get_mut.follows.lender is) is updates (c.reserve.ensures.items ∙ had) (omega (arith, had_spare, c.reserve.ensures.len, c.reserve.ensures.capacity))
