@@ -281,7 +281,7 @@ fn judge_all(
         call.now.claim call.now.claimer.now call.now.moment call.now.entries.now.entries
         pending.now.nacks ids.now [] acts.items) }
 {
-    let claimer = Owner::new(alloc, call.claimer)?;
+    let claimer = pending.owner(alloc, call.claimer)?;
     let mut acts = Vec::new(alloc);
     let mut greatest = Id { ms: 0, seq: 0 };
     for id in ids {

@@ -46,7 +46,8 @@ impl Group {
     {
         let unread = entries.above(self.last).at_front(count);
         let last = last_of(entries.above(self.last).at_front(count), self.last);
-        let acts = acts_of(alloc, reader, moment, unread, noack)?;
+        let owner = self.pending.owner(alloc, reader)?;
+        let acts = acts_of(alloc, &owner, moment, unread, noack)?;
         self.prepare(alloc, reader, moment, last, acts)
     }
 
@@ -138,18 +139,17 @@ fn last_of(mut unread: Span<'_>, last: Id) -> Id
 /// What is done to entries that are delivered: with `noack` they are listed alone.
 fn acts_of(
     alloc: Global,
-    reader: &Name,
+    reader: &Owner,
     moment: u64,
     unread: Span<'_>,
     noack: bool,
 ) -> Result<Vec<Act>, AllocError>
     ensures { IfOk result (λ acts. acts.items ≡ map (steps.delivery_of reader.now moment noack) unread.entry) }
 {
-    let owner = Owner::new(alloc, reader)?;
     let mut rest = unread;
     let mut acts = Vec::with_capacity(alloc, rest.len())?;
     while let Some(entry) = rest.next() {
-        acts.push(act_of(&owner, moment, entry.id(), noack)?)?;
+        acts.push(act_of(reader, moment, entry.id(), noack)?)?;
     }
     Ok(acts)
 }

@@ -97,7 +97,7 @@ impl Group {
         ensures err { OnErr result (self.new.shown ≡ self.old.shown) }
         ensures kept { OnOk result (KeepsRooms self.old.rooms self.new.rooms) }
     {
-        let readies = make_ready(alloc, moves)?;
+        let readies = make_ready(alloc, &self.pending, moves)?;
         make_rooms(&mut self.pending, alloc, readies.as_slice())?;
         self.consumers.reserve(readies.len())?;
         for ready in readies {
@@ -184,36 +184,40 @@ fn take(pending: &mut Pending, call: &Call<'_>, wanted: Wanted)
 }
 
 /// The moves, each with all the memory that it takes.
-fn make_ready(alloc: Global, moves: &[Move<'_>]) -> Result<Vec<Ready>, AllocError>
+fn make_ready(
+    alloc: Global,
+    pending: &Pending,
+    moves: &[Move<'_>],
+) -> Result<Vec<Ready>, AllocError>
     ensures { IfOk result (λ readies. readies.items ≡ moves.now) }
 {
     let mut readies = Vec::with_capacity(alloc, moves.len())?;
     for one in moves {
-        readies.push(ready_of(alloc, one)?)?;
+        readies.push(ready_of(alloc, pending, one)?)?;
     }
     Ok(readies)
 }
 
 /// A move with all the memory that it takes.
-fn ready_of(alloc: Global, one: &Move<'_>) -> Result<Ready, AllocError>
+fn ready_of(alloc: Global, pending: &Pending, one: &Move<'_>) -> Result<Ready, AllocError>
     ensures { IfOk result (λ ready. ready ≡ one.now) }
 {
+    let owner = pending.owner(alloc, one.claimer)?;
     Ok(Ready {
         claimer: one.claimer.copy(alloc)?,
         claim: one.claim,
-        wanted: wanted_by(alloc, one.claimer, one.ids)?,
+        wanted: wanted_by(alloc, &owner, one.ids)?,
     })
 }
 
 /// The entries with these ids, each with the name of its claimer.
-fn wanted_by(alloc: Global, claimer: &Name, ids: &[Id]) -> Result<Vec<Wanted>, AllocError>
+fn wanted_by(alloc: Global, claimer: &Owner, ids: &[Id]) -> Result<Vec<Wanted>, AllocError>
     ensures ids { IfOk result (λ wanted. map (λ w. w.id) wanted.items ≡ ids.now) }
     ensures owners { IfOk result (λ wanted. All (λ w. w.owner ≡ claimer.now) wanted.items) }
 {
-    let owner = Owner::new(alloc, claimer)?;
     let mut wanted = Vec::with_capacity(alloc, ids.len())?;
     for id in ids {
-        let owner = owner.copy()?;
+        let owner = claimer.copy()?;
         wanted.push(Wanted { id: *id, owner })?;
     }
     Ok(wanted)

@@ -4,6 +4,7 @@ pub mod HeldLemmas
 pub mod IdsLemmas
 pub mod ListingLemmas
 pub mod NackLemmas
+pub mod OwnerLemmas
 pub mod RoomLemmas
 pub mod SearchLemmas
 pub mod SoundLemmas

@@ -268,6 +268,16 @@ impl Pending {
         }
     }
 
+    /// The owner of this name. It shares its name with the entries that it has, if it has any, and then takes no memory.
+    pub fn owner(&self, alloc: Global, name: &Name) -> Result<Owner, AllocError>
+        ensures { IfOk result (λ owner. owner ≡ name.now) }
+    {
+        match self.of(name).next() {
+            Some(nack) => nack.owner.copy(),
+            None => Owner::new(alloc, name),
+        }
+    }
+
     /// How many entries this owner has.
     pub fn count_of(&self, owner: &Name) -> usize
         ensures value { result ≡ length (owned_by owner.now self.now.nacks) }
