@@ -9,7 +9,7 @@ use crate::shown::{Act, Listed, Shown};
 use sr_bytes::Name;
 use sr_entries::{Entries, Span};
 use sr_ids::Id;
-use sr_pending::{Nack, Nacks, Owner};
+use sr_pending::{Nack, Nacks, Owner, Pending};
 use std::alloc::{AllocError, Global};
 
 impl Group {
@@ -46,8 +46,7 @@ impl Group {
     {
         let unread = entries.above(self.last).at_front(count);
         let last = last_of(entries.above(self.last).at_front(count), self.last);
-        let owner = self.pending.owner(alloc, reader)?;
-        let acts = acts_of(alloc, &owner, moment, unread, noack)?;
+        let acts = acts_of(alloc, &self.pending, reader, moment, unread, noack)?;
         self.prepare(alloc, reader, moment, last, acts)
     }
 
@@ -139,17 +138,19 @@ fn last_of(mut unread: Span<'_>, last: Id) -> Id
 /// What is done to entries that are delivered: with `noack` they are listed alone.
 fn acts_of(
     alloc: Global,
-    reader: &Owner,
+    pending: &Pending,
+    reader: &Name,
     moment: u64,
     unread: Span<'_>,
     noack: bool,
 ) -> Result<Vec<Act>, AllocError>
     ensures { IfOk result (λ acts. acts.items ≡ map (steps.delivery_of reader.now moment noack) unread.entry) }
 {
+    let owner = pending.owner(alloc, reader)?;
     let mut rest = unread;
     let mut acts = Vec::with_capacity(alloc, rest.len())?;
     while let Some(entry) = rest.next() {
-        acts.push(act_of(reader, moment, entry.id(), noack)?)?;
+        acts.push(act_of(&owner, moment, entry.id(), noack)?)?;
     }
     Ok(acts)
 }

@@ -199,6 +199,13 @@ impl Group {
         self.pending.all()
     }
 
+    /// What is pending for a consumer, by rising id. Takes no memory.
+    pub fn pending_of<'a>(&'a self, consumer: &'a Name) -> Nacks<'a>
+        ensures { result ≡ owned_by consumer.now self.now.shown.nacks }
+    {
+        self.pending.of(consumer)
+    }
+
     /// When the consumer's pending entry that was delivered longest ago was delivered. None if it has none.
     pub fn oldest(&self, consumer: &Name) -> Option<u64>
         ensures { result ≡ oldest_of (owned_by consumer.now self.now.shown.nacks) }

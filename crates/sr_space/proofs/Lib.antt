@@ -18,5 +18,6 @@ pub mod WaitingLemmas
 pub mod WaitingLaws
 pub mod RisingLemmas
 pub mod NameOrderLemmas
+pub mod DeadLemmas
 pub mod SnapLemmas
 pub mod CommitLemmas

@@ -11,7 +11,9 @@ mod parts;
 
 use crate::Space;
 use names::{is_among, names_in_order};
-use parts::{gone_entries, is_there, live_consumers, rates_by_class, stranded_entries};
+use parts::{
+    gone_entries, is_there, live_consumers, pending_for, rates_by_class, stranded_entries,
+};
 use sr_bytes::Name;
 use sr_group::Group;
 use sr_ids::Id;
@@ -88,7 +90,7 @@ fn are_too_many(stream: &Stream, group: &Group, dead: &[Name]) -> bool
     ensures { result ≡ nat_lt most_stranded
         (length (left_in dead.now stream.now.shown.entries group.now.shown.nacks)) }
 {
-    let mut nacks = group.pending();
+    let mut nacks = pending_for(group, dead);
     let mut room = MAX_STRANDED;
     while let Some(nack) = nacks.next() {
         if is_among(dead, nack.owner.name()) && is_there(stream, nack.id) {

@@ -3,13 +3,13 @@ ghost use Rattle.std.specs.Prelude.{◌≡◌, ◌++◌, IfOk, OnOk, length, map
 ghost use Rattle.sr_entries.specs.Entries.{entry_with, has_id};
 ghost use Rattle.sr_pending.specs.Pending.{owned_by};
 ghost use Rattle.sr_policy.specs.Rules.{class_of, live_of, rate_of, weight_of as weight};
-ghost use Rattle.sr_space.specs.Snap.{gone_in, listed, live_in, rates_in, stranded_as, stranded_in};
+ghost use Rattle.sr_space.specs.Snap.{gone_in, listed, live_in, of_dead, rates_in, stranded_as, stranded_in};
 
 use crate::snap::names::{classes_of, is_among};
 use sr_bytes::{Fields, Name};
 use sr_group::Group;
 use sr_ids::Id;
-use sr_pending::Nack;
+use sr_pending::{Nack, Nacks};
 use sr_policy::{Live, Policy, Rates, Stranded, weight_of};
 use sr_stream::Stream;
 use std::alloc::{AllocError, Global};
@@ -21,6 +21,16 @@ pub(super) fn is_there(stream: &Stream, id: Id) -> bool
     match stream.get(id) {
         Some(_entry) => true,
         None => false,
+    }
+}
+
+/// Pending entries among which are those of the dead: of one dead consumer these alone, and of several all.
+pub(super) fn pending_for<'a>(group: &'a Group, dead: &'a [Name]) -> Nacks<'a>
+    ensures { of_dead dead.now result ≡ of_dead dead.now group.now.shown.nacks }
+{
+    match dead {
+        [consumer] => group.pending_of(consumer),
+        _ => group.pending(),
     }
 }
 
@@ -36,7 +46,7 @@ pub(super) fn stranded_entries(
         ≡ stranded_in policy.now dead.now stream.now.shown.entries group.now.shown.nacks) }
 {
     let mut list = Vec::new(alloc);
-    let mut nacks = group.pending();
+    let mut nacks = pending_for(group, dead);
     while let Some(nack) = nacks.next() {
         if is_among(dead, nack.owner.name()) {
             push_stranded(&mut list, alloc, policy, stream, nack)?;
@@ -94,7 +104,7 @@ pub(super) fn gone_entries(
     ensures { IfOk result (λ list. list.items ≡ gone_in dead.now stream.now.shown.entries group.now.shown.nacks) }
 {
     let mut list = Vec::new(alloc);
-    let mut nacks = group.pending();
+    let mut nacks = pending_for(group, dead);
     while let Some(nack) = nacks.next() {
         if is_among(dead, nack.owner.name()) && !is_there(stream, nack.id) {
             list.push((nack.id, nack.owner.name().copy(alloc)?))?;
