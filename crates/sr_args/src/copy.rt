@@ -1,6 +1,6 @@
 ghost use Rattle.std.specs.Prelude.{◌≡◌, IfOk};
 
-use crate::{Call, PendingAsked, Trim};
+use crate::{Call, PendingAsked, ReadAsked, Streams, Trim};
 use sr_bytes::{Fields, Name};
 use sr_ids::{Ids, Spec};
 use std::alloc::{AllocError, Global};
@@ -171,18 +171,7 @@ impl Call {
                 block,
                 no_ack,
                 streams,
-            } => {
-                let streams = streams.copy(alloc)?;
-                let (group, consumer) = copy_two(alloc, group, consumer)?;
-                Ok(Call::Xreadgroup {
-                    group,
-                    consumer,
-                    count: *count,
-                    block: *block,
-                    no_ack: *no_ack,
-                    streams,
-                })
-            }
+            } => copy_group_read(alloc, group, consumer, *count, *block, *no_ack, streams),
             Call::Xpending {
                 key,
                 group,
@@ -235,6 +224,30 @@ fn copy_acknowledgement(
     let (key, group) = copy_two(alloc, key, group)?;
     let ids = ids.copy(alloc)?;
     Ok(Call::Xack { key, group, ids })
+}
+
+/// A copy of XREADGROUP with these parts.
+fn copy_group_read(
+    alloc: Global,
+    group: &Name,
+    consumer: &Name,
+    count: Option<i64>,
+    block: Option<u64>,
+    no_ack: bool,
+    streams: &Streams<ReadAsked>,
+) -> Result<Call, AllocError>
+    ensures { IfOk result (λ copy. copy ≡ Call.Xreadgroup group.now consumer.now count block no_ack streams.now) }
+{
+    let streams = streams.copy(alloc)?;
+    let (group, consumer) = copy_two(alloc, group, consumer)?;
+    Ok(Call::Xreadgroup {
+        group,
+        consumer,
+        count,
+        block,
+        no_ack,
+        streams,
+    })
 }
 
 /// A copy of XPENDING with these parts.
