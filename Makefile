@@ -1,6 +1,14 @@
 # All that is needed is the Rattle toolchain, whose command is `rt`, and the python3 that it runs on.
 
 .PHONY: run try demo test replay histories plans check memory refusals compare clients soak bench bench-net bench-solver check-solver
+.PHONY: given given-server given-driver given-checker given-demo given-sessions given-requests given-groups given-moves given-streams
+.PHONY: given-refused given-histories given-refusals given-plans
+
+# The programs, where a proof leaves them, and a make that does two things at a time.
+SERVER = crates/sr_server/out/sr_server
+DRIVER = crates/book_driver/out/book_driver
+CHECKER = crates/plan_check/out/plan_check
+TWO = $(MAKE) --no-print-directory --output-sync -j2
 
 # The histories of which each allocation is refused in turn.
 REFUSED = examples/histories/*.history tests/histories/runs.history tests/histories/waiting.history tests/histories/adding.history \
@@ -19,60 +27,76 @@ try:
 demo:
 	@cd crates/sr_server && rt run -- --stdio < /dev/null
 	@cd crates/plan_check && rt run < stdin > /dev/null
-	@scripts/demo crates/sr_server/out/sr_server crates/plan_check/out/plan_check
+	@scripts/demo $(SERVER) $(CHECKER)
 
 # The whole gate: every proof from nothing, the must-fail edits, the tests and the program's stored run. Then the programs that
-# were proved replay the sessions and histories of the README, of examples/ and of tests/, read policy files and check plans, and the
+# were proved are given the sessions, histories and plans of the README, of examples/ and of tests/, two runs at a time, and the
 # demo has to print what the README shows.
 test:
 	rt ci
-	@scripts/replay crates/sr_server/out/sr_server README.md examples/*.session tests/sessions/*.session
-	@tests/requests.py crates/sr_server/out/sr_server
-	@tests/many_stranded.py crates/sr_server/out/sr_server
-	@tests/random_groups.py crates/sr_server/out/sr_server
-	@tests/bulk_move.py crates/sr_server/out/sr_server
-	@tests/long_stream.py crates/sr_server/out/sr_server
-	@tests/bytes.py crates/sr_server/out/sr_server
-	@if command -v cc > /dev/null; then tests/refused_memory.py crates/sr_server/out/sr_server; \
-	    else echo 'refused_memory: left out, since there is no cc'; fi
-	@tests/listening.py crates/sr_server/out/sr_server
-	@scripts/policies crates/sr_server/out/sr_server examples/policies/*.toml
-	@tests/policies.py crates/sr_server/out/sr_server
-	@scripts/histories crates/book_driver/out/book_driver examples/histories/*.history tests/histories/*.history
-	@scripts/replay_at crates/book_driver/out/book_driver tests/moments/*.session
-	@tests/heavy_entry.py crates/book_driver/out/book_driver
-	@if command -v cc > /dev/null; then scripts/refusals crates/book_driver/out/book_driver $(REFUSED); \
-	    else echo 'refusals: left out, since there is no cc'; fi
-	@scripts/plans crates/plan_check/out/plan_check examples/plans/*.plan
-	@tests/plan_check.py crates/plan_check/out/plan_check
-	@scripts/demo crates/sr_server/out/sr_server crates/plan_check/out/plan_check README.md
+	@$(TWO) given
+	@tests/listening.py $(SERVER)
 
-# The sessions alone.
+# What the programs are given, each by itself. They have to be proved and built before.
+given: given-server given-driver given-checker given-demo
+given-server: given-sessions given-requests given-groups given-moves given-streams given-refused
+given-driver: given-histories given-refusals
+given-checker: given-plans
+
+given-sessions:
+	@scripts/replay $(SERVER) README.md examples/*.session tests/sessions/*.session
+	@scripts/policies $(SERVER) examples/policies/*.toml
+	@tests/policies.py $(SERVER)
+
+given-requests:
+	@tests/requests.py $(SERVER)
+	@tests/many_stranded.py $(SERVER)
+	@tests/bytes.py $(SERVER)
+
+given-groups:
+	@tests/random_groups.py $(SERVER)
+
+given-moves:
+	@tests/bulk_move.py $(SERVER)
+
+given-streams:
+	@tests/long_stream.py $(SERVER)
+
+given-refused:
+	@if command -v cc > /dev/null; then tests/refused_memory.py $(SERVER); \
+	    else echo 'refused_memory: left out, since there is no cc'; fi
+
+given-histories:
+	@scripts/histories $(DRIVER) examples/histories/*.history tests/histories/*.history
+	@scripts/replay_at $(DRIVER) tests/moments/*.session
+	@tests/heavy_entry.py $(DRIVER)
+
+given-refusals:
+	@if command -v cc > /dev/null; then scripts/refusals $(DRIVER) $(REFUSED); \
+	    else echo 'refusals: left out, since there is no cc'; fi
+
+given-plans:
+	@scripts/plans $(CHECKER) examples/plans/*.plan
+	@tests/plan_check.py $(CHECKER)
+
+given-demo:
+	@scripts/demo $(SERVER) $(CHECKER) README.md
+
+# The sessions alone, and all else that the server is given.
 replay:
 	@cd crates/sr_server && rt run -- --stdio < /dev/null
-	@scripts/replay crates/sr_server/out/sr_server README.md examples/*.session tests/sessions/*.session
-	@tests/requests.py crates/sr_server/out/sr_server
-	@tests/many_stranded.py crates/sr_server/out/sr_server
-	@tests/random_groups.py crates/sr_server/out/sr_server
-	@tests/bulk_move.py crates/sr_server/out/sr_server
-	@tests/long_stream.py crates/sr_server/out/sr_server
-	@tests/bytes.py crates/sr_server/out/sr_server
-	@if command -v cc > /dev/null; then tests/refused_memory.py crates/sr_server/out/sr_server; \
-	    else echo 'refused_memory: left out, since there is no cc'; fi
-	@tests/listening.py crates/sr_server/out/sr_server
+	@$(TWO) given-server
+	@tests/listening.py $(SERVER)
 
 # The histories alone: events handed to a book, with their answers.
 histories:
 	@cd crates/book_driver && rt run -- < /dev/null
-	@scripts/histories crates/book_driver/out/book_driver examples/histories/*.history tests/histories/*.history
-	@scripts/replay_at crates/book_driver/out/book_driver tests/moments/*.session
-	@tests/heavy_entry.py crates/book_driver/out/book_driver
+	@$(TWO) given-histories
 
 # The plans alone: replies checked against the problems beside them.
 plans:
 	@cd crates/plan_check && rt run < stdin
-	@scripts/plans crates/plan_check/out/plan_check examples/plans/*.plan
-	@tests/plan_check.py crates/plan_check/out/plan_check
+	@$(TWO) given-plans
 
 # One crate while it is written: make check C=sr_ids
 check:
@@ -88,42 +112,42 @@ memory:
 # succeeds at the second try. It needs cc.
 refusals:
 	@cd crates/book_driver && rt run -- < /dev/null
-	@scripts/refusals crates/book_driver/out/book_driver $(REFUSED)
+	@$(TWO) given-refusals
 
 # Builds the server, sends it and a Redis server (Debian: redis-server) the same random commands, also over sockets with readers that
 # block, and prints replies that differ.
 compare:
 	@cd crates/sr_server && rt run -- --stdio < /dev/null
-	@python3 bench/compare.py crates/sr_server/out/sr_server
-	@python3 bench/compare_net.py crates/sr_server/out/sr_server
+	@python3 bench/compare.py $(SERVER)
+	@python3 bench/compare_net.py $(SERVER)
 
 # Builds the server and has real clients use it over a socket: redis-cli and libraries of Python, Node.js, Ruby and PHP, those that are
 # installed (docs/CLIENTS.md).
 clients:
 	@cd crates/sr_server && rt run -- --stdio < /dev/null
-	@scripts/clients crates/sr_server/out/sr_server
+	@scripts/clients $(SERVER)
 
 # Builds the server and uses it roughly over sockets for a minute, beside two honest workers who may lose nothing. By hand for longer,
 # or again with the seed that was printed: make soak SECONDS=3600 SEED=7
 soak:
 	@cd crates/sr_server && rt run -- --stdio < /dev/null
-	@scripts/soak crates/sr_server/out/sr_server $(or $(SECONDS),60) $(SEED)
+	@scripts/soak $(SERVER) $(or $(SECONDS),60) $(SEED)
 
 # Builds the server, times it on streams of requests over a pipe, and tells what memory a client can claim, as docs/BENCH.md describes.
 bench:
 	@cd crates/sr_server && rt run -- --stdio < /dev/null
-	@python3 bench/streams.py crates/sr_server/out/sr_server
-	@python3 bench/claims.py crates/sr_server/out/sr_server
-	@python3 bench/groups.py crates/sr_server/out/sr_server
-	@python3 bench/trims.py crates/sr_server/out/sr_server
-	@python3 bench/records.py crates/sr_server/out/sr_server
+	@python3 bench/streams.py $(SERVER)
+	@python3 bench/claims.py $(SERVER)
+	@python3 bench/groups.py $(SERVER)
+	@python3 bench/trims.py $(SERVER)
+	@python3 bench/records.py $(SERVER)
 	@cd crates/book_driver && rt run -- < /dev/null
-	@python3 bench/recovery.py crates/sr_server/out/sr_server crates/book_driver/out/book_driver
+	@python3 bench/recovery.py $(SERVER) $(DRIVER)
 
 # Builds the server and times it over sockets, by turns with a Redis server if that is installed (Debian: redis-server redis-tools).
 bench-net:
 	@cd crates/sr_server && rt run -- --stdio < /dev/null
-	@python3 bench/net.py crates/sr_server/out/sr_server
+	@python3 bench/net.py $(SERVER)
 
 # Times the solver on the families of problems of docs/BENCH.md, by turns with LEMON's network simplex on the same problems if its
 # headers are installed (Debian: liblemon-dev), and alone if not.
