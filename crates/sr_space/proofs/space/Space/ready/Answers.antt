@@ -1,4 +1,4 @@
-use Rattle.std.proofs.Common.{ap, not, List, sym, ◌∙◌}
+use Rattle.std.proofs.Common.{ap, not, List, sym, ◌∙◌, rules}
 use Rattle.sr_args.specs.declared.call.Call.{Call}
 use Rattle.sr_args.specs.declared.reads.ReadAsked.{ReadAsked}
 use Rattle.sr_space.specs.Blocking.{finds_nothing}
@@ -28,3 +28,6 @@ returns-else-not-have_group c = λ moment.
     ∙ ap (λ (l : List (Key × ReadAsked)). has_answer name keys l) c.as_slice-streams.ensures.value
     ∙ sym (has_answer-read (in_63_bits moment) name read.consumer read.count read.no_ack keys streams)
     ∙ ap (λ (call : Call). not (finds_nothing keys moment call)) (sym read.is)
+
+pub returns-then-not-have_group : goal.returns-then-not-have_group
+returns-then-not-have_group c = search rules
