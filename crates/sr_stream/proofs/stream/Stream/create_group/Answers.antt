@@ -1,4 +1,4 @@
-use Rattle.std.proofs.Common.{◌≡◌, false, ap, sym, ◌∙◌}
+use Rattle.std.proofs.Common.{◌≡◌, false, ap, sym, ◌∙◌, rules}
 use Rattle.sr_group.specs.Group.{GroupState, new_group}
 use Rattle.sr_stream.specs.Groups.{ByName, has_group, shown_groups, with_group}
 use Rattle.sr_stream.specs.Stream.{StreamState, KeptStream, with_groups}
@@ -39,3 +39,9 @@ returns-clause-shown c =
     let put : c.put.new.groups.items ≡ with_group name group items = rw (c.in_ok-name.ensures, c.in_ok-reserve.ensures.items) at c.put.ensures in
     let shown = ap shown_groups put ∙ shown-with_group name group items ∙ ap (λ (s : GroupState). with_group name s (shown_groups items)) c.new-group.ensures in
     ap (λ (g : ByName GroupState). with_groups g stream) shown ∙ ap (λ (s : KeptStream). with_groups (with_group name (new_group c.args.last) s.shown.groups) s.shown) c.self.view_is
+
+pub returns-then-has_group-clause-shown : goal.returns-then-has_group-clause-shown
+returns-then-has_group-clause-shown c = search rules
+
+pub returns-then-has_group-clause-busy : goal.returns-then-has_group-clause-busy
+returns-then-has_group-clause-busy c = search rules
