@@ -120,20 +120,21 @@ def read(reader, count, *options):
     return request(b"XREADGROUP", b"GROUP", b"g", reader, b"COUNT", b"%d" % count, *options, b"STREAMS", b"s", b">")
 
 
-def fill(server, entries, pending, *options):
-    """A stream of that many entries, of which the first are delivered to A. The bytes that this took for each."""
+def fill(server, entries, pending, *options, each=None):
+    """A stream of that many entries, of which the first go to A by one call, or `each` by a call. The bytes that each took."""
     server.ask(adds(entries) + request(b"XGROUP", b"CREATE", b"s", b"g", b"0") + read(b"A", 1))
     before = server.memory()
-    server.ask(read(b"A", pending, *options))
+    each = each or pending
+    server.ask(read(b"A", each, *options) * (pending // each))
     return (server.memory() - before) / pending
 
 
-def bytes_of_pending(server, pending):
+def bytes_of_pending(server, pending, each=None):
     """The bytes of a pending entry: those of a delivery with it, less those of one with NOACK, which leaves but its reply behind."""
     with server as connection:
-        kept = fill(connection, pending + MORE, pending)
+        kept = fill(connection, pending + MORE, pending, each=each)
     with server as connection:
-        return kept - fill(connection, pending + MORE, pending, b"NOACK")
+        return kept - fill(connection, pending + MORE, pending, b"NOACK", each=each)
 
 
 def read_and_acknowledge(pending):
@@ -158,6 +159,13 @@ def from_random_places(words, right):
     return made
 
 
+def of_ten(words, text):
+    """A command about the ten entries that B has, which come after those of A."""
+    def made(pending):
+        return read(b"B", 10) + request(*words) * TIMES, TIMES, lambda replies: replies.count(text) == TIMES
+    return made
+
+
 def all_of(text):
     return lambda replies: replies.count(text) == TIMES
 
@@ -167,6 +175,9 @@ ROWS = [
     ("XACK of the oldest", one_by_one(lambda n: [b"XACK", b"s", b"g", b"1-%d" % n], all_of(b":1\r\n"))),
     ("XPENDING s g", one_by_one(lambda n: [b"XPENDING", b"s", b"g"], all_of(b"*4\r\n:"))),
     ("XPENDING s g 1-N + 10", from_random_places(lambda n: [b"XPENDING", b"s", b"g", b"1-%d" % n, b"+", b"10"], all_of(b"*10\r\n"))),
+    ("XREADGROUP of B's ten from 0, others A's", of_ten(
+        [b"XREADGROUP", b"GROUP", b"g", b"B", b"COUNT", b"9", b"STREAMS", b"s", b"0"], b"$1\r\ns\r\n*9\r\n")),
+    ("XPENDING s g - + 10 B, others A's", of_ten([b"XPENDING", b"s", b"g", b"-", b"+", b"10", b"B"], b"*10\r\n*4\r\n")),
     ("XCLAIM s g B 0 1-N, N rising", one_by_one(lambda n: [b"XCLAIM", b"s", b"g", b"B", b"0", b"1-%d" % n], all_of(b"*1\r\n*2\r\n"))),
     ("XAUTOCLAIM s g B 0 1-N COUNT 10", from_random_places(
         lambda n: [b"XAUTOCLAIM", b"s", b"g", b"B", b"0", b"1-%d" % n, b"COUNT", b"10"], all_of(b"*10\r\n*2\r\n"))),
@@ -206,7 +217,9 @@ def main(program, *numbers):
             least = [min(times) for times in zip(*runs)]
             ratio = f"{least[1]:9.2f}{least[0] / least[1]:7.2f}" if len(least) > 1 else ""
             print(f"{name:48}{pending:9,}{least[0]:11.2f}{ratio}", flush=True)
-    print(f"bytes of memory per pending entry, of {numbers[-1]:,}:", ", ".join(f"{bytes_of_pending(each, numbers[-1]):.0f}" for each in servers))
+    for each in (None, 1):
+        taken = ", ".join(f"{bytes_of_pending(server, numbers[-1], each):.0f}" for server in servers)
+        print(f"bytes of memory per pending entry, of {numbers[-1]:,}, delivered {'one by one' if each else 'by one call'}: {taken}")
     return failed
 
 
