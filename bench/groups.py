@@ -99,11 +99,13 @@ class Redis:
         path = os.path.join(self.folder.name, "redis")
         options = ["--port", "0", "--unixsocket", path, "--save", "", "--appendonly", "no", "--dir", self.folder.name]
         self.process = subprocess.Popen([self.program, *options], stdout=subprocess.DEVNULL)
-        while not os.path.exists(path):
-            time.sleep(0.02)
         self.socket = socket.socket(socket.AF_UNIX)
-        self.socket.connect(path)
-        return Connection(self.socket.fileno(), self.socket.fileno(), self.process)
+        while True:
+            try:
+                self.socket.connect(path)
+                return Connection(self.socket.fileno(), self.socket.fileno(), self.process)
+            except (FileNotFoundError, ConnectionRefusedError):
+                time.sleep(0.02)
 
     def __exit__(self, *_):
         self.socket.close()
