@@ -1,5 +1,5 @@
 ghost use Rattle.std.specs.Prelude.{◌≡◌};
-ghost use Rattle.sr_args.specs.Blocking.{block_of, without_block};
+ghost use Rattle.sr_args.specs.Blocking.{block_of};
 
 use crate::Call;
 
@@ -14,35 +14,6 @@ impl Call {
             Call::Xread { block, .. } => *block,
             Call::Xreadgroup { block, .. } => *block,
             _ => None,
-        }
-    }
-
-    /// The same call, that does not wait. Takes no memory.
-    pub fn without_block(self) -> Call
-        ensures { result ≡ without_block self }
-    {
-        match self {
-            Call::Xread { count, streams, .. } => Call::Xread {
-                count,
-                block: None,
-                streams,
-            },
-            Call::Xreadgroup {
-                group,
-                consumer,
-                count,
-                no_ack,
-                streams,
-                ..
-            } => Call::Xreadgroup {
-                group,
-                consumer,
-                count,
-                block: None,
-                no_ack,
-                streams,
-            },
-            call => call,
         }
     }
 }

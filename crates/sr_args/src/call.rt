@@ -66,7 +66,6 @@ pub struct PendingAsked {
 /// A command that acts on the keys of one server.
 ///
 /// Source: Redis documentation, the page of each command.
-#[derive(Drop)]
 pub enum Call {
     /// PING, with the message to send back.
     Ping {
@@ -212,6 +211,142 @@ pub enum Call {
         group: Name,
         listing: Option<PendingAsked>,
     },
+}
+
+// A function of its own, so that a caller that lets go of one is proved without looking at its parts.
+impl Drop for Call {
+    fn drop(self) {
+        match self {
+            Call::Ping { message: _ } => {}
+            Call::Xadd {
+                key: _,
+                make: _,
+                trim: _,
+                id: _,
+                fields: _,
+            } => {}
+            Call::Xtrim { key: _, trim: _ } => {}
+            Call::Xdel { key: _, ids: _ } => {}
+            Call::Xlen { key: _ } => {}
+            Call::Xrange {
+                key: _,
+                start: _,
+                end: _,
+                count: _,
+            } => {}
+            Call::Xrevrange {
+                key: _,
+                end: _,
+                start: _,
+                count: _,
+            } => {}
+            Call::Xack {
+                key: _,
+                group: _,
+                ids: _,
+            } => {}
+            Call::XgroupCreate {
+                key: _,
+                group: _,
+                from: _,
+                make: _,
+            } => {}
+            Call::XgroupSetId {
+                key: _,
+                group: _,
+                from: _,
+            } => {}
+            Call::XgroupDestroy { key: _, group: _ } => {}
+            Call::XgroupCreateConsumer {
+                key: _,
+                group: _,
+                consumer: _,
+            } => {}
+            Call::XgroupDelConsumer {
+                key: _,
+                group: _,
+                consumer: _,
+            } => {}
+            Call::XinfoStream { key: _ } => {}
+            Call::XinfoGroups { key: _ } => {}
+            Call::XinfoConsumers { key: _, group: _ } => {}
+            Call::Xautoclaim {
+                key: _,
+                group: _,
+                consumer: _,
+                least_idle: _,
+                start: _,
+                count: _,
+                just_ids: _,
+            } => {}
+            Call::Xclaim {
+                key: _,
+                group: _,
+                consumer: _,
+                least_idle: _,
+                ids: _,
+                time: _,
+                count: _,
+                just_ids: _,
+            } => {}
+            Call::Xread {
+                count: _,
+                block: _,
+                streams: _,
+            } => {}
+            Call::Xreadgroup {
+                group: _,
+                consumer: _,
+                count: _,
+                block: _,
+                no_ack: _,
+                streams: _,
+            } => {}
+            Call::Xpending {
+                key: _,
+                group: _,
+                listing: _,
+            } => {}
+        }
+    }
+}
+
+impl Call {
+    ghost use Rattle.std.specs.Prelude.{◌≡◌};
+    ghost use Rattle.sr_args.specs.Blocking.{without_block};
+
+    /// The same call, that does not wait. Takes no memory.
+    pub fn without_block(self) -> Call
+        ensures { result ≡ without_block self }
+    {
+        match self {
+            Call::Xread {
+                count,
+                block: _,
+                streams,
+            } => Call::Xread {
+                count,
+                block: None,
+                streams,
+            },
+            Call::Xreadgroup {
+                group,
+                consumer,
+                count,
+                block: _,
+                no_ack,
+                streams,
+            } => Call::Xreadgroup {
+                group,
+                consumer,
+                count,
+                block: None,
+                no_ack,
+                streams,
+            },
+            call => call,
+        }
+    }
 }
 
 /// What a request asks for.

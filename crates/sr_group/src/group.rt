@@ -17,12 +17,22 @@ use std::marker::Model;
 /// them until all have their growths.
 ///
 /// Source: Redis documentation, "Streams", section "Consumer groups".
-#[derive(Drop)]
 pub struct Group {
     pub(crate) last: Id,
     /// By name, in byte order.
     pub(crate) consumers: Vec<Consumer>,
     pub(crate) pending: Pending,
+}
+
+// A function of its own, so that a caller that lets go of one is proved without looking at its parts.
+impl Drop for Group {
+    fn drop(self) {
+        let Group {
+            last: _,
+            consumers: _,
+            pending: _,
+        } = self;
+    }
 }
 
 impl Model for Group {

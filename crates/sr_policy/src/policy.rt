@@ -11,13 +11,24 @@ use std::marker::Model;
 /// which class, and at which rate.
 ///
 /// Source: docs/POLICY.md.
-#[derive(Drop)]
 pub struct Policy {
     class_field: Option<Name>,
     // The names in `limits`, once more, so that they can be lent as one list.
     consumers: Vec<Name>,
     limits: Numbers,
     rates: Vec<(Name, Numbers)>,
+}
+
+// A function of its own, so that a caller that lets go of one is proved without looking at its parts.
+impl Drop for Policy {
+    fn drop(self) {
+        let Policy {
+            class_field: _,
+            consumers: _,
+            limits: _,
+            rates: _,
+        } = self;
+    }
 }
 
 impl Model for Policy {

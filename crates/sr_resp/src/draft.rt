@@ -16,11 +16,17 @@ use std::marker::Model;
 /// Its first part is kept as it is, and the others as their text, so that it fills one buffer.
 ///
 /// Source: RESP2 protocol specification, "RESP protocol description".
-#[derive(Drop)]
 pub struct Draft {
     first: First,
     rest: Vec<u8>,
     ghost others: { IsSpelled rest.items } by { IsSpelled-prop rest.items },
+}
+
+// A function of its own, so that a caller that lets go of one is proved without looking at its parts.
+impl Drop for Draft {
+    fn drop(self) {
+        let Draft { first: _, rest: _ } = self;
+    }
 }
 
 impl Model for Draft {

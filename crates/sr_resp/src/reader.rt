@@ -33,7 +33,6 @@ impl From<AllocError> for ReadFault {
 /// Reads the requests of a stream that comes in pieces of any size.
 ///
 /// Source: RESP2 protocol specification, "Sending commands to a Redis server".
-#[derive(Drop)]
 pub struct Reader {
     /// The complete requests that are not handed out yet, oldest first.
     waiting: VecDeque<Request>,
@@ -47,6 +46,20 @@ pub struct Reader {
     failed: bool,
     /// How many bytes were looked at.
     looked: u64,
+}
+
+// A function of its own, so that a caller that lets go of one is proved without looking at its parts.
+impl Drop for Reader {
+    fn drop(self) {
+        let Reader {
+            waiting: _,
+            rest: _,
+            stage: _,
+            places: _,
+            failed: _,
+            looked: _,
+        } = self;
+    }
 }
 
 impl Model for Reader {

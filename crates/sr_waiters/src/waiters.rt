@@ -27,9 +27,15 @@ impl Blocked {
 }
 
 /// Reads that wait for entries, in the order in which they blocked, each session once.
-#[derive(Drop)]
 pub struct Waiters {
     reads: IndexMap<u64, Blocked, RandomState>,
+}
+
+// A function of its own, so that a caller that lets go of one is proved without looking at its parts.
+impl Drop for Waiters {
+    fn drop(self) {
+        let Waiters { reads: _ } = self;
+    }
 }
 
 impl Model for Waiters {
