@@ -161,6 +161,14 @@ def from_random_places(words, right):
     return made
 
 
+def each_once(words, right):
+    """A command for each of as many ids, all over the pending entries and in no order."""
+    def made(pending):
+        places = random.Random(1).sample(range(1, pending + 1), TIMES)
+        return b"".join(request(*words(n)) for n in places), TIMES, right
+    return made
+
+
 def of_ten(words, text):
     """A command about the ten entries that B has, which come after those of A."""
     def made(pending):
@@ -175,6 +183,7 @@ def all_of(text):
 ROWS = [
     ("XREADGROUP COUNT 10 and XACK of these", read_and_acknowledge),
     ("XACK of the oldest", one_by_one(lambda n: [b"XACK", b"s", b"g", b"1-%d" % n], all_of(b":1\r\n"))),
+    ("XACK of one anywhere", each_once(lambda n: [b"XACK", b"s", b"g", b"1-%d" % n], all_of(b":1\r\n"))),
     ("XPENDING s g", one_by_one(lambda n: [b"XPENDING", b"s", b"g"], all_of(b"*4\r\n:"))),
     ("XPENDING s g 1-N + 10", from_random_places(lambda n: [b"XPENDING", b"s", b"g", b"1-%d" % n, b"+", b"10"], all_of(b"*10\r\n"))),
     ("XREADGROUP of B's ten from 0, others A's", of_ten(
