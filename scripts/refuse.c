@@ -1,18 +1,30 @@
-// Refuses one allocation of a program, as a full memory would: that call of malloc or realloc returns null.
+// Refuses one allocation of a program, as a full memory would: that call of malloc or realloc returns null. And tells at the end of the
+// process whether each block was given back, which no contract says of a drop.
 //
 // scripts/memory builds it as a library and loads it with LD_PRELOAD. REFUSE=1 refuses the first call of the process, REFUSE=2 the
-// second. When it refuses one, it writes the line `refused` to standard error. It needs glibc.
+// second, and REFUSE=0 none. When it refuses one, it writes the line `refused` to standard error; where blocks are left at the end, the line
+// `blocks left`. It needs glibc.
+#define _GNU_SOURCE
 #include <errno.h>
 #include <stdatomic.h>
 #include <stddef.h>
 #include <stdlib.h>
+#include <sys/syscall.h>
 #include <unistd.h>
 
 extern void *__libc_malloc(size_t size);
+extern void *__libc_calloc(size_t count, size_t size);
 extern void *__libc_realloc(void *block, size_t size);
+extern void __libc_free(void *block);
+
+// Gives back what libc itself keeps, as the stacks of threads that have ended.
+extern void __libc_freeres(void);
 
 // The calls up to the one that is refused; 0 or less once it was, or if none is.
 static atomic_long left;
+
+// The blocks that were handed out and not given back.
+static atomic_long blocks;
 
 __attribute__((constructor)) static void start(void)
 {
@@ -30,12 +42,49 @@ static int is_refused(void)
     return 1;
 }
 
+static void *counted(void *block)
+{
+    if (block)
+        atomic_fetch_add(&blocks, 1);
+    return block;
+}
+
 void *malloc(size_t size)
 {
-    return is_refused() ? NULL : __libc_malloc(size);
+    return is_refused() ? NULL : counted(__libc_malloc(size));
+}
+
+void *calloc(size_t count, size_t size)
+{
+    return counted(__libc_calloc(count, size));
 }
 
 void *realloc(void *block, size_t size)
 {
-    return is_refused() ? NULL : __libc_realloc(block, size);
+    if (is_refused())
+        return NULL;
+    void *moved = __libc_realloc(block, size);
+    return block ? moved : counted(moved);
+}
+
+void free(void *block)
+{
+    if (block)
+        atomic_fetch_sub(&blocks, 1);
+    __libc_free(block);
+}
+
+// Called at the end of the process, which is a return from main or a call of _exit.
+__attribute__((destructor)) static void end(void)
+{
+    __libc_freeres();
+    if (atomic_load(&blocks) != 0 && write(STDERR_FILENO, "blocks left\n", 12) != 12)
+        abort();
+}
+
+void _exit(int status)
+{
+    end();
+    syscall(SYS_exit_group, status);
+    __builtin_unreachable();
 }
