@@ -1,15 +1,15 @@
 -- The memory that each owner's deque has in reserve, after a change.
 use Rattle.std.proofs.Common.{◌≡◌, ℕ, ◌≤◌, Bool, true, false, List, refl, ap, subst, sym, ◌∙◌, arith}
 use Rattle.std.specs.HashMap.{HashMap}
-use Rattle.std.specs.declared.collections.VecDeque.{VecDeque}
 use Rattle.std.specs.Cmp.Lexicographic.{bytes_decides}
 use Rattle.sr_ids.specs.declared.id.Id.{Id}
 use Rattle.sr_pending.specs.declared.room.Room.{Room}
 use Rattle.sr_pending.specs.Pending.{UsesRoom, is_same_name, room_of}
+use Rattle.sr_pending.specs.steps.Blocks.{Laid}
 use Rattle.sr_pending.specs.steps.Held.{Gives, HasSpare, PutsId, spare_by, spare_in}
 
 -- each owner's deque finds its room still
-module _ {Z S : Type 0} (held new : HashMap (List ℕ) (VecDeque Id Z) S) (owner : List ℕ) (rooms : List Room) (spared : HasSpare held rooms) where
+module _ {S : Type 0} (held new : HashMap (List ℕ) (Laid Id) S) (owner : List ℕ) (rooms : List Room) (spared : HasSpare held rooms) where
   pub HasSpare-used : (id : Id) (left : List Room) → PutsId owner id held new → UsesRoom owner rooms left → HasSpare new left
   HasSpare-used id left gives uses other = by (is_same_name owner other) refl
     where

@@ -1,3 +1,4 @@
+pub mod Blocks
 pub mod Held
 pub mod Listing
 pub mod Room

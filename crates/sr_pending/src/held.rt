@@ -1,15 +1,18 @@
 ghost use Rattle.std.specs.Prelude.{◌≡◌, ◌^◌, ◌<◌, ◌≤◌, [], length, IfOk, OnOk};
-ghost use Rattle.sr_pending.specs.steps.Held.{Appends, AreRisingIds, Gives, HasKey, IsIndexed, KeepsIds, PutsId, TakesId, ids_below, ids_by, spare_by};
+ghost use Rattle.sr_pending.specs.steps.Blocks.{items_of};
+ghost use Rattle.sr_pending.specs.steps.Held.{Appends, AreRisingIds, Gives, HasKey, IsIndexed, KeepsIds, PutsId};
+ghost use Rattle.sr_pending.specs.steps.Held.{TakesId, ids_below, ids_by, spare_by};
 
 use crate::Nack;
+use crate::blocks::Blocks;
 use crate::ids::{insert_id, remove_id};
 use sr_bytes::Name;
 use sr_ids::Id;
 use std::alloc::{AllocError, Global};
-use std::collections::{HashMap, VecDeque};
+use std::collections::HashMap;
 
 /// The ids of the entries that each owner has, rising.
-pub(crate) type Held = HashMap<Name, VecDeque<Id>>;
+pub(crate) type Held = HashMap<Name, Blocks<Id>>;
 
 /// How many entries this owner has.
 pub(crate) fn held_for(held: &Held, owner: &Name) -> usize
@@ -28,7 +31,7 @@ fn add_key(held: &mut Held, alloc: Global, owner: &Name) -> Result<(), AllocErro
     ensures key { OnOk result (HasKey held.new owner.now) }
 {
     if !held.contains_key(owner) {
-        held.insert(owner.copy(alloc)?, VecDeque::new(alloc))?;
+        held.insert(owner.copy(alloc)?, Blocks::new(alloc))?;
     }
     Ok(())
 }
@@ -44,17 +47,17 @@ pub(crate) fn add_spare(
     ensures spare { OnOk result (room ≤ spare_by held.new owner.now) }
 {
     add_key(held, alloc, owner)?;
-    grow(held, owner, room)
+    grow(held, alloc, owner, room)
 }
 
 /// Makes memory for `room` more ids of this owner, which has a key.
-fn grow(held: &mut Held, owner: &Name, room: usize) -> Result<(), AllocError>
+fn grow(held: &mut Held, alloc: Global, owner: &Name, room: usize) -> Result<(), AllocError>
     requires { HasKey held.old owner.now }
     ensures keeps { KeepsIds held.old held.new }
     ensures spare { OnOk result (room ≤ spare_by held.new owner.now) }
 {
     match held.get_mut(owner) {
-        Some(ids) => ids.reserve(room),
+        Some(ids) => ids.reserve(alloc, room),
         None => Ok(()),
     }
 }
@@ -99,18 +102,18 @@ fn push_id(held: &mut Held, alloc: Global, owner: &Name, id: Id) -> Result<(), A
 {
     add_key(held, alloc, owner)?;
     if let Some(ids) = held.get_mut(owner) {
-        ids.push_back(id)?;
+        ids.push(alloc, id)?;
     }
     Ok(())
 }
 
 /// The ids of these entries, by owner.
-pub(crate) fn index_all(alloc: Global, nacks: &VecDeque<Nack>) -> Result<Held, AllocError>
-    ensures { IfOk result (λ held. IsIndexed held nacks.now.items) }
+pub(crate) fn index_all(alloc: Global, nacks: &Blocks<Nack>) -> Result<Held, AllocError>
+    ensures { IfOk result (λ held. IsIndexed held (items_of nacks.now)) }
 {
     let mut held = HashMap::new(alloc);
-    for place in 0..nacks.len() {
-        let nack = &nacks[place];
+    let mut rest = nacks.all();
+    while let Some(nack) = rest.next() {
         push_id(&mut held, alloc, nack.owner.name(), nack.id)?;
     }
     Ok(held)

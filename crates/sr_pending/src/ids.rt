@@ -1,73 +1,94 @@
-ghost use Rattle.std.specs.Prelude.{◌≡◌, ◌+◌, ◌<◌, ◌≤◌, filter};
-ghost use Rattle.std.specs.VecDeque.{deque_len, deque_capacity};
-ghost use Rattle.std.specs.VecDeque.Iter.{deque_iter_rest};
+ghost use Rattle.std.specs.Prelude.{◌≡◌, ◌+◌, ◌<◌, ◌≤◌, filter, length, not};
 ghost use Rattle.std.specs.List.{insert, remove};
 ghost use Rattle.sr_pending.specs.Pending.{is_below, is_between};
+ghost use Rattle.sr_pending.specs.steps.Blocks.{IsIn, at_of, ends_in, items_of};
 ghost use Rattle.sr_pending.specs.steps.Held.{AreRisingIds, ids_below, ids_upto};
 
+use crate::blocks::{Blocks, Place};
+use crate::run::Run;
 use sr_ids::Id;
 use std::collections::VecDeque;
-use std::collections::vec_deque::Iter;
 
-/// How many of the ids lie below this one, found by binary search.
-fn place_for(ids: &VecDeque<Id>, id: Id) -> usize
-    requires { AreRisingIds ids.now.items }
-    ensures value { result ≡ ids_below id ids.now.items }
-    ensures bound { result ≤ deque_len ids.now }
+/// Whether the last id of a block lies below this one.
+fn ids_end_below(block: &VecDeque<Id>, id: Id) -> bool
+    ensures { result ≡ ends_in (λ other. is_below other id) block.now.items }
 {
-    ids.partition_point(|other| *other < id)
-}
-
-/// How many of the ids lie at or below this one, found by binary search.
-fn place_past(ids: &VecDeque<Id>, id: Id) -> usize
-    requires { AreRisingIds ids.now.items }
-    ensures value { result ≡ ids_upto id ids.now.items }
-    ensures bound { result ≤ deque_len ids.now }
-{
-    ids.partition_point(|other| *other <= id)
-}
-
-/// The ids from `start` to `end`, both included.
-pub(crate) fn ids_between(ids: &VecDeque<Id>, start: Id, end: Id) -> Iter<'_, Id>
-    requires { AreRisingIds ids.now.items }
-    ensures { deque_iter_rest result ≡ filter (λ id. is_between start end id) ids.now.items }
-{
-    let from = place_for(ids, start);
-    let past = place_past(ids, end).max(from);
-    ids.range(from..past)
-}
-
-/// The ids above this one.
-pub(crate) fn ids_above(ids: &VecDeque<Id>, id: Id) -> Iter<'_, Id>
-    requires { AreRisingIds ids.now.items }
-    ensures { deque_iter_rest result ≡ filter (λ other. is_below id other) ids.now.items }
-{
-    ids.range(place_past(ids, id)..)
-}
-
-/// Puts the id at its place, in memory that is spare.
-pub(crate) fn insert_id(ids: &mut VecDeque<Id>, id: Id)
-    requires rising { AreRisingIds ids.old.items }
-    requires spare { deque_len ids.old < deque_capacity ids.old }
-    ensures items { ids.new.items ≡ insert ids.old.items (ids_below id ids.old.items) id }
-    ensures len { deque_len ids.new ≡ deque_len ids.old + 1 }
-    ensures capacity { deque_capacity ids.old ≤ deque_capacity ids.new }
-{
-    let place = place_for(ids, id);
-    match ids.insert(place, id) {
-        Ok(()) => {}
-        Err(_) => unreachable!(),
+    match block.back() {
+        Some(other) => *other < id,
+        None => true,
     }
 }
 
-/// Removes the id, which is among them.
-pub(crate) fn remove_id(ids: &mut VecDeque<Id>, id: Id)
-    requires rising { AreRisingIds ids.old.items }
-    requires among { ids_below id ids.old.items < deque_len ids.old }
-    ensures items { ids.new.items ≡ remove ids.old.items (ids_below id ids.old.items) }
-    ensures len { deque_len ids.new + 1 ≡ deque_len ids.old }
-    ensures capacity { deque_capacity ids.new ≡ deque_capacity ids.old }
+/// Whether the last id of a block lies at or below this one.
+fn ids_end_upto(block: &VecDeque<Id>, id: Id) -> bool
+    ensures { result ≡ ends_in (λ other. not (is_below id other)) block.now.items }
+{
+    match block.back() {
+        Some(other) => *other <= id,
+        None => true,
+    }
+}
+
+/// The first of the ids that does not lie below this one, found by binary search.
+fn place_for(ids: &Blocks<Id>, id: Id) -> Place
+    requires { AreRisingIds (items_of ids.now) }
+    ensures place { IsIn result ids.now }
+    ensures value { at_of result ids.now ≡ ids_below id (items_of ids.now) }
+{
+    let block = ids
+        .closed()
+        .partition_point(|block| ids_end_below(block, id));
+    let at = ids.block(block).partition_point(|other| *other < id);
+    Place { block, at }
+}
+
+/// The first of the ids that lies above this one, found by binary search.
+fn place_past(ids: &Blocks<Id>, id: Id) -> Place
+    requires { AreRisingIds (items_of ids.now) }
+    ensures place { IsIn result ids.now }
+    ensures value { at_of result ids.now ≡ ids_upto id (items_of ids.now) }
+{
+    let block = ids
+        .closed()
+        .partition_point(|block| ids_end_upto(block, id));
+    let at = ids.block(block).partition_point(|other| *other <= id);
+    Place { block, at }
+}
+
+/// The ids from `start` to `end`, both included.
+pub(crate) fn ids_between(ids: &Blocks<Id>, start: Id, end: Id) -> Run<'_, Id>
+    requires { AreRisingIds (items_of ids.now) }
+    ensures { result ≡ filter (λ id. is_between start end id) (items_of ids.now) }
+{
+    ids.run(place_for(ids, start), place_past(ids, end))
+}
+
+/// The ids above this one.
+pub(crate) fn ids_above(ids: &Blocks<Id>, id: Id) -> Run<'_, Id>
+    requires { AreRisingIds (items_of ids.now) }
+    ensures { result ≡ filter (λ other. is_below id other) (items_of ids.now) }
+{
+    ids.run(place_past(ids, id), ids.end())
+}
+
+/// Puts the id at its place, in the room that there is.
+pub(crate) fn insert_id(ids: &mut Blocks<Id>, id: Id)
+    requires rising { AreRisingIds (items_of ids.old) }
+    requires room { 0 < ids.old.room }
+    ensures items { items_of ids.new ≡ insert (items_of ids.old) (ids_below id (items_of ids.old)) id }
+    ensures room { ids.new.room + 1 ≡ ids.old.room }
 {
     let place = place_for(ids, id);
-    drop(ids.remove(place));
+    ids.insert(place, id);
+}
+
+/// Removes the id, which is among them.
+pub(crate) fn remove_id(ids: &mut Blocks<Id>, id: Id)
+    requires rising { AreRisingIds (items_of ids.old) }
+    requires among { ids_below id (items_of ids.old) < length (items_of ids.old) }
+    ensures items { items_of ids.new ≡ remove (items_of ids.old) (ids_below id (items_of ids.old)) }
+    ensures room { ids.new.room ≡ ids.old.room }
+{
+    let place = place_for(ids, id);
+    ids.remove(place);
 }

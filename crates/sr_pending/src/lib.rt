@@ -1,14 +1,17 @@
 //! The pending entries of a consumer group by rising id: put, moved to another owner, found, listed and removed.
 #![tactic(auto)]
 
+mod blocks;
 mod edit;
 mod held;
 mod ids;
 mod nack;
 mod nacks;
 mod owner;
+mod parts;
 mod pending;
 mod room;
+mod run;
 mod search;
 
 pub use nack::Nack;

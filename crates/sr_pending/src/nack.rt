@@ -1,9 +1,10 @@
 ghost use Rattle.std.specs.Prelude.{◌≡◌, IfOk};
+ghost use Rattle.sr_pending.specs.steps.Blocks.{items_of};
 
 use crate::Owner;
+use crate::blocks::Blocks;
 use sr_ids::Id;
 use std::alloc::{AllocError, Global};
-use std::collections::VecDeque;
 
 /// An entry that was delivered to a consumer and is not acknowledged yet.
 ///
@@ -35,12 +36,13 @@ impl Nack {
 }
 
 /// Copies of the entries.
-pub(crate) fn copies(alloc: Global, nacks: &VecDeque<Nack>) -> Result<VecDeque<Nack>, AllocError>
-    ensures { IfOk result (λ list. list.items ≡ nacks.now.items) }
+pub(crate) fn copies(alloc: Global, nacks: &Blocks<Nack>) -> Result<Blocks<Nack>, AllocError>
+    ensures { IfOk result (λ list. items_of list ≡ items_of nacks.now) }
 {
-    let mut list = VecDeque::with_capacity(alloc, nacks.len())?;
-    for place in 0..nacks.len() {
-        list.push_back(nacks[place].copy()?)?;
+    let mut list = Blocks::new(alloc);
+    let mut rest = nacks.all();
+    while let Some(nack) = rest.next() {
+        list.push(alloc, nack.copy()?)?;
     }
     Ok(list)
 }

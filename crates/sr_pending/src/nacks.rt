@@ -1,14 +1,14 @@
 ghost use Rattle.std.specs.Prelude.{◌≡◌, [], ◌∷◌, true, IfSome, IfNone};
 ghost use Rattle.std.specs.List.{All};
-ghost use Rattle.std.specs.VecDeque.Iter.{deque_iter_rest};
 ghost use Rattle.sr_pending.specs.Pending.{AreRising, first_of, has_id};
+ghost use Rattle.sr_pending.specs.steps.Blocks.{items_of};
 ghost use Rattle.sr_pending.specs.steps.Listing.{looked_up};
 
 use crate::Nack;
+use crate::blocks::Blocks;
+use crate::run::Run;
 use crate::search::pending_place;
 use sr_ids::Id;
-use std::collections::VecDeque;
-use std::collections::vec_deque::Iter;
 use std::marker::Model;
 
 /// Pending entries in rising order, looked at where they lie.
@@ -31,8 +31,8 @@ impl<'a> Model for Nacks<'a> {
 
 impl<'a> Nacks<'a> {
     /// At most `count` of these entries.
-    pub(crate) fn all(rest: Iter<'a, Nack>, count: Option<u64>) -> Nacks<'a>
-        ensures { result ≡ first_of count (deque_iter_rest rest.entry) }
+    pub(crate) fn all(rest: Run<'a, Nack>, count: Option<u64>) -> Nacks<'a>
+        ensures { result ≡ first_of count rest.entry }
     {
         Nacks {
             source: Source::All(rest),
@@ -41,14 +41,10 @@ impl<'a> Nacks<'a> {
     }
 
     /// At most `count` of the entries with these ids, which are all pending.
-    pub(crate) fn owned(
-        nacks: &'a VecDeque<Nack>,
-        ids: Iter<'a, Id>,
-        count: Option<u64>,
-    ) -> Nacks<'a>
-        requires rising { AreRising nacks.now.items }
-        requires pending { All (λ id. has_id id nacks.now.items ≡ true) (deque_iter_rest ids) }
-        ensures { result ≡ first_of count (looked_up nacks.now.items (deque_iter_rest ids.entry)) }
+    pub(crate) fn owned(nacks: &'a Blocks<Nack>, ids: Run<'a, Id>, count: Option<u64>) -> Nacks<'a>
+        requires rising { AreRising (items_of nacks.now) }
+        requires pending { All (λ id. has_id id (items_of nacks.now) ≡ true) ids }
+        ensures { result ≡ first_of count (looked_up (items_of nacks.now) ids.entry) }
     {
         Nacks {
             source: Source::Owned(Owned { nacks, ids }),
@@ -86,7 +82,7 @@ impl<'a> Nacks<'a> {
 /// Where the entries come from: the list itself, or the ids of one owner.
 #[derive(Drop)]
 enum Source<'a> {
-    All(Iter<'a, Nack>),
+    All(Run<'a, Nack>),
     Owned(Owned<'a>),
 }
 
@@ -110,10 +106,7 @@ impl<'a> Source<'a> {
         ensures { listed result ≡ listed self.now }
     {
         match self {
-            Source::All(rest) => match rest.clone() {
-                Ok(rest) => Source::All(rest),
-                Err(_) => unreachable!(),
-            },
+            Source::All(rest) => Source::All(rest.again()),
             Source::Owned(owned) => Source::Owned(owned.again()),
         }
     }
@@ -122,23 +115,23 @@ impl<'a> Source<'a> {
 /// Entries that are found by their ids.
 #[derive(Drop)]
 struct Owned<'a> {
-    nacks: &'a VecDeque<Nack>,
-    ids: Iter<'a, Id>,
+    nacks: &'a Blocks<Nack>,
+    ids: Run<'a, Id>,
 }
 
 impl<'a> Model for Owned<'a> {
     ghost use Rattle.std.specs.Prelude.{◌≡◌, true, List};
     ghost use Rattle.std.specs.List.{All};
-    ghost use Rattle.std.specs.VecDeque.Iter.{deque_iter_rest};
     ghost use Rattle.sr_pending.specs.declared.nack.Nack.{Nack};
     ghost use Rattle.sr_pending.specs.Pending.{AreRising, has_id};
+    ghost use Rattle.sr_pending.specs.steps.Blocks.{items_of};
     ghost use Rattle.sr_pending.specs.steps.Listing.{looked_up};
 
     ghost Value = { List Nack };
 
-    ghost view = { λ o. looked_up o.nacks.now.items (deque_iter_rest o.ids) };
+    ghost view = { λ o. looked_up (items_of o.nacks.now) o.ids };
 
-    ghost invariant = { λ o. AreRising o.nacks.now.items × All (λ id. has_id id o.nacks.now.items ≡ true) (deque_iter_rest o.ids) };
+    ghost invariant = { λ o. AreRising (items_of o.nacks.now) × All (λ id. has_id id (items_of o.nacks.now) ≡ true) o.ids };
 }
 
 impl<'a> Owned<'a> {
@@ -149,19 +142,16 @@ impl<'a> Owned<'a> {
         ensures ended { IfNone result (self.new ≡ []) }
     {
         let id = *self.ids.next()?;
-        Some(&self.nacks[pending_place(self.nacks, id)])
+        Some(self.nacks.at(pending_place(self.nacks, id)))
     }
 
     /// The same entries once more.
     fn again(&self) -> Owned<'a>
         ensures { result ≡ self.now }
     {
-        match self.ids.clone() {
-            Ok(ids) => Owned {
-                nacks: self.nacks,
-                ids,
-            },
-            Err(_) => unreachable!(),
+        Owned {
+            nacks: self.nacks,
+            ids: self.ids.again(),
         }
     }
 }

@@ -1,15 +1,16 @@
-use crate::edit::{give_at, keep_others, put_at, remove_at, touch_at};
+use crate::blocks::Blocks;
+use crate::edit::{give_at, touch_at};
 use crate::held::{Held, add_spare, clear, held_for, index_all, put_id, take_id};
 use crate::ids::{ids_above, ids_between};
 use crate::nack::copies;
 use crate::nacks::Nacks;
 use crate::room::{Room, add_room, in_all, room_for, use_room};
-use crate::search::{above, count_below, nothing, pending_place, place_of, range_of};
+use crate::search::{above, pending_place, place_below, place_of, range_of};
 use crate::{Nack, Owner};
 use sr_bytes::Name;
 use sr_ids::Id;
 use std::alloc::{AllocError, Global};
-use std::collections::{HashMap, VecDeque};
+use std::collections::HashMap;
 use std::marker::Model;
 
 /// The pending entries of a consumer group, by rising id.
@@ -18,7 +19,7 @@ use std::marker::Model;
 ///
 /// Source: Redis documentation, "Streams", section "Consumer groups".
 pub struct Pending {
-    nacks: VecDeque<Nack>,
+    nacks: Blocks<Nack>,
     rooms: Vec<Room>,
     held: Held,
 }
@@ -35,23 +36,26 @@ impl Drop for Pending {
 }
 
 impl Model for Pending {
-    ghost use Rattle.std.specs.Prelude.{◌-◌};
-    ghost use Rattle.std.specs.VecDeque.{deque_len, deque_capacity};
     ghost use Rattle.sr_pending.specs.Pending.{PendingState};
+    ghost use Rattle.sr_pending.specs.steps.Blocks.{items_of};
     ghost use Rattle.sr_pending.specs.steps.Sound.{IsSound};
 
     ghost Value = { PendingState };
 
-    ghost view = { λ p. record { nacks = p.nacks.items; rooms = p.rooms.items } };
+    ghost view = { λ p. record { nacks = items_of p.nacks; rooms = p.rooms.items } };
 
-    ghost invariant = { λ p. IsSound p.nacks.items p.rooms.items p.held (deque_capacity p.nacks - deque_len p.nacks) };
+    ghost invariant = { λ p. IsSound (items_of p.nacks) p.rooms.items p.held p.nacks.room };
 }
 
 impl Pending {
-    ghost use Rattle.std.specs.Prelude.{◌≡◌, ◌+◌, ◌^◌, ◌<◌, ◌≤◌, [], true, false, not, filter, length, OnOk, OnErr, IfOk, IfSome, IfNone};
+    ghost use Rattle.std.specs.Prelude.{◌≡◌, ◌+◌, ◌^◌, ◌<◌, ◌≤◌, [], true, false, not, filter, length, OnOk, OnErr};
+    ghost use Rattle.std.specs.Prelude.{IfOk, IfSome, IfNone};
     ghost use Rattle.std.specs.Option.{option_copied};
     ghost use Rattle.std.specs.List.{All};
-    ghost use Rattle.sr_pending.specs.Pending.{AreRising, IsCountable, KeepsRooms, Reserves, UsesRoom, greatest_pending, has_id, is_below, least_pending, moved, nack_with, owned_by, owned_by_named, pending_above, pending_between, first_of, room_of, touched, with_nack, without, without_owner};
+    ghost use Rattle.sr_pending.specs.Pending.{AreRising, IsCountable, KeepsRooms, Reserves, UsesRoom};
+    ghost use Rattle.sr_pending.specs.Pending.{greatest_pending, has_id, is_below, least_pending, moved, nack_with};
+    ghost use Rattle.sr_pending.specs.Pending.{owned_by, owned_by_named, pending_above, pending_between, first_of};
+    ghost use Rattle.sr_pending.specs.Pending.{room_of, touched, with_nack, without, without_owner};
 
     /// No pending entries, and no room. It takes no memory.
     pub fn new(alloc: Global) -> Pending
@@ -59,7 +63,7 @@ impl Pending {
         ensures rooms { result.rooms ≡ [] }
     {
         Pending {
-            nacks: VecDeque::new(alloc),
+            nacks: Blocks::new(alloc),
             rooms: Vec::new(alloc),
             held: HashMap::new(alloc),
         }
@@ -95,8 +99,8 @@ impl Pending {
         if more == 0 {
             return Ok(());
         }
-        self.nacks
-            .reserve(in_all(self.rooms.as_slice()).saturating_add(more))?;
+        let all = in_all(self.rooms.as_slice()).saturating_add(more);
+        self.nacks.reserve(alloc, all)?;
         add_spare(&mut self.held, alloc, owner, n)?;
         add_room(&mut self.rooms, alloc, owner, more)?;
         Ok(())
@@ -112,8 +116,8 @@ impl Pending {
     {
         use_room(&mut self.rooms, nack.owner.name());
         put_id(&mut self.held, nack.owner.name(), nack.id);
-        let place = count_below(&self.nacks, nack.id);
-        put_at(&mut self.nacks, place, nack);
+        let place = place_below(&self.nacks, nack.id);
+        self.nacks.insert(place, nack);
     }
 
     /// Gives a pending entry to another owner, in the room that this one has. It takes no memory.
@@ -129,7 +133,7 @@ impl Pending {
     {
         use_room(&mut self.rooms, owner.name());
         let place = pending_place(&self.nacks, id);
-        take_id(&mut self.held, self.nacks[place].owner.name(), id);
+        take_id(&mut self.held, self.nacks.at(place).owner.name(), id);
         put_id(&mut self.held, owner.name(), id);
         give_at(
             &mut self.nacks,
@@ -167,8 +171,8 @@ impl Pending {
         match place_of(&self.nacks, id) {
             None => false,
             Some(place) => {
-                take_id(&mut self.held, self.nacks[place].owner.name(), id);
-                remove_at(&mut self.nacks, place);
+                take_id(&mut self.held, self.nacks.at(place).owner.name(), id);
+                self.nacks.remove(place);
                 true
             }
         }
@@ -184,7 +188,7 @@ impl Pending {
         ensures rooms { self.new.rooms ≡ self.old.rooms }
     {
         let owned = self.count_of(owner);
-        keep_others(&mut self.nacks, owner);
+        self.nacks.keep_others(owner, owned);
         clear(
             &mut self.held,
             owner,
@@ -208,7 +212,7 @@ impl Pending {
         ensures { option_copied result ≡ nack_with id self.now.nacks }
     {
         match place_of(&self.nacks, id) {
-            Some(place) => Some(&self.nacks[place]),
+            Some(place) => Some(self.nacks.at(place)),
             None => None,
         }
     }
@@ -229,7 +233,7 @@ impl Pending {
         match owner {
             None => Nacks::all(range_of(&self.nacks, start, end), count),
             Some(owner) => match self.held.get(owner) {
-                None => Nacks::all(nothing(&self.nacks), count),
+                None => Nacks::all(self.nacks.nothing(), count),
                 Some(ids) => Nacks::owned(&self.nacks, ids_between(ids, start, end), count),
             },
         }
@@ -245,7 +249,7 @@ impl Pending {
         match owner {
             None => Nacks::all(above(&self.nacks, id), count),
             Some(owner) => match self.held.get(owner) {
-                None => Nacks::all(nothing(&self.nacks), count),
+                None => Nacks::all(self.nacks.nothing(), count),
                 Some(ids) => Nacks::owned(&self.nacks, ids_above(ids, id), count),
             },
         }
@@ -255,7 +259,7 @@ impl Pending {
     pub fn all(&self) -> Nacks<'_>
         ensures { result ≡ self.now.nacks }
     {
-        Nacks::all(self.nacks.iter(), None)
+        Nacks::all(self.nacks.all(), None)
     }
 
     /// The entries from `start` on.
@@ -264,8 +268,8 @@ impl Pending {
     pub fn from_id(&self, start: Id) -> Nacks<'_>
         ensures { result ≡ filter (λ nack. not (is_below nack.id start)) self.now.nacks }
     {
-        let from = count_below(&self.nacks, start);
-        Nacks::all(self.nacks.range(from..), None)
+        let from = place_below(&self.nacks, start);
+        Nacks::all(self.nacks.run(from, self.nacks.end()), None)
     }
 
     /// The entries of this owner.
@@ -273,8 +277,8 @@ impl Pending {
         ensures { result ≡ owned_by owner.now self.now.nacks }
     {
         match self.held.get(owner) {
-            None => Nacks::all(nothing(&self.nacks), None),
-            Some(ids) => Nacks::owned(&self.nacks, ids.iter(), None),
+            None => Nacks::all(self.nacks.nothing(), None),
+            Some(ids) => Nacks::owned(&self.nacks, ids.all(), None),
         }
     }
 
@@ -300,7 +304,7 @@ impl Pending {
     pub fn least_id(&self) -> Option<Id>
         ensures { result ≡ least_pending self.now.nacks }
     {
-        match self.nacks.front() {
+        match self.nacks.first() {
             Some(nack) => Some(nack.id),
             None => None,
         }
@@ -310,7 +314,7 @@ impl Pending {
     pub fn greatest_id(&self) -> Option<Id>
         ensures { result ≡ greatest_pending self.now.nacks }
     {
-        match self.nacks.back() {
+        match self.nacks.last() {
             Some(nack) => Some(nack.id),
             None => None,
         }

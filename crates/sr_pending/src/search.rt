@@ -1,39 +1,65 @@
-ghost use Rattle.std.specs.Prelude.{◌≡◌, ◌≤◌, [], IfSome, IfNone, false, true};
-ghost use Rattle.std.specs.VecDeque.{deque_len};
-ghost use Rattle.std.specs.VecDeque.Iter.{deque_iter_rest};
-ghost use Rattle.sr_pending.specs.Pending.{AreRising, pending_above, pending_between, has_id};
-ghost use Rattle.sr_pending.specs.steps.Search.{IsPlace, below, upto};
+ghost use Rattle.std.specs.Prelude.{◌≡◌, ◌≤◌, [], IfSome, IfNone, false, true, not};
+ghost use Rattle.sr_pending.specs.Pending.{AreRising, pending_above, pending_between, has_id, is_below};
+ghost use Rattle.sr_pending.specs.steps.Blocks.{IsIn, at_of, ends_in, items_of};
+ghost use Rattle.sr_pending.specs.steps.Search.{IsAt, IsPlace, below, upto};
 
 use crate::Nack;
+use crate::blocks::{Blocks, Place};
+use crate::run::Run;
 use sr_ids::Id;
 use std::collections::VecDeque;
-use std::collections::vec_deque::Iter;
 
-/// How many entries lie below the id, found by binary search.
-pub(crate) fn count_below(nacks: &VecDeque<Nack>, id: Id) -> usize
-    requires { AreRising nacks.now.items }
-    ensures value { result ≡ below id nacks.now.items }
-    ensures bound { result ≤ deque_len nacks.now }
+/// Whether the last entry of a block lies below the id.
+fn ends_below(block: &VecDeque<Nack>, id: Id) -> bool
+    ensures { result ≡ ends_in (λ nack. is_below nack.id id) block.now.items }
 {
-    nacks.partition_point(|nack| nack.id < id)
+    match block.back() {
+        Some(nack) => nack.id < id,
+        None => true,
+    }
 }
 
-/// How many entries lie at or below the id, found by binary search.
-fn count_upto(nacks: &VecDeque<Nack>, id: Id) -> usize
-    requires { AreRising nacks.now.items }
-    ensures value { result ≡ upto id nacks.now.items }
-    ensures bound { result ≤ deque_len nacks.now }
+/// Whether the last entry of a block lies at or below the id.
+fn ends_upto(block: &VecDeque<Nack>, id: Id) -> bool
+    ensures { result ≡ ends_in (λ nack. not (is_below id nack.id)) block.now.items }
 {
-    nacks.partition_point(|nack| nack.id <= id)
+    match block.back() {
+        Some(nack) => nack.id <= id,
+        None => true,
+    }
+}
+
+/// The first entry that does not lie below the id, found by binary search.
+pub(crate) fn place_below(nacks: &Blocks<Nack>, id: Id) -> Place
+    requires { AreRising (items_of nacks.now) }
+    ensures place { IsIn result nacks.now }
+    ensures value { at_of result nacks.now ≡ below id (items_of nacks.now) }
+{
+    let block = nacks
+        .closed()
+        .partition_point(|block| ends_below(block, id));
+    let at = nacks.block(block).partition_point(|nack| nack.id < id);
+    Place { block, at }
+}
+
+/// The first entry that lies above the id, found by binary search.
+fn place_upto(nacks: &Blocks<Nack>, id: Id) -> Place
+    requires { AreRising (items_of nacks.now) }
+    ensures place { IsIn result nacks.now }
+    ensures value { at_of result nacks.now ≡ upto id (items_of nacks.now) }
+{
+    let block = nacks.closed().partition_point(|block| ends_upto(block, id));
+    let at = nacks.block(block).partition_point(|nack| nack.id <= id);
+    Place { block, at }
 }
 
 /// The place of the entry with this id.
-pub(crate) fn place_of(nacks: &VecDeque<Nack>, id: Id) -> Option<usize>
-    requires { AreRising nacks.now.items }
-    ensures found { IfSome result (IsPlace id nacks.now.items) }
-    ensures none { IfNone result (has_id id nacks.now.items ≡ false) }
+pub(crate) fn place_of(nacks: &Blocks<Nack>, id: Id) -> Option<Place>
+    requires { AreRising (items_of nacks.now) }
+    ensures found { IfSome result (λ place. IsAt id place nacks.now) }
+    ensures none { IfNone result (has_id id (items_of nacks.now) ≡ false) }
 {
-    let place = count_below(nacks, id);
+    let place = place_below(nacks, id);
     match nacks.get(place) {
         None => None,
         Some(nack) => { if nack.id == id { Some(place) } else { None } }
@@ -41,35 +67,26 @@ pub(crate) fn place_of(nacks: &VecDeque<Nack>, id: Id) -> Option<usize>
 }
 
 /// The place of the entry with this id, which is pending.
-pub(crate) fn pending_place(nacks: &VecDeque<Nack>, id: Id) -> usize
-    requires rising { AreRising nacks.now.items }
-    requires pending { has_id id nacks.now.items ≡ true }
-    ensures { IsPlace id nacks.now.items result }
+pub(crate) fn pending_place(nacks: &Blocks<Nack>, id: Id) -> Place
+    requires rising { AreRising (items_of nacks.now) }
+    requires pending { has_id id (items_of nacks.now) ≡ true }
+    ensures { IsAt id result nacks.now }
 {
-    count_below(nacks, id)
+    place_below(nacks, id)
 }
 
 /// The entries from `start` to `end`, both included.
-pub(crate) fn range_of(nacks: &VecDeque<Nack>, start: Id, end: Id) -> Iter<'_, Nack>
-    requires { AreRising nacks.now.items }
-    ensures { deque_iter_rest result ≡ pending_between start end nacks.now.items }
+pub(crate) fn range_of(nacks: &Blocks<Nack>, start: Id, end: Id) -> Run<'_, Nack>
+    requires { AreRising (items_of nacks.now) }
+    ensures { result ≡ pending_between start end (items_of nacks.now) }
 {
-    let from = count_below(nacks, start);
-    let past = count_upto(nacks, end).max(from);
-    nacks.range(from..past)
+    nacks.run(place_below(nacks, start), place_upto(nacks, end))
 }
 
 /// The entries above the id.
-pub(crate) fn above(nacks: &VecDeque<Nack>, id: Id) -> Iter<'_, Nack>
-    requires { AreRising nacks.now.items }
-    ensures { deque_iter_rest result ≡ pending_above id nacks.now.items }
+pub(crate) fn above(nacks: &Blocks<Nack>, id: Id) -> Run<'_, Nack>
+    requires { AreRising (items_of nacks.now) }
+    ensures { result ≡ pending_above id (items_of nacks.now) }
 {
-    nacks.range(count_upto(nacks, id)..)
-}
-
-/// None of the entries.
-pub(crate) fn nothing(nacks: &VecDeque<Nack>) -> Iter<'_, Nack>
-    ensures { deque_iter_rest result ≡ [] }
-{
-    nacks.range(0..0)
+    nacks.run(place_upto(nacks, id), nacks.end())
 }

@@ -1,6 +1,6 @@
-use Rattle.std.proofs.Common.{rules, ◌≡◌, ◌-◌, Some, ◌∙◌, arith}
+use Rattle.std.proofs.Common.{rules, ◌≡◌, Some, ◌∙◌, arith}
 use Rattle.std.specs.HashMap.{Updates}
-use Rattle.std.specs.VecDeque.{deque_capacity, deque_len}
+use Rattle.sr_pending.specs.steps.Blocks.{items_of}
 use Rattle.sr_pending.specs.Pending.{is_same_name}
 use Rattle.sr_pending.specs.steps.Held.{ids_by, spare_by}
 use Rattle.sr_pending.proofs.HeldLemmas.{KeepsIds-update}
@@ -13,6 +13,6 @@ returns-in-Some-clause-keeps c =
     let was = c.in-Some.ids.now in
     let is = c.reserve.new.self in
     let updates : Updates is_same_name held (c.get_mut.follows.lender is) owner (Some is) = search rules in
-    let had : was.items ≡ ids_by held owner = search rules in
-    let had_spare : spare_by held owner ≡ deque_capacity was - deque_len was = search rules in
-    KeepsIds-update owner held (c.get_mut.follows.lender is) is updates (c.reserve.ensures.items ∙ had) (omega (arith, had_spare, c.reserve.ensures.len, c.reserve.ensures.capacity))
+    let had : items_of was ≡ ids_by held owner = search rules in
+    let had_spare : spare_by held owner ≡ was.room = search rules in
+    KeepsIds-update owner held (c.get_mut.follows.lender is) is updates (c.reserve.ensures.items ∙ had) (omega (arith, had_spare, c.reserve.ensures.keeps))

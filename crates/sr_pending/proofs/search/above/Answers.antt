@@ -1,5 +1,6 @@
 use Rattle.std.proofs.Common.{◌≡◌, ℕ, Bool, true, false, not, drop, refl, ap, ◌∙◌}
 use Rattle.std.proofs.lemmas.List.Elements.{filter_agree}
+use Rattle.sr_pending.specs.steps.Blocks.{at_of, items_of}
 use Rattle.sr_pending.specs.declared.nack.Nack.{Nack}
 use Rattle.sr_pending.specs.Pending.{is_below}
 use Rattle.sr_pending.specs.steps.Search.{upto}
@@ -13,11 +14,11 @@ not_not false = refl
 
 pub returns : goal.returns
 returns c =
-    let nacks = c.args.nacks.now.items in
+    let nacks = items_of c.args.nacks.now in
     let id = c.args.id in
     let upto_it : Nack → Bool = λ n. not (is_below id n.id) in
-    c.range.ensures.rest
-    ∙ slice_range-rest nacks c.count_upto.result _ c.args.nacks.now.ok.0
-    ∙ ap (λ (n : ℕ). drop n nacks) c.count_upto.ensures.value
+    c.run.ensures
+    ∙ slice_range-rest nacks (at_of c.place_upto.result c.args.nacks.now) _ c.end.ensures.at
+    ∙ ap (λ (n : ℕ). drop n nacks) c.place_upto.ensures.value
     ∙ drop-Splits upto_it nacks (upto id nacks) (Splits-counted upto_it nacks (not_above_first nacks id c.requires))
     ∙ filter_agree (λ n. not (upto_it n)) (λ n. is_below id n.id) (λ n. not_not (is_below id n.id)) nacks

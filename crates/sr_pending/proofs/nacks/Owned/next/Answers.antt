@@ -1,8 +1,7 @@
 use Rattle.std.proofs.Common.{◌≡◌, ◌∷◌, true, ap, sym, ◌∙◌}
-use Rattle.std.specs.VecDeque.Iter.{deque_iter_rest}
 use Rattle.std.proofs.lemmas.List.Elements.{All-rest}
-use Rattle.std.proofs.lemmas.Option.{get_or_from_slice_get}
 use Rattle.sr_ids.specs.declared.id.Id.{Id}
+use Rattle.sr_pending.specs.steps.Blocks.{at_of, items_of}
 use Rattle.sr_pending.specs.declared.nack.Nack.{Nack}
 use Rattle.sr_pending.specs.Pending.{has_id}
 use Rattle.sr_pending.specs.steps.Listing.{looked_up}
@@ -13,17 +12,17 @@ use Rattle.sr_pending.proofs.nacks.Owned.next.Goals as goal
 
 pub invariant_of-self-2 : goal.invariant_of-self-2
 invariant_of-self-2 c =
-    let nacks = c.self.inside.nacks.now.items in
-    (c.self.invariant.0, All-rest (λ (id : Id). has_id id nacks ≡ true) c.in_ok-id.field-0.now (deque_iter_rest c.next.new.self) (deque_iter_rest c.self.inside.ids) c.in_ok-id.ensures.steps c.self.invariant.1)
+    let nacks = items_of c.self.inside.nacks.now in
+    (c.self.invariant.0, All-rest (λ (id : Id). has_id id nacks ≡ true) c.in_ok-id.field-0.now c.next.new.self c.self.inside.ids c.in_ok-id.ensures.some c.self.invariant.1)
 
 pub returns-clause-some : goal.returns-clause-some
 returns-clause-some c =
-    let nacks = c.self.inside.nacks.now.items in
+    let nacks = items_of c.self.inside.nacks.now in
     let id = c.in_ok-id.field-0.now in
-    let place = c.pending_place.result in
-    let at : IsPlace id nacks place = c.pending_place.ensures in
-    let rest = deque_iter_rest c.next.new.self in
-    let read : c.index.result.now ≡ at.nack = c.index.ensures ∙ get_or_from_slice_get nacks place at.nack c.index.result.now at.here in
+    let place = at_of c.pending_place.result c.self.inside.nacks.now in
+    let at : IsPlace id nacks place = c.pending_place.ensures.at in
+    let rest = c.next.new.self in
+    let read : c.at.result.now ≡ at.nack = let both = sym c.at.ensures ∙ at.here in cc in
     sym c.self.view_is
-    ∙ looked_up-first nacks id at.nack (deque_iter_rest c.self.inside.ids) rest c.in_ok-id.ensures.steps (nack_with-place id nacks place at.nack c.self.invariant.0 at.here at.same)
+    ∙ looked_up-first nacks id at.nack c.self.inside.ids rest c.in_ok-id.ensures.some (nack_with-place id nacks place at.nack c.self.invariant.0 at.here at.same)
     ∙ ap (λ (x : Nack). x ∷ looked_up nacks rest) (sym read)

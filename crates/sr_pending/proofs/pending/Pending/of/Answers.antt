@@ -1,5 +1,5 @@
 use Rattle.std.proofs.Common.{◌≡◌, [], true, List, ap, refl, sym, ◌∙◌}
-use Rattle.std.specs.VecDeque.Iter.{deque_iter_rest}
+use Rattle.sr_pending.specs.steps.Blocks.{items_of}
 use Rattle.sr_pending.specs.declared.nack.Nack.{Nack}
 use Rattle.sr_pending.specs.Pending.{PendingState, owned_by}
 use Rattle.sr_pending.specs.steps.Held.{ids_by, ids_in}
@@ -10,13 +10,13 @@ use Rattle.sr_pending.proofs.pending.Pending.of.Goals as goal
 pub owned-requires-clause-pending : goal.owned-requires-clause-pending
 owned-requires-clause-pending c =
     let owner = c.args.owner.now in
-    let ids = c.in-Some.ids.now.items in
+    let ids = items_of c.in-Some.ids.now in
     let found : ids ≡ ids_by c.self.inside.held owner = ap ids_in c.in-Some.ensures.value in
-    has_id-passing c.self.inside.nacks.items c.self.invariant.rising owner (λ _. true) ids (deque_iter_rest c.iter.result) (found ∙ c.self.invariant.indexed owner) (c.iter.ensures.rest ∙ sym (filter-all ids))
+    has_id-passing (items_of c.self.inside.nacks) c.self.invariant.rising owner (λ _. true) ids c.all-in-Some.result (found ∙ c.self.invariant.indexed owner) (c.all-in-Some.ensures ∙ sym (filter-all ids))
 
 pub returns-in-None : goal.returns-in-None
 returns-in-None c =
-    let list = c.self.inside.nacks.items in
+    let list = items_of c.self.inside.nacks in
     let owner = c.args.owner.now in
     let found : [] ≡ ids_by c.self.inside.held owner = ap ids_in c.in-None.ensures.value in
     c.all.ensures
@@ -27,11 +27,11 @@ returns-in-None c =
 
 pub returns-in-Some : goal.returns-in-Some
 returns-in-Some c =
-    let list = c.self.inside.nacks.items in
+    let list = items_of c.self.inside.nacks in
     let owner = c.args.owner.now in
-    let ids = c.in-Some.ids.now.items in
+    let ids = items_of c.in-Some.ids.now in
     let found : ids ≡ ids_by c.self.inside.held owner = ap ids_in c.in-Some.ensures.value in
     c.owned.ensures
-    ∙ looked_up-passing list c.self.invariant.rising owner (λ _. true) ids (deque_iter_rest c.iter.result) (found ∙ c.self.invariant.indexed owner) (c.iter.ensures.rest ∙ sym (filter-all ids))
+    ∙ looked_up-passing list c.self.invariant.rising owner (λ _. true) ids c.all-in-Some.result (found ∙ c.self.invariant.indexed owner) (c.all-in-Some.ensures ∙ sym (filter-all ids))
     ∙ ap (owned_by owner) (filter-all list)
     ∙ ap (λ (l : List Nack). owned_by owner l) (ap (λ (p : PendingState). p.nacks) c.self.view_is)

@@ -1,5 +1,5 @@
-use Rattle.std.proofs.Common.{◌≡◌, ◌-◌, ◌≤◌, false, List, ap, subst, sym, refl, arith}
-use Rattle.std.specs.VecDeque.{deque_len, deque_capacity}
+use Rattle.std.proofs.Common.{◌≡◌, ◌≤◌, false, List, ap, subst, sym, refl, arith}
+use Rattle.sr_pending.specs.steps.Blocks.{items_of}
 use Rattle.sr_pending.specs.declared.nack.Nack.{Nack}
 use Rattle.sr_pending.specs.Pending.{PendingState, has_id}
 use Rattle.sr_pending.specs.steps.Held.{IsIndexed}
@@ -14,11 +14,11 @@ invariant_of-self c =
     let new = c.touch_at.new.nacks in
     let rooms = c.self.inside.rooms.items in
     let change : Nack → Nack = λ n. record { id = n.id; owner = n.owner; time = c.args.time; count = c.args.count } in
-    let spare : deque_capacity old - deque_len old ≤ deque_capacity new - deque_len new = omega (arith, c.touch_at.ensures.len, c.touch_at.ensures.capacity) in
+    let spare : old.room ≤ new.room = omega (arith, c.touch_at.ensures.room) in
     let held = c.self.inside.held in
-    let changed = IsIndexed-changed held old.items c.self.invariant.indexed c.args.id change (λ _. refl) (λ _. refl) in
-    let indexed : IsIndexed held new.items = subst (λ (l : List Nack). IsIndexed held l) (sym c.touch_at.ensures.items) changed in
-    IsSound-changed old.items new.items rooms rooms held held (deque_capacity old - deque_len old) (deque_capacity new - deque_len new) c.self.invariant indexed c.self.invariant.spared c.args.id change (λ _. refl) (λ _. (c.requires.time, c.requires.count)) c.touch_at.ensures.items (omega arith) spare
+    let changed = IsIndexed-changed held (items_of old) c.self.invariant.indexed c.args.id change (λ _. refl) (λ _. refl) in
+    let indexed : IsIndexed held (items_of new) = subst (λ (l : List Nack). IsIndexed held l) (sym c.touch_at.ensures.items) changed in
+    IsSound-changed (items_of old) (items_of new) rooms rooms held held old.room new.room c.self.invariant indexed c.self.invariant.spared c.args.id change (λ _. refl) (λ _. (c.requires.time, c.requires.count)) c.touch_at.ensures.items (omega arith) spare
 
 pub returns-in-None-clause-nacks : goal.returns-in-None-clause-nacks
 returns-in-None-clause-nacks c =

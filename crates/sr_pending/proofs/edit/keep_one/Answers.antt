@@ -1,7 +1,7 @@
 use Rattle.std.proofs.Common.{rules, not}
 use Rattle.std.proofs.lemmas.Fn.{filter_same}
 use Rattle.sr_pending.specs.Pending.{is_same_name}
-use Rattle.sr_pending.proofs.edit.keep_others.Goals as goal
+use Rattle.sr_pending.proofs.edit.keep_one.Goals as goal
 
 pub returns-clause-items : goal.returns-clause-items
 returns-clause-items c =

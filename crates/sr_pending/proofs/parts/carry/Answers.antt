@@ -1,0 +1,43 @@
+use Rattle.std.proofs.Common.{rules, ◌≡◌, ◌+◌, ◌<◌, suc, length, drop, refl, ◌∙◌, arith}
+use Rattle.sr_pending.specs.steps.Blocks.{AreFilled}
+use Rattle.std.proofs.lemmas.List.{take-set-le}
+use Rattle.sr_pending.proofs.Carrying.{filled-at, filled-set, pushed, shifted}
+use Rattle.sr_pending.proofs.parts.carry.Goals as goal
+
+pub returns-then-len-capacity-clause-items : goal.returns-then-len-capacity-clause-items
+returns-then-len-capacity-clause-items g c =
+    let blocks = c.loop-at.closed.items in
+    let was = c.index_mut-block.result.now in
+    let is = c.push_front_reserved.new.self in
+    let within : c.loop-at.at < length blocks = search rules in
+    pushed blocks c.loop-at.at was is c.loop-at.value c.args.tail.now.items within c.index_mut-block.ensures.value c.push_front_reserved.ensures.items ∙ c.loop-at.invariant.0.items c.args.tail.now.items
+
+pub loop-at-preserved : goal.loop-at-preserved
+loop-at-preserved g c =
+    let at = c.loop-at.at in
+    let blocks = c.loop-at.closed.items in
+    let was = c.index_mut-block.result.now in
+    let is = c.shift-value.new.block in
+    let carries = c.loop-at.invariant.0 in
+    let within : at < length blocks = search rules in
+    let step : at + 1 ≡ suc at = omega arith in
+    let full : AreFilled (drop c.args.from c.args.closed.now.items) → 0 < length is.items = λ filled.
+    let had : 0 < length was.items = filled-at blocks c.args.from at was (omega arith) within c.index_mut-block.ensures.value (carries.filled filled) in
+    omega (arith, c.shift-value.ensures.len, was.ok.0, is.ok.0) in (
+      record {
+        items = λ rest. rw step (shifted blocks at was is c.loop-at.value c.shift-value.result rest within c.index_mut-block.ensures.value c.shift-value.ensures.items ∙ carries.items rest);
+        before = take-set-le c.args.from blocks at is (omega arith) ∙ carries.before;
+        blocks = carries.blocks;
+        places = carries.places;
+        filled = λ filled. filled-set blocks c.args.from at is (omega arith) (full filled) (carries.filled filled);
+      },
+      refl,
+      omega arith,
+    )
+
+pub returns-then-len-capacity-clause-filled : goal.returns-then-len-capacity-clause-filled
+returns-then-len-capacity-clause-filled g c filled =
+    let at = c.loop-at.at in
+    let is = c.push_front_reserved.new.self in
+    let full : 0 < length is.items = omega (arith, c.push_front_reserved.ensures.len, is.ok.0) in
+    filled-set c.loop-at.closed.items c.args.from at is (omega arith) full (c.loop-at.invariant.0.filled filled)

@@ -1,0 +1,24 @@
+use Rattle.std.proofs.Common.{◌≡◌, ◌+◌, ◌<◌, ◌≤◌, List, ◌++◌, length, take, ap, subst, sym, ◌∙◌, arith, Global}
+use Rattle.std.proofs.lemmas.Option.{get_or_from_slice_get}
+use Rattle.std.specs.List.{insert}
+use Rattle.std.specs.declared.collections.VecDeque.{VecDeque}
+use Rattle.sr_pending.specs.steps.Blocks.{held_in}
+use Rattle.sr_pending.proofs.Holding.{inserted}
+use Rattle.sr_pending.proofs.parts.insert_in.Goals as goal
+
+pub returns-clause-items : goal.returns-clause-items
+returns-clause-items g c =
+    let blocks = c.args.closed.now.items in
+    let now = c.make_room.new.closed.items in
+    let rest = c.make_room.new.tail.items in
+    let made = c.make_room.ensures in
+    let b = c.args.block in
+    let was = c.index_mut.result.now in
+    let is = c.put_at.new.block in
+    let read = c.index_mut.ensures.value in
+    let same : was ≡ made.is = read ∙ get_or_from_slice_get now b made.is was made.here in
+    let still : b < length now = omega (arith, c.requires.block, made.blocks, c.make_room.new.closed.ok.0) in
+    let short : c.args.at ≤ length was.items = subst (λ (d : VecDeque g.row.T.Denot Global). c.args.at ≤ length d.items) (sym same) (omega (arith, c.requires.at, made.kept)) in
+    inserted now b was is c.args.at c.args.value rest still read short c.put_at.ensures.items
+    ∙ ap (λ (l : List g.row.T.Denot). insert l (length (held_in (take b now)) + c.args.at) c.args.value) made.items
+    ∙ ap (λ (l : List (VecDeque g.row.T.Denot Global)). insert (held_in blocks ++ c.args.tail.now.items) (length (held_in l) + c.args.at) c.args.value) made.before
