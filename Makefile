@@ -55,6 +55,7 @@ given-requests:
 
 given-groups:
 	@tests/random_groups.py $(SERVER)
+	@tests/random_groups.py $(SERVER) 16000 2 4000
 
 given-moves:
 	@tests/bulk_move.py $(SERVER)

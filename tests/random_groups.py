@@ -1,11 +1,12 @@
 #!/usr/bin/env python3
 """Sends random commands of consumer groups to a server, and compares its replies with those of a plain model.
 
-usage: tests/random_groups.py PROGRAM [NUMBER [SEED]]
+usage: tests/random_groups.py PROGRAM [NUMBER [SEED [SIZE]]]
 
 The model is the one of model.py. PROGRAM is sr_server, or `redis-server` (Debian: redis-server), with which the model is compared where
 the two agree: every consumer that reads or claims is made by a command of its own first, errors count as equal, and `~` and FORCE are
-left out. NUMBER is 100,000 if not given, and the same SEED gives the same commands.
+left out. NUMBER is 100,000 if not given, and the same SEED gives the same commands. Streams are led to be small and large by turns, or
+to have SIZE entries: with some thousands lists are longer than one block of the server's.
 
 Prints how many replies differ, and the first that does; the status is 1 if any does.
 """
@@ -24,12 +25,13 @@ CONSUMERS = "ABCDE"
 
 
 class Commands:
-    """Random commands for what a model holds, which is led to be small and large by turns."""
+    """Random commands for what a model holds, which is led to be small and large by turns, or of one size."""
 
     SIZES, STEPS = (3, 20, 150, 1_000), 4_000
 
-    def __init__(self, model, seed):
+    def __init__(self, model, seed, size=None):
         self.model, self.random, self.made = model, random.Random(seed), 0
+        self.sizes = [size] if size else self.SIZES
 
     def likely(self, chance):
         return self.random.random() < chance
@@ -161,7 +163,7 @@ class Commands:
 
     def one(self):
         if self.made % self.STEPS == 0:
-            self.size = self.random.choice(self.SIZES)
+            self.size = self.random.choice(self.sizes)
         self.made += 1
         key = self.key()
         grows = len(self.model.stream(key).entries) < self.size
@@ -183,10 +185,10 @@ def with_consumer(words):
     return [words]
 
 
-def made(number, seed, for_redis):
+def made(number, seed, size, for_redis):
     """Commands, and the replies of the model."""
     model, commands, wanted = Model(), [], []
-    choice = Commands(model, seed)
+    choice = Commands(model, seed, size)
     while len(commands) < number:
         words = choice.one()
         for each in with_consumer(words) if for_redis else [words]:
@@ -201,11 +203,11 @@ def any_error(reply):
 
 
 def main():
-    if not 2 <= len(sys.argv) <= 4:
+    if not 2 <= len(sys.argv) <= 5:
         sys.exit(__doc__.split("\n\n")[1])
-    program, number, seed = (sys.argv[1:] + [NUMBER, SEED][len(sys.argv) - 2 :])[:3]
+    program, number, seed, size = (sys.argv[1:] + [NUMBER, SEED, 0][len(sys.argv) - 2 :])[:4]
     for_redis = os.path.basename(program) == "redis-server"
-    commands, wanted = made(int(number), int(seed), for_redis)
+    commands, wanted = made(int(number), int(seed), int(size), for_redis)
     replies = piped.replies_of_redis(commands) if for_redis else piped.replies_of(program, commands)
     replies = list(map(piped.without_clock, commands, replies))
     if for_redis:

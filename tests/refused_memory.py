@@ -7,6 +7,7 @@ A request that memory is refused to is answered by `-OOM out of memory`, and cha
 that says so, and has written the first of the right replies.
 
 - Commands that are sent at once: the model of model.py is not given the refused one, and what it replies to all others has to be replied.
+- Commands on a group whose lists are longer than a block, of which the first ones get all their memory: likewise.
 - A recovery under a policy, one request after the other: a refused one is sent again, and then it and all others have to be replied as
   bulk_move.py says. Before a refused RECOVER.RUN is sent again, each entry is where it was, and as it was.
 
@@ -78,6 +79,23 @@ GROUPS = [
     "XPENDING s g - + 10",
     "XGROUP DESTROY t h",
     "XINFO GROUPS t",
+]
+
+# Lists of pending entries that get their first blocks, and more entries in the middle. The commands before these get all their memory.
+FILLED = [*(f"XADD s {number}-1 a b" for number in range(1, 1501)), "XGROUP CREATE s g 0", "XREADGROUP GROUP g D COUNT 600 STREAMS s >"]
+BLOCKS = [
+    "XREADGROUP GROUP g D COUNT 700 STREAMS s >",
+    "XREADGROUP GROUP g E COUNT 20 STREAMS s >",
+    "XCLAIM s g E 0 5-1 400-1 700-1 JUSTID",
+    "XACK s g 2-1 650-1 651-1 1299-1",
+    "XAUTOCLAIM s g F 0 600 COUNT 3 JUSTID",
+    "XGROUP SETID s g 3",
+    "XREADGROUP GROUP g E COUNT 2 STREAMS s >",
+    "XPENDING s g",
+    "XPENDING s g - + 2000",
+    "XPENDING s g - + 2000 E",
+    "XGROUP DELCONSUMER s g D",
+    "XPENDING s g - + 2000",
 ]
 
 # What is pending before the small recovery of bulk_move.py is made. In the place of an idle time is whether it is long.
@@ -178,17 +196,28 @@ def compare(run, name, wanted, reply):
         run.wrong = f"{name}, {piped.difference(wanted, reply)}"
 
 
-def walk(name, run_with, needed):
+def first_behind(run_with):
+    """The number of the first allocation that a run does not make."""
+    made, not_made = 0, 1
+    while run_with(not_made).reached:
+        made, not_made = not_made, 2 * not_made
+    while made + 1 < not_made:
+        middle = (made + not_made) // 2
+        made, not_made = (middle, not_made) if run_with(middle).reached else (made, middle)
+    return not_made
+
+
+def walk(name, run_with, needed, least=1):
     """Refuses the allocations of a run in turn, up to the run that makes fewer. Tells what came of it. Some `needed` request has to be refused."""
     runs = []
     with ThreadPoolExecutor(os.cpu_count()) as pool:
-        for first in itertools.count(1, BATCH):
+        for first in itertools.count(least, BATCH):
             runs += pool.map(run_with, range(first, first + BATCH))
             if not runs[-1].reached:
                 break
     count = next(place for place, run in enumerate(runs) if not run.reached)
     runs = runs[: count + 1]
-    wrong = [f"allocation {number}: {run.wrong}" for number, run in enumerate(runs, 1) if run.wrong]
+    wrong = [f"allocation {number}: {run.wrong}" for number, run in enumerate(runs, least) if run.wrong]
     if not any(needed in run.refused for run in runs):
         wrong.append(f"no {needed} was refused")
     refused, ended = sum(len(run.refused) for run in runs), sum(run.ended for run in runs)
@@ -204,11 +233,17 @@ def main():
     with tempfile.TemporaryDirectory() as folder:
         library, path, policy = (os.path.join(folder, name) for name in ("refuse.so", "commands", "policy.toml"))
         subprocess.run(["cc", "-O2", "-shared", "-fPIC", "-o", library, SOURCE], check=True)
-        for name, lines in [("four commands", RUN), ("groups", GROUPS)]:
+
+        def given(lines):
             commands = [line.split() for line in lines]
             with open(path, "wb") as file:
                 file.write(piped.spelled(commands))
-            failed.append(walk(name, lambda number: sent_at_once(program, library, commands, path, number), "XADD"))
+            return lambda number: sent_at_once(program, library, commands, path, number)
+
+        failed.append(walk("four commands", given(RUN), "XADD"))
+        failed.append(walk("groups", given(GROUPS), "XADD"))
+        least = first_behind(given(FILLED))
+        failed.append(walk("lists in blocks", given([*FILLED, *BLOCKS]), "XREADGROUP", least))
         with open(policy, "w") as file:
             file.write(bulk_move.SMALL_POLICY)
         failed.append(walk("a recovery", lambda number: recovered(program, library, policy, number), "RECOVER.RUN"))
