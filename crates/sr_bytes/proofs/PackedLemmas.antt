@@ -4,7 +4,7 @@ use Rattle.std.specs.Prelude.{OnOk, OnErr}
 use Rattle.std.specs.Int.{w64, from_le_bytes}
 use Rattle.std.proofs.lemmas.Bool.{ltb-true}
 use Rattle.std.proofs.lemmas.Nat.{from_le_bytes-to_le_bytes_8}
-use Rattle.sr_bytes.specs.Packed.{Pair, length_bytes, packed_string, packed_pair, packed, IsShort, AreShort, IsPacked, pairs_of, one_packing}
+use Rattle.sr_bytes.specs.Packed.{Pair, length_bytes, packed_string, packed_pair, packed, IsShort, AreShort, IsPacked, Packs, pairs_of, one_packing}
 
 AreShort-append : (ps qs : List Pair) → AreShort ps → AreShort qs → AreShort (ps ++ qs)
 AreShort-append [] qs short more = more
@@ -26,6 +26,13 @@ short-packed text is = is.1.short
 -- a text has the pairs that it is known to pack
 pub pairs-known : (text : List ℕ) (is : IsPacked text) (pairs : List Pair) → text ≡ packed pairs → AreShort pairs → pairs_of text is ≡ pairs
 pairs-known text is pairs e short = one_packing (pairs_of text is) pairs (short-packed text is) short (sym (text-packed text is) ∙ e)
+
+-- the bytes that pack pairs pack those that they are shown as
+pub packs-shown : (text shown : List ℕ) (is : IsPacked text) (pairs : List Pair) → shown ≡ text → pairs_of text is ≡ pairs → Packs shown pairs
+packs-shown text shown is pairs same view = record {
+  whole = same ∙ text-packed text is ∙ ap packed view;
+  short = subst AreShort view (short-packed text is);
+}
 
 -- no text packs no pairs
 pub pairs-none : (text : List ℕ) (is : IsPacked text) → text ≡ [] → pairs_of text is ≡ []

@@ -1,5 +1,5 @@
 ghost use Rattle.std.specs.Prelude.{◌≡◌, ◌∷◌, ◌++◌, [], ◌<◌, ◌^◌, List, ℕ, length, OnOk, OnErr, IfOk};
-ghost use Rattle.sr_bytes.specs.Packed.{IsPacked, IsPacked-prop, packed_pair};
+ghost use Rattle.sr_bytes.specs.Packed.{IsPacked, IsPacked-prop, Packs, packed_pair};
 
 use crate::Pairs;
 use crate::packed::append_string;
@@ -59,6 +59,13 @@ impl Fields {
         ensures { result ≡ self.now }
     {
         Pairs::new(self.text.as_slice())
+    }
+
+    /// The bytes that pack them, as `Pairs::of` reads them. It takes no memory.
+    pub fn packed(&self) -> &[u8]
+        ensures { Packs result.now self.now }
+    {
+        self.text.as_slice()
     }
 
     /// A copy with the same fields and values.

@@ -1,5 +1,5 @@
-ghost use Rattle.std.specs.Prelude.{◌≡◌, ◌∷◌, [], ◌<◌, ◌+◌, ◌*◌, ◌^◌, length, IfSome, IfNone};
-ghost use Rattle.sr_bytes.specs.Packed.{IsPacked, IsPacked-prop, pairs_of};
+ghost use Rattle.std.specs.Prelude.{◌≡◌, ◌∷◌, [], ◌<◌, ◌+◌, ◌*◌, ◌^◌, List, length, IfSome, IfNone};
+ghost use Rattle.sr_bytes.specs.Packed.{IsPacked, IsPacked-prop, Pair, Packs, pairs_of};
 
 use crate::packed::first_string;
 use std::marker::Model;
@@ -27,6 +27,14 @@ impl<'a> Pairs<'a> {
         ensures { (is : IsPacked text.now) → result ≡ pairs_of text.now is }
     {
         Pairs { left: text }
+    }
+
+    /// The pairs that the bytes pack, as `Fields::packed` gives them.
+    pub fn of(text: &'a [u8]) -> Pairs<'a>
+        requires { IsPacked text.now }
+        ensures { (pairs : List Pair) → Packs text.now pairs → result ≡ pairs }
+    {
+        Pairs::new(text)
     }
 
     /// The next field and its value, which then are looked at.
