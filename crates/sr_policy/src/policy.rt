@@ -3,7 +3,7 @@ ghost use Rattle.sr_policy.specs.Rules.{other_class as all_others, value_at};
 
 use crate::live::Live;
 use crate::numbers::{Numbers, found, names_of};
-use sr_bytes::{Fields, Name, Pairs};
+use sr_bytes::{Name, Pairs};
 use std::alloc::{AllocError, Global};
 use std::marker::Model;
 
@@ -135,8 +135,8 @@ impl Policy {
     }
 
     /// The class of an entry with these fields.
-    pub fn class_of(&self, alloc: Global, fields: &Fields) -> Result<Name, AllocError>
-        ensures { IfOk result (λ class. class ≡ class_by self.now fields.now) }
+    pub fn class_of(&self, alloc: Global, fields: Pairs<'_>) -> Result<Name, AllocError>
+        ensures { IfOk result (λ class. class ≡ class_by self.now fields.entry) }
     {
         let Some(value) = self.classed_by(fields) else {
             return other_class(alloc);
@@ -157,11 +157,11 @@ impl Policy {
     }
 
     /// The value of the first field with the name of the class field.
-    fn classed_by<'a>(&self, fields: &'a Fields) -> Option<&'a [u8]>
-        ensures { option_map (λ value. value.now) result ≡ classed_in self.now fields.now }
+    fn classed_by<'a>(&self, fields: Pairs<'a>) -> Option<&'a [u8]>
+        ensures { option_map (λ value. value.now) result ≡ classed_in self.now fields.entry }
     {
         match &self.class_field {
-            Some(field) => first_value(fields.pairs(), field),
+            Some(field) => first_value(fields, field),
             None => None,
         }
     }

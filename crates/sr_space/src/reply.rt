@@ -64,7 +64,7 @@ pub(crate) fn entry_reply(alloc: Global, entry: &EntryRef<'_>) -> Result<Reply, 
 fn fields_reply(alloc: Global, entry: &EntryRef<'_>) -> Result<Reply, AllocError>
     ensures { IfOk result (λ reply. reply ≡ pairs_answer entry.now.fields) }
 {
-    let pairs = entry.fields().pairs();
+    let pairs = entry.fields();
     let mut draft = Draft::array(alloc, 2 * pairs.len());
     write_pairs(&mut draft, pairs)?;
     Ok(draft.finish())
@@ -84,7 +84,7 @@ fn write_entry(draft: &mut Draft, entry: &EntryRef<'_>) -> Result<(), AllocError
 {
     let mut text = [0; 41];
     let len = write_id(entry.id(), &mut text);
-    let pairs = entry.fields().pairs();
+    let pairs = entry.fields();
     draft.header(2)?;
     draft.bulk(&text[..len])?;
     draft.header(2 * pairs.len())?;

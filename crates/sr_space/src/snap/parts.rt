@@ -6,7 +6,7 @@ ghost use Rattle.sr_policy.specs.Rules.{class_of, live_of, rate_of, weight_of as
 ghost use Rattle.sr_space.specs.Snap.{gone_in, listed, live_in, of_dead, rates_in, stranded_as, stranded_in};
 
 use crate::snap::names::{classes_of, is_among};
-use sr_bytes::{Fields, Name};
+use sr_bytes::{Name, Pairs};
 use sr_group::Group;
 use sr_ids::Id;
 use sr_pending::{Nack, Nacks};
@@ -77,19 +77,19 @@ fn stranded_entry(
     alloc: Global,
     policy: &Policy,
     nack: &Nack,
-    fields: &Fields,
+    fields: Pairs<'_>,
 ) -> Result<Stranded, AllocError>
     ensures { IfOk result (λ entry. entry ≡ record {
       id = nack.now.id;
       owner = nack.now.owner;
-      weight = weight fields.now;
-      class = class_of policy.now fields.now;
+      weight = weight fields.entry;
+      class = class_of policy.now fields.entry;
     }) }
 {
     Ok(Stranded {
         id: nack.id,
         owner: nack.owner.name().copy(alloc)?,
-        weight: weight_of(fields),
+        weight: weight_of(fields.again()),
         class: policy.class_of(alloc, fields)?,
     })
 }
