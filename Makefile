@@ -62,6 +62,7 @@ given-moves:
 
 given-streams:
 	@tests/long_stream.py $(SERVER)
+	@tests/random_streams.py $(SERVER)
 
 given-refused:
 	@if command -v cc > /dev/null; then tests/refused_memory.py $(SERVER); \

@@ -7,7 +7,8 @@ A request that memory is refused to is answered by `-OOM out of memory`, and cha
 that says so, and has written the first of the right replies.
 
 - Commands that are sent at once: the model of model.py is not given the refused one, and what it replies to all others has to be replied.
-- Commands on a group whose lists are longer than a block, of which the first ones get all their memory: likewise.
+- Commands on a stream whose entries are packed, and on a group whose lists are longer than a block, of which the first ones get all their
+  memory: likewise.
 - A recovery under a policy, one request after the other: a refused one is sent again, and then it and all others have to be replied as
   bulk_move.py says. Before a refused RECOVER.RUN is sent again, each entry is where it was, and as it was.
 
@@ -96,6 +97,19 @@ BLOCKS = [
     "XPENDING s g - + 2000 E",
     "XGROUP DELCONSUMER s g D",
     "XPENDING s g - + 2000",
+]
+
+# Entries of which so many lie open that they are packed. The commands before these get all their memory.
+NEARLY = [f"XADD s {number}-1 a b" for number in range(1, 125)]
+PACKED = [
+    *(f"XADD s {number}-1 a b" for number in range(125, 133)),
+    "XRANGE s 120 + COUNT 20",
+    "XDEL s 5-1 64-1 131-1",
+    "XTRIM s MAXLEN 100",
+    "XREVRANGE s + - COUNT 12",
+    "XRANGE s - +",
+    f"XADD s {2**40}-1 c d",
+    "XLEN s",
 ]
 
 # What is pending before the small recovery of bulk_move.py is made. In the place of an idle time is whether it is long.
@@ -242,6 +256,8 @@ def main():
 
         failed.append(walk("four commands", given(RUN), "XADD"))
         failed.append(walk("groups", given(GROUPS), "XADD"))
+        least = first_behind(given(NEARLY))
+        failed.append(walk("entries in blocks", given([*NEARLY, *PACKED]), "XADD", least))
         least = first_behind(given(FILLED))
         failed.append(walk("lists in blocks", given([*FILLED, *BLOCKS]), "XREADGROUP", least))
         with open(policy, "w") as file:
