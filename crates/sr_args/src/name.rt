@@ -4,7 +4,7 @@ ghost use Rattle.sr_args.specs.declared.name.Sign as signs;
 ghost use Rattle.sr_args.specs.Name.{IsSameName, option_text, sign_text};
 
 /// The options of commands, by name. Names ignore ASCII case.
-#[derive(Clone, Copy, Debug, PartialEq, Eq)]
+#[derive(Clone, Copy, PartialEq, Eq)]
 pub(crate) enum OptionName {
     /// How many entries are wanted at most.
     Count,
@@ -45,7 +45,7 @@ pub(crate) enum OptionName {
 }
 
 /// By what a trim measures.
-#[derive(Clone, Copy, Debug, PartialEq, Eq)]
+#[derive(Clone, Copy)]
 pub(crate) enum Measure {
     /// By the number of entries.
     MaxLen,
@@ -54,7 +54,7 @@ pub(crate) enum Measure {
 }
 
 /// The sign before the bound of a trim.
-#[derive(Clone, Copy, Debug, PartialEq, Eq)]
+#[derive(Clone, Copy)]
 pub(crate) enum Sign {
     /// `=`
     Exact,

@@ -7,7 +7,7 @@ use sr_bytes::read_decimal;
 const MAX_TRIES: u64 = 16;
 
 /// Which numbers COUNT takes.
-#[derive(Clone, Copy, Debug, PartialEq, Eq)]
+#[derive(Clone, Copy)]
 pub(crate) enum CountRange {
     /// Any of 64 bits with a sign.
     Any,

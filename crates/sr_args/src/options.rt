@@ -19,7 +19,7 @@ use sr_bytes::Unread;
 use sr_ids::parse_strict;
 
 /// The options that stand in one place of a command's form, in any order and each once at most.
-#[derive(Clone, Copy, Debug, PartialEq, Eq)]
+#[derive(Clone, Copy)]
 pub(crate) enum OptionSet {
     /// Those of XRANGE and XREVRANGE.
     Range,
@@ -38,7 +38,7 @@ pub(crate) enum OptionSet {
 }
 
 /// What an option is. MAXLEN and MINID are both a trim.
-#[derive(Clone, Copy, Debug, PartialEq, Eq)]
+#[derive(Clone, Copy)]
 pub(crate) enum OptionKind {
     Count,
     NoMkStream,

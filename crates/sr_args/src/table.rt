@@ -8,7 +8,7 @@ use sr_bytes::Unread;
 /// The commands, by name. Names ignore ASCII case.
 ///
 /// Source: Redis documentation, the page of each command.
-#[derive(Clone, Copy, Debug, PartialEq, Eq)]
+#[derive(Clone, Copy)]
 pub(crate) enum CommandName {
     Ping,
     Xadd,
