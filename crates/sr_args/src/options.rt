@@ -285,14 +285,14 @@ fn operand_words<'a>(
         OptionName::NoMkStream => Some(OptionWords::NoMkStream),
         OptionName::MkStream => Some(OptionWords::MkStream),
         OptionName::JustId => Some(OptionWords::JustId),
-        OptionName::Idle => Some(OptionWords::Idle(words.next()?)),
-        OptionName::Time => Some(OptionWords::Time(words.next()?)),
-        OptionName::RetryCount => Some(OptionWords::RetryCount(words.next()?)),
+        OptionName::Idle => words.next().map(OptionWords::Idle),
+        OptionName::Time => words.next().map(OptionWords::Time),
+        OptionName::RetryCount => words.next().map(OptionWords::RetryCount),
         OptionName::Group => Some(OptionWords::Group(group_words(words)?)),
         OptionName::NoAck => Some(OptionWords::NoAck),
-        OptionName::Block => Some(OptionWords::Block(words.next()?)),
-        OptionName::MaxLen => Some(OptionWords::Trim(trim_words(Measure::MaxLen, words)?)),
-        OptionName::MinId => Some(OptionWords::Trim(trim_words(Measure::MinId, words)?)),
+        OptionName::Block => words.next().map(OptionWords::Block),
+        OptionName::MaxLen => trim_words(Measure::MaxLen, words).map(OptionWords::Trim),
+        OptionName::MinId => trim_words(Measure::MinId, words).map(OptionWords::Trim),
         OptionName::Limit
         | OptionName::Force
         | OptionName::LastId
@@ -362,7 +362,7 @@ fn limit_word<'a>(sign: Option<Sign>, words: &mut Unread<'a>) -> Option<Option<&
         return None;
     };
     words.next()?;
-    Some(Some(words.next()?))
+    words.next().map(Some)
 }
 
 /// Whether the word names an option of the set.

@@ -36,7 +36,7 @@ pub(crate) fn number_word<'a>(name: OptionName, words: &mut Unread<'a>) -> Optio
         return Some(None);
     }
     words.next()?;
-    Some(Some(words.next()?))
+    words.next().map(Some)
 }
 
 /// From where a stream is read, by a word of XGROUP or of XREAD.
