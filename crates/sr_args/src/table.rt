@@ -203,5 +203,8 @@ pub(crate) fn is_counted(command: CommandName, words: usize) -> bool
     ensures { IsTrue result ↔ IsCounted command words }
 {
     let row = row_of(command);
-    row.fewest <= words && row.most.is_none_or(|most| words <= most)
+    if words < row.fewest {
+        return false;
+    }
+    row.most.is_none_or(|most| words <= most)
 }
