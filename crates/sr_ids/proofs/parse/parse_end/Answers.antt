@@ -1,4 +1,5 @@
 use Rattle.std.proofs.Common.{rules, ◌≡◌, ◌-◌, length, get_or, arith, take, drop}
+use Rattle.std.proofs.lemmas.Grind.{common_steps}
 use Rattle.sr_ids.specs.Spelling.IsEnd.{before_written}
 use Rattle.sr_ids.proofs.ReadingLemmas.{from_first_byte, IfSome_both, IfNone_then}
 use Rattle.sr_ids.proofs.SpellingLemmas.{SpellsId-one}
@@ -32,3 +33,15 @@ returns-in_ok-parse_written-in-40-clause-none c =
     let other = IsEnd-before_written text digits id whole end in
     let same = SpellsId-one 0xffff_ffff_ffff_ffff digits other.0 written other.1 c.in_ok-parse_written-in-40.ensures.found in
     none id other.2 (rw same at other.3))
+
+pub returns-in-45-clause-found : goal.returns-in-45-clause-found
+returns-in-45-clause-found c = grind (arith, common_steps)
+
+pub returns-in-43-clause-found : goal.returns-in-43-clause-found
+returns-in-43-clause-found c = grind (arith, common_steps)
+
+pub returns-in_default-clause-found : goal.returns-in_default-clause-found
+returns-in_default-clause-found c = search rules
+
+pub returns-in_default-clause-none : goal.returns-in_default-clause-none
+returns-in_default-clause-none c = search rules

@@ -1,4 +1,5 @@
 use Rattle.std.proofs.Common.{rules, ◌≡◌, ◌-◌, length, get_or, arith, take, drop}
+use Rattle.std.proofs.lemmas.Grind.{common_steps}
 use Rattle.std.proofs.lemmas.Option.{IfSome_then}
 use Rattle.sr_ids.specs.Spelling.IsStart.{after_written}
 use Rattle.sr_ids.proofs.ReadingLemmas.{from_first_byte, IfNone_then}
@@ -25,3 +26,9 @@ returns-in_ok-parse_written-in-40-clause-none c =
     let other = IsStart-after_written text digits id whole start in
     let same = SpellsId-one 0 digits other.0 written other.1 c.in_ok-parse_written-in-40.ensures.found in
     none id other.2.valid (rw same at other.2.above))
+
+pub returns-in-45-clause-found : goal.returns-in-45-clause-found
+returns-in-45-clause-found c = grind (arith, common_steps)
+
+pub returns-in-43-clause-found : goal.returns-in-43-clause-found
+returns-in-43-clause-found c = grind (arith, common_steps)
