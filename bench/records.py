@@ -2,7 +2,8 @@
 """Tells what a record of the book takes: python3 bench/records.py PROGRAM [OTHER]
 
 Sends PROGRAM --stdio the same command many times, and prints by how many bytes its resident memory grew for each, and the
-processor time of each. With OTHER, a server that keeps no records, by turns with it: the difference is what the records take.
+processor time of each. With OTHER, a server that keeps no records, by turns with it: the difference is what the records take. What an XADD
+takes more than one that keeps one entry is the entry.
 """
 import os
 import subprocess
@@ -68,6 +69,7 @@ def main():
     programs = sys.argv[1:]
     rows = (
         ("XADD s * f v", (b"XADD", b"s", b"*", b"f", b"v"), 2),
+        ("XADD s MAXLEN 1 * f v", (b"XADD", b"s", b"MAXLEN", b"1", b"*", b"f", b"v"), 2),
         ("XLEN s", (b"XLEN", b"s"), 1),
         ("PING", (b"PING",), 1),
     )
@@ -78,7 +80,7 @@ def main():
                 size, cost = measured(program, command, lines)
                 best[i] = min(best[i][0], size), min(best[i][1], cost)
         cells = "   ".join(f"{size:7.1f} bytes {cost:6.3f} us" for size, cost in best)
-        print(f"{name:14} {cells}")
+        print(f"{name:21} {cells}")
 
 
 main()

@@ -30,6 +30,12 @@ def trimmed(entries, going, times, words):
     return b"".join(asked), b":%d\r\n" % going * times, entries - going * times
 
 
+def deleted(entries, times):
+    """XDEL of one entry, around the middle of the stream."""
+    asked = (request(b"XDEL", b"s", b"1-%d" % (entries // 2 + (n // 2 if n % 2 else -(n // 2)))) for n in range(1, times + 1))
+    return b"".join(asked), b":1\r\n" * times, entries - times
+
+
 def by_length(entries, gone):
     return b"MAXLEN", b"%d" % (entries - gone)
 
@@ -44,6 +50,7 @@ ROWS = [
     (f"XADD s MAXLEN {MANY:,} 2-N f v", MANY, 300, capped),
     (f"XTRIM s MAXLEN, {FEW:,} entries go", MANY, 500, lambda entries, times: trimmed(entries, FEW, times, by_length)),
     (f"XTRIM s MINID, {FEW:,} entries go", MANY, 500, lambda entries, times: trimmed(entries, FEW, times, by_id)),
+    (f"XDEL s of one in the middle of {MANY:,}", MANY, 10_000, deleted),
 ]
 
 
