@@ -2,7 +2,7 @@
 
 .PHONY: run try demo test replay histories plans check memory refusals compare clients soak bench bench-net bench-solver check-solver
 .PHONY: given given-server given-driver given-checker given-demo given-sessions given-requests given-groups given-moves given-streams
-.PHONY: given-refused given-histories given-refusals given-plans
+.PHONY: given-room given-refused given-histories given-refusals given-plans
 
 # The programs, where a proof leaves them, and a make that does two things at a time.
 SERVER = crates/sr_server/out/sr_server
@@ -39,7 +39,7 @@ test:
 
 # What the programs are given, each by itself. They have to be proved and built before.
 given: given-server given-driver given-checker given-demo
-given-server: given-sessions given-requests given-groups given-moves given-streams given-refused
+given-server: given-sessions given-requests given-groups given-moves given-streams given-room given-refused
 given-driver: given-histories given-refusals
 given-checker: given-plans
 
@@ -63,6 +63,9 @@ given-moves:
 given-streams:
 	@tests/long_stream.py $(SERVER)
 	@tests/random_streams.py $(SERVER)
+
+given-room:
+	@tests/room.py $(SERVER)
 
 given-refused:
 	@if command -v cc > /dev/null; then tests/refused_memory.py $(SERVER); \
