@@ -60,6 +60,12 @@ rate y A 1
 rate y B 100
 """
 
+# Each number is the greatest that it may be. The entry costs 2^20 a unit, and is 2^20 units.
+GREATEST = "entry 1-1 x 1048576\nconsumer A 1000000000\nrate x A 1048576\n"
+
+# One consumer more than a group may have.
+CROWDED = "".join(f"consumer C{number} 1\n" for number in range(65))
+
 CHEAPEST = "cheapest, total 6"
 
 FORM = "wrong: the reply is neither a plan nor a shortage"
@@ -133,6 +139,7 @@ SENT = [
     # Nobody may take 1-1.
     ("entry 1-1 x 1\nconsumer A 1\n", "*4 $4 none *1 $3 1-1 *0 :0", "impossible, 0 places for 1 entry"),
     ("", "*5 $4 plan :0 *0 *0 *0", "cheapest, total 0"),
+    (GREATEST, "*5 $4 plan :1099511627776 *1 *2 $3 1-1 $1 A *1 *2 $1 A :0 *0", "cheapest, total 1099511627776"),
     (TWO, "-STALE the group has changed", "wrong: the reply is an error"),
     (TWO, "*5", FORM),
     # A line too many, and an empty one alone.
@@ -179,6 +186,7 @@ INPUTS = [
     ("gone \"1-1\"0", "line 1: not closed quotes around a word, or an unknown escape in them"),
     ("gone \"\\q\"", "line 1: not closed quotes around a word, or an unknown escape in them"),
     ("entry 1-1 x", "line 1: not an `entry`, `gone`, `consumer` or `rate` with its words, nor `reply`"),
+    (CROWDED, "line 65: too many entries, consumers or classes"),
     ("reply\n(error) STALE the group has changed\n", "wrong: the reply is an error"),
     ("reply\n", FORM),
 ]
