@@ -1,14 +1,15 @@
 """Compares the solver's answers to random small problems with those of scipy.
 
-usage: bench_solver small | check_solver.py
+usage: check_solver.py BENCH_SOLVER
 
-Each problem is two lines: how many entries there are, with the rooms, and then the costs, row by entry, with `-` for a pair that
-is not allowed; the third line is the solver's total, or `short`. The independent answer is scipy's assignment of entries to single places, of which a consumer
-has as many as its room (Debian: python3-scipy). All its sums stay below 2^53, so that floating point is exact.
+The problems are those of `families.py small`. The independent answer is scipy's assignment of entries to single places, of which a
+consumer has as many as its room (Debian: python3-scipy). All its sums stay below 2^53, so that floating point is exact.
 """
 
+import subprocess
 import sys
 
+import families
 import numpy
 from scipy.optimize import linear_sum_assignment
 
@@ -29,27 +30,26 @@ def total(rooms, rows):
     return str(sum(rows[i][places[j]] for i, j in zip(chosen, taken)))
 
 
-def problems(lines):
-    """The problems with their answers: rooms, rows of costs, what the solver said."""
-    for rooms in lines:
-        entries, *rooms = [int(word) for word in rooms.split()]
-        costs = [None if word == "-" else int(word) for word in next(lines).split()]
-        width = len(rooms)
-        rows = [costs[entry * width : (entry + 1) * width] for entry in range(entries)]
-        yield rooms, rows, next(lines).strip()
+def answers(solver, problems):
+    """What the solver says of each problem: the total, or `short`."""
+    given = "".join(families.text(*problem) for problem in problems)
+    printed = subprocess.run([solver], input=given, stdout=subprocess.PIPE, text=True, check=True).stdout
+    for (name, _, _), line in zip(problems, printed.splitlines(), strict=True):
+        answer = line.removeprefix(f"{name}: ")
+        yield "short" if answer.startswith("short, ") else answer.removeprefix("best, total ")
 
 
 def main():
-    count, short, wrong = 0, 0, 0
-    for rooms, rows, answer in problems(iter(sys.stdin)):
-        count += 1
+    problems = list(families.small_problems())
+    short, wrong = 0, 0
+    for (name, rooms, rows), answer in zip(problems, answers(sys.argv[1], problems), strict=True):
         expected = total(rooms, rows)
         short += expected == "short"
         if answer != expected:
             wrong += 1
-            print(f"rooms {rooms}, costs {rows}: {answer}, and scipy: {expected}")
-    print(f"{count} problems, {short} without an assignment, {wrong} different")
-    sys.exit(wrong > 0 or count == 0)
+            print(f"{name}, rooms {rooms}, costs {rows}: {answer}, and scipy: {expected}")
+    print(f"{len(problems)} problems, {short} without an assignment, {wrong} different")
+    sys.exit(wrong > 0)
 
 
 main()

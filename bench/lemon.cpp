@@ -1,5 +1,5 @@
-// Times LEMON's network simplex on problems that `bench_solver print` prints, which this reads from its standard input, and
-// prints a line for each as `bench_solver run` does. It needs the library's headers alone (Debian: liblemon-dev).
+// Times LEMON's network simplex on problems that bench/families.py prints, which this reads from its standard input, and prints a
+// line for each as `bench_solver run` does. It needs the library's headers alone (Debian: liblemon-dev).
 //
 // Two times are printed, each the least of some runs: from the costs to the answer, as our solver is timed too, which takes the
 // allowed pairs out of the costs and makes the graph that LEMON works on; and of that the run of its simplex alone.
@@ -21,7 +21,6 @@ namespace {
 using Graph = lemon::SmartDigraph;
 using Simplex = lemon::NetworkSimplex<Graph, std::int64_t, std::int64_t>;
 
-constexpr int entries = 4096;
 constexpr int runs = 2;
 
 struct Pair {
@@ -31,6 +30,7 @@ struct Pair {
 };
 
 struct Problem {
+  int entries;
   std::vector<std::int64_t> rooms;
   // A row for each entry, with a cost for each consumer, -1 where it is not allowed.
   std::vector<std::int64_t> costs;
@@ -48,8 +48,9 @@ std::vector<std::int64_t> read_numbers() {
 
 Problem read_problem() {
   Problem problem;
+  problem.entries = static_cast<int>(read_numbers().at(0));
   problem.rooms = read_numbers();
-  for (int entry = 0; entry < entries; ++entry) {
+  for (int entry = 0; entry < problem.entries; ++entry) {
     const std::vector<std::int64_t> costs = read_numbers();
     problem.costs.insert(problem.costs.end(), costs.begin(), costs.end());
   }
@@ -61,7 +62,7 @@ std::vector<Pair> allowed(const Problem& problem) {
   const int consumers = static_cast<int>(problem.rooms.size());
   std::vector<Pair> pairs;
   const std::int64_t* cost = problem.costs.data();
-  for (int entry = 0; entry < entries; ++entry) {
+  for (int entry = 0; entry < problem.entries; ++entry) {
     for (int consumer = 0; consumer < consumers; ++consumer, ++cost) {
       if (*cost >= 0) pairs.push_back({entry, consumer, *cost});
     }
@@ -81,6 +82,7 @@ double since(std::chrono::steady_clock::time_point start) {
 
 Answer solve(const Problem& problem) {
   const auto start = std::chrono::steady_clock::now();
+  const int entries = problem.entries;
   const int consumers = static_cast<int>(problem.rooms.size());
   const std::vector<Pair> pairs = allowed(problem);
   Graph graph;

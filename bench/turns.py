@@ -11,12 +11,15 @@ import re
 import subprocess
 import sys
 
+import families
+
 LINE = re.compile(r"(?P<family>.*): (?P<whole>[0-9.]+) ms, (?:(?P<alone>[0-9.]+) of them the simplex alone, )?(?P<answer>.*)")
 
 
-def lines(command, stdin=None):
+def lines(command, problems):
     """The families that a program timed, with what it says of each."""
-    printed = subprocess.run(command, stdin=stdin, capture_output=True, text=True, check=True).stdout
+    with open(problems) as stdin:
+        printed = subprocess.run(command, stdin=stdin, capture_output=True, text=True, check=True).stdout
     return {found["family"]: found for found in map(LINE.fullmatch, printed.splitlines()) if found}
 
 
@@ -30,18 +33,17 @@ def main():
     rounds = int(sys.argv[3]) if len(sys.argv) > 3 else 3
     problems = os.path.join(os.path.dirname(lemon), "problems")
     with open(problems, "w") as out:
-        subprocess.run([solver, "print"], stdout=out, check=True)
+        out.writelines(families.text(*problem) for problem in families.families())
     ours, whole, alone, answers = {}, {}, {}, {}
     for _ in range(rounds):
-        for family, found in lines([solver, "run"]).items():
+        for family, found in lines([solver, "run"], problems).items():
             ours.setdefault(family, []).append(float(found["whole"]))
             answers[family] = found["answer"]
-        with open(problems) as stdin:
-            for family, found in lines([lemon], stdin).items():
-                whole.setdefault(family, []).append(float(found["whole"]))
-                alone.setdefault(family, []).append(float(found["alone"]))
-                if not agree(answers[family], found["answer"]):
-                    sys.exit(f"{family}: {answers[family]}, and LEMON: {found['answer']}")
+        for family, found in lines([lemon], problems).items():
+            whole.setdefault(family, []).append(float(found["whole"]))
+            alone.setdefault(family, []).append(float(found["alone"]))
+            if not agree(answers[family], found["answer"]):
+                sys.exit(f"{family}: {answers[family]}, and LEMON: {found['answer']}")
     print("load averages:", *os.getloadavg())
     print("| Family | Ours, ms | greatest | LEMON, ms | alone | ours / LEMON | Answer of both |")
     print("|---|---|---|---|---|---|---|")

@@ -1,45 +1,68 @@
-//! Times the solver on families of transportation problems, each made from a fixed seed.
+//! Solves the transportation problems that it reads from standard input, and prints a line for each: its name and the answer.
 //!
-//! `bench_solver run` measures, and prints a line for each family; `bench_solver print` prints the problems themselves, for
-//! another solver. `bench_solver small` prints random small problems with the answers to them. With no argument it prints
-//! nothing.
+//! `bench_solver run` also solves each three times more, and prints the least of the times that this took. It ends with status
+//! 0 at the end of the input, with 1 if a problem cannot be read or anything else fails, and with 2 for any other word.
 #![tactic(auto)]
 
-mod families;
-mod hostile;
 mod measure;
-mod small;
+mod source;
 
-use crate::measure::{Work, for_all};
-use std::rt::Env;
-use std::{env, io};
+use crate::measure::print_line;
+use crate::source::Source;
+use std::env;
+use std::io::{self, BufRead, BufReader};
+use std::process::ExitCode;
+use std::rt::{Clock, Env};
 
-fn main(rt: HostRuntime) -> io::Result<()> {
-    match asked_task(&rt)? {
-        Some(Task::Families(work)) => for_all(&rt, work),
-        Some(Task::Small) => small::print_all(&rt),
-        None => Ok(()),
+/// The status if the command line is not understood.
+const REFUSED: u8 = 2;
+
+fn main(rt: HostRuntime) -> io::Result<ExitCode> {
+    let Some(is_timed) = asks_for_times(&rt)? else {
+        eprintln!(rt; "usage: bench_solver [run] < PROBLEMS")?;
+        return Ok(ExitCode::from(REFUSED));
+    };
+    let input = BufReader::new(rt.alloc(), rt.reader())?;
+    answer(&rt, is_timed, Source::new(rt.alloc(), input))
+}
+
+/// Whether the command line asks for times, or `None` where it is not understood.
+fn asks_for_times(rt: &(impl Env + AllocGlobal)) -> io::Result<Option<bool>> {
+    let words: Vec<String> = env::args(rt)?.collect(rt.alloc())?;
+    match words.as_slice() {
+        [] | [_] => Ok(Some(false)),
+        [_, word] if word.as_str() == "run" => Ok(Some(true)),
+        _ => Ok(None),
     }
 }
 
-/// What the command line asks for.
-#[derive(Clone, Copy)]
-enum Task {
-    /// To solve or to print the problem of each family.
-    Families(Work),
-    /// To print random small problems with the solver's answers.
-    Small,
+/// Solves all problems. An error is printed with the number of the line that was read last.
+fn answer<R: AllocGlobal + Clock + Print + Eprint, B: BufRead + Drop>(
+    rt: &R,
+    is_timed: bool,
+    mut source: Source<B>,
+) -> io::Result<ExitCode> {
+    match answer_all(rt, is_timed, &mut source) {
+        Ok(()) => Ok(ExitCode::SUCCESS),
+        Err(error) => {
+            eprintln!(rt; "line {}: {error}", source.line_number())?;
+            Ok(ExitCode::FAILURE)
+        }
+    }
 }
 
-/// The task that the command line names.
-fn asked_task(rt: &(impl Env + AllocGlobal)) -> io::Result<Option<Task>> {
-    let words: Vec<String> = env::args(rt)?.collect(rt.alloc())?;
-    Ok(
-        words.get(1).and_then(|word| match word.as_str() {
-            "run" => Some(Task::Families(Work::Time)),
-            "print" => Some(Task::Families(Work::Print)),
-            "small" => Some(Task::Small),
-            _ => None,
-        }),
-    )
+/// Solves all problems.
+fn answer_all<R: AllocGlobal + Clock + Print, B: BufRead>(
+    rt: &R,
+    is_timed: bool,
+    source: &mut Source<B>,
+) -> io::Result<()> {
+    for _ in 0..u64::MAX {
+        if !source.begin_problem()? {
+            break;
+        }
+        let problem = source.rest_of_problem(rt.alloc())?;
+        print_line(rt, is_timed, source.name(), &problem)?;
+    }
+    Ok(())
 }

@@ -1,0 +1,294 @@
+"""Prints transportation problems, each made from a fixed seed.
+
+usage: families.py [small]
+
+With no argument these are the families of docs/BENCH.md, of 4,096 entries and 64 consumers; with `small` they are 10,000 random
+problems of all shapes, of at most 16 entries. A problem is a line with its name, a line with the number of its entries, a line
+with the room of each consumer, and a line for each entry with its cost at each consumer, `-` where it is not allowed.
+"""
+
+import functools
+import sys
+
+ENTRIES = 4096
+CONSUMERS = 64
+MAX_COST = 1 << 40
+
+# The room of each consumer where there is one place for each entry, and where a fifth of the places stays free.
+TIGHT = [64] * CONSUMERS
+SLACK = [80] * CONSUMERS
+
+# The seed of each generator of random numbers, and the stream of those that a whole problem shares.
+SEED = 2026
+SHARED = 1 << 20
+
+# Rates and weights are below this.
+FACTORS = 1 << 20
+
+# One entry out of this many is different.
+PERIOD = 8
+
+SMALL_PROBLEMS = 10_000
+
+MULTIPLIER = 6364136223846793005
+MASK_32 = (1 << 32) - 1
+MASK_64 = (1 << 64) - 1
+
+
+class Pcg32:
+    """M. E. O'Neill's generator PCG XSH RR 64/32, begun from a state and a stream as its reference code does."""
+
+    def __init__(self, state, stream):
+        self.increment = (stream << 1 | 1) & MASK_64
+        self.state = self.after(state + self.increment & MASK_64)
+
+    def after(self, state):
+        """The state that comes after this one."""
+        return state * MULTIPLIER + self.increment & MASK_64
+
+    def next_u32(self):
+        """The next 32 bits, which the state gives before it moves on."""
+        state = self.state
+        self.state = self.after(state)
+        bits = ((state >> 18 ^ state) >> 27) & MASK_32
+        turn = state >> 59
+        return (bits >> turn | bits << (32 - turn)) & MASK_32
+
+    def next_u64(self):
+        """The next 64 bits, the lower half first."""
+        low = self.next_u32()
+        return self.next_u32() << 32 | low
+
+
+# The families where each entry is allowed each consumer: a row of costs for each entry.
+
+
+def random_row(rng):
+    """A random cost at each consumer."""
+    return [rng.next_u64() % MAX_COST for _ in range(CONSUMERS)]
+
+
+@functools.cache
+def random():
+    """Any cost for any pair."""
+    rng = Pcg32(SEED, SHARED)
+    return [random_row(rng) for _ in range(ENTRIES)]
+
+
+def equal():
+    """The same cost for each pair."""
+    return [[1000] * CONSUMERS] * ENTRIES
+
+
+@functools.cache
+def rates(kind):
+    """The rates of the consumers for a class of entries."""
+    rng = Pcg32(SEED, kind)
+    return [rng.next_u64() % FACTORS for _ in range(CONSUMERS)]
+
+
+def weighted(kind, weight):
+    """The costs of an entry of a class and a weight: the rates times the weight."""
+    return [min(rate * weight, MAX_COST) for rate in rates(kind)]
+
+
+def rising():
+    """A consumer's rate times an entry's weight, the weights rising."""
+    return [weighted(SHARED, entry * 256) for entry in range(ENTRIES)]
+
+
+def falling():
+    """A consumer's rate times an entry's weight, the weights falling."""
+    return [weighted(SHARED, (ENTRIES - entry) * 255) for entry in range(ENTRIES)]
+
+
+def masked():
+    """Rising weights, but that the last consumer costs each entry the most that a pair may: so the costs of each entry differ by
+    nearly as much."""
+    return [weighted(SHARED, entry * 128)[:-1] + [MAX_COST] for entry in range(ENTRIES)]
+
+
+def classes(count):
+    """Entries of some classes: a class gives the rates of its entries, and each entry has a random weight."""
+    rng = Pcg32(SEED, SHARED)
+    return [weighted(entry % count, rng.next_u64() % FACTORS) for entry in range(ENTRIES)]
+
+
+def line():
+    """The distance of an entry and a consumer on a line, where they stand at random."""
+    rng = Pcg32(SEED, SHARED)
+    places = random_row(Pcg32(SEED, 0))
+    positions = [rng.next_u64() % MAX_COST for _ in range(ENTRIES)]
+    return [[abs(position - place) for place in places] for position in positions]
+
+
+def conveyor():
+    """Runs of 32 entries that prefer the first 32 consumers in turn; each step past the preferred one costs the same, and a random
+    part."""
+    return [
+        [((consumer - entry // 32 % 32) % CONSUMERS << 30) + cost % (1 << 20) for consumer, cost in enumerate(row)]
+        for entry, row in enumerate(random())
+    ]
+
+
+def copies():
+    """64 different random rows, each for 64 entries."""
+    return [random_row(Pcg32(SEED, kind)) for kind in range(64)] * 64
+
+
+# The families where some entries are allowed some consumers alone.
+
+
+def allowed(is_allowed):
+    """Random costs for the pairs of an entry and a consumer that this allows."""
+    return [
+        [cost if is_allowed(entry, consumer) else None for consumer, cost in enumerate(row)]
+        for entry, row in enumerate(random())
+    ]
+
+
+def chain():
+    """Entries that are each allowed two neighbours alone."""
+    return allowed(lambda entry, consumer: consumer - entry % (CONSUMERS - 1) in (0, 1))
+
+
+def blocks():
+    """Nine blocks of seven consumers: an entry is allowed those of its block, and the last one, which all share."""
+    return allowed(lambda entry, consumer: consumer // 7 == entry % 9 or consumer == CONSUMERS - 1)
+
+
+def window():
+    """Entries that are each allowed eight consumers in a row, round the end."""
+    return allowed(lambda entry, consumer: (consumer - entry) % CONSUMERS < 8)
+
+
+def last_is_short():
+    """Any cost for any pair, but that each 64th entry, the last one too, is allowed the first consumer alone."""
+    return allowed(lambda entry, consumer: entry % 64 != 63 or consumer == 0)
+
+
+# The families that were found to take a solver long: each was made against an order in which entries might be placed.
+
+
+def equal_eighth():
+    """Masked weights, except that each eighth entry costs the same at every consumer."""
+    return [row if entry % PERIOD else [1000] * CONSUMERS for entry, row in enumerate(masked())]
+
+
+def confined_eighth():
+    """Masked weights, except that each eighth entry, for 128 of them, is allowed the first two consumers alone."""
+    rows = masked()
+    for entry in range(0, 128 * PERIOD, PERIOD):
+        rows[entry][2:] = [None] * (CONSUMERS - 2)
+    return rows
+
+
+def fallback():
+    """Rising weights, and a last consumer that costs each entry 2^39 more."""
+    rows = [weighted(SHARED, entry * 64) for entry in range(ENTRIES)]
+    for row in rows:
+        row[-1] = min(row[-1] + MAX_COST // 2, MAX_COST)
+    return rows
+
+
+def sparse_row(rng, count):
+    """Random costs at some consumers, at most this many, at random."""
+    chosen = {rng.next_u32() % CONSUMERS for _ in range(count)}
+    return [cost if consumer in chosen else None for consumer, cost in enumerate(random_row(rng))]
+
+
+def sparse(count):
+    """Entries that are each allowed some consumers alone, at most this many, at random."""
+    rng = Pcg32(SEED, SHARED)
+    return [sparse_row(rng, count) for _ in range(ENTRIES)]
+
+
+def uneven(small, great):
+    """The same room at each consumer, except that each sixteenth, the last one too, has a great one."""
+    return ([small] * 15 + [great]) * (CONSUMERS // 16)
+
+
+def families():
+    """Each problem: its name, its rooms and its rows of costs."""
+    yield "random, tight", TIGHT, random()
+    yield "equal, tight", TIGHT, equal()
+    yield "rising weights, tight", TIGHT, rising()
+    yield "rising weights, slack", SLACK, rising()
+    yield "falling weights, tight", TIGHT, falling()
+    yield "falling weights, slack", SLACK, falling()
+    yield "masked weights, tight", TIGHT, masked()
+    yield "masked weights, slack", SLACK, masked()
+    yield "16 classes", TIGHT, classes(16)
+    yield "1,024 classes", TIGHT, classes(1024)
+    yield "line", TIGHT, line()
+    yield "conveyor of 32", TIGHT, conveyor()
+    yield "copies", TIGHT, copies()
+    yield "chain", TIGHT, chain()
+    yield "blocks", TIGHT, blocks()
+    yield "window of 8", TIGHT, window()
+    yield "shortage at the last entry", [TIGHT[0] - 1] + SLACK[1:], last_is_short()
+    yield "rising weights, one place short", [TIGHT[0] - 1] + TIGHT[1:], rising()
+    yield "equal eighth", SLACK, equal_eighth()
+    yield "confined eighth", TIGHT, confined_eighth()
+    yield "fallback", [32] * (CONSUMERS - 1) + [ENTRIES], fallback()
+    yield "rooms of 1", uneven(1, 1009), masked()
+    yield "rooms of 17", uneven(17, 769), masked()
+    for count in range(2, 6):
+        yield f"{count} allowed", SLACK, sparse(count)
+
+
+# Random small problems of all shapes.
+
+
+def small_rooms(rng):
+    """The rooms of 1, of 64 or of up to six consumers, none of them greater than 0, 1, 2 or 20."""
+    kind = rng.next_u32() % 8
+    consumers = (1, 64)[kind] if kind < 2 else rng.next_u32() % 7
+    greatest = (0, 1, 2, 20)[rng.next_u32() % 4]
+    return [rng.next_u32() % (greatest + 1) for _ in range(consumers)]
+
+
+def small_cost(rng, kind):
+    """A cost of one kind: equal, small, near the greatest, or any."""
+    if kind == 0:
+        return 7
+    if kind == 1:
+        return rng.next_u64() % 4
+    if kind == 2:
+        return MAX_COST - rng.next_u64() % 2
+    return rng.next_u64() % MAX_COST
+
+
+def small_pair(rng, kind, most):
+    """A cost, or `None`: the greater `most`, the more pairs are allowed, and at 5 all."""
+    cost = small_cost(rng, kind)
+    return cost if rng.next_u32() % 5 < most else None
+
+
+def small_problems():
+    """Each problem: its name, its rooms and its rows of costs."""
+    rng = Pcg32(SEED, 1)
+    for number in range(1, SMALL_PROBLEMS + 1):
+        rooms = small_rooms(rng)
+        entries = rng.next_u32() % 17
+        most, kind = rng.next_u32() % 6, rng.next_u32() % 4
+        rows = [[small_pair(rng, kind, most) for _ in rooms] for _ in range(entries)]
+        yield f"small {number}", rooms, rows
+
+
+def text(name, rooms, rows):
+    """A problem as it is printed."""
+    lines = [name, str(len(rows)), " ".join(map(str, rooms))]
+    lines += [" ".join("-" if cost is None else str(cost) for cost in row) for row in rows]
+    return "\n".join(lines) + "\n"
+
+
+def main():
+    made = {(): families, ("small",): small_problems}.get(tuple(sys.argv[1:]))
+    if made is None:
+        sys.exit("usage: families.py [small]")
+    sys.stdout.writelines(text(*problem) for problem in made())
+
+
+if __name__ == "__main__":
+    main()

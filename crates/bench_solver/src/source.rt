@@ -1,0 +1,121 @@
+//! Problems, read line by line: a line with the name, one with the number of entries, one with the rooms, and one for each entry
+//! with its cost at each consumer, `-` where it is not allowed.
+use sr_transport::Problem;
+use std::alloc::Global;
+use std::io::{self, BufRead};
+
+/// A text of problems, and how far it has been read.
+#[derive(Drop)]
+pub(crate) struct Source<B> {
+    input: B,
+    line: String,
+    line_number: u64,
+    name: String,
+}
+
+impl<B: BufRead> Source<B> {
+    /// A text of which nothing has been read.
+    pub(crate) fn new(alloc: Global, input: B) -> Source<B> {
+        Source {
+            input,
+            line: String::new(alloc),
+            line_number: 0,
+            name: String::new(alloc),
+        }
+    }
+
+    /// How many lines have been read.
+    pub(crate) fn line_number(&self) -> u64 {
+        self.line_number
+    }
+
+    /// The name of the problem that was begun last.
+    pub(crate) fn name(&self) -> &str {
+        self.name.as_str()
+    }
+
+    /// Reads the name of the next problem, and tells whether there is one.
+    pub(crate) fn begin_problem(&mut self) -> io::Result<bool> {
+        let is_at_end = self.meets_end()?;
+        self.name.clear();
+        self.name.push_str(self.line.as_str().trim_end())?;
+        Ok(!is_at_end)
+    }
+
+    /// Reads the lines after the name.
+    pub(crate) fn rest_of_problem(&mut self, alloc: Global) -> io::Result<Problem> {
+        self.read_line()?;
+        let entries = number(self.line.as_str().trim())? as usize;
+        let rooms = self.rooms(alloc)?;
+        let costs = self.costs(alloc, entries, rooms.len())?;
+        Problem::new(rooms, entries, costs).ok_or(io::Error::other(
+            "the problem is not within the limits",
+        ))
+    }
+
+    /// Reads the room of each consumer.
+    fn rooms(&mut self, alloc: Global) -> io::Result<Vec<u64>> {
+        self.read_line()?;
+        self.line
+            .as_str()
+            .split_whitespace()
+            .map(number)
+            .try_collect(alloc)
+    }
+
+    /// Reads the costs of all entries.
+    fn costs(
+        &mut self,
+        alloc: Global,
+        entries: usize,
+        consumers: usize,
+    ) -> io::Result<Vec<Option<u64>>> {
+        let mut costs = Vec::new(alloc);
+        for _ in 0..entries {
+            self.read_row(consumers, &mut costs)?;
+        }
+        Ok(costs)
+    }
+
+    /// Reads the costs of an entry, and adds them to these.
+    fn read_row(&mut self, consumers: usize, costs: &mut Vec<Option<u64>>) -> io::Result<()> {
+        self.read_line()?;
+        let words = self.line.as_str();
+        if words.split_whitespace().count() != consumers {
+            return Err(io::Error::other("an entry has a cost or `-` for each consumer"));
+        }
+        for word in words.split_whitespace() {
+            costs.push(cost(word)?)?;
+        }
+        Ok(())
+    }
+
+    /// Reads the next line, which has to be there.
+    fn read_line(&mut self) -> io::Result<()> {
+        if self.meets_end()? {
+            return Err(io::Error::other("the text ends within a problem"));
+        }
+        Ok(())
+    }
+
+    /// Reads the next line, and tells whether there is none.
+    fn meets_end(&mut self) -> io::Result<bool> {
+        self.line.clear();
+        self.line_number = self.line_number.saturating_add(1);
+        Ok(self.input.read_line(&mut self.line)? == 0)
+    }
+}
+
+/// The cost that a word writes, `None` for `-`.
+fn cost(word: &str) -> io::Result<Option<u64>> {
+    match word {
+        "-" => Ok(None),
+        digits => Ok(Some(number(digits)?)),
+    }
+}
+
+/// The number that a word writes.
+fn number(word: &str) -> io::Result<u64> {
+    word.parse()
+        .map_err(|_error| io::Error::other("a number is expected"))
+}
