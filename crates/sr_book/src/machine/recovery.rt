@@ -1,5 +1,6 @@
 //! Boards, snapshots and verdicts.
 ghost use Rattle.std.specs.Prelude.{◌≡◌, ◌≢◌, IfOk, OnOk};
+ghost use Rattle.sr_policy.specs.Same.{same};
 ghost use Rattle.sr_resp.specs.Reply.{error_reply};
 ghost use Rattle.sr_book.specs.Server.{snap_code};
 
@@ -130,7 +131,7 @@ impl Machine {
             .snap(alloc, made.key(), made.group(), made.dead(), &self.policy)
         {
             Ok(fresh) => {
-                if fresh == *made {
+                if still_holds(&fresh, made) {
                     self.carry_out(alloc, session, moment, verdict, apply)
                 } else if last {
                     self.reply(alloc, session, moment, Reply::error(alloc, ErrCode::Stale))
@@ -232,6 +233,13 @@ impl Machine {
         self.sessions.set_letter(session, None);
         self.last = moment;
     }
+}
+
+/// Whether a group is still as a snapshot shows it, by a fresh one of it.
+fn still_holds(fresh: &Snapshot, made: &Snapshot) -> bool
+    ensures { result ≡ same fresh.now made.now }
+{
+    fresh == made
 }
 
 /// The error that says why there is no snapshot. A failed allocation is none that is replied.
