@@ -1,6 +1,7 @@
 use Rattle.std.proofs.Common.{◌+◌, ap, arith}
 use Rattle.std.specs.Char.{digit_value}
 use Rattle.std.proofs.lemmas.Int.Digits.{digits_value_more, digits_more}
+use Rattle.std.proofs.lemmas.Grind.{common_steps}
 use Rattle.sr_bytes.proofs.DecimalLemmas.{AllDigits-at, digits_value-take-le}
 use Rattle.sr_bytes.proofs.decimal.read_decimal.Goals as goal
 
@@ -30,3 +31,6 @@ loop-digit-preserved c = record {
       let digit = ap digit_value c.from.ensures in
       omega (arith, more, digit, c.loop-digit.invariant.value, c.in_ok-checked_mul.ensures, c.in_ok-value.ensures.value, c.from-in-loop-digit.ensures, c.in_ok-n.ensures);
 }
+
+pub returns-clause-found : goal.returns-clause-found
+returns-clause-found c = grind (arith, common_steps)
