@@ -1,4 +1,5 @@
-use Rattle.std.proofs.Common.{ap, ◌∙◌, subst, ℕ, ◌≤◌}
+use Rattle.std.proofs.Common.{ap, ◌∙◌, subst, ℕ, ◌≤◌, arith}
+use Rattle.std.proofs.lemmas.Grind.{common_steps}
 use Rattle.sr_waiters.specs.Waiters.{WaitersState}
 use Rattle.sr_waiters.proofs.CopyLemmas.{copy_begins}
 use Rattle.sr_waiters.proofs.waiters.Waiters.copy.Goals as goal
@@ -10,3 +11,6 @@ loop-session-init c =
     (ap (λ (w : WaitersState). w.list) c.self.view_is)
     (c.in_ok-reserve.ensures.list ∙ c.new-copy.ensures)
     (subst (λ (n : ℕ). n ≤ c.reserve.new.self.room) c.len.ensures c.in_ok-reserve.ensures.room)
+
+pub loop-session-preserved : goal.loop-session-preserved
+loop-session-preserved c = grind (arith, common_steps)
