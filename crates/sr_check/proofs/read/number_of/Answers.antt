@@ -1,5 +1,5 @@
-use Rattle.sr_resp.proofs.DecodingLemmas.{number-none, number-one}
 use Rattle.std.proofs.Common.{rules, ◌≡◌, ◌≢◌, decimal}
+use Rattle.sr_resp.proofs.DecodingLemmas.{number-none, number-one}
 use Rattle.sr_check.proofs.read.number_of.Goals as goal
 
 pub returns-in_err-n-clause-none : goal.returns-in_err-n-clause-none
@@ -12,3 +12,6 @@ returns-else-eq-clause-none c = λ n small e.
     let text : c.as_bytes.result.now ≡ decimal c.in_ok-n.n = search rules in
     let other : c.as_bytes.result.now ≢ c.args.digits.now = search rules in
     other (cc (text, own))
+
+pub returns-then-eq-clause-found : goal.returns-then-eq-clause-found
+returns-then-eq-clause-found c = search rules
