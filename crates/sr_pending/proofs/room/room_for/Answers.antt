@@ -1,5 +1,6 @@
 use Rattle.std.proofs.Common.{◌+◌, ◌<◌, ◌≤◌, length, get_or, take, sym, subst, arith}
 use Rattle.std.proofs.lemmas.List.Sums.{sum_by_more_le_part}
+use Rattle.std.proofs.lemmas.Grind.{common_steps}
 use Rattle.sr_pending.specs.declared.room.Room.{Room}
 use Rattle.sr_pending.specs.Pending.{room_of}
 use Rattle.sr_pending.specs.steps.Room.{rooms_in_all}
@@ -16,3 +17,6 @@ overflow_add-all c =
     let fits : room_of owner (take i rooms) + (get_or rooms i room).left ≤ rooms_in_all rooms = sum_by_more_le_part (part owner) (λ (r : Room). r.left) rooms i room within (part-le owner) in
     let P : Room → Type 0 = λ r. room_of owner (take i rooms) + r.left ≤ rooms_in_all rooms in
     omega (arith, subst P (sym c.room-item.is) fits, c.loop-room.invariant)
+
+pub loop-room-preserved : goal.loop-room-preserved
+loop-room-preserved c = grind (arith, common_steps)
