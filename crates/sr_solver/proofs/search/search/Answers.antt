@@ -1,4 +1,4 @@
-use Rattle.std.proofs.Common.{arith}
+use Rattle.std.proofs.Common.{arith, rules}
 use Rattle.sr_solver.proofs.CutoffLemmas.{cutoff_nearest}
 use Rattle.sr_solver.proofs.SearchLemmas.{started_round}
 use Rattle.sr_solver.proofs.search.search.Goals as goal
@@ -23,3 +23,6 @@ returns-then-loads-near-clause-end c = record {
     c.requires.standing.loads.each c.in-Some.near c.in-Some.ensures.some.consumer,
   );
 }
+
+pub loop-near-preserved : goal.loop-near-preserved
+loop-near-preserved c = search rules
