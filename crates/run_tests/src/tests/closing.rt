@@ -219,16 +219,19 @@ fn an_entry_of_one_session_is_read_by_another_at_its_own_seat(rt: HostRuntime) -
     plays(&rt, TWO_SEATS)
 }
 
+/// A run, what is altered of what was told in it, and what the close says then.
+const CLOSINGS: &[(Row, Altered, CloseFault)] = &[
+    (READERS, Altered::Seat, CloseFault::Short),
+    (READERS, Altered::Outcome(1), CloseFault::Mismatch { at: 1 }),
+    (READERS, Altered::Addressee, CloseFault::Stray { at: 0 }),
+    (SCRIPTS, Altered::Outcome(3), CloseFault::Mismatch { at: 3 }),
+    (SCRIPTS, Altered::Index(2), CloseFault::Strange { at: 2 }),
+];
+
 #[test]
 fn a_run_is_closed_with_what_was_told_and_nothing_else(rt: HostRuntime) -> Result<(), Fail> {
-    for (row, altered, fault) in [
-        (READERS, Altered::Seat, CloseFault::Short),
-        (READERS, Altered::Outcome(1), CloseFault::Mismatch { at: 1 }),
-        (READERS, Altered::Addressee, CloseFault::Stray { at: 0 }),
-        (SCRIPTS, Altered::Outcome(3), CloseFault::Mismatch { at: 3 }),
-        (SCRIPTS, Altered::Index(2), CloseFault::Strange { at: 2 }),
-    ] {
-        closes(&rt, row, altered, Some(fault))?;
+    for (row, altered, fault) in CLOSINGS {
+        closes(&rt, *row, *altered, Some(*fault))?;
     }
     Ok(())
 }

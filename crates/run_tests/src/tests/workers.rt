@@ -122,14 +122,14 @@ fn replies_to(alloc: Global, ran: &Ran, at: usize) -> Result<Vec<u8>, Fail> {
     }
 }
 
+/// The replies to each script.
+const SAID: &[&str] = &["$3\r\n1-1\r\n:1\r\n$3\r\n2-1\r\n:2\r\n", ":0\r\n:0\r\n"];
+
 /// Fails the test unless each script has its replies.
 fn compare(rt: &(impl AllocGlobal + Abort), ran: &Ran) -> Result<(), Fail> {
     assert_eq!(rt; ran.closed.acts, 10);
     assert_eq!(rt; ran.receipts.len(), 2);
-    for (at, want) in [
-        (0, "$3\r\n1-1\r\n:1\r\n$3\r\n2-1\r\n:2\r\n"),
-        (1, ":0\r\n:0\r\n"),
-    ] {
+    for (at, want) in SAID.iter().enumerate() {
         let replies = replies_to(rt.alloc(), ran, at)?;
         assert!(rt; replies.as_slice() == want.as_bytes(), "{at}");
     }
