@@ -28,6 +28,7 @@ ADDED = "".join(f"$3\r\n{number}-1\r\n" for number in range(1, 8))
 # What is sent, what is replied, and the line on standard error, which comes with status 1.
 ROWS = [
     (spelled(*SEVEN, "PING", "XLEN s"), ADDED + "+PONG\r\n:7\r\n", ""),
+    ("", "", ""),
     ("$1\r\n", "-ERR Protocol error\r\n", "session: protocol error\n"),
     (spelled("PING") + "$1\r\n", "+PONG\r\n-ERR Protocol error\r\n", "session: protocol error\n"),
 ]

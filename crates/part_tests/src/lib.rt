@@ -2,23 +2,13 @@
 #![tactic(auto)]
 
 #[cfg(test)]
-mod board;
-#[cfg(test)]
-mod bytes;
-#[cfg(test)]
 mod decoding;
-#[cfg(test)]
-mod ids;
-#[cfg(test)]
-mod pending;
 #[cfg(test)]
 mod plan;
 #[cfg(test)]
 mod reading;
 #[cfg(test)]
 mod replies;
-#[cfg(test)]
-mod solver;
 #[cfg(test)]
 mod stream;
 #[cfg(test)]

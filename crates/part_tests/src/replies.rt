@@ -1,39 +1,9 @@
-// What no clause says and no program shows: a number that no reply has, the comparison of replies, and the bytes that a failing writer
-// was given. How replies are spelled is in tests/histories/replies.history and tests/sessions.
-use sr_bytes::Name;
-use sr_resp::{Reply, SendFault, WriteTo, encode, send_all};
+// What no clause says and no program shows: the bytes that a failing writer was given. How replies are spelled is in
+// tests/histories/replies.history and tests/sessions.
+use sr_resp::{SendFault, WriteTo, send_all};
 use std::alloc::{AllocError, Global};
 use std::io::{self, ErrorKind, Write};
 use std::test::Fail;
-
-/// Whether the least integer is spelled in its digits.
-fn is_least_spelled(alloc: Global) -> Result<bool, AllocError> {
-    let text = encode(alloc, &Reply::int(alloc, i64::MIN))?;
-    Ok(text.as_slice() == b":-9223372036854775808\r\n".as_slice())
-}
-
-/// The longest id of an entry.
-const LONGEST: &str = "18446744073709551615-18446744073709551615";
-
-fn short(alloc: Global) -> Reply {
-    Reply::short(alloc, LONGEST.as_bytes())
-}
-
-fn is_short_as_bulk(alloc: Global) -> Result<bool, AllocError> {
-    Ok(short(alloc) == bulk(alloc, LONGEST.as_bytes())?)
-}
-
-fn are_nulls_equal(alloc: Global) -> bool {
-    Reply::null_bulk(alloc) == Reply::no_array(alloc)
-}
-
-#[test]
-fn replies_are_spelled_and_compared(rt: HostRuntime) -> Result<(), Fail> {
-    assert!(rt; is_least_spelled(rt.alloc())?);
-    assert!(rt; is_short_as_bulk(rt.alloc())?);
-    assert!(rt; !are_nulls_equal(rt.alloc()));
-    Ok(())
-}
 
 /// Bytes, the turns of a writer, what comes of sending it the bytes, and what it then has got.
 const WRITES: &[(&[u8], &[Turn], Result<(), SendFault>, &[u8])] = &[
@@ -85,10 +55,6 @@ fn sends(
     let mut writer = Scripted::new(alloc, turns)?;
     let sent = send_all(&mut WriteTo::new(&mut writer), bytes);
     Ok(sent == outcome && writer.got.as_slice() == got)
-}
-
-fn bulk(alloc: Global, bytes: &[u8]) -> Result<Reply, AllocError> {
-    Ok(Reply::bulk(alloc, Name::new(Vec::from_slice(alloc, bytes)?)))
 }
 
 /// What a writer does at one write.

@@ -18,24 +18,26 @@ fn is_taken(
     Ok(Problem::new(rooms, entries, costs).is_some())
 }
 
+/// What is tried: how many consumers, their room, how many entries, how many costs, each cost, and whether that is taken.
+const LIMITS: &[(&str, usize, u64, usize, usize, u64, bool)] = &[
+    ("a cost of 2 ^ 40", 1, 1, 1, 1, 1_099_511_627_776, true),
+    ("a cost of one more", 1, 1, 1, 1, 1_099_511_627_777, false),
+    ("64 consumers", 64, 1, 1, 64, 1, true),
+    ("65 consumers", 65, 1, 1, 65, 1, false),
+    ("4,096 entries", 1, 1, 4096, 4096, 1, true),
+    ("4,097 entries", 1, 1, 4097, 4097, 1, false),
+    ("a room of 1,000,000,000", 1, 1_000_000_000, 1, 1, 1, true),
+    ("a room of one more", 1, 1_000_000_001, 1, 1, 1, false),
+    ("a place too few", 2, 1, 3, 5, 1, false),
+    ("a place too many", 2, 1, 3, 7, 1, false),
+    ("a place for each pair", 2, 1, 3, 6, 1, true),
+];
+
 #[test]
 fn limits_are_taken_and_one_more_is_refused(rt: HostRuntime) -> Result<(), Fail> {
-    let rows = [
-        ("a cost of 2 ^ 40", 1, 1, 1, 1, 1_099_511_627_776, true),
-        ("a cost of one more", 1, 1, 1, 1, 1_099_511_627_777, false),
-        ("64 consumers", 64, 1, 1, 64, 1, true),
-        ("65 consumers", 65, 1, 1, 65, 1, false),
-        ("4,096 entries", 1, 1, 4096, 4096, 1, true),
-        ("4,097 entries", 1, 1, 4097, 4097, 1, false),
-        ("a room of 1,000,000,000", 1, 1_000_000_000, 1, 1, 1, true),
-        ("a room of one more", 1, 1_000_000_001, 1, 1, 1, false),
-        ("a place too few", 2, 1, 3, 5, 1, false),
-        ("a place too many", 2, 1, 3, 7, 1, false),
-        ("a place for each pair", 2, 1, 3, 6, 1, true),
-    ];
-    for (what, consumers, room, entries, places, cost, want) in rows {
-        let taken = is_taken(rt.alloc(), consumers, room, entries, places, cost)?;
-        assert_eq!(rt; taken, want, "at {what}");
+    for (what, consumers, room, entries, places, cost, want) in LIMITS {
+        let taken = is_taken(rt.alloc(), *consumers, *room, *entries, *places, *cost)?;
+        assert_eq!(rt; taken, *want, "at {what}");
     }
     Ok(())
 }

@@ -235,11 +235,7 @@ const POLICY: [&str; 4] = ["sr_server", "--stdio", "--policy", "missing.toml"];
 
 const PING: &str = "*1\r\n$4\r\nPING\r\n";
 
-const XADD: &str = "*5\r\n$4\r\nXADD\r\n$1\r\ns\r\n$3\r\n1-1\r\n$1\r\na\r\n$1\r\nb\r\n";
-
 const XLEN: &str = "*2\r\n$4\r\nXLEN\r\n$1\r\ns\r\n";
-
-const XRANGE: &str = "*4\r\n$6\r\nXRANGE\r\n$1\r\ns\r\n$1\r\n-\r\n$1\r\n+\r\n";
 
 #[test]
 fn command_lines_are_refused(rt: HostRuntime) -> Result<(), Fail> {
@@ -274,34 +270,6 @@ fn command_lines_are_refused(rt: HostRuntime) -> Result<(), Fail> {
 }
 
 #[test]
-fn stored_run(rt: HostRuntime) -> Result<(), Fail> {
-    let input = format!(in rt.alloc(); "{PING}{XADD}{XLEN}{XRANGE}")?;
-    let replies =
-        "+PONG\r\n$3\r\n1-1\r\n:1\r\n*1\r\n*2\r\n$3\r\n1-1\r\n*2\r\n$1\r\na\r\n$1\r\nb\r\n";
-    let ended = run(&rt, STDIO.as_slice(), input.as_bytes());
-    assert!(rt; ended.is(0, replies, ""));
-    Ok(())
-}
-
-#[test]
-fn inputs_end_the_program(rt: HostRuntime) {
-    let rows = [
-        ("", 0, "", ""),
-        ("*2\r\n$4\r\nXLEN\r\n$1\r\n", 0, "", ""),
-        (
-            "$1\r\n",
-            1,
-            "-ERR Protocol error\r\n",
-            "session: protocol error\n",
-        ),
-    ];
-    for (input, status, replies, line) in rows {
-        let ended = run(&rt, STDIO.as_slice(), input.as_bytes());
-        assert!(rt; ended.is(status, replies, line), "at {input}");
-    }
-}
-
-#[test]
 fn failing_reader_ends_the_program(rt: HostRuntime) {
     let at_once = run(&rt, STDIO.as_slice(), Broken);
     assert!(rt; at_once.is(1, "", "session: read fault\n"));
@@ -322,24 +290,6 @@ fn failing_writer_ends_the_program(rt: HostRuntime) {
         &mut err,
     );
     assert_eq!(rt; status, 1);
-    assert_eq!(rt; err.as_slice(), "session: write fault\n".as_bytes());
-}
-
-#[test]
-fn full_writer_ends_the_program(rt: HostRuntime) {
-    let mut room = [0; 3];
-    let mut err = Vec::new(rt.alloc());
-    let mut files = SystemFiles::new(&rt);
-    let status = start_over(
-        &rt,
-        STDIO.as_slice(),
-        &mut files,
-        XLEN.as_bytes(),
-        &mut room[..],
-        &mut err,
-    );
-    assert_eq!(rt; status, 1);
-    assert_eq!(rt; &room[..], ":0\r".as_bytes());
     assert_eq!(rt; err.as_slice(), "session: write fault\n".as_bytes());
 }
 
@@ -382,13 +332,6 @@ fn random_source_is_needed(rt: HostRuntime) {
 }
 
 #[test]
-fn missing_policy_ends_the_program(rt: HostRuntime) {
-    let mut files = SystemFiles::new(&rt);
-    let ended = run_with(&rt, POLICY.as_slice(), &mut files, PING.as_bytes());
-    assert!(rt; ended.is(1, "", "policy: cannot read\n"));
-}
-
-#[test]
 fn wrong_policies_end_the_program(rt: HostRuntime) {
     let rows = [
         (Err(TextFault::Unreadable), "policy: cannot read\n"),
@@ -401,16 +344,6 @@ fn wrong_policies_end_the_program(rt: HostRuntime) {
         let mut files = files_of(rt.alloc(), text);
         let ended = run_with(&rt, POLICY.as_slice(), &mut files, PING.as_bytes());
         assert!(rt; ended.is(1, "", line), "at {line}");
-    }
-}
-
-#[test]
-fn session_runs_under_a_policy(rt: HostRuntime) {
-    let one_word = ["sr_server", "--policy=-p.toml", "--stdio"];
-    for words in [POLICY.as_slice(), one_word.as_slice()] {
-        let mut files = files_of(rt.alloc(), Ok("[limits]\nA = 1\n"));
-        let ended = run_with(&rt, words, &mut files, PING.as_bytes());
-        assert!(rt; ended.is(0, "+PONG\r\n", ""));
     }
 }
 

@@ -6,27 +6,27 @@ use sr_book::{Act, Answer, Book, BookFault, Event, Out, Record};
 use sr_policy::Snapshot;
 use sr_resp::Reply;
 use std::alloc::{AllocError, Global};
+use std::mem;
 use std::process::Abort;
 use std::random::RandomSource;
 use std::test::Fail;
 
-/// Drives a book by an event, and keeps the snapshot if it gives one. A refused event is passed over, but not one that is refused memory.
+/// Drives a book by a list of events, and keeps the last snapshot that one gives. A refused event is passed over, but not one that is refused
+/// memory.
 fn drive(
     alloc: Global,
     book: &mut Book,
-    moment: u64,
-    event: Event,
+    events: Vec<(u64, Event)>,
     snapshot: &mut Option<Snapshot>,
 ) -> Result<(), AllocError> {
-    let mut answers = book.drive(alloc, vec![in alloc; (moment, event)]?)?;
-    match answers.pop() {
-        Some(Ok(answer)) if answer.settled => {
-            keep(answer, snapshot);
-            Ok(())
+    for answer in book.drive(alloc, events)? {
+        match answer {
+            Ok(answer) if answer.settled => keep(answer, snapshot),
+            Ok(_) | Err(BookFault::Memory) => return Err(AllocError),
+            Err(_) => {}
         }
-        Some(Ok(_)) | Some(Err(BookFault::Memory)) | None => Err(AllocError),
-        Some(Err(_)) => Ok(()),
     }
+    Ok(())
 }
 
 /// Keeps the snapshot of an answer.
@@ -36,16 +36,24 @@ pub(super) fn keep(answer: Answer, snapshot: &mut Option<Snapshot>) {
     }
 }
 
-/// Drives a book by the events of lines.
+/// Drives a book by the events of lines: by all of them at once, but for a snapshot, which the verdict after it is made of.
 fn drive_all(alloc: Global, book: &mut Book, lines: &[Line]) -> Result<(), Fail> {
     let mut snapshot = None;
+    let mut events = Vec::new(alloc);
     for (moment, session, line, said) in lines {
+        if *line == "conclude" {
+            drive(
+                alloc,
+                book,
+                mem::replace(&mut events, Vec::new(alloc)),
+                &mut snapshot,
+            )?;
+        }
         if !is_look(line, said) {
-            let event = event_of(alloc, *session, line, &mut snapshot)?;
-            drive(alloc, book, *moment, event, &mut snapshot)?;
+            events.push((*moment, event_of(alloc, *session, line, &mut snapshot)?))?;
         }
     }
-    Ok(())
+    Ok(drive(alloc, book, events, &mut snapshot)?)
 }
 
 /// Whether a line is no event.
