@@ -1,7 +1,8 @@
 -- One consumer more is asked whether an entry of the closed one comes nearer.
 use Rattle.std.proofs.Common.{◌≡◌, ℕ, ◌+◌, ◌*◌, ◌<◌, ◌≤◌, ◌⊎◌, true, false, List, length, get_or, Option, Some, None, refl, sym, ap, ◌∙◌, inl, inr, arith}
+use Rattle.std.specs.Prelude.{IfSome}
 use Rattle.sr_transport.specs.Limits.{greatest_cost, greatest_price, most_consumers}
-use Rattle.sr_solver.specs.Limits.{greatest_way}
+use Rattle.sr_solver.specs.Limits.{greatest_way, greatest_bound}
 use Rattle.std.proofs.lemmas.Bool.{cases_eq, cases_lt, false≢true}
 use Rattle.sr_transport.specs.Problem.{Transport, consumers, cost_at, cost_of, IsAllowed}
 use Rattle.sr_transport.specs.Certificate.{IsLeast}
@@ -343,6 +344,37 @@ way_small p k xs prices cutoff labels t upto placed le search c lt up =
       placed.limits.consumers,
       search.long c lt up,
     )
+
+-- the prices as they were read
+pub prices_low : (p : Transport) (k : ℕ) (xs prices read : List ℕ) → IsPlaced p k xs prices → k < p.entries → read ≡ prices
+    → (c : ℕ) → c < consumers p → get_or read c 0 ≤ greatest_way
+prices_low p k xs prices read placed lt same c ltc =
+    let low : get_or prices c 0 ≤ greatest_price = price_small p k xs prices placed (omega arith) c ltc in
+    rw same (omega (arith, low))
+
+-- an entry that stands at a consumer may stand there
+pub stands_allowed : (p : Transport) (k : ℕ) (xs prices : List ℕ) (t : ℕ) → IsPlaced p k xs prices → t < consumers p
+    → (i : ℕ) → IsAt xs p.entries t i → IsAllowed p i t
+stands_allowed p k xs prices t placed ltt i at =
+    rw at.1 at (placed.placed i (placed_at p k xs prices t i placed ltt at))
+
+-- and costs least there
+pub stands_least : (p : Transport) (k : ℕ) (xs prices read : List ℕ) (t i : ℕ) → IsPlaced p k xs prices → t < consumers p
+    → read ≡ prices → IsAt xs p.entries t i → IsLeast p read i t
+stands_least p k xs prices read t i placed ltt same at =
+    rw same (rw at.1 at (placed.least i (placed_at p k xs prices t i placed ltt at)))
+
+known_small : (p : Transport) (at : ℕ → Type 0) (a b : ℕ) (known : Option Bound) → IsKnown p at a b known
+    → IfSome known (λ bound. bound.low ≤ greatest_bound)
+known_small p at a b None known = tt
+known_small p at a b (Some bound) known = known.small
+
+-- a bound of the table is small
+pub bound_small : (p : Transport) (xs : List ℕ) (a b q : ℕ) (table : List (Option Bound)) → IsTable p xs table
+    → a < consumers p → b < consumers p → q ≡ a * consumers p + b
+    → IfSome (get_or table q None) (λ bound. bound.low ≤ greatest_bound)
+bound_small p xs a b q table table_is lta ltb is_pair =
+    rw is_pair (known_small p (IsAt xs p.entries a) a b _ (table_is.each a b lta ltb))
 
 pub cutoff_asked : (p : Transport) (k : ℕ) (xs prices loads : List ℕ) (cutoff next : Option ℕ) (old before after : List Label) (t b : ℕ)
     → IsPlaced p k xs prices → k ≤ p.entries → AreLoads p xs loads → b < consumers p

@@ -1,5 +1,5 @@
-use Rattle.std.proofs.Common.{◌+◌, ◌*◌, refl, ap, arith}
-use Rattle.sr_solver.proofs.OfferLemmas.{asked_far, asked_none, asked_mover}
+use Rattle.std.proofs.Common.{◌+◌, ◌*◌, length, refl, ap, ◌∙◌, inl, arith}
+use Rattle.sr_solver.proofs.OfferLemmas.{asked_far, asked_none, asked_mover, dist_small, hops_small, way_small, prices_low, stands_allowed, stands_least, bound_small}
 use Rattle.sr_solver.proofs.search.ask.Goals as goal
 
 pub returns-clause-asked : goal.returns-clause-asked
@@ -19,3 +19,109 @@ returns-then-not-may_be_nearer-clause-asked c =
     (c.args.near * c.consumers.result + c.args.other) c.args.cutoff c.args.labels.now c.args.table.now (omega arith) c.requires.near c.requires.other
     (ap (λ n. c.args.near * n + c.args.other) c.consumers.ensures.count) c.requires.table
     (rw c.as_slice-prices.ensures.value at c.if-not-may_be_nearer.ensures.no refl)
+
+pub may_be_nearer-requires-clause-dist : goal.may_be_nearer-requires-clause-dist
+may_be_nearer-requires-clause-dist c = dist_small c.args.problem.now c.args.entry c.args.placement.now.assign.items c.args.placement.now.prices.items c.args.cutoff c.args.labels.now c.args.near c.args.other c.requires.standing.placed
+    (omega arith) c.requires.search c.args.near c.requires.near c.requires.closed
+
+pub may_be_nearer-requires-clause-here : goal.may_be_nearer-requires-clause-here
+may_be_nearer-requires-clause-here c = prices_low c.args.problem.now c.args.entry c.args.placement.now.assign.items c.args.placement.now.prices.items c.as_slice-prices.result.now
+    c.requires.standing.placed c.requires.entry c.as_slice-prices.ensures.value c.args.near c.requires.near
+
+pub may_be_nearer-requires-clause-there : goal.may_be_nearer-requires-clause-there
+may_be_nearer-requires-clause-there c = prices_low c.args.problem.now c.args.entry c.args.placement.now.assign.items c.args.placement.now.prices.items c.as_slice-prices.result.now
+    c.requires.standing.placed c.requires.entry c.as_slice-prices.ensures.value c.args.other c.requires.other
+
+pub may_be_nearer-requires-clause-label : goal.may_be_nearer-requires-clause-label
+may_be_nearer-requires-clause-label c = way_small c.args.problem.now c.args.entry c.args.placement.now.assign.items c.args.placement.now.prices.items c.args.cutoff c.args.labels.now c.args.near c.args.other c.requires.standing.placed
+    (omega arith) c.requires.search c.args.other c.requires.other
+
+pub may_be_nearer-requires-clause-low : goal.may_be_nearer-requires-clause-low
+may_be_nearer-requires-clause-low c = bound_small c.args.problem.now c.args.placement.now.assign.items c.args.near c.args.other (c.args.near * c.consumers.result + c.args.other)
+    c.args.table.now c.requires.table c.requires.near c.requires.other (ap (λ n. c.args.near * n + c.args.other) c.consumers.ensures.count)
+
+pub may_be_nearer-requires-clause-cutoff : goal.may_be_nearer-requires-clause-cutoff
+may_be_nearer-requires-clause-cutoff c = c.requires.cutoff
+
+pub returns-then-not-may_be_nearer-clause-table : goal.returns-then-not-may_be_nearer-clause-table
+returns-then-not-may_be_nearer-clause-table c = c.requires.table
+
+pub returns-then-not-may_be_nearer-clause-cut : goal.returns-then-not-may_be_nearer-clause-cut
+returns-then-not-may_be_nearer-clause-cut c = inl refl
+
+pub least_mover-requires-clause-limits : goal.least_mover-requires-clause-limits
+least_mover-requires-clause-limits c = c.requires.standing.placed.limits
+
+pub least_mover-requires-clause-every : goal.least_mover-requires-clause-every
+least_mover-requires-clause-every c = c.requires.standing.placed.every
+
+pub least_mover-requires-clause-from : goal.least_mover-requires-clause-from
+least_mover-requires-clause-from c = c.requires.near
+
+pub least_mover-requires-clause-to : goal.least_mover-requires-clause-to
+least_mover-requires-clause-to c = c.requires.other
+
+pub least_mover-requires-clause-placed : goal.least_mover-requires-clause-placed
+least_mover-requires-clause-placed c = stands_allowed c.args.problem.now c.args.entry c.args.placement.now.assign.items c.args.placement.now.prices.items c.args.near c.requires.standing.placed c.requires.near
+
+pub least_mover-requires-clause-members : goal.least_mover-requires-clause-members
+least_mover-requires-clause-members c = c.requires.standing.members
+
+pub least_mover-requires-clause-table : goal.least_mover-requires-clause-table
+least_mover-requires-clause-table c = c.requires.table
+
+pub returns-in_default-clause-table : goal.returns-in_default-clause-table
+returns-in_default-clause-table c = c.in_default.ensures.table
+
+pub returns-in_default-clause-cut : goal.returns-in_default-clause-cut
+returns-in_default-clause-cut c = inl refl
+
+pub offer-requires-clause-limits : goal.offer-requires-clause-limits
+offer-requires-clause-limits c = c.requires.standing.placed.limits
+
+pub offer-requires-clause-entry : goal.offer-requires-clause-entry
+offer-requires-clause-entry c = c.in-Some.ensures.mover.stands.0
+
+pub offer-requires-clause-allowed : goal.offer-requires-clause-allowed
+offer-requires-clause-allowed c = stands_allowed c.args.problem.now c.args.entry c.args.placement.now.assign.items c.args.placement.now.prices.items c.args.near c.requires.standing.placed c.requires.near
+    c.in-Some.mover c.in-Some.ensures.mover.stands
+
+pub offer-requires-clause-other : goal.offer-requires-clause-other
+offer-requires-clause-other c = c.requires.other
+
+pub offer-requires-clause-least : goal.offer-requires-clause-least
+offer-requires-clause-least c = stands_least c.args.problem.now c.args.entry c.args.placement.now.assign.items c.args.placement.now.prices.items c.as_slice-prices.result.now c.args.near c.in-Some.mover
+    c.requires.standing.placed c.requires.near c.as_slice-prices.ensures.value c.in-Some.ensures.mover.stands
+
+pub offer-requires-clause-prices_each : goal.offer-requires-clause-prices_each
+offer-requires-clause-prices_each c = ap length c.as_slice-prices.ensures.value ∙ c.requires.standing.placed.one_each
+
+pub offer-requires-clause-labels_each : goal.offer-requires-clause-labels_each
+offer-requires-clause-labels_each c = c.requires.search.one_each
+
+pub offer-requires-clause-low : goal.offer-requires-clause-low
+offer-requires-clause-low c = prices_low c.args.problem.now c.args.entry c.args.placement.now.assign.items c.args.placement.now.prices.items c.as_slice-prices.result.now
+    c.requires.standing.placed c.requires.entry c.as_slice-prices.ensures.value
+
+pub offer-requires-clause-dist : goal.offer-requires-clause-dist
+offer-requires-clause-dist c = dist_small c.args.problem.now c.args.entry c.args.placement.now.assign.items c.args.placement.now.prices.items c.args.cutoff c.args.labels.now c.args.near c.args.other c.requires.standing.placed
+    (omega arith) c.requires.search c.args.near c.requires.near c.requires.closed
+
+pub offer-requires-clause-hops : goal.offer-requires-clause-hops
+offer-requires-clause-hops c = hops_small c.args.problem.now c.args.entry c.args.placement.now.assign.items c.args.placement.now.prices.items c.args.cutoff c.args.labels.now c.args.near c.args.other c.requires.standing.placed
+    c.requires.search c.args.near c.requires.near c.requires.closed
+
+pub offer-requires-clause-cutoff : goal.offer-requires-clause-cutoff
+offer-requires-clause-cutoff c = c.requires.cutoff
+
+pub cut-requires-clause-loads_each : goal.cut-requires-clause-loads_each
+cut-requires-clause-loads_each c = ap length c.deref.ensures.value ∙ c.requires.standing.loads.one_each
+
+pub cut-requires-clause-consumer : goal.cut-requires-clause-consumer
+cut-requires-clause-consumer c = c.requires.other
+
+pub returns-clause-table : goal.returns-clause-table
+returns-clause-table c = c.in-Some.ensures.table
+
+pub returns-clause-cut : goal.returns-clause-cut
+returns-clause-cut c = rw c.deref.ensures.value at c.cut.ensures
