@@ -3,7 +3,7 @@ use Rattle.std.proofs.Common.{◌≡◌, ℕ, ◌+◌, ◌<◌, ◌⊎◌, true,
 use Rattle.std.proofs.Math.ListN.{set, length-set}
 use Rattle.std.proofs.lemmas.Bool.{cases_eq}
 use Rattle.std.proofs.lemmas.List.{get_or-set_same, get_or-set_other}
-use Rattle.sr_transport.specs.Problem.{Transport, room_of}
+use Rattle.sr_transport.specs.Problem.{Transport, consumers, room_of}
 use Rattle.sr_transport.specs.Assignment.{load}
 use Rattle.sr_solver.specs.declared.label.Label.{Label}
 use Rattle.sr_solver.specs.Labels.{no_label, label_at, open_count, priced}
@@ -124,3 +124,20 @@ cutoff_closing p xs old t n label cutoff lt was_open same is_closed is =
     let done : IsClosing t old (set old t label) = closing t old label lt was_open same is_closed in
     cutoff_kept p xs old (set old t label) n n cutoff (omega arith)
     (λ c ltc up. (omega (arith, up, (done.same c).hops), omega (arith, (done.same c).dist))) is
+
+-- once all consumers were asked, a round is over
+pub closed_round : (p : Transport) (k : ℕ) (xs prices : List ℕ) (cutoff : Option ℕ) (labels : List Label) (t upto : ℕ)
+    → upto ≡ consumers p → IsSearch p k xs prices cutoff labels t upto → IsRound p k xs prices cutoff labels
+closed_round p k xs prices cutoff labels t upto all search = record {
+  one_each = search.one_each;
+  way = search.way;
+  long = search.long;
+  few = search.few;
+  few_closed = search.few_closed;
+  reached = search.reached;
+  full = search.full;
+  nearer = search.nearer;
+  latest = λ c lt now ltt. absurd (omega arith);
+  new_offered = search.new_offered;
+  offered = λ i c lt now within allowed. search.offered i c lt now (λ here. rw all allowed.0) allowed;
+}

@@ -1,5 +1,6 @@
 -- The cutoff of a search: what lies beyond it, how it falls, and what it comes to in the end.
 use Rattle.std.proofs.Common.{◌≡◌, ℕ, ◌+◌, ◌<◌, ◌≤◌, Bool, true, false, List, Option, Some, None, refl, inl, inr, arith}
+use Rattle.std.specs.Prelude.{IfSome}
 use Rattle.sr_transport.specs.Problem.{Transport, consumers}
 use Rattle.sr_solver.specs.Limits.{greatest_way}
 use Rattle.sr_solver.specs.declared.label.Label.{Label}
@@ -50,6 +51,12 @@ search_cut p k xs prices old new labels t upto later search = record {
     | inr beyond ↦ inr (later _ _ beyond)
   ];
 }
+
+-- a cutoff is small
+pub cutoff_small : (p : Transport) (xs : List ℕ) (labels : List Label) (n : ℕ) (cutoff : Option ℕ) → IsCutoff p xs labels n cutoff
+    → IfSome cutoff (λ d. d ≤ greatest_way)
+cutoff_small p xs labels n None is = tt
+cutoff_small p xs labels n (Some dist) is = is.0
 
 -- a cutoff stays one where no label goes farther
 pub cutoff_kept : (p : Transport) (xs : List ℕ) (old new : List Label) (m n : ℕ) (cutoff : Option ℕ) → m ≤ n

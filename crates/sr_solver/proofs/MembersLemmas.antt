@@ -1,10 +1,10 @@
 -- The rows of members: an entry that is taken out, and one that is added.
-use Rattle.std.proofs.Common.{◌≡◌, ℕ, ◌+◌, ◌*◌, ◌^◌, ◌<◌, ◌≤◌, ◌==◌, ◌⊎◌, cond, List, length, get_or, Option, refl, sym, ap, ◌∙◌, inl, inr, arith}
+use Rattle.std.proofs.Common.{◌≡◌, ℕ, ◌+◌, ◌*◌, ◌^◌, ◌<◌, ◌≤◌, ◌==◌, ◌⊎◌, cond, List, length, get_or, take, ◌++◌, Option, refl, sym, ap, ◌∙◌, inl, inr, arith}
 use Rattle.std.proofs.Math.ListN.{set, length-set}
 use Rattle.std.proofs.lemmas.Bool.{cases_eq, cases_lt}
 use Rattle.std.proofs.Math.Nat.{mul-le-mul_left}
 use Rattle.std.proofs.lemmas.Nat.{mul-add-lt}
-use Rattle.std.proofs.lemmas.List.{get_or-set_same, get_or-set_other}
+use Rattle.std.proofs.lemmas.List.{get_or-set_same, get_or-set_other, take_at}
 use Rattle.std.proofs.lemmas.List.Sums.{count_by-le-length}
 use Rattle.sr_transport.specs.Problem.{Transport, IsWithinLimits, consumers, room_of, cost_at, cost_of}
 use Rattle.sr_transport.specs.Assignment.{load}
@@ -427,3 +427,8 @@ wide_more p k room old new is before kept enough c n lt in_room few = elim (case
       elim enough [ inl r ↦ omega (arith, here, is, r) | inr all ↦ omega (arith, few, all) ]
   | inr ne ↦ omega (arith, before c n (omega (arith, lt, ne)) in_room few, kept)
 ]
+
+-- a slice that is written back into a `Vec` is all of it
+pub members_written : (p : Transport) (w n : ℕ) (count : ℕ → ℕ) (at : ℕ → ℕ → Type 0) (members rest : List ℕ)
+    → length members ≡ n → AreMembersOf p w count at members → AreMembersOf p w count at (take n (members ++ rest))
+members_written p w n count at members rest all are = rw (take_at members rest n all) are

@@ -1,6 +1,9 @@
-use Rattle.std.proofs.Common.{◌≡◌, ℕ, ◌<◌, length, get_or, ap, ◌∙◌, arith}
+use Rattle.std.proofs.Common.{◌≡◌, ℕ, ◌<◌, length, get_or, sym, ap, ◌∙◌, arith}
+use Rattle.std.proofs.lemmas.Bool.{false≢true}
 use Rattle.std.proofs.lemmas.List.{get_or_default, with_items_is}
-use Rattle.sr_solver.proofs.PlaceLemmas.{are_paths, end_in_room, placed_more, loads_more}
+use Rattle.sr_transport.specs.Problem.{consumers}
+use Rattle.sr_solver.proofs.PlaceLemmas.{are_paths, end_in_room, placed_more, loads_more, end_near, closed_near}
+use Rattle.sr_solver.proofs.OfferLemmas.{prices_low}
 use Rattle.sr_solver.proofs.placing.place.Goals as goal
 
 pub shift-requires-clause-paths : goal.shift-requires-clause-paths
@@ -38,3 +41,97 @@ pub shift-requires-clause-in_room : goal.shift-requires-clause-in_room
 shift-requires-clause-in_room c =
     end_in_room c.args.problem.now c.args.entry c.args.placement.now.assign.items c.args.placement.now.prices.items c.search.new.labels
     c.in-Some.end c.requires.standing.placed c.in-Some.ensures.end
+
+pub search-requires-clause-entry : goal.search-requires-clause-entry
+search-requires-clause-entry c = c.requires.entry
+
+pub search-requires-clause-standing : goal.search-requires-clause-standing
+search-requires-clause-standing c = c.requires.standing
+
+pub search-requires-clause-table : goal.search-requires-clause-table
+search-requires-clause-table c = c.requires.table
+
+pub search-requires-clause-labels : goal.search-requires-clause-labels
+search-requires-clause-labels c = c.requires.labels
+
+pub returns-in_default-clause-standing : goal.returns-in_default-clause-standing
+returns-in_default-clause-standing c = λ yes. absurd (false≢true yes)
+
+pub returns-in_default-clause-table : goal.returns-in_default-clause-table
+returns-in_default-clause-table c = λ yes. absurd (false≢true yes)
+
+pub returns-in_default-clause-stuck : goal.returns-in_default-clause-stuck
+returns-in_default-clause-stuck c = λ no.
+    let placed = c.requires.standing.placed in
+    record {
+      entry = c.requires.entry;
+      placed_below = placed.placed;
+      waiting = placed.waiting;
+      every = placed.every;
+      search = c.in_default.ensures.round;
+      all_closed = c.in_default.ensures.all_closed;
+    }
+
+pub raise-requires-clause-one_each : goal.raise-requires-clause-one_each
+raise-requires-clause-one_each c = 
+    c.in-Some.ensures.end.search.one_each ∙ sym (ap length c.deref_mut.ensures.value ∙ c.requires.standing.placed.one_each)
+
+pub raise-requires-clause-few : goal.raise-requires-clause-few
+raise-requires-clause-few c = 
+    rw c.deref_mut.ensures.value (rw c.requires.standing.placed.one_each c.requires.standing.placed.limits.consumers)
+
+pub raise-requires-clause-dist : goal.raise-requires-clause-dist
+raise-requires-clause-dist c = omega (
+      arith,
+      end_near c.args.problem.now c.args.entry c.args.placement.now.assign.items c.args.placement.now.prices.items c.search.new.labels
+      c.in-Some.end c.requires.standing.placed c.in-Some.ensures.end,
+    )
+
+pub raise-requires-clause-low : goal.raise-requires-clause-low
+raise-requires-clause-low c = λ x lt.
+    let within : length c.deref_mut.result.now ≡ consumers c.args.problem.now =
+    ap length c.deref_mut.ensures.value ∙ c.requires.standing.placed.one_each in
+    prices_low c.args.problem.now c.args.entry c.args.placement.now.assign.items c.args.placement.now.prices.items c.deref_mut.result.now
+    c.requires.standing.placed c.requires.entry c.deref_mut.ensures.value x (rw within at lt)
+
+pub raise-requires-clause-near : goal.raise-requires-clause-near
+raise-requires-clause-near c = λ x lt.
+    let within : length c.deref_mut.result.now ≡ consumers c.args.problem.now =
+    ap length c.deref_mut.ensures.value ∙ c.requires.standing.placed.one_each in
+    closed_near c.args.problem.now c.args.entry c.args.placement.now.assign.items c.args.placement.now.prices.items c.search.new.labels
+    c.in-Some.end c.in-Some.ensures.end x (rw within at lt)
+
+pub shift-requires-clause-limits : goal.shift-requires-clause-limits
+shift-requires-clause-limits c = c.requires.standing.placed.limits
+
+pub shift-requires-clause-one_each : goal.shift-requires-clause-one_each
+shift-requires-clause-one_each c = c.in-Some.ensures.end.search.one_each
+
+pub shift-requires-clause-every : goal.shift-requires-clause-every
+shift-requires-clause-every c = c.requires.standing.placed.every
+
+pub shift-requires-clause-allowed : goal.shift-requires-clause-allowed
+shift-requires-clause-allowed c = λ x lt up.
+    let found = c.in-Some.ensures.end in
+    (found.search.way x (rw found.search.one_each at lt) up).allowed
+
+pub shift-requires-clause-end : goal.shift-requires-clause-end
+shift-requires-clause-end c = rw c.in-Some.ensures.end.search.one_each c.in-Some.ensures.end.nearest.consumer
+
+pub shift-requires-clause-reached : goal.shift-requires-clause-reached
+shift-requires-clause-reached c = c.in-Some.ensures.end.nearest.reached
+
+pub shift-requires-clause-wide : goal.shift-requires-clause-wide
+shift-requires-clause-wide c = c.requires.standing.wide
+
+pub shift-requires-clause-members : goal.shift-requires-clause-members
+shift-requires-clause-members c = c.requires.standing.members
+
+pub shift-requires-clause-table : goal.shift-requires-clause-table
+shift-requires-clause-table c = c.search.ensures.table
+
+pub returns-clause-table : goal.returns-clause-table
+returns-clause-table c = λ yes. c.shift.ensures.table
+
+pub returns-clause-stuck : goal.returns-clause-stuck
+returns-clause-stuck c = λ no. absurd (false≢true (sym no))

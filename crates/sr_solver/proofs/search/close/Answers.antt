@@ -1,6 +1,6 @@
 use Rattle.std.proofs.Common.{◌+◌, refl, arith}
-use Rattle.sr_solver.proofs.CloseLemmas.{closed_start, cutoff_closing}
-use Rattle.sr_solver.proofs.CutoffLemmas.{beyond_cut}
+use Rattle.sr_solver.proofs.CloseLemmas.{closed_start, cutoff_closing, closed_round}
+use Rattle.sr_solver.proofs.CutoffLemmas.{beyond_cut, cutoff_small}
 use Rattle.sr_solver.proofs.OfferLemmas.{closed_ask, closed_cut, cutoff_asked}
 use Rattle.sr_solver.proofs.search.close.Goals as goal
 
@@ -32,3 +32,39 @@ loop-other-preserved c =
           c.args.near c.loop-other.other standing.placed (omega arith) standing.loads (omega arith) closed c.ask-cutoff.ensures.asked cut
           c.loop-other.invariant.cutoff;
     }
+
+pub ask-cutoff-requires-clause-entry : goal.ask-cutoff-requires-clause-entry
+ask-cutoff-requires-clause-entry c = c.requires.entry
+
+pub ask-cutoff-requires-clause-near : goal.ask-cutoff-requires-clause-near
+ask-cutoff-requires-clause-near c = c.requires.nearest.consumer
+
+pub ask-cutoff-requires-clause-other : goal.ask-cutoff-requires-clause-other
+ask-cutoff-requires-clause-other c = omega arith
+
+pub ask-cutoff-requires-clause-standing : goal.ask-cutoff-requires-clause-standing
+ask-cutoff-requires-clause-standing c = c.requires.standing
+
+pub ask-cutoff-requires-clause-table : goal.ask-cutoff-requires-clause-table
+ask-cutoff-requires-clause-table c = c.loop-other.invariant.table
+
+pub ask-cutoff-requires-clause-search : goal.ask-cutoff-requires-clause-search
+ask-cutoff-requires-clause-search c = c.loop-other.invariant.closed.search
+
+pub ask-cutoff-requires-clause-cutoff : goal.ask-cutoff-requires-clause-cutoff
+ask-cutoff-requires-clause-cutoff c = cutoff_small _ _ _ _ c.loop-other.cutoff c.loop-other.invariant.cutoff
+
+pub ask-cutoff-requires-clause-closed : goal.ask-cutoff-requires-clause-closed
+ask-cutoff-requires-clause-closed c = c.loop-other.invariant.closed.closed
+
+pub returns-clause-table : goal.returns-clause-table
+returns-clause-table c = c.loop-other.invariant.table
+
+pub returns-clause-round : goal.returns-clause-round
+returns-clause-round c = closed_round _ _ _ _ _ _ _ c.loop-other.other (omega arith) c.loop-other.invariant.closed.search
+
+pub returns-clause-cutoff : goal.returns-clause-cutoff
+returns-clause-cutoff c = c.loop-other.invariant.cutoff
+
+pub returns-clause-fewer : goal.returns-clause-fewer
+returns-clause-fewer c = c.loop-other.invariant.closed.fewer
