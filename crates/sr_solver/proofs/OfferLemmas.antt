@@ -4,7 +4,9 @@ use Rattle.std.specs.Prelude.{IfSome}
 use Rattle.sr_transport.specs.Limits.{greatest_cost, greatest_price, most_consumers}
 use Rattle.sr_solver.specs.Limits.{greatest_way, greatest_bound}
 use Rattle.std.proofs.lemmas.Bool.{cases_eq, cases_lt, false≢true}
-use Rattle.sr_transport.specs.Problem.{Transport, consumers, cost_at, cost_of, IsAllowed}
+use Rattle.std.proofs.Math.Nat.{mul-le-mul_left}
+use Rattle.std.proofs.lemmas.Nat.{mul-add-lt}
+use Rattle.sr_transport.specs.Problem.{Transport, IsWithinLimits, consumers, cost_at, cost_of, IsAllowed}
 use Rattle.sr_transport.specs.Certificate.{IsLeast}
 use Rattle.sr_solver.specs.declared.label.Label.{Label}
 use Rattle.sr_solver.specs.Labels.{label_at, open_count, priced}
@@ -368,6 +370,22 @@ known_small : (p : Transport) (at : ℕ → Type 0) (a b : ℕ) (known : Option 
     → IfSome known (λ bound. bound.low ≤ greatest_bound)
 known_small p at a b None known = tt
 known_small p at a b (Some bound) known = known.small
+
+-- a pair of consumers has a place in the table
+pub pair_within : (p : Transport) (a b n : ℕ) → n ≡ consumers p → a < consumers p → b < consumers p
+    → a * n + b < consumers p * consumers p
+pair_within p a b n same lta ltb = rw same (mul-add-lt a (consumers p) b (consumers p) lta ltb)
+
+-- and its number is small
+pub pair_small : (p : Transport) (a b n : ℕ) → IsWithinLimits p.rooms p.entries p.costs → n ≡ consumers p → a < consumers p → b < consumers p
+    → a * n + b < most_consumers * most_consumers
+pair_small p a b n limits same lta ltb =
+    omega (
+      arith,
+      pair_within p a b n same lta ltb,
+      mul-le-mul_left (consumers p) limits.consumers,
+      limits.consumers,
+    )
 
 -- a bound of the table is small
 pub bound_small : (p : Transport) (xs : List ℕ) (a b q : ℕ) (table : List (Option Bound)) → IsTable p xs table

@@ -2,6 +2,7 @@ use Rattle.std.proofs.Common.{◌≡◌, ℕ, ◌<◌, length, get_or, sym, ap, 
 use Rattle.std.proofs.lemmas.Bool.{false≢true}
 use Rattle.std.proofs.lemmas.List.{get_or_default, with_items_is}
 use Rattle.sr_transport.specs.Problem.{consumers}
+use Rattle.sr_transport.proofs.LimitLemmas.{room_small}
 use Rattle.sr_solver.proofs.PlaceLemmas.{are_paths, end_in_room, placed_more, loads_more, end_near, closed_near}
 use Rattle.sr_solver.proofs.OfferLemmas.{prices_low}
 use Rattle.sr_solver.proofs.placing.place.Goals as goal
@@ -135,3 +136,25 @@ returns-clause-table c = λ yes. c.shift.ensures.table
 
 pub returns-clause-stuck : goal.returns-clause-stuck
 returns-clause-stuck c = λ no. absurd (false≢true (sym no))
+
+pub offset_bounds-labels-end : goal.offset_bounds-labels-end
+offset_bounds-labels-end c = omega (arith, c.in-Some.ensures.end.nearest.consumer, c.requires.standing.placed.limits.consumers)
+
+pub bounds-labels-end : goal.bounds-labels-end
+bounds-labels-end c = rw c.in-Some.ensures.end.search.one_each c.in-Some.ensures.end.nearest.consumer
+
+pub index_mut-requires : goal.index_mut-requires
+index_mut-requires c =
+    rw c.shift.ensures.loads (omega (arith, c.in-Some.ensures.end.nearest.consumer, c.requires.standing.loads.one_each))
+
+pub overflow_add-index_mut : goal.overflow_add-index_mut
+overflow_add-index_mut c = 
+    let before = c.args.placement.now in
+    let end : ℕ = c.in-Some.end in
+    let found = c.in-Some.ensures.end in
+    let loads = c.requires.standing.loads in
+    let same : c.shift.new.placement.loads.items ≡ before.loads.items = ap (λ v. v.items) c.shift.ensures.loads in
+    let within : end < length before.loads.items = omega (arith, found.nearest.consumer, loads.one_each) in
+    let count : c.index_mut.result.now ≡ get_or before.loads.items end 0 =
+    rw same at c.index_mut.ensures.value ∙ get_or_default _ _ _ 0 within in
+    omega (arith, count, loads.each end found.nearest.consumer, found.room, room_small c.args.problem.now end c.requires.standing.placed.limits found.nearest.consumer)

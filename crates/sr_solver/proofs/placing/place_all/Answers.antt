@@ -1,4 +1,4 @@
-use Rattle.std.proofs.Common.{◌∙◌, arith}
+use Rattle.std.proofs.Common.{◌≡◌, ◌∙◌, arith}
 use Rattle.sr_solver.proofs.placing.place_all.Goals as goal
 
 pub loop-entry-init : goal.loop-entry-init
@@ -41,3 +41,14 @@ loop-entry-preserved c = record {
   table = c.place.ensures.table c.if-not-place.false;
   labels_each = c.place.auto.labels ∙ c.loop-entry.invariant.labels_each;
 }
+
+pub overflow_add-entry : goal.overflow_add-entry
+overflow_add-entry c = omega arith
+
+pub returns-then-entry-searches : goal.returns-then-entry-searches
+returns-then-entry-searches c = c.if-not-is_patient.true
+
+pub returns : goal.returns
+returns c =
+    let all : c.loop-entry.entry ≡ c.args.problem.now.entries = omega arith in
+    rw all at c.loop-entry.invariant.standing

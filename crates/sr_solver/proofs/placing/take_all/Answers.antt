@@ -1,4 +1,4 @@
-use Rattle.std.proofs.Common.{length, ap, ◌∙◌, arith}
+use Rattle.std.proofs.Common.{◌≡◌, length, ap, ◌∙◌, arith}
 use Rattle.sr_solver.proofs.OfferLemmas.{prices_low}
 use Rattle.sr_solver.proofs.placing.take_all.Goals as goal
 
@@ -47,3 +47,8 @@ returns-clause-few c = omega arith
 
 pub returns-clause-stopped : goal.returns-clause-stopped
 returns-clause-stopped c = λ lt. absurd (omega arith)
+
+pub returns-clause-standing : goal.returns-clause-standing
+returns-clause-standing c =
+    let all : c.loop-entry.entry ≡ c.entries.result = omega arith in
+    rw all at c.loop-entry.invariant

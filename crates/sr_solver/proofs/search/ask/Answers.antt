@@ -1,5 +1,5 @@
 use Rattle.std.proofs.Common.{◌+◌, ◌*◌, length, refl, ap, ◌∙◌, inl, arith}
-use Rattle.sr_solver.proofs.OfferLemmas.{asked_far, asked_none, asked_mover, dist_small, hops_small, way_small, prices_low, stands_allowed, stands_least, bound_small}
+use Rattle.sr_solver.proofs.OfferLemmas.{asked_far, asked_none, asked_mover, dist_small, hops_small, way_small, prices_low, stands_allowed, stands_least, bound_small, pair_small}
 use Rattle.sr_solver.proofs.search.ask.Goals as goal
 
 pub returns-clause-asked : goal.returns-clause-asked
@@ -125,3 +125,39 @@ returns-clause-table c = c.in-Some.ensures.table
 
 pub returns-clause-cut : goal.returns-clause-cut
 returns-clause-cut c = rw c.deref.ensures.value at c.cut.ensures
+
+pub offset_bounds-labels-near : goal.offset_bounds-labels-near
+offset_bounds-labels-near c = omega arith
+
+pub offset_bounds-labels-other : goal.offset_bounds-labels-other
+offset_bounds-labels-other c = omega arith
+
+pub overflow_mul-known : goal.overflow_mul-known
+overflow_mul-known c = 
+    omega (arith, pair_small c.args.problem.now c.args.near c.args.other c.consumers.result c.requires.standing.placed.limits
+    c.consumers.ensures.count c.requires.near c.requires.other)
+
+pub overflow_add-known : goal.overflow_add-known
+overflow_add-known c = 
+    omega (arith, pair_small c.args.problem.now c.args.near c.args.other c.consumers.result c.requires.standing.placed.limits
+    c.consumers.ensures.count c.requires.near c.requires.other)
+
+pub offset_bounds-table-near : goal.offset_bounds-table-near
+offset_bounds-table-near c = 
+    omega (arith, pair_small c.args.problem.now c.args.near c.args.other c.consumers.result c.requires.standing.placed.limits
+    c.consumers.ensures.count c.requires.near c.requires.other)
+
+pub offset_bounds-prices-near : goal.offset_bounds-prices-near
+offset_bounds-prices-near c = omega arith
+
+pub bounds-prices-near : goal.bounds-prices-near
+bounds-prices-near c = rw c.as_slice-prices.ensures.value (rw c.requires.standing.placed.one_each c.requires.near)
+
+pub offset_bounds-prices-other : goal.offset_bounds-prices-other
+offset_bounds-prices-other c = omega arith
+
+pub bounds-prices-other : goal.bounds-prices-other
+bounds-prices-other c = rw c.as_slice-prices.ensures.value (rw c.requires.standing.placed.one_each c.requires.other)
+
+pub offset_bounds-labels-other-2 : goal.offset_bounds-labels-other-2
+offset_bounds-labels-other-2 c = omega arith

@@ -68,3 +68,12 @@ returns-clause-cutoff c = c.loop-other.invariant.cutoff
 
 pub returns-clause-fewer : goal.returns-clause-fewer
 returns-clause-fewer c = c.loop-other.invariant.closed.fewer
+
+pub offset_bounds-labels-near : goal.offset_bounds-labels-near
+offset_bounds-labels-near c = omega arith
+
+pub offset_bounds-labels-near-2 : goal.offset_bounds-labels-near-2
+offset_bounds-labels-near-2 c = omega arith
+
+pub bounds-labels-near : goal.bounds-labels-near
+bounds-labels-near c = rw c.requires.round.one_each c.requires.nearest.consumer
