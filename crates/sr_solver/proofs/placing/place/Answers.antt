@@ -74,11 +74,11 @@ returns-in_default-clause-stuck c = λ no.
     }
 
 pub raise-requires-clause-one_each : goal.raise-requires-clause-one_each
-raise-requires-clause-one_each c = 
+raise-requires-clause-one_each c =
     c.in-Some.ensures.end.search.one_each ∙ sym (ap length c.deref_mut.ensures.value ∙ c.requires.standing.placed.one_each)
 
 pub raise-requires-clause-few : goal.raise-requires-clause-few
-raise-requires-clause-few c = 
+raise-requires-clause-few c =
     rw c.deref_mut.ensures.value (rw c.requires.standing.placed.one_each c.requires.standing.placed.limits.consumers)
 
 pub raise-requires-clause-dist : goal.raise-requires-clause-dist
@@ -148,7 +148,7 @@ index_mut-requires c =
     rw c.shift.ensures.loads (omega (arith, c.in-Some.ensures.end.nearest.consumer, c.requires.standing.loads.one_each))
 
 pub overflow_add-index_mut : goal.overflow_add-index_mut
-overflow_add-index_mut c = 
+overflow_add-index_mut c =
     let before = c.args.placement.now in
     let end : ℕ = c.in-Some.end in
     let found = c.in-Some.ensures.end in
