@@ -1,6 +1,8 @@
 use Rattle.std.proofs.Common.{◌≡◌, ℕ, ◌+◌, ◌*◌, ◌<◌, Option, List, get_or, refl, sym, ap, ◌∙◌, arith}
 use Rattle.std.specs.Prelude.{unwrap_or}
 use Rattle.sr_transport.specs.Problem.{cost_of}
+use Rattle.sr_transport.specs.Assignment.{load}
+use Rattle.sr_transport.proofs.LimitLemmas.{cost_at_small, cost_small}
 use Rattle.sr_solver.specs.Members.{AreMembers}
 use Rattle.sr_solver.specs.Table.{IsAt}
 use Rattle.sr_solver.proofs.TableLemmas.{lowered_is}
@@ -53,3 +55,49 @@ bounds-members-row-in-loop-place c =
     let row = row_of c.args.problem.now w _ _ members c.args.from (c.args.from * w) c.requires.limits are c.requires.from refl in
     let placed : c.loop-place.place < get_or members (c.args.from * w) 0 = c.loop-place-test.true in
     omega (arith, row.room, row.fits, row.count, placed)
+
+pub loop-place-init : goal.loop-place-init
+loop-place-init c = record { known = λ i seen allowed. absurd (omega (arith, seen.1.1)); best = tt }
+
+pub cost-requires-clause-entry : goal.cost-requires-clause-entry
+cost-requires-clause-entry c =
+    let xs : List ℕ = c.args.placement.now.assign.items in
+    let members : List ℕ = c.as_slice-members.result.now in
+    let are : AreMembers c.args.problem.now c.args.placement.now.width xs members = rw c.as_slice-members.ensures.value c.requires.members in
+    let counted : c.loop-place.place < load xs c.args.from = omega (arith, c.loop-place-test.true, are.counted c.args.from c.requires.from) in
+    (are.stands c.args.from c.loop-place.place c.requires.from counted).0
+
+pub cost-requires-clause-consumer : goal.cost-requires-clause-consumer
+cost-requires-clause-consumer c = c.requires.from
+
+pub unwrap-here-requires : goal.unwrap-here-requires
+unwrap-here-requires c =
+    let xs : List ℕ = c.args.placement.now.assign.items in
+    let members : List ℕ = c.as_slice-members.result.now in
+    let are : AreMembers c.args.problem.now c.args.placement.now.width xs members = rw c.as_slice-members.ensures.value c.requires.members in
+    let counted : c.loop-place.place < load xs c.args.from = omega (arith, c.loop-place-test.true, are.counted c.args.from c.requires.from) in
+    rw c.cost.ensures (c.requires.placed _ (are.stands c.args.from c.loop-place.place c.requires.from counted)).1
+
+pub cost-there-requires-clause-entry : goal.cost-there-requires-clause-entry
+cost-there-requires-clause-entry c =
+    let xs : List ℕ = c.args.placement.now.assign.items in
+    let members : List ℕ = c.as_slice-members.result.now in
+    let are : AreMembers c.args.problem.now c.args.placement.now.width xs members = rw c.as_slice-members.ensures.value c.requires.members in
+    let counted : c.loop-place.place < load xs c.args.from = omega (arith, c.loop-place-test.true, are.counted c.args.from c.requires.from) in
+    (are.stands c.args.from c.loop-place.place c.requires.from counted).0
+
+pub cost-there-requires-clause-consumer : goal.cost-there-requires-clause-consumer
+cost-there-requires-clause-consumer c = c.requires.to
+
+pub lowered-found-requires-clause-here : goal.lowered-found-requires-clause-here
+lowered-found-requires-clause-here c =
+    let cost : Option ℕ → ℕ = λ o. unwrap_or o 0 in
+    let other : ℕ = get_or c.as_slice-members.result.now (c.args.from * c.args.placement.now.width + 1 + c.loop-place.place) 0 in
+    let same : cost_of c.args.problem.now other c.args.from ≡ c.unwrap-here.result = ap cost (sym c.cost.ensures ∙ c.unwrap-here.ensures) in
+    omega (arith, same, cost_small c.args.problem.now c.requires.limits other c.args.from)
+
+pub lowered-found-requires-clause-there : goal.lowered-found-requires-clause-there
+lowered-found-requires-clause-there c = rw c.cost-there.ensures (cost_at_small c.args.problem.now c.requires.limits _ c.args.to)
+
+pub returns-clause-best : goal.returns-clause-best
+returns-clause-best c = c.loop-place.invariant.best
