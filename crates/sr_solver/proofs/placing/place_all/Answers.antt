@@ -32,9 +32,6 @@ place-requires-clause-table c = c.take.ensures.table
 pub place-requires-clause-labels : goal.place-requires-clause-labels
 place-requires-clause-labels c = c.loop-entry.invariant.labels_each
 
-pub returns-then-not-place : goal.returns-then-not-place
-returns-then-not-place c = c.place.ensures.stuck c.if-not-place.true
-
 pub loop-entry-preserved : goal.loop-entry-preserved
 loop-entry-preserved c = record {
   standing = c.place.ensures.standing c.if-not-place.false;

@@ -1,0 +1,56 @@
+use Rattle.std.proofs.Common.{refl, arith}
+use Rattle.sr_transport.proofs.LimitLemmas.{cost_at_small, cost_small}
+use Rattle.sr_solver.proofs.TakerLemmas.{none_compared, free_takes, none_takes}
+use Rattle.sr_solver.proofs.taker.taker.Goals as goal
+
+pub costs-cost-items-requires : goal.costs-cost-items-requires
+costs-cost-items-requires c = c.requires.entry
+
+pub loop-consumer-init : goal.loop-consumer-init
+loop-consumer-init c = none_compared c.args.problem.now c.args.prices.now c.args.loads.now c.args.entry _ refl
+
+pub offset_bounds-cost-items-consumer : goal.offset_bounds-cost-items-consumer
+offset_bounds-cost-items-consumer c = omega arith
+
+pub bounds-cost-items-consumer : goal.bounds-cost-items-consumer
+bounds-cost-items-consumer c = c.loop-consumer-test.true
+
+pub offset_bounds-loads-consumer : goal.offset_bounds-loads-consumer
+offset_bounds-loads-consumer c = omega arith
+
+pub bounds-loads-consumer : goal.bounds-loads-consumer
+bounds-loads-consumer c = omega arith
+
+pub room-requires : goal.room-requires
+room-requires c = omega arith
+
+pub offset_bounds-prices-consumer : goal.offset_bounds-prices-consumer
+offset_bounds-prices-consumer c = omega arith
+
+pub bounds-prices-consumer : goal.bounds-prices-consumer
+bounds-prices-consumer c = omega arith
+
+pub compared-cheapest-requires-clause-cost : goal.compared-cheapest-requires-clause-cost
+compared-cheapest-requires-clause-cost c =
+    rw (c.costs-cost-items.ensures.costs c.loop-consumer.consumer (omega arith)) (
+    cost_at_small c.args.problem.now c.costs-cost-items.ensures.limits c.args.entry c.loop-consumer.consumer
+    )
+
+pub compared-cheapest-requires-clause-price : goal.compared-cheapest-requires-clause-price
+compared-cheapest-requires-clause-price c = c.requires.low c.loop-consumer.consumer (omega arith)
+
+pub returns-clause-some : goal.returns-clause-some
+returns-clause-some c =
+    free_takes c.args.problem.now c.args.prices.now c.args.loads.now c.args.entry c.loop-consumer.cheapest.sum c.loop-consumer.cheapest.free
+    (λ x lt. c.loop-consumer.invariant.least x (omega arith)) c.loop-consumer.invariant.free
+
+pub returns-clause-none : goal.returns-clause-none
+returns-clause-none c =
+    none_takes c.args.problem.now c.args.prices.now c.args.loads.now c.args.entry c.loop-consumer.consumer c.loop-consumer.cheapest.sum c.loop-consumer.cheapest.free
+    (omega arith) c.loop-consumer.invariant.least
+    (λ x lt allowed. omega (
+      arith,
+      cost_small c.args.problem.now c.costs-cost-items.ensures.limits c.args.entry x,
+      c.requires.low x allowed.0,
+    ))
+    c.loop-consumer.invariant.attained c.loop-consumer.invariant.none
