@@ -1,10 +1,12 @@
 -- The cutoff of a search: what lies beyond it, how it falls, and what it comes to in the end.
-use Rattle.std.proofs.Common.{◌≡◌, ℕ, ◌+◌, ◌<◌, ◌≤◌, Bool, true, false, List, Option, Some, None, refl, inl, inr, arith}
+use Rattle.std.proofs.Common.{◌≡◌, ℕ, ◌+◌, ◌<◌, ◌≤◌, Bool, true, false, List, length, Option, Some, None, refl, inl, inr, arith}
 use Rattle.std.specs.Prelude.{IfSome}
+use Rattle.std.proofs.Math.ListN.{set}
+use Rattle.std.proofs.lemmas.List.{get_or-set_same, get_or-set_other}
 use Rattle.sr_transport.specs.Problem.{Transport, consumers}
 use Rattle.sr_solver.specs.Limits.{greatest_way}
 use Rattle.sr_solver.specs.declared.label.Label.{Label}
-use Rattle.sr_solver.specs.Labels.{label_at}
+use Rattle.sr_solver.specs.Labels.{no_label, label_at}
 use Rattle.sr_solver.specs.Placed.{AreLoads}
 use Rattle.sr_solver.specs.Cutoff.{IsBeyond, IsRoomWithin, IsCutoff, IsCut}
 use Rattle.sr_solver.specs.Search.{IsSearch, IsRound, IsNearest}
@@ -89,6 +91,16 @@ cutoff_cut p xs loads labels n c old new counted lt ltc small cut is =
             ),
           )
     ]
+
+-- the same where the label is new
+pub cutoff_more : (p : Transport) (xs loads : List ℕ) (labels : List Label) (label : Label) (n : ℕ) (old new : Option ℕ)
+    → AreLoads p xs loads → n < length labels → n < consumers p → (0 < label.hops → label.dist ≤ greatest_way)
+    → IsCut p loads n label old new → IsCutoff p xs labels n old → IsCutoff p xs (set labels n label) (n + 1) new
+cutoff_more p xs loads labels label n old new counted lt ltc small cut is =
+    let here : label_at (set labels n label) n ≡ label = get_or-set_same labels n label no_label lt in
+    cutoff_cut p xs loads (set labels n label) (n + 1) n old new counted (omega arith) ltc (rw here small) (rw here cut)
+    (cutoff_kept p xs labels (set labels n label) n (n + 1) old (omega arith)
+    (λ c before up. rw (get_or-set_other labels n c label no_label (λ e. omega (arith, before, e))) (up, omega arith)) is)
 
 -- a consumer with room is open, so that the nearest open one is no farther than the cutoff
 room_open : (p : Transport) (k : ℕ) (xs prices : List ℕ) (cutoff : Option ℕ) (labels : List Label) (dist c : ℕ)

@@ -1,7 +1,10 @@
 -- The search: its start, a consumer that is closed, and one offer more.
-use Rattle.std.proofs.Common.{◌≡◌, ℕ, ◌<◌, ◌≤◌, true, false, List, length, get_or, Option, ap, inl, inr, arith}
-use Rattle.std.proofs.lemmas.Bool.{cases_lt, false≢true}
-use Rattle.std.proofs.lemmas.List.{get_or_past}
+use Rattle.std.proofs.Common.{◌≡◌, ℕ, ◌+◌, ◌<◌, ◌≤◌, true, false, List, length, get_or, Option, ap, inl, inr, arith}
+use Rattle.std.proofs.Math.ListN.{set}
+use Rattle.std.proofs.lemmas.Bool.{cases_eq, cases_lt, false≢true}
+use Rattle.std.proofs.lemmas.List.{get_or_past, get_or-set_same, get_or-set_other}
+use Rattle.sr_transport.specs.Limits.{greatest_price}
+use Rattle.sr_solver.specs.Limits.{greatest_way}
 use Rattle.sr_transport.specs.Problem.{Transport, IsWithinLimits, consumers, cost_at, IsAllowed}
 pub use Rattle.sr_transport.proofs.LimitLemmas.{cost_at_small, cost_small}
 use Rattle.sr_solver.specs.declared.label.Label.{Label}
@@ -82,3 +85,22 @@ started_round p k xs prices cutoff labels limits started =
           (above, omega (arith, first.dist));
       offered = λ i c lt is_closed upto allowed. absurd (none_closed (get_or xs i 0) is_closed);
     }
+
+-- the new entry was offered to one consumer more
+pub offered_more : (p : Transport) (k n : ℕ) (prices : List ℕ) (labels : List Label) (label : Label) → n < length labels
+    → ((c : ℕ) → c < n → IsOffered (cost_at p k c) (get_or prices c 0) (first_offer k) no_label (label_at labels c))
+    → IsOffered (cost_at p k n) (get_or prices n 0) (first_offer k) no_label label
+    → (c : ℕ) → c < n + 1 → IsOffered (cost_at p k c) (get_or prices c 0) (first_offer k) no_label (label_at (set labels n label) c)
+offered_more p k n prices labels label lt each offered c ltc =
+    elim (cases_eq c n) [
+      | inl e ↦ rw e (rw (get_or-set_same labels n label no_label lt) offered)
+      | inr ne ↦ rw (get_or-set_other labels n c label no_label ne) (each c (omega (arith, ltc, ne)))
+    ]
+
+-- its way there is short
+pub first_small : (p : Transport) (k c : ℕ) (prices : List ℕ) (label : Label) → IsWithinLimits p.rooms p.entries p.costs
+    → get_or prices c 0 ≤ greatest_price → c < consumers p
+    → IsOffered (cost_at p k c) (get_or prices c 0) (first_offer k) no_label label → 0 < label.hops → label.dist ≤ greatest_way
+first_small p k c prices label limits low lt offered above =
+    let first = ((fresh p k prices label c lt offered).reached above).1 in
+    omega (arith, first.dist, low, cost_small p limits k c)

@@ -83,10 +83,10 @@ raise-requires-clause-few c =
 
 pub raise-requires-clause-dist : goal.raise-requires-clause-dist
 raise-requires-clause-dist c = omega (
-      arith,
-      end_near c.args.problem.now c.args.entry c.args.placement.now.assign.items c.args.placement.now.prices.items c.search.new.labels
+  arith,
+  end_near c.args.problem.now c.args.entry c.args.placement.now.assign.items c.args.placement.now.prices.items c.search.new.labels
       c.in-Some.end c.requires.standing.placed c.in-Some.ensures.end,
-    )
+)
 
 pub raise-requires-clause-low : goal.raise-requires-clause-low
 raise-requires-clause-low c = λ x lt.

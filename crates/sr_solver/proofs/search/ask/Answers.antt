@@ -134,18 +134,27 @@ offset_bounds-labels-other c = omega arith
 
 pub overflow_mul-known : goal.overflow_mul-known
 overflow_mul-known c =
-    omega (arith, pair_small c.args.problem.now c.args.near c.args.other c.consumers.result c.requires.standing.placed.limits
-    c.consumers.ensures.count c.requires.near c.requires.other)
+    omega (
+      arith,
+      pair_small c.args.problem.now c.args.near c.args.other c.consumers.result c.requires.standing.placed.limits
+          c.consumers.ensures.count c.requires.near c.requires.other,
+    )
 
 pub overflow_add-known : goal.overflow_add-known
 overflow_add-known c =
-    omega (arith, pair_small c.args.problem.now c.args.near c.args.other c.consumers.result c.requires.standing.placed.limits
-    c.consumers.ensures.count c.requires.near c.requires.other)
+    omega (
+      arith,
+      pair_small c.args.problem.now c.args.near c.args.other c.consumers.result c.requires.standing.placed.limits
+          c.consumers.ensures.count c.requires.near c.requires.other,
+    )
 
 pub offset_bounds-table-near : goal.offset_bounds-table-near
 offset_bounds-table-near c =
-    omega (arith, pair_small c.args.problem.now c.args.near c.args.other c.consumers.result c.requires.standing.placed.limits
-    c.consumers.ensures.count c.requires.near c.requires.other)
+    omega (
+      arith,
+      pair_small c.args.problem.now c.args.near c.args.other c.consumers.result c.requires.standing.placed.limits
+          c.consumers.ensures.count c.requires.near c.requires.other,
+    )
 
 pub offset_bounds-prices-near : goal.offset_bounds-prices-near
 offset_bounds-prices-near c = omega arith

@@ -1,7 +1,11 @@
-use Rattle.std.proofs.Common.{◌≡◌, length, ap, ◌∙◌, arith}
-use Rattle.sr_transport.specs.Problem.{consumers}
-use Rattle.sr_solver.proofs.SearchLemmas.{cost_at_small}
-use Rattle.sr_solver.proofs.OfferLemmas.{prices_low}
+use Rattle.std.proofs.Common.{◌≡◌, ℕ, ◌<◌, List, length, get_or, ap, ◌∙◌, arith}
+use Rattle.sr_transport.specs.Problem.{consumers, cost_at}
+use Rattle.sr_solver.specs.Labels.{no_label}
+use Rattle.sr_solver.specs.Offers.{IsOffered}
+use Rattle.sr_solver.specs.Search.{first_offer}
+use Rattle.sr_solver.proofs.CutoffLemmas.{cutoff_more}
+use Rattle.sr_solver.proofs.SearchLemmas.{cost_at_small, offered_more, first_small}
+use Rattle.sr_solver.proofs.OfferLemmas.{prices_low, price_small}
 use Rattle.sr_solver.proofs.search.start.Goals as goal
 
 pub costs-cost-items-requires : goal.costs-cost-items-requires
@@ -61,3 +65,21 @@ pub returns-clause-cutoff : goal.returns-clause-cutoff
 returns-clause-cutoff c =
     let all : c.loop-consumer.consumer ≡ consumers c.args.problem.now = omega arith in
     rw all at c.loop-consumer.invariant.cutoff
+
+pub loop-consumer-preserved : goal.loop-consumer-preserved
+loop-consumer-preserved c =
+    let p = c.args.problem.now in
+    let prices : List ℕ = c.args.placement.now.prices.items in
+    let n : ℕ = c.loop-consumer.consumer in
+    let placed = c.requires.standing.placed in
+    let lt : n < consumers p = omega arith in
+    let offered : IsOffered (cost_at p c.args.entry n) (get_or prices n 0) (first_offer c.args.entry) no_label c.offered-label.result =
+    rw (c.costs-cost-items.ensures.costs n lt) at (rw c.as_slice-prices.ensures.value at (rw c.none.ensures at c.offered-label.ensures)) in
+    record {
+      each = offered_more p c.args.entry n prices c.loop-consumer.labels c.offered-label.result (omega arith) c.loop-consumer.invariant.each offered;
+      cutoff = cutoff_more p c.args.placement.now.assign.items c.args.placement.now.loads.items c.loop-consumer.labels c.offered-label.result n
+          c.loop-consumer.cutoff c.cut-cutoff.result c.requires.standing.loads (omega arith) lt
+          (first_small p c.args.entry n prices c.offered-label.result placed.limits
+          (price_small p c.args.entry c.args.placement.now.assign.items prices placed (omega arith) n lt) lt offered)
+          (rw c.as_slice-loads.ensures.value at c.cut-cutoff.ensures) c.loop-consumer.invariant.cutoff;
+    }
