@@ -1,4 +1,3 @@
-use Rattle.std.proofs.Common.{arith}
 use Rattle.sr_transport.proofs.CallerLemmas.{prices_show_cheapest}
 use Rattle.sr_solver.proofs.SolvedLemmas.{placed_assignment, placed_best}
 use Rattle.sr_solver.proofs.solution.best.Goals as goal

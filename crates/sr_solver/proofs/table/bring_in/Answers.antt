@@ -1,4 +1,4 @@
-use Rattle.std.proofs.Common.{◌+◌, ◌*◌, refl, ap, arith}
+use Rattle.std.proofs.Common.{◌*◌, refl, arith}
 use Rattle.sr_solver.proofs.TableLemmas.{table_arrived}
 use Rattle.sr_solver.proofs.MembersLemmas.{row_of, room_for_one, members_come}
 use Rattle.sr_solver.proofs.table.bring_in.Goals as goal
