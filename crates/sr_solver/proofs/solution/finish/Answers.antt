@@ -1,4 +1,6 @@
-use Rattle.std.proofs.Common.{◌≡◌, ◌*◌, length, ◌∙◌, ap, arith}
+use Rattle.std.proofs.Common.{◌≡◌, ◌*◌, length, ◌∙◌, sym, ap, arith}
+use Rattle.std.proofs.lemmas.Bool.{false≢true}
+use Rattle.std.proofs.lemmas.Result.{IfOk-from_err}
 use Rattle.std.proofs.lemmas.List.{take_at}
 use Rattle.sr_transport.specs.Problem.{consumers}
 use Rattle.sr_transport.proofs.CallerLemmas.{shortage_excludes}
@@ -30,3 +32,48 @@ returns-in_ok-set-in-Stuck-clause-solution c =
 pub returns-in_ok-set-in-Stuck-clause-optimal : goal.returns-in_ok-set-in-Stuck-clause-optimal
 returns-in_ok-set-in-Stuck-clause-optimal c =
     shortage_excludes c.args.problem.now c.in_ok-set-in-Stuck.set.items (returns-in_ok-set-in-Stuck-clause-solution c)
+
+pub returns-in_err-table-clause-solution : goal.returns-in_err-table-clause-solution
+returns-in_err-table-clause-solution c = IfOk-from_err _ _ c.from_residual.ensures.0
+
+pub returns-in_err-table-clause-optimal : goal.returns-in_err-table-clause-optimal
+returns-in_err-table-clause-optimal c = IfOk-from_err _ _ c.from_residual.ensures.0
+
+pub returns-in_err-table-clause-patient : goal.returns-in_err-table-clause-patient
+returns-in_err-table-clause-patient c = λ yes. IfOk-from_err _ _ c.from_residual.ensures.0
+
+pub returns-in_err-labels-clause-solution : goal.returns-in_err-labels-clause-solution
+returns-in_err-labels-clause-solution c = IfOk-from_err _ _ c.from_residual-in_err-labels.ensures.0
+
+pub returns-in_err-labels-clause-optimal : goal.returns-in_err-labels-clause-optimal
+returns-in_err-labels-clause-optimal c = IfOk-from_err _ _ c.from_residual-in_err-labels.ensures.0
+
+pub returns-in_err-labels-clause-patient : goal.returns-in_err-labels-clause-patient
+returns-in_err-labels-clause-patient c = λ yes. IfOk-from_err _ _ c.from_residual-in_err-labels.ensures.0
+
+pub place_all-requires-clause-first : goal.place_all-requires-clause-first
+place_all-requires-clause-first c = omega arith
+
+pub place_all-requires-clause-standing : goal.place_all-requires-clause-standing
+place_all-requires-clause-standing c = c.requires.standing
+
+pub best-requires : goal.best-requires
+best-requires c = c.in-Placed.ensures.placed
+
+pub returns-in_err-set-in-Stuck-clause-solution : goal.returns-in_err-set-in-Stuck-clause-solution
+returns-in_err-set-in-Stuck-clause-solution c = IfOk-from_err _ _ c.from_residual-in_err-set-in-Stuck.ensures.0
+
+pub returns-in_err-set-in-Stuck-clause-optimal : goal.returns-in_err-set-in-Stuck-clause-optimal
+returns-in_err-set-in-Stuck-clause-optimal c = IfOk-from_err _ _ c.from_residual-in_err-set-in-Stuck.ensures.0
+
+pub returns-in_err-set-in-Stuck-clause-patient : goal.returns-in_err-set-in-Stuck-clause-patient
+returns-in_err-set-in-Stuck-clause-patient c = λ yes. IfOk-from_err _ _ c.from_residual-in_err-set-in-Stuck.ensures.0
+
+pub returns-in-Placed-clause-solution : goal.returns-in-Placed-clause-solution
+returns-in-Placed-clause-solution c = c.best.ensures.solution
+
+pub returns-in-Placed-clause-optimal : goal.returns-in-Placed-clause-optimal
+returns-in-Placed-clause-optimal c = c.best.ensures.optimal
+
+pub returns-in-Slow-clause-patient : goal.returns-in-Slow-clause-patient
+returns-in-Slow-clause-patient c = λ yes. absurd (false≢true (sym c.in-Slow.ensures ∙ yes))
