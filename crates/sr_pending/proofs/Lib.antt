@@ -7,6 +7,7 @@ pub mod Finding
 pub mod HeldLemmas
 pub mod Holding
 pub mod IdsLemmas
+pub mod Laying
 pub mod ListingLemmas
 pub mod NackLemmas
 pub mod OwnerLemmas
