@@ -1,9 +1,14 @@
 -- What a list in blocks keeps after a change of its parts.
-use Rattle.std.proofs.Common.{◌≡◌, ℕ, ◌+◌, ◌*◌, ◌^◌, ◌<◌, ◌≤◌, ◌++◌, List, length, inl, inr, ap, subst, sym, ◌∙◌, arith}
+use Rattle.std.proofs.Common.{◌≡◌, ℕ, ◌+◌, ◌-◌, ◌*◌, ◌^◌, ◌<◌, ◌≤◌, ◌++◌, List, ◌∷◌, length, drop, take, inl, inr, ap, subst, sym, ◌∙◌, arith}
 use Rattle.std.proofs.lemmas.Bool.{cases_lt}
+use Rattle.std.proofs.lemmas.List.{length-append, length-drop, length-take}
+use Rattle.std.specs.List.{insert}
 use Rattle.std.specs.VecDeque.{deque_capacity, deque_len}
 use Rattle.std.specs.declared.collections.VecDeque.{VecDeque}
 use Rattle.sr_pending.specs.steps.Blocks.{AreFilled, AreSpare, IsLaid, Rotates, held_in}
+
+longer : {X : Type 0} (xs : List X) (i : ℕ) (x : X) → length (insert xs i x) ≡ length xs + 1
+longer xs i x = omega (arith, length-append (take i xs) (x ∷ drop i xs), length-take i xs, length-drop i xs)
 
 module _ {T Z : Type 0} where
   -- the open block may be closed, if what came before left room
@@ -23,6 +28,12 @@ module _ {T Z : Type 0} where
       }
 
   module _ (closed : VecDeque (VecDeque T Z) Z) (tail : VecDeque T Z) (spare : VecDeque (VecDeque T Z) Z) (count room : ℕ) (laid : IsLaid closed tail spare count room) where
+    -- one more element, in the room that there was
+    pub laid-inserted : (put new : VecDeque (VecDeque T Z) Z) (tail_put tail_new : VecDeque T Z) (spare_new : VecDeque (VecDeque T Z) Z) (at : ℕ) (x : T) → Rotates put new tail_put tail_new spare spare_new → held_in put.items ++ tail_put.items ≡ insert (held_in closed.items ++ tail.items) at x → deque_len tail_put ≤ deque_len tail + 1 → deque_capacity tail ≤ deque_capacity tail_put → 0 < room → IsLaid new tail_new spare_new (count + 1) (room - 1)
+    laid-inserted put new tail_put tail_new spare_new at x rotates items short wide some =
+        let many = ap (λ (l : List T). length l) items ∙ longer (held_in closed.items ++ tail.items) at x in
+        laid-rotated put new tail_put tail_new spare spare_new (count + 1) (room - 1) rotates (omega (arith, laid.counted, many)) (omega (arith, laid.fits, short, wide, some)) (omega (arith, laid.small, some))
+
     -- other closed blocks, no more of them
     pub laid-closed : (new : VecDeque (VecDeque T Z) Z) (left : ℕ) → AreFilled new.items → left ≡ length (held_in new.items ++ tail.items) → deque_len new ≤ deque_len closed → deque_capacity new ≡ deque_capacity closed → left ≤ count → IsLaid new tail spare left room
     laid-closed new left filled counted blocks places le =
