@@ -48,16 +48,18 @@ module _ {T Z : Type 0} where
         }
 
     -- another open block with no more elements
-    pub laid-tail : (new : VecDeque T Z) (left : ℕ) → left ≡ length (held_in closed.items ++ new.items) → deque_len new ≤ deque_len tail → deque_capacity new ≡ deque_capacity tail → left ≤ count → IsLaid closed new spare left room
-    laid-tail new left counted short wide le =
+    pub laid-tail : (new : VecDeque T Z) (left : ℕ) → left + deque_len tail ≡ count + deque_len new → deque_len new ≤ deque_len tail → deque_capacity new ≡ deque_capacity tail → IsLaid closed new spare left room
+    laid-tail new left moved short wide =
+        let had = length-append (held_in closed.items) tail.items in
+        let has = length-append (held_in closed.items) new.items in
         record {
           filled = laid.filled;
-          counted = counted;
+          counted = omega (arith, laid.counted, had, has, tail.ok.0, new.ok.0, moved);
           spares = laid.spares;
           places = laid.places;
           fits = omega (arith, laid.fits, short, wide);
           ready = λ some. omega (arith, laid.ready some, short, wide);
-          small = omega (arith, laid.small, le);
+          small = omega (arith, laid.small, moved, short);
         }
 
     -- the open block with memory for what is to come

@@ -4,6 +4,7 @@ use Rattle.sr_pending.specs.declared.nack.Nack.{Nack}
 use Rattle.sr_pending.specs.Pending.{redelivered}
 use Rattle.sr_pending.specs.steps.Blocks.{held_in, items_at}
 use Rattle.sr_pending.proofs.Changing.{set-behind, shown-both, shown-here, shown-short, shown-tail, some-at}
+use Rattle.sr_pending.proofs.Laying.{laid-closed, laid-tail}
 use Rattle.sr_pending.proofs.Showing.{shown-items, start-behind}
 use Rattle.sr_pending.proofs.blocks.Blocks+Nack.touch.Goals as goal
 
@@ -18,15 +19,13 @@ invariant_of-self c =
     let value : Nack = redelivered one.0.owner c.args.time c.args.count one.0 in
     let all : List Nack = held_in b.closed.items ++ b.tail.items in
     let many : length (held_in c.touch_in.new.closed.items ++ b.tail.items) ≡ length all = rw (c.touch_in.ensures.items b.tail.items one.0 one.1) (length-set all at value) in
-    record {
-      filled = c.touch_in.ensures.filled;
-      counted = c.self.invariant.counted ∙ sym many;
-      spares = c.self.invariant.spares;
-      places = omega (arith, c.self.invariant.places, c.touch_in.ensures.blocks, c.touch_in.ensures.places);
-      fits = c.self.invariant.fits;
-      ready = c.self.invariant.ready;
-      small = c.self.invariant.small;
-    }
+    laid-closed b.closed b.tail b.spare b.count b.room c.self.invariant c.touch_in.new.closed b.count c.touch_in.ensures.filled (c.self.invariant.counted ∙ sym many) (omega (arith, c.touch_in.ensures.blocks)) c.touch_in.ensures.places (omega arith)
+
+pub invariant_of-self-2 : goal.invariant_of-self-2
+invariant_of-self-2 c =
+    let b = c.self.inside in
+    let len = c.touch_one.ensures.len in
+    laid-tail b.closed b.tail b.spare b.count b.room c.self.invariant c.touch_one.new.block b.count (omega (arith, len)) (omega (arith, len)) c.touch_one.ensures.capacity
 
 pub returns-then-place-len-clause-items : goal.returns-then-place-len-clause-items
 returns-then-place-len-clause-items c nack here =
