@@ -140,7 +140,7 @@ fn make_room<T>(closed: &mut VecDeque<VecDeque<T>>, tail: &mut VecDeque<T>, bloc
     }
 }
 
-/// Puts the value into a closed block, before the element at this place.
+/// Puts the value before the element at this place of a closed block, or of the open one, which is behind them.
 pub(crate) fn insert_in<T>(
     closed: &mut VecDeque<VecDeque<T>>,
     tail: &mut VecDeque<T>,
@@ -148,8 +148,9 @@ pub(crate) fn insert_in<T>(
     at: usize,
     value: T,
 )
-    requires block { block < deque_len closed.old }
-    requires at { at < length (items_at block closed.old.items) }
+    requires block { block ≤ deque_len closed.old }
+    requires in_closed { block < deque_len closed.old → at < length (items_at block closed.old.items) }
+    requires in_tail { deque_len closed.old ≤ block → at ≤ deque_len tail.old }
     requires filled { AreFilled closed.old.items }
     requires free { deque_len tail.old < deque_capacity tail.old }
     ensures items { held_in closed.new.items ++ tail.new.items ≡
@@ -158,10 +159,14 @@ pub(crate) fn insert_in<T>(
     ensures blocks { deque_len closed.new ≡ deque_len closed.old }
     ensures places { deque_capacity closed.new ≡ deque_capacity closed.old }
     ensures len { deque_len tail.new ≤ deque_len tail.old + 1 }
-    ensures capacity { deque_capacity tail.new ≡ deque_capacity tail.old }
+    ensures capacity { deque_capacity tail.old ≤ deque_capacity tail.new }
 {
-    make_room(closed, tail, block);
-    put_at(&mut closed[block], at, value);
+    if block < closed.len() {
+        make_room(closed, tail, block);
+        put_at(&mut closed[block], at, value);
+        return;
+    }
+    put_at(tail, at, value);
 }
 
 /// Removes the element at this place of a closed block, and the block with its last one.
