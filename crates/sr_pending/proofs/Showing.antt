@@ -1,5 +1,5 @@
 -- What is seen of a list in blocks, and where its places lie.
-use Rattle.std.proofs.Common.{◌≡◌, ℕ, zero, suc, ◌+◌, ◌-◌, ◌<◌, ◌≤◌, List, [], ◌∷◌, ◌++◌, length, get_or, take, map, Option, Some, None, IsSome, IfSome, ◌↔◌, option_copied, Bor, inl, inr, slice_get, refl, ap, sym, ◌∙◌, arith}
+use Rattle.std.proofs.Common.{◌≡◌, ℕ, zero, suc, ◌+◌, ◌-◌, ◌<◌, ◌≤◌, List, [], ◌∷◌, ◌++◌, length, get_or, take, map, Option, Some, None, IsSome, IfSome, ◌↔◌, option_copied, Bor, inl, inr, slice_get, refl, ap, subst, sym, ◌∙◌, arith}
 use Rattle.std.proofs.lemmas.List.{append_assoc, append-nil, length-append, take-map, take_all}
 use Rattle.std.proofs.lemmas.Bool.{cases_lt}
 use Rattle.std.proofs.lemmas.Option.{slice_get_past, slice_get_read}
@@ -10,7 +10,7 @@ use Rattle.std.specs.List.{flat_map, insert, remove}
 use Rattle.std.specs.VecDeque.{deque_items}
 use Rattle.std.specs.declared.collections.VecDeque.{VecDeque}
 use Rattle.sr_pending.specs.declared.blocks.Place.{Place}
-use Rattle.sr_pending.specs.steps.Blocks.{Laid, at_of, held_in, items_of}
+use Rattle.sr_pending.specs.steps.Blocks.{IsIn, Laid, at_of, held_in, items_of}
 
 module _ {T Z : Type 0} (closed : List (VecDeque T Z)) (tail : List T) (room : ℕ) where
   -- what contracts see
@@ -50,6 +50,14 @@ module _ {T Z : Type 0} (closed : List (VecDeque T Z)) (tail : List T) (room : �
     -- a place that is not in a closed block is in the open one
     pub start-behind : length closed ≤ place.block → length (held_in (take place.block closed)) + place.at ≡ length (held_in closed) + place.at
     start-behind past = ap (λ (l : List (VecDeque T Z)). length (held_in l) + place.at) (take_all place.block closed past)
+
+    -- one of an element is before the end of the open block
+    pub shown-open : at_of place now < length (items_of now) → length closed ≤ place.block → place.at < length tail
+    shown-open lt past = omega (arith, shown-within lt, start-behind past, length-append (held_in closed) tail)
+
+    -- it is in the blocks that are seen
+    pub shown-in : IsIn place now → IsIn place laid
+    shown-in is = subst (λ (l : Laid T). IsIn place l) (sym seen) is
 
 -- the element at a place
 pub slice_get-left : {X : Type 0} (a b : List X) (i : ℕ) → i < length a → slice_get (a ++ b) i ≡ slice_get a i

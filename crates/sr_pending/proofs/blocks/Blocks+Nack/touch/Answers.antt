@@ -5,7 +5,7 @@ use Rattle.sr_pending.specs.Pending.{redelivered}
 use Rattle.sr_pending.specs.steps.Blocks.{held_in, items_at}
 use Rattle.sr_pending.proofs.Changing.{set-behind, shown-both, shown-here, shown-short, shown-tail, some-at}
 use Rattle.sr_pending.proofs.Laying.{laid-closed, laid-tail}
-use Rattle.sr_pending.proofs.Showing.{shown-items, start-behind}
+use Rattle.sr_pending.proofs.Showing.{shown-items, shown-open, start-behind}
 use Rattle.sr_pending.proofs.blocks.Blocks+Nack.touch.Goals as goal
 
 pub invariant_of-self : goal.invariant_of-self
@@ -50,3 +50,13 @@ returns-clause-items c nack here =
     ∙ sym (set-behind (held_in b.closed.items) b.tail.items place.at value)
     ∙ ap (λ (n : ℕ). set (held_in b.closed.items ++ b.tail.items) n value) (sym (start-behind b.closed.items b.tail.items b.room now c.self.view_is place behind))
     ∙ shown-both b.closed.items b.tail.items b.room now c.self.view_is place (λ (l : List Nack) (n : ℕ). set l n value)
+
+pub touch_in-requires-clause-at : goal.touch_in-requires-clause-at
+touch_in-requires-clause-at c =
+    let b = c.self.inside in
+    shown-short b.closed.items b.tail.items b.room c.args.self.now c.self.view_is c.args.place c.requires.place (omega (arith, c.if-place-len.true, c.len.ensures, b.closed.ok.0))
+
+pub touch_one-requires : goal.touch_one-requires
+touch_one-requires c =
+    let b = c.self.inside in
+    omega (arith, shown-open b.closed.items b.tail.items b.room c.args.self.now c.self.view_is c.args.place c.requires.some (omega (arith, c.if-place-len.false, c.len.ensures, b.closed.ok.0)), b.tail.ok.0)

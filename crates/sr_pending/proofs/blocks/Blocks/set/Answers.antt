@@ -2,9 +2,9 @@ use Rattle.std.proofs.Common.{ℕ, ◌≤◌, List, ◌++◌, length, set, refl,
 use Rattle.std.proofs.lemmas.List.{length-set}
 use Rattle.std.specs.VecDeque.{deque_with_item}
 use Rattle.sr_pending.specs.steps.Blocks.{held_in}
-use Rattle.sr_pending.proofs.Changing.{set-behind, shown-both}
+use Rattle.sr_pending.proofs.Changing.{set-behind, shown-both, shown-short}
 use Rattle.sr_pending.proofs.Laying.{laid-closed, laid-tail}
-use Rattle.sr_pending.proofs.Showing.{shown-items, start-behind}
+use Rattle.sr_pending.proofs.Showing.{shown-items, shown-open, start-behind}
 use Rattle.sr_pending.proofs.blocks.Blocks.set.Goals as goal
 
 pub returns-then-place-len-clause-items : goal.returns-then-place-len-clause-items
@@ -34,3 +34,13 @@ pub invariant_of-self-2 : goal.invariant_of-self-2
 invariant_of-self-2 g c =
     let b = c.self.inside in
     laid-tail b.closed b.tail b.spare b.count b.room c.self.invariant (deque_with_item b.tail c.args.place.at c.args.value) b.count refl (omega arith) refl
+
+pub set_in-requires-clause-at : goal.set_in-requires-clause-at
+set_in-requires-clause-at g c =
+    let b = c.self.inside in
+    shown-short b.closed.items b.tail.items b.room c.args.self.now c.self.view_is c.args.place c.requires.place (omega (arith, c.if-place-len.true, c.len.ensures, b.closed.ok.0))
+
+pub index_mut-requires : goal.index_mut-requires
+index_mut-requires g c =
+    let b = c.self.inside in
+    omega (arith, shown-open b.closed.items b.tail.items b.room c.args.self.now c.self.view_is c.args.place c.requires.some (omega (arith, c.if-place-len.false, c.len.ensures, b.closed.ok.0)), b.tail.ok.0)
