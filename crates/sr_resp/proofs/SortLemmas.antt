@@ -2,6 +2,7 @@
 use Rattle.std.proofs.Common.{◌≡◌, ℕ, ◌+◌, ◌-◌, ◌<◌, ◌≤◌, true, false, List, [], ◌∷◌, ◌++◌, length, take, drop, Some, None, Ok, Err, refl, sym, ap, subst, ◌∙◌, arith}
 use Rattle.std.specs.Prelude.{All}
 use Rattle.std.proofs.lemmas.List.{append_assoc, append-nil, map-append, length-append, length-take, take-append-le, take_rest, take-append-drop, take_all, length-drop, drop-drop, drop-append-le, drop_all}
+use Rattle.std.proofs.Math.Seq.{take-append_seam}
 use Rattle.std.proofs.lemmas.Grind.{common_steps}
 use Rattle.std.proofs.lemmas.List.Elements.{All-append}
 use Rattle.sr_resp.specs.declared.stage.Place.{Place}
@@ -83,6 +84,12 @@ kept_more a b new added old whole =
     let long : length (take (length a) b) ≡ length a = ap length old in
     let le : length a ≤ length b = omega (arith, long, length-take (length a) b) in
     ap (take (length a)) whole ∙ take-append-le (length a) b added le ∙ old
+
+pub kept_on : (a b new : List Place) → take (length a) b ≡ a → take (length b) new ≡ b → take (length a) new ≡ a
+kept_on a b new old more = grind (arith, common_steps)
+
+pub waiting_kept : (before after requests : List Words) → after ≡ before ++ requests → take (length before) after ≡ before
+waiting_kept before after requests is = ap (take (length before)) is ∙ take-append_seam before requests
 
 pub in_more : (first : ℕ) (b new added : List Place) → first ≤ length b → new ≡ b ++ added → first ≤ length new
 in_more first b new added le whole =

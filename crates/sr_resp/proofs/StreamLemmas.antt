@@ -100,6 +100,13 @@ pub Stands-nothing : Stands [] [] (record { waiting = []; rest = []; failed = fa
 unfolding item_at
 Stands-nothing = record { rest = []; stream = Splits-nothing []; end = (refl, partial_from_more [] refl) }
 
+-- the oldest waiting request is handed out
+pub Stands-given : (old new : Progress) (words : Words) (taken : List ℕ) (given : List Words) → old ≡ record new { waiting = words ∷ new.waiting } → Stands taken given old
+    → Stands taken (given ++ words ∷ []) new
+Stands-given old new words taken given is stood =
+    let before : Stands taken given (record new { waiting = words ∷ new.waiting }) = subst (λ (o : Progress). Stands taken given o) is stood in
+    record { rest = before.rest; stream = subst (λ (ws : List Words). Splits taken ws before.rest) (sym (append_assoc given (words ∷ []) new.waiting)) before.stream; end = before.end }
+
 -- ---- one reading
 
 no_spelling : (rest : List ℕ) → IsPartial rest ⊎ IsFault rest → (front after : List ℕ) (item : Option Words) → Spells front item → rest ≡ front ++ after → ⊥

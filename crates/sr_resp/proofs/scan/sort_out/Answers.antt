@@ -1,6 +1,6 @@
-use Rattle.std.proofs.Common.{length, arith, take_all}
+use Rattle.std.proofs.Common.{◌∙◌, length, arith, take_all}
 use Rattle.std.proofs.lemmas.List.{take_rest}
-use Rattle.sr_resp.proofs.SortLemmas.{Examined-from, tail_examined, kept_more, in_more, found_is, looked_on, some_place, Sorting-nothing, Sorting-request, Sorting-empty, SortsOut-part, SortsOut-fault}
+use Rattle.sr_resp.proofs.SortLemmas.{Examined-from, tail_examined, kept_more, kept_on, waiting_kept, in_more, found_is, looked_on, some_place, Sorting-nothing, Sorting-request, Sorting-empty, SortsOut-part, SortsOut-fault}
 use Rattle.sr_resp.proofs.scan.sort_out.Goals as goal
 
 pub loop-found-init : goal.loop-found-init
@@ -63,3 +63,33 @@ loop-found-preserved c =
       kept = kept_more _ _ _ scans.added c.loop-found.invariant.kept scans.whole;
       looked = looked_on _ _ _ _ _ _ _ tail once c.loop-found.invariant.looked;
     }
+
+pub returns-in_err-found-clause-places : goal.returns-in_err-found-clause-places
+returns-in_err-found-clause-places c = kept_on _ _ _ c.loop-found.invariant.kept c.in_err-found.ensures.kept
+
+pub returns-in_err-found-clause-waiting : goal.returns-in_err-found-clause-waiting
+returns-in_err-found-clause-waiting c = waiting_kept _ _ _ c.loop-found.invariant.sorting.waiting
+
+pub returns-in_err-request-in-Request-clause-places : goal.returns-in_err-request-in-Request-clause-places
+returns-in_err-request-in-Request-clause-places c = kept_on _ _ _ c.loop-found.invariant.kept c.in_ok-found.ensures.kept
+
+pub returns-in_err-request-in-Request-clause-waiting : goal.returns-in_err-request-in-Request-clause-waiting
+returns-in_err-request-in-Request-clause-waiting c = waiting_kept _ _ _ c.loop-found.invariant.sorting.waiting
+
+pub returns-in_err-push_back-in-Request-clause-places : goal.returns-in_err-push_back-in-Request-clause-places
+returns-in_err-push_back-in-Request-clause-places c = kept_on _ _ _ c.loop-found.invariant.kept c.in_ok-found.ensures.kept
+
+pub returns-in_err-push_back-in-Request-clause-waiting : goal.returns-in_err-push_back-in-Request-clause-waiting
+returns-in_err-push_back-in-Request-clause-waiting c = waiting_kept _ _ _ (c.in_err-push_back-in-Request.ensures.items ∙ c.loop-found.invariant.sorting.waiting)
+
+pub returns-in-Part-clause-places : goal.returns-in-Part-clause-places
+returns-in-Part-clause-places c = kept_on _ _ _ c.loop-found.invariant.kept c.in_ok-found.ensures.kept
+
+pub returns-in-Part-clause-waiting : goal.returns-in-Part-clause-waiting
+returns-in-Part-clause-waiting c = waiting_kept _ _ _ c.loop-found.invariant.sorting.waiting
+
+pub returns-in-Fault-clause-places : goal.returns-in-Fault-clause-places
+returns-in-Fault-clause-places c = kept_on _ _ _ c.loop-found.invariant.kept c.in_ok-found.ensures.kept
+
+pub returns-in-Fault-clause-waiting : goal.returns-in-Fault-clause-waiting
+returns-in-Fault-clause-waiting c = waiting_kept _ _ _ c.loop-found.invariant.sorting.waiting
