@@ -49,36 +49,32 @@ pub fn read_options<'a, S: AsStr>(alloc: Global, words: &'a [S]) -> Result<Optio
 fn command_line<'a>(alloc: Global) -> Result<Command<'a>, AllocError>
     ensures { IfOk result (λ command. app_of command ≡ server) }
 {
-    let stdio = plain(
-        alloc,
-        "stdio",
-        "Serve one connection over standard input and output",
-    );
-    let listen = valued(
-        alloc,
-        "listen",
-        "ADDR",
-        "Serve the connections that come to this address, as 127.0.0.1:6379 or [::1]:6379",
-    );
-    let policy = valued(
-        alloc,
-        "policy",
-        "FILE",
-        "Read who may take which entries from this file",
-    );
-    let workers = valued(
-        alloc,
-        "workers",
-        "N",
-        "Serve at most N connections at a time, from 1 to 64 [default: 64]",
-    );
     Command::new(alloc, "sr_server")
         .about("Redis Streams over RESP2. Takes either --stdio or --listen.")
         .after_help(EXAMPLES)
-        .arg(stdio)?
-        .arg(listen)?
-        .arg(policy)?
-        .arg(workers)
+        .arg(plain(
+            alloc,
+            "stdio",
+            "Serve one connection over standard input and output",
+        ))?
+        .arg(valued(
+            alloc,
+            "listen",
+            "ADDR",
+            "Serve the connections that come to this address, as 127.0.0.1:6379 or [::1]:6379",
+        ))?
+        .arg(valued(
+            alloc,
+            "policy",
+            "FILE",
+            "Read who may take which entries from this file",
+        ))?
+        .arg(valued(
+            alloc,
+            "workers",
+            "N",
+            "Serve at most N connections at a time, from 1 to 64 [default: 64]",
+        ))
 }
 
 /// An option without a value.

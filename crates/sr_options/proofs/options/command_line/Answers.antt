@@ -7,10 +7,10 @@ use Rattle.sr_options.proofs.options.command_line.Goals as goal
 
 pub returns : goal.returns
 returns c =
-    let stdio_is : rule_of c.plain-stdio.result ≡ plain_rule (codes "stdio") = search rules in
-    let listen_is : rule_of c.valued-listen.result ≡ valued_rule (codes "listen") = search rules in
-    let policy_is : rule_of c.valued-policy.result ≡ valued_rule (codes "policy") = search rules in
-    let workers_is : rule_of c.valued-workers.result ≡ valued_rule (codes "workers") = search rules in
+    let stdio_is : rule_of c.plain.result ≡ plain_rule (codes "stdio") = search rules in
+    let listen_is : rule_of c.valued.result ≡ valued_rule (codes "listen") = search rules in
+    let policy_is : rule_of c.valued-2.result ≡ valued_rule (codes "policy") = search rules in
+    let workers_is : rule_of c.valued-3.result ≡ valued_rule (codes "workers") = search rules in
     let none_is : app_of c.after_help.result ≡ new_app (codes "sr_server")
     = ap app_of_fields c.after_help.ensures ∙ ap app_of_fields c.about.ensures ∙ c.new.ensures.app in
     let one_is : app_of c.in_ok-arg.field-0 ≡ with_rule (new_app (codes "sr_server")) (plain_rule (codes "stdio"))
@@ -20,5 +20,5 @@ returns c =
     let three_is : app_of c.in_ok-arg-3.field-0
     ≡ with_rule (with_rule (with_rule (new_app (codes "sr_server")) (plain_rule (codes "stdio"))) (valued_rule (codes "listen"))) (valued_rule (codes "policy"))
     = c.in_ok-arg-3.ensures.shape (search rules) ∙ ap₂ with_rule two_is policy_is in
-    IfOk-weaker c.arg-4.result (AddsArg c.in_ok-arg-3.field-0 c.valued-workers.result) _
-    (λ command adds. adds.shape c.valued-workers.ensures.local ∙ ap₂ with_rule three_is workers_is) c.arg-4.ensures
+    IfOk-weaker c.arg-4.result (AddsArg c.in_ok-arg-3.field-0 c.valued-3.result) _
+    (λ command adds. adds.shape c.valued-3.ensures.local ∙ ap₂ with_rule three_is workers_is) c.arg-4.ensures
