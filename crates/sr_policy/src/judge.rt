@@ -1,6 +1,7 @@
 //! Whether parts make a snapshot.
 ghost use Rattle.std.specs.Prelude.{◌≡◌, ◌↔◌, ◌≤◌, length, IsTrue, All};
 ghost use Rattle.sr_ids.specs.Id.{IsBelow};
+ghost use Rattle.sr_policy.specs.Bounds.{most_limit};
 ghost use Rattle.sr_policy.specs.Snapshot as spec;
 
 use crate::bounds::{MAX_CLASSES, MAX_CONSUMERS, MAX_LIMIT, MAX_RATE, MAX_STRANDED, MAX_WEIGHT};
@@ -117,15 +118,32 @@ fn is_within_bounds(parts: &Parts) -> bool
     parts.stranded.len() <= MAX_STRANDED
         && parts.live.len() <= MAX_CONSUMERS
         && parts.rates.len() <= MAX_CLASSES + 1
-        && parts.stranded.iter().all(|entry| is_weight(entry.weight))
-        && parts
-            .live
-            .iter()
-            .all(|consumer| consumer.limit <= MAX_LIMIT)
-        && parts
-            .rates
-            .iter()
-            .all(|class| are_rates(parts.live.len(), class.1.as_slice()))
+        && are_weights(parts.stranded.as_slice())
+        && are_limits(parts.live.as_slice())
+        && are_class_rates(parts.live.len(), parts.rates.as_slice())
+}
+
+/// Whether each entry has a weight.
+fn are_weights(entries: &[Stranded]) -> bool
+    ensures { IsTrue result ↔ All (λ entry. spec.IsWeight entry.weight) entries.now }
+{
+    entries.iter().all(|entry| is_weight(entry.weight))
+}
+
+/// Whether no limit is too great.
+fn are_limits(live: &[Live]) -> bool
+    ensures { IsTrue result ↔ All (λ consumer. consumer.limit ≤ most_limit) live.now }
+{
+    live.iter().all(|consumer| consumer.limit <= MAX_LIMIT)
+}
+
+/// Whether each class has rates, one for each consumer.
+fn are_class_rates(consumers: usize, classes: &[(Name, Rates)]) -> bool
+    ensures { IsTrue result ↔ All (λ class. spec.AreRates consumers class.1) classes.now }
+{
+    classes
+        .iter()
+        .all(|class| are_rates(consumers, class.1.as_slice()))
 }
 
 /// Whether a number is the weight of an entry.
