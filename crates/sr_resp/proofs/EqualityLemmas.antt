@@ -2,6 +2,7 @@
 use Rattle.std.proofs.Common.{◌≡◌, Bool, List, ℕ, nat_eq, ◌∷◌, ap, refl, sym, ◌∙◌}
 use Rattle.std.specs.Bool.{Decides}
 use Rattle.std.specs.Cmp.Lexicographic.{pointwise, bytes_decides}
+use Rattle.std.proofs.lemmas.Bool.{false≢true}
 use Rattle.std.proofs.lemmas.Bool.Decides.{Decides-eqb, Decides-int_eq}
 use denote.Enum.Bare.{same_true, true_same}
 use Rattle.sr_resp.specs.declared.first.First.{First}
@@ -21,7 +22,7 @@ first_eq-Decides (Bulk x) (Bulk y) = (λ e. ap Bulk ((bytes_decides x y).0 e), �
 first_eq-Decides (Array x) (Array y) = (λ e. ap Array ((Decides-eqb x y).0 e), λ e. (Decides-eqb x y).1 (cc))
 first_eq-Decides NullBulk NullBulk = (λ e. refl, λ e. refl)
 first_eq-Decides NullArray NullArray = (λ e. refl, λ e. refl)
-first_eq-Decides a b = (λ e. cc, λ e. cc)
+first_eq-Decides a b = (λ e. absurd (false≢true e), λ e. cc)
 
 -- behind the same first part, the texts are the same exactly if the parts are
 pub same_behind : (first : Part) (text other : List ℕ) (is : IsSpelled text) (was : IsSpelled other) (same : Bool) → same ≡ pointwise nat_eq text other → Decides same (first ∷ parts_of text is ≡ first ∷ parts_of other was)

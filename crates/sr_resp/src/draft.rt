@@ -76,8 +76,8 @@ impl Draft {
             → IfOk result (λ draft. draft ≡ part_of first.entry ∷ parts) }
     {
         Ok(Draft {
-            first: First::of(alloc, first)?,
             rest: Vec::from_slice(alloc, others)?,
+            first: First::of(alloc, first)?,
         })
     }
 
@@ -171,8 +171,8 @@ impl Draft {
         ensures { IfOk result (λ d. d ≡ self.now) }
     {
         Ok(Draft {
-            first: self.first.copy(alloc)?,
             rest: Vec::from_slice(alloc, self.rest.as_slice())?,
+            first: self.first.copy(alloc)?,
         })
     }
 
