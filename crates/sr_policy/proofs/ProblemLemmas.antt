@@ -1,6 +1,6 @@
 -- The problem of a snapshot is within the limits of a problem.
 use Rattle.std.proofs.Common.{◌≡◌, ℕ, zero, suc, ◌+◌, ◌*◌, ◌<◌, ◌≤◌, ◌^◌, Bool, true, false, cond, List, [], ◌∷◌, ◌++◌, length, map, Option, Some, None, option_map, unwrap_or, IfSome, All, refl, sym, ap, ◌∙◌, nat_eq, mul-le-mul, add_comm, suc-mul, zero-mul, length-append, get_or, take, subst, arith}
-use Rattle.std.proofs.lemmas.List.{length-map, flat_map_more, take_more}
+use Rattle.std.proofs.lemmas.List.{append_assoc, length-map, flat_map_more, map_more, take_more}
 use Rattle.std.proofs.lemmas.List.Elements.{All-append, All-head, All-map, All-nil, All-tail}
 use Rattle.std.specs.List.{flat_map}
 use Rattle.std.specs.Cmp.Lexicographic.{pointwise}
@@ -93,6 +93,13 @@ pub no_costs : (s : Shown) (e : Stranded) (listed : List (Text × List (Option �
 no_costs s e listed live same missing same_live =
     ap no_rates same_live
     ∙ sym (costs_without e.weight s.live (value_at e.class s.rates) (ap (value_at e.class) (sym same) ∙ sym missing))
+
+-- one value more was pushed
+pub value_added : {X Y : Type 0} (f : X → Y) (xs : List X) (i : ℕ) (d : X) (value : Y) (start old new : List Y) → i < length xs → value ≡ f (get_or xs i d) → old ≡ start ++ map f (take i xs) → new ≡ old ++ value ∷ []
+    → new ≡ start ++ map f (take (i + 1) xs)
+value_added f xs i d value start old new lt is held pushed =
+    pushed ∙ ap (λ l. l ++ value ∷ []) held ∙ append_assoc start (map f (take i xs)) (value ∷ [])
+    ∙ ap (λ y. start ++ (map f (take i xs) ++ y ∷ [])) is ∙ ap (λ l. start ++ l) (sym (map_more f xs i d lt))
 
 -- the rows so far, and one more
 pub row_added : {X : Type 0} (f : X → List (Option ℕ)) (xs : List X) (i : ℕ) (x : X) (old new : List (Option ℕ)) → i < length xs → x ≡ get_or xs i x → old ≡ flat_map f (take i xs) → new ≡ old ++ f x → new ≡ flat_map f (take (i + 1) xs)
