@@ -77,6 +77,154 @@ struct Row {
     most: Option<usize>,
 }
 
+/// The table: a row for each command, in the order in which the commands are declared.
+const ROWS: &[Row] = &[
+    Row {
+        first: b"PING",
+        second: None,
+        fewest: 1,
+        most: Some(2),
+    },
+    Row {
+        first: b"XADD",
+        second: None,
+        fewest: 5,
+        most: None,
+    },
+    Row {
+        first: b"XTRIM",
+        second: None,
+        fewest: 4,
+        most: Some(7),
+    },
+    Row {
+        first: b"XDEL",
+        second: None,
+        fewest: 3,
+        most: None,
+    },
+    Row {
+        first: b"XLEN",
+        second: None,
+        fewest: 2,
+        most: Some(2),
+    },
+    Row {
+        first: b"XRANGE",
+        second: None,
+        fewest: 4,
+        most: Some(6),
+    },
+    Row {
+        first: b"XREVRANGE",
+        second: None,
+        fewest: 4,
+        most: Some(6),
+    },
+    Row {
+        first: b"XACK",
+        second: None,
+        fewest: 4,
+        most: None,
+    },
+    Row {
+        first: b"XGROUP",
+        second: Some(b"CREATE"),
+        fewest: 5,
+        most: Some(6),
+    },
+    Row {
+        first: b"XGROUP",
+        second: Some(b"SETID"),
+        fewest: 5,
+        most: Some(5),
+    },
+    Row {
+        first: b"XGROUP",
+        second: Some(b"DESTROY"),
+        fewest: 4,
+        most: Some(4),
+    },
+    Row {
+        first: b"XGROUP",
+        second: Some(b"CREATECONSUMER"),
+        fewest: 5,
+        most: Some(5),
+    },
+    Row {
+        first: b"XGROUP",
+        second: Some(b"DELCONSUMER"),
+        fewest: 5,
+        most: Some(5),
+    },
+    Row {
+        first: b"XINFO",
+        second: Some(b"STREAM"),
+        fewest: 3,
+        most: Some(3),
+    },
+    Row {
+        first: b"XINFO",
+        second: Some(b"GROUPS"),
+        fewest: 3,
+        most: Some(3),
+    },
+    Row {
+        first: b"XINFO",
+        second: Some(b"CONSUMERS"),
+        fewest: 4,
+        most: Some(4),
+    },
+    Row {
+        first: b"XAUTOCLAIM",
+        second: None,
+        fewest: 6,
+        most: Some(9),
+    },
+    Row {
+        first: b"XCLAIM",
+        second: None,
+        fewest: 6,
+        most: None,
+    },
+    Row {
+        first: b"XPENDING",
+        second: None,
+        fewest: 3,
+        most: Some(9),
+    },
+    Row {
+        first: b"XREAD",
+        second: None,
+        fewest: 4,
+        most: None,
+    },
+    Row {
+        first: b"XREADGROUP",
+        second: None,
+        fewest: 7,
+        most: None,
+    },
+    Row {
+        first: b"RECOVER.PLAN",
+        second: None,
+        fewest: 5,
+        most: None,
+    },
+    Row {
+        first: b"RECOVER.RUN",
+        second: None,
+        fewest: 5,
+        most: None,
+    },
+    Row {
+        first: b"RECOVER.BOARD",
+        second: None,
+        fewest: 3,
+        most: Some(3),
+    },
+];
+
 /// How words meet a name.
 #[derive(Drop)]
 enum NameMatch<'a> {
@@ -103,56 +251,7 @@ pub(crate) enum Found<'a> {
 fn row_of(command: CommandName) -> Row
     ensures { shown result ≡ row_of command }
 {
-    match command {
-        CommandName::Ping => table_row(b"PING", None, 1, Some(2)),
-        CommandName::Xadd => table_row(b"XADD", None, 5, None),
-        CommandName::Xtrim => table_row(b"XTRIM", None, 4, Some(7)),
-        CommandName::Xdel => table_row(b"XDEL", None, 3, None),
-        CommandName::Xlen => table_row(b"XLEN", None, 2, Some(2)),
-        CommandName::Xrange => table_row(b"XRANGE", None, 4, Some(6)),
-        CommandName::Xrevrange => table_row(b"XREVRANGE", None, 4, Some(6)),
-        CommandName::Xack => table_row(b"XACK", None, 4, None),
-        CommandName::XgroupCreate => table_row(b"XGROUP", Some(b"CREATE"), 5, Some(6)),
-        CommandName::XgroupSetId => table_row(b"XGROUP", Some(b"SETID"), 5, Some(5)),
-        CommandName::XgroupDestroy => table_row(b"XGROUP", Some(b"DESTROY"), 4, Some(4)),
-        CommandName::XgroupCreateConsumer => table_row(
-            b"XGROUP",
-            Some(b"CREATECONSUMER"),
-            5,
-            Some(5),
-        ),
-        CommandName::XgroupDelConsumer => table_row(b"XGROUP", Some(b"DELCONSUMER"), 5, Some(5)),
-        CommandName::XinfoStream => table_row(b"XINFO", Some(b"STREAM"), 3, Some(3)),
-        CommandName::XinfoGroups => table_row(b"XINFO", Some(b"GROUPS"), 3, Some(3)),
-        CommandName::XinfoConsumers => table_row(b"XINFO", Some(b"CONSUMERS"), 4, Some(4)),
-        CommandName::Xautoclaim => table_row(b"XAUTOCLAIM", None, 6, Some(9)),
-        CommandName::Xclaim => table_row(b"XCLAIM", None, 6, None),
-        CommandName::Xpending => table_row(b"XPENDING", None, 3, Some(9)),
-        CommandName::Xread => table_row(b"XREAD", None, 4, None),
-        CommandName::Xreadgroup => table_row(b"XREADGROUP", None, 7, None),
-        CommandName::RecoverPlan => table_row(b"RECOVER.PLAN", None, 5, None),
-        CommandName::RecoverRun => table_row(b"RECOVER.RUN", None, 5, None),
-        CommandName::RecoverBoard => table_row(b"RECOVER.BOARD", None, 3, Some(3)),
-    }
-}
-
-fn table_row(
-    first: &'static [u8],
-    second: Option<&'static [u8]>,
-    fewest: usize,
-    most: Option<usize>,
-) -> Row
-    ensures first { result.first.now ≡ first.now }
-    ensures second { option_copied result.second ≡ option_copied second.entry }
-    ensures fewest { result.fewest ≡ fewest }
-    ensures most { result.most ≡ most }
-{
-    Row {
-        first,
-        second,
-        fewest,
-        most,
-    }
+    ROWS[command as usize]
 }
 
 /// How words meet the name of a row.
