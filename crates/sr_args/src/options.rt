@@ -477,13 +477,13 @@ fn judge(choice: Choice, option: OptionWords<'_>) -> Result<Choice, ValueFault>
     ensures { IsJudged (written_of option.entry) (chosen_of choice) result }
 {
     match option {
-        OptionWords::Count(range, most) => {
-            let count = read_count(range, most).ok_or(ValueFault::Number)?;
-            Ok(Choice {
+        OptionWords::Count(range, most) => match read_count(range, most) {
+            None => Err(ValueFault::Number),
+            Some(count) => Ok(Choice {
                 count: Some(count),
                 ..choice
-            })
-        }
+            }),
+        },
         OptionWords::NoMkStream => Ok(Choice {
             add_makes: false,
             ..choice
@@ -496,46 +496,46 @@ fn judge(choice: Choice, option: OptionWords<'_>) -> Result<Choice, ValueFault>
             just_ids: true,
             ..choice
         }),
-        OptionWords::Idle(word) => {
-            let time = read_nat(word).ok_or(ValueFault::Number)?;
-            Ok(Choice {
+        OptionWords::Idle(word) => match read_nat(word) {
+            None => Err(ValueFault::Number),
+            Some(time) => Ok(Choice {
                 time: TimeAsked::Idle(time),
                 ..choice
-            })
-        }
-        OptionWords::Time(word) => {
-            let time = read_nat(word).ok_or(ValueFault::Number)?;
-            Ok(Choice {
+            }),
+        },
+        OptionWords::Time(word) => match read_nat(word) {
+            None => Err(ValueFault::Number),
+            Some(time) => Ok(Choice {
                 time: TimeAsked::At(time),
                 ..choice
-            })
-        }
-        OptionWords::RetryCount(word) => {
-            let delivered = read_nat(word).ok_or(ValueFault::Number)?;
-            Ok(Choice {
+            }),
+        },
+        OptionWords::RetryCount(word) => match read_nat(word) {
+            None => Err(ValueFault::Number),
+            Some(delivered) => Ok(Choice {
                 delivered: Some(delivered),
                 ..choice
-            })
-        }
+            }),
+        },
         OptionWords::Group(_) => Ok(choice),
         OptionWords::NoAck => Ok(Choice {
             no_ack: true,
             ..choice
         }),
-        OptionWords::Block(word) => {
-            let wait = read_nat(word).ok_or(ValueFault::Number)?;
-            Ok(Choice {
+        OptionWords::Block(word) => match read_nat(word) {
+            None => Err(ValueFault::Number),
+            Some(wait) => Ok(Choice {
                 block: Some(wait),
                 ..choice
-            })
-        }
-        OptionWords::Trim(words) => {
-            let trim = read_trim(words)?;
-            Ok(Choice {
+            }),
+        },
+        OptionWords::Trim(words) => match read_trim(words) {
+            Err(fault) => Err(fault),
+            Ok(trim) => Ok(Choice {
                 trim: Some(trim),
                 ..choice
-            })
-        }
+            }),
+        },
     }
 }
 
