@@ -261,7 +261,7 @@ fn is_xack(call: &Call, key: &Name, group: &Name, ids: &Ids) -> bool
             key: its_key,
             group: its_group,
             ids: its_ids,
-        } => same_group(key, group, its_key, its_group) && same_ids(ids, its_ids),
+        } => same_two(key, group, its_key, its_group) && same_ids(ids, its_ids),
         _ => false,
     }
 }
@@ -276,7 +276,7 @@ fn is_xgroup_create(call: &Call, key: &Name, group: &Name, from: Position, make:
             group: its_group,
             from: its_from,
             make: its_make,
-        } => same_group(key, group, its_key, its_group)
+        } => same_two(key, group, its_key, its_group)
             && same_position(from, *its_from)
             && make == *its_make,
         _ => false,
@@ -292,7 +292,7 @@ fn is_xgroup_set_id(call: &Call, key: &Name, group: &Name, from: Position) -> bo
             key: its_key,
             group: its_group,
             from: its_from,
-        } => same_group(key, group, its_key, its_group) && same_position(from, *its_from),
+        } => same_two(key, group, its_key, its_group) && same_position(from, *its_from),
         _ => false,
     }
 }
@@ -305,7 +305,7 @@ fn is_xgroup_destroy(call: &Call, key: &Name, group: &Name) -> bool
         Call::XgroupDestroy {
             key: its_key,
             group: its_group,
-        } => same_group(key, group, its_key, its_group),
+        } => same_two(key, group, its_key, its_group),
         _ => false,
     }
 }
@@ -319,7 +319,7 @@ fn is_xgroup_create_consumer(call: &Call, key: &Name, group: &Name, consumer: &N
             key: its_key,
             group: its_group,
             consumer: its_consumer,
-        } => same_consumer(key, group, consumer, its_key, its_group, its_consumer),
+        } => same_three(key, group, consumer, its_key, its_group, its_consumer),
         _ => false,
     }
 }
@@ -333,7 +333,7 @@ fn is_xgroup_del_consumer(call: &Call, key: &Name, group: &Name, consumer: &Name
             key: its_key,
             group: its_group,
             consumer: its_consumer,
-        } => same_consumer(key, group, consumer, its_key, its_group, its_consumer),
+        } => same_three(key, group, consumer, its_key, its_group, its_consumer),
         _ => false,
     }
 }
@@ -366,7 +366,7 @@ fn is_xinfo_consumers(call: &Call, key: &Name, group: &Name) -> bool
         Call::XinfoConsumers {
             key: its_key,
             group: its_group,
-        } => same_group(key, group, its_key, its_group),
+        } => same_two(key, group, its_key, its_group),
         _ => false,
     }
 }
@@ -393,7 +393,7 @@ fn is_xautoclaim(
             start: its_start,
             count: its_count,
             just_ids: its_just_ids,
-        } => same_consumer(key, group, consumer, its_key, its_group, its_consumer)
+        } => same_three(key, group, consumer, its_key, its_group, its_consumer)
             && least_idle == *its_least_idle
             && same_id(start, *its_start)
             && same_count(count, *its_count)
@@ -426,7 +426,7 @@ fn is_xclaim(
             time: its_time,
             count: its_count,
             just_ids: its_just_ids,
-        } => same_consumer(key, group, consumer, its_key, its_group, its_consumer)
+        } => same_three(key, group, consumer, its_key, its_group, its_consumer)
             && least_idle == *its_least_idle
             && same_ids(ids, its_ids)
             && same_time(time, *its_time)
@@ -477,8 +477,7 @@ fn is_xreadgroup(
             block: its_block,
             no_ack: its_no_ack,
             streams: its_streams,
-        } => group == its_group
-            && consumer == its_consumer
+        } => same_two(group, consumer, its_group, its_consumer)
             && same_count(count, *its_count)
             && same_number(block, *its_block)
             && no_ack == *its_no_ack
@@ -496,31 +495,31 @@ fn is_xpending(call: &Call, key: &Name, group: &Name, listing: &Option<PendingAs
             key: its_key,
             group: its_group,
             listing: its_listing,
-        } => same_group(key, group, its_key, its_group) && same_listing(listing, its_listing),
+        } => same_two(key, group, its_key, its_group) && same_listing(listing, its_listing),
         _ => false,
     }
 }
 
-/// Whether the same group of the stream at the same key is named.
-fn same_group(key: &Name, group: &Name, its_key: &Name, its_group: &Name) -> bool
-    ensures { IsTrue result ↔ ((key.now ≡ its_key.now) × (group.now ≡ its_group.now)) }
+/// Whether two names are these.
+fn same_two(first: &Name, second: &Name, its_first: &Name, its_second: &Name) -> bool
+    ensures { IsTrue result ↔ ((first.now ≡ its_first.now) × (second.now ≡ its_second.now)) }
 {
-    key == its_key && group == its_group
+    first == its_first && second == its_second
 }
 
-/// Whether the same consumer of such a group is named.
-fn same_consumer(
-    key: &Name,
-    group: &Name,
-    consumer: &Name,
-    its_key: &Name,
-    its_group: &Name,
-    its_consumer: &Name,
+/// Whether three names are these.
+fn same_three(
+    first: &Name,
+    second: &Name,
+    third: &Name,
+    its_first: &Name,
+    its_second: &Name,
+    its_third: &Name,
 ) -> bool
-    ensures { IsTrue result ↔ ((key.now ≡ its_key.now) × (group.now ≡ its_group.now)
-        × (consumer.now ≡ its_consumer.now)) }
+    ensures { IsTrue result ↔ ((first.now ≡ its_first.now) × (second.now ≡ its_second.now)
+        × (third.now ≡ its_third.now)) }
 {
-    same_group(key, group, its_key, its_group) && consumer == its_consumer
+    same_two(first, second, its_first, its_second) && third == its_third
 }
 
 /// Whether two names are the same, or neither is there.
