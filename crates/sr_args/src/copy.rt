@@ -11,10 +11,9 @@ impl Call {
         ensures { IfOk result (λ copy. copy ≡ self.now) }
     {
         match self {
-            Call::Ping { message } => match copy_name(alloc, message) {
-                Err(fault) => Err(fault),
-                Ok(message) => Ok(Call::Ping { message }),
-            },
+            Call::Ping { message } => Ok(Call::Ping {
+                message: copy_name(alloc, message)?,
+            }),
             Call::Xadd {
                 key,
                 make,
@@ -22,106 +21,97 @@ impl Call {
                 id,
                 fields,
             } => copy_addition(alloc, key, *make, *trim, *id, fields),
-            Call::Xtrim { key, trim } => match key.copy(alloc) {
-                Err(fault) => Err(fault),
-                Ok(key) => Ok(Call::Xtrim { key, trim: *trim }),
-            },
+            Call::Xtrim { key, trim } => Ok(Call::Xtrim {
+                key: key.copy(alloc)?,
+                trim: *trim,
+            }),
             Call::Xdel { key, ids } => copy_deletion(alloc, key, ids),
-            Call::Xlen { key } => match key.copy(alloc) {
-                Err(fault) => Err(fault),
-                Ok(key) => Ok(Call::Xlen { key }),
-            },
+            Call::Xlen { key } => Ok(Call::Xlen {
+                key: key.copy(alloc)?,
+            }),
             Call::Xrange {
                 key,
                 start,
                 end,
                 count,
-            } => match key.copy(alloc) {
-                Err(fault) => Err(fault),
-                Ok(key) => Ok(Call::Xrange {
-                    key,
-                    start: *start,
-                    end: *end,
-                    count: *count,
-                }),
-            },
+            } => Ok(Call::Xrange {
+                key: key.copy(alloc)?,
+                start: *start,
+                end: *end,
+                count: *count,
+            }),
             Call::Xrevrange {
                 key,
                 end,
                 start,
                 count,
-            } => match key.copy(alloc) {
-                Err(fault) => Err(fault),
-                Ok(key) => Ok(Call::Xrevrange {
-                    key,
-                    end: *end,
-                    start: *start,
-                    count: *count,
-                }),
-            },
+            } => Ok(Call::Xrevrange {
+                key: key.copy(alloc)?,
+                end: *end,
+                start: *start,
+                count: *count,
+            }),
             Call::Xack { key, group, ids } => copy_acknowledgement(alloc, key, group, ids),
             Call::XgroupCreate {
                 key,
                 group,
                 from,
                 make,
-            } => match copy_two(alloc, key, group) {
-                Err(fault) => Err(fault),
-                Ok((key, group)) => Ok(Call::XgroupCreate {
+            } => {
+                let (key, group) = copy_two(alloc, key, group)?;
+                Ok(Call::XgroupCreate {
                     key,
                     group,
                     from: *from,
                     make: *make,
-                }),
-            },
-            Call::XgroupSetId { key, group, from } => match copy_two(alloc, key, group) {
-                Err(fault) => Err(fault),
-                Ok((key, group)) => Ok(Call::XgroupSetId {
+                })
+            }
+            Call::XgroupSetId { key, group, from } => {
+                let (key, group) = copy_two(alloc, key, group)?;
+                Ok(Call::XgroupSetId {
                     key,
                     group,
                     from: *from,
-                }),
-            },
-            Call::XgroupDestroy { key, group } => match copy_two(alloc, key, group) {
-                Err(fault) => Err(fault),
-                Ok((key, group)) => Ok(Call::XgroupDestroy { key, group }),
-            },
+                })
+            }
+            Call::XgroupDestroy { key, group } => {
+                let (key, group) = copy_two(alloc, key, group)?;
+                Ok(Call::XgroupDestroy { key, group })
+            }
             Call::XgroupCreateConsumer {
                 key,
                 group,
                 consumer,
-            } => match copy_three(alloc, key, group, consumer) {
-                Err(fault) => Err(fault),
-                Ok((key, group, consumer)) => Ok(Call::XgroupCreateConsumer {
+            } => {
+                let (key, group, consumer) = copy_three(alloc, key, group, consumer)?;
+                Ok(Call::XgroupCreateConsumer {
                     key,
                     group,
                     consumer,
-                }),
-            },
+                })
+            }
             Call::XgroupDelConsumer {
                 key,
                 group,
                 consumer,
-            } => match copy_three(alloc, key, group, consumer) {
-                Err(fault) => Err(fault),
-                Ok((key, group, consumer)) => Ok(Call::XgroupDelConsumer {
+            } => {
+                let (key, group, consumer) = copy_three(alloc, key, group, consumer)?;
+                Ok(Call::XgroupDelConsumer {
                     key,
                     group,
                     consumer,
-                }),
-            },
-            Call::XinfoStream { key } => match key.copy(alloc) {
-                Err(fault) => Err(fault),
-                Ok(key) => Ok(Call::XinfoStream { key }),
-            },
-            Call::XinfoGroups { key } => match key.copy(alloc) {
-                Err(fault) => Err(fault),
-                Ok(key) => Ok(Call::XinfoGroups { key }),
-            },
-            Call::XinfoConsumers { key, group } => match copy_two(alloc, key, group) {
-                Err(fault) => Err(fault),
-                Ok((key, group)) => Ok(Call::XinfoConsumers { key, group }),
-            },
+                })
+            }
+            Call::XinfoStream { key } => Ok(Call::XinfoStream {
+                key: key.copy(alloc)?,
+            }),
+            Call::XinfoGroups { key } => Ok(Call::XinfoGroups {
+                key: key.copy(alloc)?,
+            }),
+            Call::XinfoConsumers { key, group } => {
+                let (key, group) = copy_two(alloc, key, group)?;
+                Ok(Call::XinfoConsumers { key, group })
+            }
             Call::Xautoclaim {
                 key,
                 group,
@@ -130,9 +120,9 @@ impl Call {
                 start,
                 count,
                 just_ids,
-            } => match copy_three(alloc, key, group, consumer) {
-                Err(fault) => Err(fault),
-                Ok((key, group, consumer)) => Ok(Call::Xautoclaim {
+            } => {
+                let (key, group, consumer) = copy_three(alloc, key, group, consumer)?;
+                Ok(Call::Xautoclaim {
                     key,
                     group,
                     consumer,
@@ -140,8 +130,8 @@ impl Call {
                     start: *start,
                     count: *count,
                     just_ids: *just_ids,
-                }),
-            },
+                })
+            }
             Call::Xclaim {
                 key,
                 group,
@@ -169,14 +159,11 @@ impl Call {
                 count,
                 block,
                 streams,
-            } => match streams.copy(alloc) {
-                Err(fault) => Err(fault),
-                Ok(streams) => Ok(Call::Xread {
-                    count: *count,
-                    block: *block,
-                    streams,
-                }),
-            },
+            } => Ok(Call::Xread {
+                count: *count,
+                block: *block,
+                streams: streams.copy(alloc)?,
+            }),
             Call::Xreadgroup {
                 group,
                 consumer,
