@@ -131,11 +131,12 @@ module _ (claim : Claim) (claimer : List ℕ) (moment : ℕ) (entries : List Ent
       }
 
   -- so judging all ids one after the other is the claim of all
-  pub IsJudged-next : (nacks : List Nack) (ids : List Id) (i : ℕ) (id : Id) (old new : List Act) → i < length ids → id ≡ get_or ids i id
-      → IsJudged claim claimer moment entries nacks ids (drop i ids) old → Judges claim claimer moment entries nacks id old new → IsJudged claim claimer moment entries nacks ids (drop (i + 1) ids) new
-  IsJudged-next nacks ids i id old new within read judged next =
+  pub IsJudged-next : (nacks : List Nack) (ids : List Id) (i : ℕ) (none : Id) (old new : List Act) → i < length ids → IsJudged claim claimer moment entries nacks ids (drop i ids) old
+      → Judges claim claimer moment entries nacks (get_or ids i none) old new → IsJudged claim claimer moment entries nacks ids (drop (i + 1) ids) new
+  IsJudged-next nacks ids i none old new within judged next =
       let more : suc i ≡ i + 1 = omega arith in
-      let left : drop i ids ≡ id ∷ drop (i + 1) ids = drop-cons ids i id within ∙ ap (λ (x : Id). x ∷ drop (suc i) ids) (sym read) ∙ ap (λ (n : ℕ). id ∷ drop n ids) more in
+      let id = get_or ids i none in
+      let left : drop i ids ≡ id ∷ drop (i + 1) ids = drop-cons ids i none within ∙ ap (λ (n : ℕ). id ∷ drop n ids) more in
       let rest = drop (i + 1) ids in
       let fate = fate_with claim claimer moment entries id (after_acts old nacks) in
       let so_far : IsJudged claim claimer moment entries nacks ids (id ∷ rest) old = rw left at judged in
