@@ -139,3 +139,24 @@ pub moved-first : (moment : ℕ) (entries : List Entry) (move : MoveState) (all 
     → after_moves moment entries left now ≡ after_moves moment entries all group
 moved-first moment entries move all left group now items is =
     ap (after_moves moment entries left) is ∙ ap (λ (l : List MoveState). after_moves moment entries l group) (sym items)
+
+-- a group with the same consumers and pending entries, elsewhere
+pub IsGroup-same : (last : Id) (consumers now : List Consumer) (nacks left : List Nack) → now ≡ consumers → left ≡ nacks
+    → IsGroup (record { last = last; consumers = consumers; nacks = nacks }) → IsGroup (record { last = last; consumers = now; nacks = left })
+IsGroup-same last consumers now nacks left same kept group = rw (same, kept) group
+
+pub shown-same : (last : Id) (consumers now : List Consumer) (nacks left : List Nack) (group : GroupState) → now ≡ consumers → left ≡ nacks
+    → record { last = last; consumers = consumers; nacks = nacks } ≡ group → record { last = last; consumers = now; nacks = left } ≡ group
+shown-same last consumers now nacks left group same kept is = rw (same, kept) is
+
+-- all moves were carried out
+pub moved-all : (moment : ℕ) (entries : List Entry) (left items moves : List MoveState) (now first group : GroupState) → left ≡ [] → items ≡ moves → first ≡ group
+    → after_moves moment entries left now ≡ after_moves moment entries items first → now ≡ after_moves moment entries moves group
+moved-all moment entries left items moves now first group none read is moved =
+    ap (λ (l : List MoveState). after_moves moment entries l now) (sym none)
+    ∙ moved
+    ∙ ap (λ (l : List MoveState). after_moves moment entries l first) read
+    ∙ ap (after_moves moment entries moves) is
+
+pub HaveRooms-same : (moves items : List MoveState) (base old new : List Room) → items ≡ moves → old ≡ base → HaveRooms moves old new → HaveRooms items base new
+HaveRooms-same moves items base old new read is have owner = rw (read, ← is) (have owner)

@@ -1,6 +1,6 @@
 use Rattle.std.proofs.Common.{◌≡◌, ℕ, ◌+◌, ◌<◌, List, [], ◌∷◌, ◌++◌, length, get_or, map, take, ap, sym, ◌∙◌}
 use Rattle.std.specs.List.{All}
-use Rattle.std.proofs.lemmas.List.{map_push, take_more}
+use Rattle.std.proofs.lemmas.List.{map_push, take_all, take_more}
 use Rattle.std.proofs.lemmas.List.Elements.{All-push, All-same}
 use Rattle.sr_ids.specs.declared.id.Id.{Id}
 use Rattle.sr_group.specs.declared.moving.Wanted.{Wanted}
@@ -18,3 +18,9 @@ step ids i none claimer owner old new within is pushed so_far owned =
 pub loop-id-preserved : goal.loop-id-preserved
 loop-id-preserved c =
     step c.args.ids.now c.loop-id.id-index (record { ms = 0; seq = 0 }) c.args.claimer.now c.in_ok-owner.owner c.loop-id.wanted.items c.push.new.self.items c.loop-id-test.true c.in_ok-owner.ensures c.in_ok-push.ensures.items c.loop-id.invariant.0 c.loop-id.invariant.1
+
+pub returns-clause-ids : goal.returns-clause-ids
+returns-clause-ids c = c.loop-id.invariant.0 ∙ take_all c.loop-id.id-index c.args.ids.now c.loop-id-test.false
+
+pub returns-clause-owners : goal.returns-clause-owners
+returns-clause-owners c = c.loop-id.invariant.1

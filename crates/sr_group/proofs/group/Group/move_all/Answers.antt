@@ -1,10 +1,13 @@
-use Rattle.std.proofs.Common.{rules, ◌≡◌, suc, ◌∷◌, List, length, ap, subst, ◌∙◌, arith}
+use Rattle.std.proofs.Common.{rules, ◌≡◌, suc, [], ◌∷◌, List, Result, Ok, Err, length, refl, ap, sym, subst, ◌∙◌, arith}
 use Rattle.std.specs.List.{All}
-use Rattle.std.proofs.lemmas.List.Elements.{All-tail}
+use Rattle.std.specs.Result.{OnErr}
+use Rattle.std.proofs.lemmas.List.{nil_from_length}
+use Rattle.std.proofs.lemmas.List.Elements.{All-head, All-same, All-tail}
 use Rattle.std.specs.Vec.Iter.{into_iter_items}
 use Rattle.sr_group.specs.Claim.{HasCount, MoveState}
+use Rattle.sr_group.specs.Group.{KeptGroup}
 use Rattle.sr_group.specs.steps.Moving.{HaveRooms}
-use Rattle.sr_group.proofs.MovingLemmas.{HaveRooms-first, HaveRooms-spent, moved-first}
+use Rattle.sr_group.proofs.MovingLemmas.{HaveRooms-first, HaveRooms-kept, HaveRooms-same, HaveRooms-spent, IsGroup-same, moved-all, moved-first, shown-same}
 use Rattle.sr_group.proofs.group.Group.move_all.Goals as goal
 
 pub carry_out-requires-clause-room : goal.carry_out-requires-clause-room
@@ -31,3 +34,56 @@ loop-ready-preserved c =
       All-tail HasCount c.in-Some.ready left (subst (λ (l : List MoveState). All HasCount l) items so_far.3),
       search rules,
     )
+
+holds : {T E : Type 0} (result : Result T E) (P : Type 0) → P → OnErr result P
+holds (Ok value) P is = tt
+holds (Err error) P is = is
+
+pub invariant_of-self : goal.invariant_of-self
+invariant_of-self c = IsGroup-same _ _ _ _ _ refl c.in_err-make_rooms.ensures.nacks c.self.invariant
+
+pub invariant_of-self-in_err-reserve : goal.invariant_of-self-in_err-reserve
+invariant_of-self-in_err-reserve c = IsGroup-same _ _ _ _ _ c.in_err-reserve.ensures.items c.in_ok-make_rooms.ensures.nacks c.self.invariant
+
+pub invariant_of-self-2 : goal.invariant_of-self-2
+invariant_of-self-2 c = IsGroup-same _ _ _ _ _ c.in_ok-reserve.ensures.items c.in_ok-make_rooms.ensures.nacks c.self.invariant
+
+pub returns-in_err-make_rooms-clause-err : goal.returns-in_err-make_rooms-clause-err
+returns-in_err-make_rooms-clause-err c =
+    holds _ _ (shown-same _ _ _ _ _ _ refl c.in_err-make_rooms.ensures.nacks (ap (λ (g : KeptGroup). g.shown) c.self.view_is))
+
+pub returns-in_err-reserve-clause-err : goal.returns-in_err-reserve-clause-err
+returns-in_err-reserve-clause-err c =
+    holds _ _ (shown-same _ _ _ _ _ _ c.in_err-reserve.ensures.items c.in_ok-make_rooms.ensures.nacks (ap (λ (g : KeptGroup). g.shown) c.self.view_is))
+
+pub loop-ready-init : goal.loop-ready-init
+loop-ready-init c =
+    let gives = c.into_iter-ready-iterator.ensures.into_iter_gives in
+    let readies = c.in_ok-readies.readies in
+    let len : length (into_iter_items c.into_iter-ready-iterator.result) ≡ length readies.items = ap (λ (l : List MoveState). length l) gives.0 in (
+      refl,
+      HaveRooms-same c.as_slice.result.now (into_iter_items c.into_iter-ready-iterator.result) c.args.self.now.rooms c.self.inside.pending.rooms c.make_rooms.new.pending.rooms (gives.0 ∙ sym c.as_slice.ensures.value) (ap (λ (g : KeptGroup). g.rooms) c.self.view_is) c.in_ok-make_rooms.ensures.rooms,
+      omega (arith, len, readies.ok.0, c.len.ensures, c.in_ok-reserve.ensures.ok),
+      All-same HasCount _ _ (gives.0 ∙ c.in_ok-readies.ensures) c.requires.counts,
+      omega (arith, len, readies.ok.0, gives.1),
+    )
+
+pub carry_out-requires-clause-count : goal.carry_out-requires-clause-count
+carry_out-requires-clause-count c =
+    All-head HasCount _ _ (subst (λ (l : List MoveState). All HasCount l) c.in-Some.ensures.steps.0 c.loop-ready.invariant.3)
+
+pub carry_out-requires-clause-place : goal.carry_out-requires-clause-place
+carry_out-requires-clause-place c =
+    let len : length (into_iter_items c.loop-ready.ready-iterator) ≡ suc (length (into_iter_items c.next.new.self)) = ap (λ (l : List MoveState). length l) c.in-Some.ensures.steps.0 in
+    omega (arith, len, c.loop-ready.invariant.2)
+
+pub returns-clause-ok : goal.returns-clause-ok
+returns-clause-ok c =
+    let none = nil_from_length _ (sym c.loop-ready.invariant.4 ∙ c.in-None.ensures.steps.0) in
+    let first = shown-same _ _ _ _ _ _ c.in_ok-reserve.ensures.items c.in_ok-make_rooms.ensures.nacks (ap (λ (g : KeptGroup). g.shown) c.self.view_is) in
+    moved-all _ _ _ _ _ _ _ _ none (c.into_iter-ready-iterator.ensures.into_iter_gives.0 ∙ c.in_ok-readies.ensures) first c.loop-ready.invariant.0
+
+pub returns-clause-kept : goal.returns-clause-kept
+returns-clause-kept c =
+    let none = nil_from_length _ (sym c.loop-ready.invariant.4 ∙ c.in-None.ensures.steps.0) in
+    HaveRooms-kept c.args.self.now.rooms c.loop-ready.self.rooms (subst (λ (l : List MoveState). HaveRooms l c.args.self.now.rooms c.loop-ready.self.rooms) none c.loop-ready.invariant.1)
