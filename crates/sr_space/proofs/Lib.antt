@@ -1,4 +1,5 @@
 pub mod Lawful
+pub mod AddLemmas
 pub mod ArrayLemmas
 pub mod PendingLemmas
 pub mod ClaimLemmas

@@ -1,5 +1,5 @@
 -- What XREADGROUP lists and leaves, stream by stream.
-use Rattle.std.proofs.Common.{◌≡◌, ℕ, IsTrue, Bool, true, false, cond, ◌&&◌, List, [], ◌∷◌, ◌++◌, map, filter, Option, Some, refl, ap, sym, ◌∙◌}
+use Rattle.std.proofs.Common.{◌≡◌, ℕ, IsTrue, Bool, true, false, cond, ◌&&◌, List, [], ◌∷◌, ◌++◌, map, filter, Option, Some, inl, inr, refl, ap, sym, ◌∙◌, append_assoc}
 use Rattle.std.specs.List.{list_all}
 use Rattle.sr_args.specs.Different.{IsAmong}
 use Rattle.sr_args.specs.declared.reads.ReadAsked.{ReadAsked}
@@ -21,7 +21,7 @@ use Rattle.sr_space.specs.Touched.{left_at, reply_of}
 use Rattle.sr_space.specs.commands.Xread.{listed_or_null}
 use Rattle.sr_space.specs.commands.Xreadgroup.{again_answer, has_group_in, have_group, history_answer}
 use Rattle.sr_space.specs.declared.commands.xreadgroup.GroupRead.{GroupRead}
-use Rattle.sr_space.specs.steps.Reading.{HasRoomAt, HasRoomIn, StayBesideAll, Stored, Writes, WritesAt, after_call, by_read, history_item, in_stream, kept_at, keys_after, listed_by, named_by}
+use Rattle.sr_space.specs.steps.Reading.{HasRoomAt, HasRoomIn, StayBeside, StayBesideAll, Stored, Writes, WritesAt, after_call, by_read, history_item, in_stream, kept_at, keys_after, listed_by, named_by}
 use Rattle.sr_space.proofs.KeysLemmas.{stream_at-shown}
 use Rattle.sr_space.proofs.ArrayLemmas.{HasLeft}
 
@@ -108,6 +108,24 @@ module _ (r : GroupRead) (asked : ReadAsked) (key : Key) (rest : List (Key × Re
       effect kept.shown there
       ∙ ap (λ (keys : Keys). with_stream keys key (after_call r.group.now shown kept.shown)) (after ∙ ap (λ (keys : Keys). keys_after r keys rest) same)
       ∙ sym (ap (left_at (keys_after r (shown_keys begun) rest) key) written)
+
+  -- it lists what comes before what the others list
+  pub first-listed : (old now end : Answer) → shown_keys prepared ≡ shown_keys begun
+      → ((items : List Answer) → old ≡ array_of items → now ≡ array_of (items ++ (in_stream r asked key (stream_at (shown_keys begun) key)).listed))
+      → ((items : List Answer) → now ≡ array_of items → end ≡ listed_or_null (items ++ listed_by r (shown_keys prepared) rest))
+      → (items : List Answer) → old ≡ array_of items → end ≡ listed_or_null (items ++ listed_by r (shown_keys begun) ((key, asked) ∷ rest))
+  first-listed old now end same first others items is =
+      let more = (in_stream r asked key (stream_at (shown_keys begun) key)).listed in
+      others (items ++ more) (first items is)
+      ∙ ap (λ (keys : Keys). listed_or_null ((items ++ more) ++ listed_by r keys rest)) same
+      ∙ ap listed_or_null (append_assoc items more (listed_by r (shown_keys begun) rest))
+
+  -- and all other keys stay
+  pub others-read : StayBeside key begun prepared → StayBesideAll (named_by rest) prepared read → StayBesideAll (key ∷ named_by rest) begun read
+  others-read first others other apart = others other (λ among. apart (inr among)) ∙ first other (λ same. apart (inl same))
+
+  pub others-shown : StayBesideAll (key ∷ named_by rest) begun read → StayBeside key read ended → StayBesideAll (key ∷ named_by rest) begun ended
+  others-shown before shows other apart = shows other (λ same. apart (inl same)) ∙ before other apart
 
 -- what all streams list is what the call leads to, if each of the keys has the group
 pub read-outcome : (r : GroupRead) (streams : List (Key × ReadAsked)) (keys : Keys) → have_group r.group.now keys streams ≡ true → reply_of (listed_or_null (listed_by r keys streams)) ≡ (by_read r streams keys).outcome
