@@ -1,4 +1,4 @@
-use Rattle.std.proofs.Common.{◌≡◌, List, ◌∷◌, ◌++◌, ap, sym, subst, ◌∙◌}
+use Rattle.std.proofs.Common.{◌≡◌, List, ◌∷◌, Result, Ok, Err, OnErr, ◌++◌, ap, sym, subst, ◌∙◌}
 use Rattle.sr_args.specs.Different.{AreDifferent}
 use Rattle.sr_args.specs.declared.reads.ReadAsked.{ReadAsked}
 use Rattle.sr_space.specs.Keys.{Key, shown_keys}
@@ -42,3 +42,10 @@ returns-clause-others t c =
     let before = others-read r first.1 first.0 rest c.in_ok-shown.shown begun c.prepare_at.new.keys.entries c.read_all.new.keys.entries ended c.prepare_at.ensures.others c.read_all.ensures.others in
     let all = others-shown r first.1 first.0 rest c.in_ok-shown.shown begun c.prepare_at.new.keys.entries c.read_all.new.keys.entries ended before c.show_at.ensures.others in
     subst (λ (l : List (Key × ReadAsked)). StayBesideAll (named_by l) begun ended) (sym streams) all
+
+kept : {T E P : Type 0} (result : Result T E) → P → OnErr result P
+kept (Ok x) p = tt
+kept (Err e) p = p
+
+pub returns-in_err-read_all-clause-err : goal.returns-in_err-read_all-clause-err
+returns-in_err-read_all-clause-err t c = kept c.from_residual-in_err-read_all.result (c.in_err-read_all.ensures.err ∙ c.prepare_at.ensures.keys)
