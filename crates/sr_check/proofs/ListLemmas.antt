@@ -1,13 +1,15 @@
 -- An array whose items are known, read item by item.
-use Rattle.std.proofs.Common.{◌≡◌, ℕ, ◌+◌, ◌<◌, ◌≤◌, Bool, true, false, cond, List, [], ◌∷◌, ◌++◌, length, get_or, map, drop, refl, sym, ap, ◌∙◌, subst, arith}
+use Rattle.std.proofs.Common.{◌≡◌, ℕ, ◌+◌, ◌^◌, ◌<◌, ◌≤◌, Bool, true, false, cond, List, [], ◌∷◌, ◌++◌, length, get_or, map, drop, refl, sym, ap, ◌∙◌, subst, arith}
 use Rattle.std.specs.Prelude.{◌↔◌}
-use Rattle.std.specs.List.{flat_map}
+use Rattle.std.specs.List.{All, flat_map}
 use Rattle.std.proofs.lemmas.List.{drop_all, drop_more, length-map}
 use Rattle.sr_transport.specs.Problem.{Transport}
 use Rattle.sr_transport.specs.Certificate.{is_reached}
 use Rattle.sr_policy.specs.declared.live.Live.{Live}
-use Rattle.sr_policy.specs.Problem.{room_at}
+use Rattle.sr_policy.specs.Bounds.{most_limit}
+use Rattle.sr_policy.specs.Problem.{problem_of, room_at}
 use Rattle.sr_policy.specs.Rules.{Text}
+use Rattle.sr_policy.specs.Snapshot.{Shown}
 use Rattle.sr_resp.specs.Reply.{Answer, array_header, array_of, reply_text}
 use Rattle.sr_check.specs.PlanReply.{reached_from, share_answer}
 use Rattle.sr_check.specs.steps.Read.{Begins}
@@ -113,6 +115,19 @@ unreached_next p set n live consumer lt is unreached =
 pub reached_none : (p : Transport) (set : List ℕ) (n : ℕ) (live : List Live) → length live ≤ n
     → reached_from p set n (drop n live) ≡ []
 reached_none p set n live past = ap (reached_from p set n) (drop_all n live past)
+
+-- a problem has a room for each live consumer, and it is small
+pub one_room : (shown : Shown) (p : Transport) (live : List Live) → p ≡ problem_of shown → live ≡ shown.live
+    → length live ≡ length p.rooms
+one_room shown p live posed same =
+    ap length same ∙ sym (length-map shown.live room_at) ∙ sym (ap (λ (q : Transport). length q.rooms) posed)
+
+pub room_fits : (shown live : List Live) (n : ℕ) (consumer : Live) (room : ℕ) → live ≡ shown → n < length live
+    → consumer ≡ get_or live n consumer → All (λ c. c.limit ≤ most_limit) shown → room ≡ room_at consumer → room < 2 ^ 63
+room_fits shown live n consumer room same lt is all roomy =
+    let here = subst (λ (l : List Live). All (λ c. c.limit ≤ most_limit) l) (sym same) all in
+    let small = subst (λ (c : Live). c.limit ≤ most_limit) (sym is) (here n consumer lt) in
+    omega (arith, small, roomy)
 
 -- how many are reached, counted one by one
 pub counted_next : (p : Transport) (set : List ℕ) (n count : ℕ) (live : List Live) (consumer : Live) (all : List (Text × ℕ))

@@ -1,5 +1,6 @@
 -- A shortage's text: what is read of it, and what it spells.
 use Rattle.std.proofs.Common.{◌≡◌, ℕ, ◌^◌, ◌<◌, ◌≤◌, pos, Bool, true, false, List, [], ◌∷◌, ◌++◌, codes, length, map, refl, sym, ap, ◌∙◌, subst, arith}
+use Rattle.std.specs.List.{All}
 use Rattle.std.proofs.lemmas.List.{append-nil, length-map, length-append}
 use Rattle.sr_transport.specs.Certificate.{IsShortage, places_of}
 use Rattle.sr_transport.specs.Problem.{Transport}
@@ -63,6 +64,13 @@ places-moved : (q p : Transport) (set read left : List ℕ) → p ≡ q → read
 places-moved q p set read left e f is =
     subst (λ (ns : List ℕ). Begins left (integer (pos (places_of p ns))) []) (sym f) (subst (λ (o : Transport). Begins left
     (integer (pos (places_of o set))) []) (sym e) is)
+
+-- numbers of stranded entries are numbers of entries of the problem
+pub within-entries : (shown : Shown) (p : Transport) (stranded : List Stranded) (set : List ℕ) → p ≡ problem_of shown
+    → stranded ≡ shown.stranded → All (λ i. i < length stranded) set → All (λ i. i < p.entries) set
+within-entries shown p stranded set posed same all =
+    let counted : length stranded ≡ p.entries = ap length same ∙ sym (ap (λ (q : Transport). q.entries) posed) in
+    subst (λ (n : ℕ). All (λ i. i < n) set) counted all
 
 -- what is read of a shortage
 pub record IsKnown (p : Transport) (live : List Live) (n : ℕ) (read rooms set : List ℕ) : Type 0 where

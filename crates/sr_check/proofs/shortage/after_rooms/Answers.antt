@@ -1,9 +1,9 @@
-use Rattle.std.proofs.Common.{◌∙◌, ℕ, List, map, sym, subst}
+use Rattle.std.proofs.Common.{◌∙◌, ℕ, List, length, map, sym, ap, subst, arith}
 use Rattle.sr_policy.specs.declared.live.Live.{Live}
 use Rattle.sr_policy.specs.Problem.{room_at}
 use Rattle.sr_check.specs.PlanReply.{reached_from, share_answer}
 use Rattle.sr_check.specs.steps.Read.{Begins, rooms_answer}
-use Rattle.sr_check.proofs.ListLemmas.{array-items, no_array, count_of, room_read, room_passed, room_stuck}
+use Rattle.sr_check.proofs.ListLemmas.{AreLeft-start, array-begins, array-items, no_array, count_of, one_room, room_fits, room_read, room_passed, room_stuck, rooms_read}
 use Rattle.sr_check.proofs.shortage.after_rooms.Goals as goal
 use Rattle.sr_check.proofs.shortage.after_rooms.Goals.{then-is_reached+in_ok-left-2, else-is_reached}
 
@@ -57,3 +57,52 @@ loop-number-preserved c =
           rw w.left-is (room_passed p set n live consumer all start left c.loop-number-test.true c.index-live-number.is (sym
           c.is_reached.ensures ∙ w.if-is_reached.false) c.loop-number.invariant)
     ]
+
+pub reached-requires-clause-each : goal.reached-requires-clause-each
+reached-requires-clause-each c = one_room c.args.snapshot.now c.args.problem.now c.live-live.result.now c.requires.problem c.live-live.ensures
+
+pub reached-requires-clause-entries : goal.reached-requires-clause-entries
+reached-requires-clause-entries c = c.requires.entries
+
+pub returns-in_err-left-clause-found : goal.returns-in_err-left-clause-found
+returns-in_err-left-clause-found c = rw c.from_residual.ensures tt
+
+pub loop-number-init : goal.loop-number-init
+loop-number-init c =
+    AreLeft-start (map share_answer (reached_from c.args.problem.now c.args.set.now 0 c.live-live.result.now)) c.in_ok-left.left.now
+
+pub is_reached-requires-clause-entries : goal.is_reached-requires-clause-entries
+is_reached-requires-clause-entries c = c.requires.entries
+
+pub is_reached-requires-clause-consumer : goal.is_reached-requires-clause-consumer
+is_reached-requires-clause-consumer c = omega (
+  arith,
+  c.loop-number-test.true,
+  one_room c.args.snapshot.now c.args.problem.now c.live-live.result.now c.requires.problem c.live-live.ensures,
+)
+
+pub after_share-requires : goal.after_share-requires
+after_share-requires c =
+    room_fits c.args.snapshot.now.live c.live-live.result.now c.loop-number.number c.index-live-number.result c.room.result
+    c.live-live.ensures c.loop-number-test.true c.index-live-number.is c.sound.ensures.bounds.limits c.room.ensures
+
+pub returns-in_err-left-2-clause-found : goal.returns-in_err-left-2-clause-found
+returns-in_err-left-2-clause-found c = rw c.from_residual-in_err-left-2.ensures tt
+
+pub returns-clause-found : goal.returns-clause-found
+returns-clause-found c =
+    let p = c.args.problem.now in
+    let set = c.args.set.now in
+    let live = c.live-live.result.now in
+    let all = reached_from p set 0 live in
+    let start = c.in_ok-left.left.now in
+    let left = c.loop-number.left.now in
+    let items = rooms_read p set c.loop-number.number live (map share_answer all) start left c.loop-number-test.false
+    c.loop-number.invariant in
+    subst (λ (l : List Live). Begins c.args.bytes.now (rooms_answer p set l) left) c.live-live.ensures (
+    array-begins (map share_answer all) c.reached.result c.args.bytes.now start left (c.reached.ensures ∙ count_of share_answer all)
+    c.in_ok-left.ensures.found items
+    )
+
+pub returns-clause-none : goal.returns-clause-none
+returns-clause-none c = tt
