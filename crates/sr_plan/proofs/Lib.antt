@@ -2,3 +2,4 @@ pub mod MovesLemmas
 pub mod VerdictLemmas
 pub mod ArrayLemmas
 pub mod PlanReplyLemmas
+pub mod CallsLemmas

@@ -14,8 +14,8 @@ use Rattle.sr_policy.specs.declared.live.Live.{Live}
 use Rattle.sr_policy.specs.Problem.{problem_of, room_at}
 use Rattle.sr_policy.specs.Rules.{Text}
 use Rattle.sr_policy.specs.Snapshot.{Shown}
-use Rattle.sr_plan.specs.Verdict.{id_at, short}
-use Rattle.sr_check.specs.PlanReply.{id_answer, move_answer, share_answer, reached_from, verdict_answer}
+use Rattle.sr_plan.specs.Verdict.{best, id_at, moves_of, short}
+use Rattle.sr_check.specs.PlanReply.{id_answer, move_answer, share_answer, plan_word, reached_from, verdict_answer}
 use Rattle.sr_plan.proofs.ArrayLemmas.{map-written, HasLeft, left-after, left-none}
 
 -- each item of a verdict's arrays is a reply
@@ -104,6 +104,22 @@ pub rooms-written : (p : Transport) (set : List ℕ) (i : ℕ) (live : List Live
 rooms-written p set i live reply past has =
     left-none reply (map share_answer (reached_from p set i (drop i live))) (map share_answer (reached_from p set 0 live)) has
     (ap (λ (l : List Live). map share_answer (reached_from p set i l)) (drop_all i live past))
+
+-- the parts of a plan's reply
+pub plan-written : (shown : Shown) (assign prices : List ℕ) (total : ℕ) (word cost moves priced gone : Answer) (applied : Bool)
+    → word ≡ bulk_string (plan_word applied) → cost ≡ integer (pos total) → moves ≡ array_of (map move_answer (moves_of shown assign))
+    → priced ≡ array_of (map share_answer (zip (map (λ (consumer : Live). consumer.name) shown.live) prices))
+    → gone ≡ array_of (map (λ (pair : Id × Text). id_answer pair.0) shown.gone)
+    → array_of (word ∷ cost ∷ moves ∷ priced ∷ gone ∷ []) ≡ verdict_answer shown (best assign prices total) applied
+plan-written shown assign prices total word cost moves priced gone applied a b d e f =
+    let whole : Answer → Answer → Answer → Answer → Answer → Answer =
+    λ first second third fourth fifth. array_of (first ∷ second ∷ third ∷ fourth ∷ fifth ∷ []) in
+    let said : Answer = bulk_string (plan_word applied) in
+    let moved : Answer = array_of (map move_answer (moves_of shown assign)) in
+    let shares : Answer = array_of (map share_answer (zip (map (λ (consumer : Live). consumer.name) shown.live) prices)) in
+    ap (λ (first : Answer). whole first cost moves priced gone) a ∙ ap (λ (second : Answer). whole said second moves priced gone) b
+    ∙ ap (λ (third : Answer). whole said (integer (pos total)) third priced gone) d
+    ∙ ap (λ (fourth : Answer). whole said (integer (pos total)) moved fourth gone) e ∙ ap (whole said (integer (pos total)) moved shares) f
 
 -- the parts of a shortage's reply
 pub shortage-written : (shown : Shown) (set : List ℕ) (p : Transport) (n : ℕ) (word ids rooms places : Answer) (applied : Bool)
