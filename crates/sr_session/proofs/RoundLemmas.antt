@@ -159,6 +159,10 @@ module _ (may_tell : ℕ → Bool) (session : ℕ) (apply : Bool) (shown : Shown
       let P : Bool → Type 0 = λ last. IsRefusedRound may_tell session apply last shown old fault new in
       inr (inr (inl (subst P (is_last rounds) round)))
 
+  pub lacks-breaks : (rounds : ℕ) (new : Option BookState) → (rounds ≡ 0 → ⊥) → new ≡ old → BreaksIn may_tell session apply rounds shown old faults.Memory new
+  lacks-breaks zero new some same = absurd (some refl)
+  lacks-breaks (suc rounds) new some same = inr (inl (refl, same))
+
   pub hidden-breaks : (rounds : ℕ) (fault : DeskFault) (new : Option BookState) → (rounds ≡ 0 → ⊥)
       → (old ≡ None) × (new ≡ None) → BreaksIn may_tell session apply rounds shown old fault new
   hidden-breaks zero fault new some hidden = absurd (some refl)

@@ -1,6 +1,15 @@
 -- The reads of a session, and its end.
-use Rattle.std.proofs.Common.{ℕ, ◌+◌, Option, Some, None, Result, Ok, Err, OnOk, arith}
+use Rattle.std.proofs.Common.{◌≡◌, ℕ, ◌+◌, List, [], Bool, true, Option, Some, None, Result, Ok, Err, OnOk, IsErr, take, refl, subst, arith}
+use Rattle.std.specs.Io.KnownBytes.{Consumes}
+use Rattle.std.proofs.KnownBytes.{Consumes-trans}
+use Rattle.std.proofs.lemmas.List.{append-nil}
+use Rattle.std.proofs.lemmas.Result.{IfOk-from_err}
 use Rattle.sr_session.specs.Source.{CountsReads}
+use Rattle.sr_session.specs.declared.run.End.{End}
+use Rattle.sr_session.specs.declared.run.End.TheVariants as ends
+use Rattle.sr_session.specs.steps.Calling.{IsDeskEnd}
+use Rattle.sr_session.specs.steps.Gathered.{IsNoted}
+use Rattle.sr_session.specs.steps.Underway.{IsPieceEnd}
 
 -- no read yet
 pub CountsReads-none : (a : Option ℕ) → CountsReads a a 0
@@ -18,3 +27,47 @@ CountsReads-more (Some x) (Some y) (Some z) reads first second = omega (arith, f
 pub on_ok_both : {E W N G : Type 0} (r : Result (Unit {0}) E) → OnOk r W → OnOk r N → (W → N → G) → OnOk r G
 on_ok_both (Ok x) w n both = both w n
 on_ok_both (Err e) w n both = tt
+
+-- a success brings this, whatever the result
+pub on_ok_always : {E N : Type 0} (r : Result (Unit {0}) E) → N → OnOk r N
+on_ok_always (Ok x) n = n
+on_ok_always (Err e) n = tt
+
+-- a failure brings nothing of what a success does
+pub on_ok_none : {E : Type 0} (r : Result (Unit {0}) E) (N : Type 0) → IsErr r → OnOk r N
+on_ok_none r N failed = IfOk-from_err r (λ _. N) failed
+
+-- a read of no bytes
+pub Consumes-none : (a b c : Option (List ℕ)) (bytes : List ℕ) (count : ℕ) (buffer : List ℕ) → count ≡ 0 → Consumes a b bytes → Consumes b c (take count buffer) → Consumes a c bytes
+Consumes-none a b c bytes count buffer none first second =
+    subst (Consumes a c) (append-nil bytes) (Consumes-trans a b c bytes [] first (subst (λ (n : ℕ). Consumes b c (take n buffer)) none second))
+
+-- ---- what the writer notes
+
+-- as much as before steps in which it did not fail
+pub IsNoted-after : (r : Result (Unit {0}) End) (old middle new : Bool) → middle ≡ old → IsNoted r middle new → IsNoted r old new
+IsNoted-after r old middle new same noted = subst (λ (b : Bool). IsNoted r b new) same noted
+
+-- that it failed
+pub IsNoted-sent : (end : End) (old new : Bool) (sent : ℕ) → IsNoted (Err end) old new → end ≡ ends.SendFault sent → new ≡ true
+IsNoted-sent end old new sent noted is = subst (λ (e : End). IsNoted (Err e) old new) is noted
+
+-- nothing at another end
+pub IsNoted-unsent : (end : End) (old new : Bool) → IsNoted (Err end) old new → ((sent : ℕ) → end ≡ ends.SendFault sent → ⊥) → new ≡ old
+IsNoted-unsent ends.Closed old new noted other = noted
+IsNoted-unsent ends.Protocol old new noted other = noted
+IsNoted-unsent ends.ReadFault old new noted other = noted
+IsNoted-unsent (ends.SendFault sent) old new noted other = absurd (other sent refl)
+IsNoted-unsent ends.Turns old new noted other = noted
+IsNoted-unsent ends.Memory old new noted other = noted
+IsNoted-unsent ends.Desk old new noted other = noted
+
+-- an end that a desk brings comes while a piece is answered
+pub IsPieceEnd-desk : (end : End) → IsDeskEnd end → IsPieceEnd end
+IsPieceEnd-desk ends.Closed is = absurd is
+IsPieceEnd-desk ends.Protocol is = absurd is
+IsPieceEnd-desk ends.ReadFault is = absurd is
+IsPieceEnd-desk (ends.SendFault sent) is = absurd is
+IsPieceEnd-desk ends.Turns is = absurd is
+IsPieceEnd-desk ends.Memory is = tt
+IsPieceEnd-desk ends.Desk is = tt

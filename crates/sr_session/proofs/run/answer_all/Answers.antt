@@ -4,6 +4,7 @@ use Rattle.std.proofs.KnownBytes.{Appends-nil, Appends-trans}
 use Rattle.std.specs.Vec.Iter.{into_iter_items}
 use Rattle.sr_session.specs.steps.Asked.{AreAsked}
 use Rattle.sr_session.proofs.AskedLemmas.{AreAsked-first, AreAsked-none, IsAnswering-all, Stands-next, with_waiting}
+use Rattle.sr_session.proofs.RunLemmas.{on_ok_none}
 use Rattle.sr_session.proofs.UnderwayLemmas.{IsAnswering-start, IsAnswering-more, EndsAs-more}
 use Rattle.sr_session.proofs.run.answer_all.Goals as goal
 
@@ -37,34 +38,45 @@ loop-one-preserved g c =
       counted = search rules;
     }
 
-pub returns-in_err-answer_asked-clause-err : goal.returns-in_err-answer_asked-clause-err
-returns-in_err-answer_asked-clause-err g c =
+pub returns-in_err-answer_asked : goal.returns-in_err-answer_asked
+returns-in_err-answer_asked g c =
     let i = c.loop-one.invariant in
     let left = into_iter_items c.next.new.self in
     let items : into_iter_items c.loop-one.one-iterator ≡ c.in-Some.one ∷ left = c.in-Some.ensures.steps.0 in
     let one = c.in_err-answer_asked.ensures.err in
+    let failed = c.from_residual.ensures.0 in
     let p = err_from_is_err_and c.from_residual.result c.from_residual.ensures.1 in
-    rw (p.1, p.2) (
-      i.so_far.0 ++ one.0,
-      Appends-trans _ _ _ i.so_far.0 one.0 i.so_far.1 one.1,
-      λ progress asks found taken written start.
-          let before = i.so_far.2 progress asks found taken written start in
-          let split = AreAsked-first before.0 c.in-Some.one left (subst (AreAsked before.0) items before.1) in
-          EndsAs-more _ _ found taken written i.so_far.0 _ one.0 _ (with_waiting before.0 progress) (with_waiting split.others progress) _ _ split.words _ (Stands-next (with_waiting before.0 progress) split.words split.others split.is) (one.2 split.words split.asks) before.2,
-    )
+    record {
+      ok = on_ok_none _ _ failed;
+      idle = on_ok_none _ _ failed;
+      err = rw (p.1, p.2) (
+        i.so_far.0 ++ one.0,
+        Appends-trans _ _ _ i.so_far.0 one.0 i.so_far.1 one.1,
+        λ progress asks found taken written start.
+            let before = i.so_far.2 progress asks found taken written start in
+            let split = AreAsked-first before.0 c.in-Some.one left (subst (AreAsked before.0) items before.1) in
+            EndsAs-more _ _ found taken written i.so_far.0 _ one.0 _ (with_waiting before.0 progress) (with_waiting split.others progress) _ _ split.words _ (Stands-next (with_waiting before.0 progress) split.words split.others split.is) (one.2 split.words split.asks) before.2,
+      );
+      end = rw (p.1, p.2) c.in_err-answer_asked.ensures.end;
+      noted = rw (p.1, p.2) (rw i.noted at c.in_err-answer_asked.ensures.noted);
+      same = c.answer_asked.ensures.same ∙ i.same;
+    }
 
-pub returns-in_err-answer_asked-clause-end : goal.returns-in_err-answer_asked-clause-end
-returns-in_err-answer_asked-clause-end g c =
-    let p = err_from_is_err_and c.from_residual.result c.from_residual.ensures.1 in
-    rw (p.1, p.2) c.in_err-answer_asked.ensures.end
-
-pub returns-clause-ok : goal.returns-clause-ok
-returns-clause-ok g c =
-    let i = c.loop-one.invariant in (
-      i.so_far.0,
-      i.so_far.1,
-      λ progress asks found taken written start.
-          let before = i.so_far.2 progress asks found taken written start in
-          let none = AreAsked-none before.0 (into_iter_items c.loop-one.one-iterator) before.1 (sym i.counted ∙ c.in-None.ensures.steps.0) in
-          IsAnswering-all _ found taken (written ++ i.so_far.0) _ _ before.0 progress _ none before.2,
-    )
+pub returns : goal.returns
+returns g c =
+    let i = c.loop-one.invariant in
+    record {
+      ok = (
+        i.so_far.0,
+        i.so_far.1,
+        λ progress asks found taken written start.
+            let before = i.so_far.2 progress asks found taken written start in
+            let none = AreAsked-none before.0 (into_iter_items c.loop-one.one-iterator) before.1 (sym i.counted ∙ c.in-None.ensures.steps.0) in
+            IsAnswering-all _ found taken (written ++ i.so_far.0) _ _ before.0 progress _ none before.2,
+      );
+      idle = i.idle;
+      err = tt;
+      end = tt;
+      noted = i.noted;
+      same = i.same;
+    }

@@ -1,31 +1,81 @@
-use Rattle.std.proofs.Common.{◌+◌, ◌++◌, take, arith, ◌∙◌, subst}
-use Rattle.std.proofs.KnownBytes.{Consumes-trans, Appends-trans}
+use Rattle.std.proofs.Common.{◌≡◌, ◌+◌, [], ◌++◌, take, arith, rules, refl, ◌∙◌, subst}
+use Rattle.std.proofs.KnownBytes.{Appends-nil, Appends-trans, Consumes-kept, Consumes-nil, Consumes-trans}
 use Rattle.sr_session.specs.steps.Underway.{IsPieceEnd}
-use Rattle.sr_session.proofs.RunLemmas.{CountsReads-more}
+use Rattle.sr_session.proofs.RunLemmas.{Consumes-none, CountsReads-more, CountsReads-none, IsNoted-sent, IsNoted-unsent}
+use Rattle.sr_session.proofs.UnderwayLemmas.{IsAnswered-from_goes_on}
 use Rattle.sr_session.proofs.run.serve_requests.Goals as goal
 
-pub returns-in-Ok-eq0-clause-reads : goal.returns-in-Ok-eq0-clause-reads
-returns-in-Ok-eq0-clause-reads g c =
-    (c.loop-turn._turn + 1, omega arith, CountsReads-more _ _ _ _ c.loop-turn.invariant.reads c.in-Ok-eq0.ensures.count, λ e. cc)
+pub loop-turn-init : goal.loop-turn-init
+loop-turn-init g c =
+    let new = c.new-requests.ensures in
+    record {
+      bytes = ([], [], Consumes-nil _, Appends-nil _, record { requests = []; stands = new.stands; answered = (refl, refl); none_wait = new.fresh.0; sound = new.fresh.1; count = c.new-replies.ensures.1 });
+      none_gathered = c.new-replies.ensures.0;
+      idle = c.requires.idle;
+      reads = CountsReads-none _;
+      ended = refl;
+      read_failed = refl;
+      write_failed = refl;
+      same = refl;
+    }
 
-pub returns-in-Err-clause-reads : goal.returns-in-Err-clause-reads
-returns-in-Err-clause-reads g c =
-    (c.loop-turn._turn + 1, omega arith, CountsReads-more _ _ _ _ c.loop-turn.invariant.reads c.in-Err.ensures.count, λ e. cc)
+pub returns-in-Ok-eq0 : goal.returns-in-Ok-eq0
+returns-in-Ok-eq0 g c =
+    let i = c.loop-turn.invariant in
+    let b = i.bytes in
+    let none : c.in-Ok-eq0.field-0 ≡ 0 = search rules in
+    record {
+      session = (b.0, b.1, Consumes-none _ _ _ b.0 _ _ none b.2 c.in-Ok-eq0.ensures.bytes.0, b.3, IsAnswered-from_goes_on _ _ b.0 b.1 _ _ _ b.4);
+      reads = (c.loop-turn._turn + 1, omega arith, CountsReads-more _ _ _ _ i.reads c.in-Ok-eq0.ensures.count, λ e. cc);
+      same = i.same;
+      closed = λ e. c.in-Ok-eq0.ensures.end none (search rules);
+      read_fault = λ e. cc;
+      send_fault = λ sent e. cc;
+      heeds_end = λ other. absurd (other refl);
+      heeds_read_fault = λ other. c.in-Ok-eq0.ensures.ok ∙ i.read_failed;
+      heeds_send_fault = λ other. i.write_failed;
+    }
 
-pub returns-in-Err-take_piece-clause-reads : goal.returns-in-Err-take_piece-clause-reads
-returns-in-Err-take_piece-clause-reads g c =
-    (c.loop-turn._turn + 1, omega arith, CountsReads-more _ _ _ _ c.loop-turn.invariant.reads c.in-Ok.ensures.count, λ e. absurd (subst IsPieceEnd e c.in-Err-take_piece.ensures.end))
+pub returns-in-Err : goal.returns-in-Err
+returns-in-Err g c =
+    let i = c.loop-turn.invariant in
+    let b = i.bytes in
+    record {
+      session = (b.0, b.1, Consumes-kept _ _ _ b.0 b.2 c.in-Err.ensures.bytes, b.3, IsAnswered-from_goes_on _ _ b.0 b.1 _ _ _ b.4);
+      reads = (c.loop-turn._turn + 1, omega arith, CountsReads-more _ _ _ _ i.reads c.in-Err.ensures.count, λ e. cc);
+      same = i.same;
+      closed = λ e. cc;
+      read_fault = λ e. c.in-Err.ensures.err;
+      send_fault = λ sent e. cc;
+      heeds_end = λ other. c.in-Err.ensures.err_end ∙ i.ended;
+      heeds_read_fault = λ other. absurd (other refl);
+      heeds_send_fault = λ other. i.write_failed;
+    }
 
-pub returns-in-Err-take_piece-clause-session : goal.returns-in-Err-take_piece-clause-session
-returns-in-Err-take_piece-clause-session g c =
-    let b = c.loop-turn.invariant.bytes in
-    let one = c.in-Err-take_piece.ensures.err in (
-      b.0 ++ take c.in-Ok.count c.read.new.buffer,
-      b.1 ++ one.0,
-      Consumes-trans _ _ _ b.0 _ b.2 c.in-Ok.ensures.bytes.0,
-      Appends-trans _ _ _ b.1 one.0 b.3 one.1,
-      one.2 _ b.0 b.1 b.4,
-    )
+pub returns-in-Err-take_piece : goal.returns-in-Err-take_piece
+returns-in-Err-take_piece g c =
+    let i = c.loop-turn.invariant in
+    let b = i.bytes in
+    let one = c.in-Err-take_piece.ensures.err in
+    let end = c.in-Err-take_piece.ensures.end in
+    let noted = c.in-Err-take_piece.ensures.noted in
+    record {
+      session = (
+        b.0 ++ take c.in-Ok.count c.read.new.buffer,
+        b.1 ++ one.0,
+        Consumes-trans _ _ _ b.0 _ b.2 c.in-Ok.ensures.bytes.0,
+        Appends-trans _ _ _ b.1 one.0 b.3 one.1,
+        one.2 _ b.0 b.1 b.4,
+      );
+      reads = (c.loop-turn._turn + 1, omega arith, CountsReads-more _ _ _ _ i.reads c.in-Ok.ensures.count, λ e. absurd (subst IsPieceEnd e end));
+      same = c.take_piece.ensures.same ∙ i.same;
+      closed = λ e. absurd (subst IsPieceEnd e end);
+      read_fault = λ e. absurd (subst IsPieceEnd e end);
+      send_fault = λ sent e. IsNoted-sent _ _ _ sent noted e;
+      heeds_end = λ other. c.in-Ok.ensures.more (omega arith) ∙ i.ended;
+      heeds_read_fault = λ other. c.in-Ok.ensures.ok ∙ i.read_failed;
+      heeds_send_fault = λ other. IsNoted-unsent _ _ _ noted other ∙ i.write_failed;
+    }
 
 pub loop-turn-preserved : goal.loop-turn-preserved
 loop-turn-preserved g c =
@@ -47,4 +97,20 @@ loop-turn-preserved g c =
       read_failed = c.in-Ok.ensures.ok ∙ i.read_failed;
       write_failed = c.in-Ok-take_piece.ensures.noted ∙ i.write_failed;
       same = c.take_piece.ensures.same ∙ i.same;
+    }
+
+pub returns : goal.returns
+returns g c =
+    let i = c.loop-turn.invariant in
+    let b = i.bytes in
+    record {
+      session = (b.0, b.1, b.2, b.3, IsAnswered-from_goes_on _ _ b.0 b.1 _ _ _ b.4);
+      reads = (c.loop-turn._turn, omega arith, i.reads, λ e. omega arith);
+      same = i.same;
+      closed = λ e. cc;
+      read_fault = λ e. cc;
+      send_fault = λ sent e. cc;
+      heeds_end = λ other. i.ended;
+      heeds_read_fault = λ other. i.read_failed;
+      heeds_send_fault = λ other. i.write_failed;
     }
