@@ -10,4 +10,5 @@ pub mod RulesLemmas
 pub mod ServeLemmas
 pub mod SessionLaws
 pub mod SessionLemmas
+pub mod SnapLemmas
 pub mod TwiceLemmas
