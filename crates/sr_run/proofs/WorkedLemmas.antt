@@ -1,10 +1,11 @@
 -- What workers leave, put together from what each of them leaves.
-use Rattle.std.proofs.Common.{◌≡◌, ℕ, zero, suc, take, drop, ◌+◌, ◌*◌, ◌≤◌, List, [], ◌∷◌, ◌++◌, length, length-append, map, refl, sym, ap, ap₂, ◌∙◌, subst, arith, append-nil, Result, Ok, Err}
-use Rattle.std.specs.Prelude.{◌≢◌, MatchResult, sum, sum_by}
+use Rattle.std.proofs.Common.{◌≡◌, ℕ, zero, suc, take, drop, get_or, ◌+◌, ◌*◌, ◌<◌, ◌≤◌, List, [], ◌∷◌, ◌++◌, length, length-append, map, refl, sym, ap, ap₂, ◌∙◌, subst, arith, append-nil, append_assoc, Result, Ok, Err}
+use Rattle.std.specs.Prelude.{All, ◌≢◌, MatchResult, sum, sum_by}
 use Rattle.std.specs.List.{flat_map}
 use Rattle.std.proofs.lemmas.Grind.{flat_map-append}
-use Rattle.std.proofs.lemmas.List.{length-map, length-take-le, map-append, take-append-drop}
+use Rattle.std.proofs.lemmas.List.{length-drop, length-map, length-take-le, map-append, map_more, map_push, take-append-drop, take_more}
 use Rattle.std.proofs.lemmas.List.Concat.{flat_map-cons, length-flat_map}
+use Rattle.std.proofs.lemmas.List.Elements.{All-push}
 use Rattle.std.proofs.lemmas.List.Folds.{flat_map-map}
 use Rattle.std.proofs.lemmas.List.Sums.{sum-map, sum_by-append, sum_by-cons}
 use Rattle.std.proofs.Math.Seq.{take-append_seam, drop-append_seam}
@@ -95,6 +96,21 @@ back_crew f first k seats back xs ys few back_is ys_are crew =
 -- both have all the scripts
 pub halves_are_whole : {V : Type 0} (f : V → List Call) (k : ℕ) (xs : List V) → map f xs ≡ map f (take k xs) ++ map f (drop k xs)
 halves_are_whole f k xs = ap (λ ys. map f ys) (sym (take-append-drop k xs)) ∙ map-append f (take k xs) (drop k xs)
+
+-- so is what is made of them
+pub crew_is_whole : {V : Type 0} (f : V → List Call) (first k : ℕ) (xs ys zs : List V) → ys ≡ take k xs → zs ≡ drop k xs
+    → record { first = first; scripts = map f xs } ≡ joined (record { first = first; scripts = map f ys }) (record { first = first + k; scripts = map f zs })
+crew_is_whole {V} f first k xs ys zs ys_are zs_are =
+    let made : List (List Call) → CrewState = λ scripts. record { first = first; scripts = scripts } in
+    ap made (halves_are_whole f k xs ∙ ap₂ (λ (one other : List V). map f one ++ map f other) (sym ys_are) (sym zs_are))
+
+-- neither is empty if this many of them are first
+pub crew_halves : {V : Type 0} (f : V → List Call) (first k : ℕ) (xs ys zs : List V) → 0 < k → k < length xs → ys ≡ take k xs → zs ≡ drop k xs
+    → AreHalves (record { first = first; scripts = map f ys }) (record { first = first + k; scripts = map f zs })
+crew_halves f first k xs ys zs some less ys_are zs_are =
+    let front : length (map f ys) ≡ k = length-map ys f ∙ ap length ys_are ∙ length-take-le k xs (omega (arith, less)) in
+    let back : length (map f zs) ≡ length (drop k xs) = length-map zs f ∙ ap length zs_are in
+    record { next = omega (arith, front); some_front = omega (arith, front, some); some_back = omega (arith, back, length-drop k xs, less) }
 
 -- ---- scripts and their receipts
 
@@ -205,6 +221,40 @@ worked_by_script crew seats receipts groups worked sizes same =
     let is : worked.groups ≡ groups = told_apart worked.groups groups (AreWorked-lengths crew.first crew.scripts worked.groups worked.worked ∙ sym sizes) (sym worked.whole ∙ sym same) in
     let P : List (List Receipt) → Type 0 = λ gs. AreWorked crew.first crew.scripts gs in
     subst P is worked.worked
+
+-- ---- one turn of a loop
+
+-- one more is pushed for one more of a list
+pub one_more_pushed : {X Y : Type 0} (f : X → Y) (ys : List Y) (i : ℕ) (d : Y) (xs after : List X) (x : X) → i < length ys → after ≡ xs ++ x ∷ [] → f x ≡ get_or ys i d → map f xs ≡ take i ys
+    → map f after ≡ take (i + 1) ys
+one_more_pushed {X} {Y} f ys i d xs after x here pushed same so_far =
+    ap (λ (zs : List X). map f zs) pushed ∙ map_push f xs x ∙ ap₂ (λ (zs : List Y) (z : Y). zs ++ z ∷ []) so_far same ∙ sym (take_more ys i d here)
+
+-- so is what is made of it
+pub one_more_mapped : {X Y : Type 0} (f : X → Y) (xs : List X) (i : ℕ) (x : X) (y : Y) (ys after : List Y) → i < length xs → x ≡ get_or xs i x → y ≡ f x → after ≡ ys ++ y ∷ [] → ys ≡ map f (take i xs)
+    → after ≡ map f (take (i + 1) xs)
+one_more_mapped {X} {Y} f xs i x y ys after here is same pushed so_far =
+    pushed ∙ ap₂ (λ (zs : List Y) (z : Y). zs ++ z ∷ []) so_far (same ∙ ap f is) ∙ sym (map_more f xs i x here)
+
+-- what holds of all that were pushed holds of one more
+pub one_more_has : {X : Type 0} (P : X → Type 0) (xs after : List X) (x : X) → after ≡ xs ++ x ∷ [] → All P xs → P x → All P after
+one_more_has {X} P xs after x pushed all one =
+    let Q : List X → Type 0 = λ zs. All P zs in
+    subst Q (sym pushed) (All-push P xs x all one)
+
+-- receipts of which a group is taken are the same, the others after it
+pub one_group_more : {W : Type 0} (f : W → List Receipt) (groups after : List W) (group : W) (rest others : List Receipt) (n : ℕ) → after ≡ groups ++ group ∷ [] → f group ≡ take n rest → others ≡ drop n rest
+    → flat_map f after ++ others ≡ flat_map f groups ++ rest
+one_group_more {W} f groups after group rest others n pushed front back =
+    let one : flat_map f (group ∷ []) ≡ take n rest = flat_map-cons f group [] ∙ append-nil (f group) ∙ front in
+    let so_far : List Receipt = flat_map f groups in
+    let grown : flat_map f after ≡ so_far ++ take n rest = ap (λ (ws : List W). flat_map f ws) pushed ∙ flat_map-append f groups (group ∷ []) ∙ ap (λ (rs : List Receipt). so_far ++ rs) one in
+    ap₂ (λ (rs os : List Receipt). rs ++ os) grown back ∙ append_assoc so_far (take n rest) (drop n rest) ∙ ap (λ (rs : List Receipt). so_far ++ rs) (take-append-drop n rest)
+
+-- where nothing is left, all are there
+pub nothing_left : (front rest all : List Receipt) → length rest ≡ 0 → front ++ rest ≡ all → front ≡ all
+nothing_left front [] all none same = sym (append-nil front) ∙ same
+nothing_left front (r ∷ rest) all none same = absurd (omega (arith, none))
 
 -- ---- one worker
 
