@@ -24,5 +24,5 @@ loop-call-preserved g c =
       number = made_number receipt.index c.loop-call.seat c.exchange.new.seat made ∙ here.number;
       share = omega (arith, made_share receipt.index c.loop-call.seat c.exchange.new.seat made, here.share);
       many = omega (arith, c.push_reserved.ensures.len, here.many);
-      room = c.push_reserved.ensures.capacity ∙ here.room;
+      room = omega (arith, c.push_reserved.ensures.capacity, here.room);
     }
