@@ -18,9 +18,9 @@ loop-act-preserved c =
     let items : into_iter_items c.loop-act.act-iterator ≡ act ∷ left = c.in-Some.ensures.steps.0 in
     let nacks = c.loop-act.pending.nacks in (
       ap (λ (l : List Nack). after_acts left l) c.apply.ensures.nacks
-      ∙ sym (after_acts-append (act ∷ []) left nacks)
-      ∙ ap (λ (l : List Act). after_acts l nacks) (sym items)
-      ∙ c.loop-act.invariant.0,
+          ∙ sym (after_acts-append (act ∷ []) left nacks)
+          ∙ ap (λ (l : List Act). after_acts l nacks) (sym items)
+          ∙ c.loop-act.invariant.0,
       c.apply.ensures.rooms left (rw items at c.loop-act.invariant.1),
       search rules,
     )
