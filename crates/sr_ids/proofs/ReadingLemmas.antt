@@ -1,7 +1,7 @@
 -- How the code finds the parts of a text: at its first dash, and behind its first byte.
 use Rattle.std.proofs.Common.{◌≡◌, ℕ, ◌+◌, ◌-◌, ◌<◌, ◌≤◌, inl, inr, Option, Some, None, IfSome, IfNone, List, [], ◌∷◌, ◌++◌, length, get_or, take, drop, sym, ap, ◌∙◌, arith}
 use Rattle.std.proofs.lemmas.Bool.{cases_lt}
-use Rattle.std.proofs.lemmas.List.{get_or_append_left, length_push, take_at, drop_at}
+use Rattle.std.proofs.lemmas.List.{get_or_append_left, length-append, length_push, take-append-drop, take_at, take_more, take_rest, drop_at}
 use Rattle.std.proofs.lemmas.Slice.{first_rest}
 use Rattle.sr_bytes.specs.Decimal.{IsDecimal}
 use Rattle.sr_bytes.proofs.DecimalLemmas.{AllDigits-not_at}
@@ -26,6 +26,23 @@ SpellsId-at_dash missing text dash id within at first s = elim s.written [
       (rw (← front) at w.ms, rw (← rest) at w.seq)
   | inr short ↦ absurd (omega (arith, AllDigits-not_at text dash 45 short.ms.each (omega arith) at))
 ]
+
+-- a text without a dash that spells an id is a number
+pub SpellsId-no_dash : (missing : ℕ) (text : List ℕ) (id : Id) → ((k : ℕ) → k < length text → get_or text k 0 ≡ 45 → ⊥) → SpellsId missing text id → IsDecimal 20 text id.ms
+SpellsId-no_dash missing text id none s = elim s.written [
+  | inl w ↦
+      let long = ap (λ (t : List ℕ). length t) (IsWhole-dash text id w) in
+      absurd (none (length w.before) (omega (arith, long, length-append w.before (45 ∷ w.behind))) (IsWhole-dash_at text id w))
+  | inr short ↦ short.ms
+]
+
+-- a text is what stands before a dash, the dash and the rest
+pub cut_at_dash : (text : List ℕ) (dash : ℕ) → dash < length text → get_or text dash 0 ≡ 45 → text ≡ take dash text ++ 45 ∷ [] ++ take (length text - (dash + 1)) (drop (dash + 1) text)
+cut_at_dash text dash lt at =
+    let front : take (dash + 1) text ≡ take dash text ++ 45 ∷ [] = take_more text dash 0 lt ∙ ap (λ (x : ℕ). take dash text ++ x ∷ []) at in
+    sym (take-append-drop (dash + 1) text)
+    ∙ ap (λ (l : List ℕ). l ++ drop (dash + 1) text) front
+    ∙ ap (λ (l : List ℕ). (take dash text ++ 45 ∷ []) ++ l) (sym (take_rest text (dash + 1)))
 
 -- a text that begins with this byte is the byte and the rest
 pub from_first_byte : (text : List ℕ) (c : ℕ) → 0 < c → get_or text 0 0 ≡ c → text ≡ c ∷ take (length text - 1) (drop 1 text)
