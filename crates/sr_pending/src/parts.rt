@@ -140,7 +140,7 @@ fn make_room<T>(closed: &mut VecDeque<VecDeque<T>>, tail: &mut VecDeque<T>, bloc
     }
 }
 
-/// Puts the value before the element at this place of a closed block, or of the open one, which is behind them.
+/// Puts the value before the element at this place of a closed block, or of the open one, which comes after them.
 pub(crate) fn insert_in<T>(
     closed: &mut VecDeque<VecDeque<T>>,
     tail: &mut VecDeque<T>,
