@@ -160,6 +160,7 @@ pub(crate) fn insert_in<T>(
     ensures places { deque_capacity closed.new ≡ deque_capacity closed.old }
     ensures len { deque_len tail.new ≤ deque_len tail.old + 1 }
     ensures capacity { deque_capacity tail.old ≤ deque_capacity tail.new }
+    ensures kept { block < deque_len closed.old → deque_capacity tail.new ≡ deque_capacity tail.old }
 {
     if block < closed.len() {
         make_room(closed, tail, block);
