@@ -500,14 +500,14 @@ fn is_xpending(call: &Call, key: &Name, group: &Name, listing: &Option<PendingAs
     }
 }
 
-/// Whether two names are these.
+/// Whether both names equal the other two.
 fn same_two(first: &Name, second: &Name, its_first: &Name, its_second: &Name) -> bool
     ensures { IsTrue result ↔ ((first.now ≡ its_first.now) × (second.now ≡ its_second.now)) }
 {
     first == its_first && second == its_second
 }
 
-/// Whether three names are these.
+/// Whether all three names equal the other three.
 fn same_three(
     first: &Name,
     second: &Name,

@@ -123,7 +123,7 @@ fn is_within_bounds(parts: &Parts) -> bool
         && are_class_rates(parts.live.len(), parts.rates.as_slice())
 }
 
-/// Whether each entry has a weight.
+/// Whether the weight of each entry is in range.
 fn are_weights(entries: &[Stranded]) -> bool
     ensures { IsTrue result ↔ All (λ entry. spec.IsWeight entry.weight) entries.now }
 {

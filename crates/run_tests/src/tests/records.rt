@@ -36,7 +36,7 @@ pub(super) fn keep(answer: Answer, snapshot: &mut Option<Snapshot>) {
     }
 }
 
-/// Drives a book by the events of lines: by all of them at once, but for a snapshot, which the verdict after it is made of.
+/// Drives a book by the events of lines, all in one list, or in two if there is a verdict, since it is made of a snapshot that the first gives.
 fn drive_all(alloc: Global, book: &mut Book, lines: &[Line]) -> Result<(), Fail> {
     let mut snapshot = None;
     let mut events = Vec::new(alloc);
