@@ -23,7 +23,8 @@ fn main(rt: HostRuntime) -> io::Result<ExitCode> {
         return Ok(ExitCode::from(REFUSED));
     };
     let input = BufReader::new(rt.alloc(), rt.reader())?;
-    answer(&rt, is_timed, Source::new(rt.alloc(), input))
+    let mut source = Source::new(rt.alloc(), input);
+    answer(&rt, is_timed, &mut source)
 }
 
 /// Whether the command line asks for times, or `None` where it is not understood.
@@ -37,12 +38,12 @@ fn asks_for_times(rt: &(impl Env + AllocGlobal)) -> io::Result<Option<bool>> {
 }
 
 /// Solves all problems. An error is printed with the number of the line that was read last.
-fn answer<R: AllocGlobal + Clock + Print + Eprint, B: BufRead + Drop>(
+fn answer<R: AllocGlobal + Clock + Print + Eprint, B: BufRead>(
     rt: &R,
     is_timed: bool,
-    mut source: Source<B>,
+    source: &mut Source<B>,
 ) -> io::Result<ExitCode> {
-    match answer_all(rt, is_timed, &mut source) {
+    match answer_all(rt, is_timed, source) {
         Ok(()) => Ok(ExitCode::SUCCESS),
         Err(error) => {
             eprintln!(rt; "line {}: {error}", source.line_number())?;
@@ -58,10 +59,9 @@ fn answer_all<R: AllocGlobal + Clock + Print, B: BufRead>(
     source: &mut Source<B>,
 ) -> io::Result<()> {
     for _ in 0..u64::MAX {
-        if !source.begin_problem()? {
+        let Some(problem) = source.next_problem(rt.alloc())? else {
             break;
-        }
-        let problem = source.rest_of_problem(rt.alloc())?;
+        };
         print_line(rt, is_timed, source.name(), &problem)?;
     }
     Ok(())

@@ -24,8 +24,8 @@ pub(crate) fn print_line<R: AllocGlobal + Clock + Print>(
 
 /// Prints the least time of some runs.
 fn print_time<R: AllocGlobal + Clock + Print>(rt: &R, problem: &Problem) -> io::Result<()> {
-    let mut least = micros(rt, problem)?;
-    for _ in 1..RUNS {
+    let mut least = u128::MAX;
+    for _ in 0..RUNS {
         least = least.min(micros(rt, problem)?);
     }
     let (millis, hundredths) = (least / 1000, least % 1000 / 10);

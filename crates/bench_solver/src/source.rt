@@ -29,28 +29,27 @@ impl<B: BufRead> Source<B> {
         self.line_number
     }
 
-    /// The name of the problem that was begun last.
+    /// The name of the problem that was read last.
     pub(crate) fn name(&self) -> &str {
         self.name.as_str()
     }
 
-    /// Reads the name of the next problem, and tells whether there is one.
-    pub(crate) fn begin_problem(&mut self) -> io::Result<bool> {
+    /// Reads the next problem, if there is one.
+    pub(crate) fn next_problem(&mut self, alloc: Global) -> io::Result<Option<Problem>> {
         let is_at_end = self.meets_end()?;
         self.name.clear();
         self.name.push_str(self.line.as_str().trim_end())?;
-        Ok(!is_at_end)
-    }
-
-    /// Reads the lines after the name.
-    pub(crate) fn rest_of_problem(&mut self, alloc: Global) -> io::Result<Problem> {
+        if is_at_end {
+            return Ok(None);
+        }
         self.read_line()?;
         let entries = number(self.line.as_str().trim())? as usize;
         let rooms = self.rooms(alloc)?;
         let costs = self.costs(alloc, entries, rooms.len())?;
-        Problem::new(rooms, entries, costs).ok_or(io::Error::other(
-            "the problem is not within the limits",
-        ))
+        match Problem::new(rooms, entries, costs) {
+            None => Err(io::Error::other("the problem is not within the limits")),
+            problem => Ok(problem),
+        }
     }
 
     /// Reads the room of each consumer.

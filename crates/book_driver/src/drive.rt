@@ -1,9 +1,7 @@
 //! A book, and what is done with it for each line.
 use crate::held::HeldSnapshots;
-use crate::line::Ask;
-use sr_args::Names;
-use sr_book::{Answer, Book, BookFault, Event, Letter, Out, Record, Status};
-use sr_bytes::Name;
+use crate::line::{Ask, Deed};
+use sr_book::{Answer, Book, BookFault, Event, Letter, Out, Record, Status, StepFault};
 use sr_plan::Verdict;
 use sr_policy::Policy;
 use std::alloc::{AllocError, Global};
@@ -68,130 +66,89 @@ impl Driver {
 
     /// Does what a line asks for. An `Err` leaves the book as it was.
     pub(crate) fn answer(&mut self, alloc: Global, ask: Ask) -> Result<Outcome, AllocError> {
-        match ask {
+        Ok(match ask {
             Ask::NewBook { policy } => {
                 *self = Driver::new(alloc, policy, self.hasher);
-                Ok(Outcome::NewBook)
+                Outcome::NewBook
             }
-            Ask::Join { told } => self.join(alloc, told),
-            Ask::Call {
+            Ask::Join { told } => return self.join(alloc, told),
+            Ask::Session {
                 told,
                 session,
-                call,
-            } => {
-                let session = self.number_of(session);
-                Ok(step(&mut self.book, alloc, told, Event::Call { session, call }))
-            }
-            Ask::Board {
-                told,
-                session,
-                key,
-                group,
-            } => {
-                let session = self.number_of(session);
-                let event = Event::Board {
-                    session,
-                    key,
-                    group,
-                };
-                Ok(step(&mut self.book, alloc, told, event))
-            }
-            Ask::Snapshot {
-                told,
-                session,
-                key,
-                group,
-                dead,
-            } => self.snapshot(alloc, told, self.number_of(session), key, group, dead),
-            Ask::Conclude {
-                told,
-                session,
-                apply,
-                last,
-            } => self.conclude(alloc, told, self.number_of(session), apply, last),
-            Ask::Expire { told } => Ok(step(&mut self.book, alloc, told, Event::Expire)),
-            Ask::Leave { told, session } => {
-                let session = self.number_of(session);
-                Ok(step(&mut self.book, alloc, told, Event::Leave { session }))
-            }
-            Ask::Due { told } => Ok(Outcome::Due(self.book.due(told))),
+                deed,
+            } => return self.do_deed(alloc, told, self.number_of(session), deed),
+            Ask::Expire { told } => self.step(alloc, told, NO_SESSION, Event::Expire),
+            Ask::Due { told } => Outcome::Due(self.book.due(told)),
             Ask::Collect { session } => {
-                let letter = self.book.collect(alloc, self.number_of(session))?;
-                Ok(Outcome::Collected(letter))
+                Outcome::Collected(self.book.collect(alloc, self.number_of(session))?)
             }
-            Ask::Status { session } => {
-                Ok(Outcome::Stands(self.book.status(self.number_of(session))))
-            }
-            Ask::Records => Ok(Outcome::Records),
-        }
+            Ask::Status { session } => Outcome::Stands(self.book.status(self.number_of(session))),
+            Ask::Records => Outcome::Records,
+        })
     }
 
     /// A session opens, and its line gets the next ordinal, also if it is refused.
     fn join(&mut self, alloc: Global, told: u64) -> Result<Outcome, AllocError> {
         self.joined.reserve(1)?;
-        let outcome = step(&mut self.book, alloc, told, Event::Join);
-        self.joined.push_reserved(number_in(&outcome));
-        Ok(outcome)
+        let stepped = self.book.step(alloc, told, Event::Join);
+        self.joined.push_reserved(number_in(&stepped));
+        Ok(self.outcome_of(NO_SESSION, stepped))
     }
 
-    /// A session gets the snapshot of a group, and holds it.
-    fn snapshot(
+    /// A session does something.
+    fn do_deed(
         &mut self,
         alloc: Global,
         told: u64,
         session: u64,
-        key: Name,
-        group: Name,
-        dead: Names,
+        deed: Deed,
     ) -> Result<Outcome, AllocError> {
         self.held.reserve()?;
-        let event = Event::Snapshot {
-            session,
-            key,
-            group,
-            dead,
+        let event = match deed {
+            Deed::Call { call } => Event::Call { session, call },
+            Deed::Board { key, group } => Event::Board {
+                session,
+                key,
+                group,
+            },
+            Deed::Snapshot { key, group, dead } => Event::Snapshot {
+                session,
+                key,
+                group,
+                dead,
+            },
+            Deed::Conclude { apply, last } => {
+                let Some(snapshot) = self.held.copy_of(alloc, session)? else {
+                    return Ok(Outcome::NoVerdict);
+                };
+                Event::Conclude {
+                    session,
+                    verdict: Verdict::make(alloc, snapshot)?,
+                    apply,
+                    last,
+                }
+            }
+            Deed::Leave => Event::Leave { session },
         };
-        Ok(self.step_and_hold(alloc, told, session, event))
+        Ok(self.step(alloc, told, session, event))
     }
 
-    /// A session concludes a verdict on the last snapshot that it got.
-    fn conclude(
-        &mut self,
-        alloc: Global,
-        told: u64,
-        session: u64,
-        apply: bool,
-        last: bool,
-    ) -> Result<Outcome, AllocError> {
-        self.held.reserve()?;
-        let Some(snapshot) = self.held.copy_of(alloc, session)? else {
-            return Ok(Outcome::NoVerdict);
-        };
-        let verdict = Verdict::make(alloc, snapshot)?;
-        let event = Event::Conclude {
-            session,
-            verdict,
-            apply,
-            last,
-        };
-        Ok(self.step_and_hold(alloc, told, session, event))
+    /// Hands the book an event. A snapshot that it answers is held for the session, if there is room for it.
+    fn step(&mut self, alloc: Global, told: u64, session: u64, event: Event) -> Outcome {
+        let stepped = self.book.step(alloc, told, event);
+        self.outcome_of(session, stepped)
     }
 
-    /// Hands the book an event; a snapshot that it answers is held for the session. There is room for it.
-    fn step_and_hold(&mut self, alloc: Global, told: u64, session: u64, event: Event) -> Outcome {
-        match self.book.step(alloc, told, event) {
-            Ok(answer) => self.hold(session, answer),
-            Err(refused) => Outcome::Refused(refused.fault),
-        }
-    }
-
-    /// Holds the snapshot of an answer, if it is one.
-    fn hold(&mut self, session: u64, answer: Answer) -> Outcome {
+    /// What came of an event. The snapshot of its answer is held, if it has one.
+    fn outcome_of(&mut self, session: u64, stepped: Result<Answer, StepFault>) -> Outcome {
         let Answer {
             index,
             out,
             settled,
-        } = answer;
+        } = match stepped {
+            Ok(answer) => answer,
+            Err(refused) => return Outcome::Refused(refused.fault),
+        };
         let (snapshot, stale) = match out {
             Out::Snap(snapshot) => (snapshot, false),
             Out::Stale(snapshot) => (snapshot, true),
@@ -224,22 +181,15 @@ impl Driver {
     }
 }
 
-/// Hands a book an event.
-fn step(book: &mut Book, alloc: Global, told: u64, event: Event) -> Outcome {
-    match book.step(alloc, told, event) {
-        Ok(answer) => Outcome::Answered(answer),
-        Err(refused) => Outcome::Refused(refused.fault),
-    }
-}
-
 /// The number of the session that opened.
-fn number_in(outcome: &Outcome) -> u64 {
-    let Outcome::Answered(answer) = outcome else {
-        return NO_SESSION;
-    };
-    match &answer.out {
-        Out::Joined(number) => *number,
-        Out::Reply(_) | Out::Blocked | Out::Snap(_) | Out::Stale(_) | Out::Expired(_) | Out::Left =>
-            NO_SESSION,
+fn number_in(stepped: &Result<Answer, StepFault>) -> u64 {
+    match stepped {
+        Ok(
+            Answer {
+                out: Out::Joined(number),
+                ..
+            },
+        ) => *number,
+        _ => NO_SESSION,
     }
 }

@@ -15,68 +15,40 @@ const MOST_DIGITS: usize = 20;
 #[derive(Drop)]
 pub(crate) enum Ask {
     /// A new book, with this policy, takes the place of the one that there was.
-    NewBook {
-        policy: Policy,
-    },
+    NewBook { policy: Policy },
     /// A session opens.
-    Join {
-        told: u64,
-    },
-    /// A session calls.
-    Call {
-        told: u64,
-        session: u64,
-        call: Call,
-    },
-    /// A session asks for the board of a group.
-    Board {
-        told: u64,
-        session: u64,
-        key: Name,
-        group: Name,
-    },
-    /// A session asks for a snapshot of a group with these consumers dead.
-    Snapshot {
-        told: u64,
-        session: u64,
-        key: Name,
-        group: Name,
-        dead: Names,
-    },
-    /// A session concludes the verdict on the snapshot that it got last.
-    Conclude {
-        told: u64,
-        session: u64,
-        apply: bool,
-        last: bool,
-    },
+    Join { told: u64 },
+    /// A session does something.
+    Session { told: u64, session: u64, deed: Deed },
     /// Reads whose deadline is reached are answered.
-    Expire {
-        told: u64,
-    },
-    /// A session closes.
-    Leave {
-        told: u64,
-        session: u64,
-    },
+    Expire { told: u64 },
     /// Whether a deadline is reached.
-    Due {
-        told: u64,
-    },
+    Due { told: u64 },
     /// What a session was given while it waited.
-    Collect {
-        session: u64,
-    },
+    Collect { session: u64 },
     /// How a session stands.
-    Status {
-        session: u64,
-    },
+    Status { session: u64 },
     /// The records so far.
     Records,
 }
 
+/// What a session does.
+#[derive(Drop)]
+pub(crate) enum Deed {
+    /// It calls.
+    Call { call: Call },
+    /// It asks for the board of a group.
+    Board { key: Name, group: Name },
+    /// It asks for a snapshot of a group with these consumers dead.
+    Snapshot { key: Name, group: Name, dead: Names },
+    /// It concludes the verdict on the snapshot that it got last.
+    Conclude { apply: bool, last: bool },
+    /// It closes.
+    Leave,
+}
+
 /// Why a line asks for nothing.
-#[derive(Clone, Copy, Debug, PartialEq, Eq)]
+#[derive(Clone, Copy)]
 pub(crate) enum LineFault {
     /// It has none of the forms.
     Form,
@@ -115,21 +87,8 @@ fn read_form(alloc: Global, parts: &mut Split<'_, char>) -> Result<Ask, LineFaul
         "join" => Ok(Ask::Join {
             told: read_number(parts)?,
         }),
-        "call" => read_call_line(alloc, parts),
-        "board" => read_board(alloc, parts),
-        "snapshot" => read_snapshot(alloc, parts),
-        "conclude" => Ok(Ask::Conclude {
-            told: read_number(parts)?,
-            session: read_session(parts)?,
-            apply: read_flag(parts)?,
-            last: read_flag(parts)?,
-        }),
         "expire" => Ok(Ask::Expire {
             told: read_number(parts)?,
-        }),
-        "leave" => Ok(Ask::Leave {
-            told: read_number(parts)?,
-            session: read_session(parts)?,
         }),
         "due" => Ok(Ask::Due {
             told: read_number(parts)?,
@@ -141,6 +100,28 @@ fn read_form(alloc: Global, parts: &mut Split<'_, char>) -> Result<Ask, LineFaul
             session: read_session(parts)?,
         }),
         "records" => Ok(Ask::Records),
+        _ => Ok(Ask::Session {
+            told: read_number(parts)?,
+            session: read_session(parts)?,
+            deed: read_deed(alloc, form, parts)?,
+        }),
+    }
+}
+
+/// What a session does in a line of this form.
+fn read_deed(alloc: Global, form: &str, parts: &mut Split<'_, char>) -> Result<Deed, LineFault> {
+    match form {
+        "call" => read_call_line(alloc, parts),
+        "board" => Ok(Deed::Board {
+            key: read_name(alloc, parts)?,
+            group: read_name(alloc, parts)?,
+        }),
+        "snapshot" => read_snapshot(alloc, parts),
+        "conclude" => Ok(Deed::Conclude {
+            apply: read_flag(parts)?,
+            last: read_flag(parts)?,
+        }),
+        "leave" => Ok(Deed::Leave),
         _ => Err(LineFault::Form),
     }
 }
@@ -161,21 +142,9 @@ fn read_policy(alloc: Global, parts: &mut Split<'_, char>) -> Result<Ask, LineFa
     }
 }
 
-/// A board: its moment, its session, its key and its group.
-fn read_board(alloc: Global, parts: &mut Split<'_, char>) -> Result<Ask, LineFault> {
-    Ok(Ask::Board {
-        told: read_number(parts)?,
-        session: read_session(parts)?,
-        key: read_name(alloc, parts)?,
-        group: read_name(alloc, parts)?,
-    })
-}
-
-/// A snapshot: its moment, its session, its key, its group, and the names of the dead.
-fn read_snapshot(alloc: Global, parts: &mut Split<'_, char>) -> Result<Ask, LineFault> {
-    Ok(Ask::Snapshot {
-        told: read_number(parts)?,
-        session: read_session(parts)?,
+/// A snapshot: its key, its group, and the names of the dead.
+fn read_snapshot(alloc: Global, parts: &mut Split<'_, char>) -> Result<Deed, LineFault> {
+    Ok(Deed::Snapshot {
         key: read_name(alloc, parts)?,
         group: read_name(alloc, parts)?,
         dead: read_names(alloc, parts)?,
@@ -210,20 +179,14 @@ fn read_flag(parts: &mut Split<'_, char>) -> Result<bool, LineFault> {
     }
 }
 
-/// A call: its moment, its session and its words, which are at least one.
-fn read_call_line(alloc: Global, parts: &mut Split<'_, char>) -> Result<Ask, LineFault> {
-    let told = read_number(parts)?;
-    let session = read_session(parts)?;
+/// A call: its words, which are at least one.
+fn read_call_line(alloc: Global, parts: &mut Split<'_, char>) -> Result<Deed, LineFault> {
     let words = read_words(alloc, parts)?;
     if words.len() == 0 {
         return Err(LineFault::Form);
     }
     match read_call(alloc, &words) {
-        Ok(Command::Call(call)) => Ok(Ask::Call {
-            told,
-            session,
-            call,
-        }),
+        Ok(Command::Call(call)) => Ok(Deed::Call { call }),
         Ok(Command::Board { .. } | Command::Recover { .. }) => Err(LineFault::Form),
         Err(CallFault::Memory) => Err(LineFault::Memory),
         Err(fault) => Err(LineFault::Refused(fault)),

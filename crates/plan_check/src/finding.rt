@@ -2,12 +2,12 @@
 ghost use Rattle.std.specs.Prelude.{◌≡◌};
 ghost use Rattle.plan_check.specs.Found.{status_for};
 
-use crate::problem::LineFault;
+use crate::fault::Fault;
 use sr_check::Reason;
 use std::fmt;
 
 /// What is found of an input.
-#[derive(Clone, Copy, Debug, PartialEq, Eq)]
+#[derive(Clone, Copy)]
 pub(crate) enum Finding {
     /// The reply shows that no plan costs less than its own, which costs this.
     Cheapest { total: u64 },
@@ -18,7 +18,7 @@ pub(crate) enum Finding {
     /// The reply is an error.
     Refused,
     /// A line of the problem has no meaning. Lines are counted from 1.
-    Line { number: u64, fault: LineFault },
+    Line { number: u64, fault: Fault },
     /// There is no line `reply`.
     NoReply,
     /// The lines of the problem make no snapshot.
@@ -48,11 +48,11 @@ impl fmt::Display for Finding {
                 let entry = if *entries == 1 { "entry" } else { "entries" };
                 write!(f, "impossible, {places} {place} for {entries} {entry}")
             }
-            Finding::Wrong { reason } => write!(f, "wrong: {}", reason_text(*reason)),
-            Finding::Refused => write!(f, "wrong: the reply is an error"),
+            Finding::Wrong { reason } => f.write_str(reason_text(*reason)),
+            Finding::Refused => f.write_str("wrong: the reply is an error"),
             Finding::Line { number, fault } => write!(f, "line {number}: {}", fault_text(*fault)),
-            Finding::NoReply => write!(f, "no line `reply`"),
-            Finding::Unfit => write!(f, "no snapshot has these entries and consumers"),
+            Finding::NoReply => f.write_str("no line `reply`"),
+            Finding::Unfit => f.write_str("no snapshot has these entries and consumers"),
         }
     }
 }
@@ -60,33 +60,33 @@ impl fmt::Display for Finding {
 /// What is wrong with a reply, as a sentence.
 fn reason_text(reason: Reason) -> &'static str {
     match reason {
-        Reason::Form => "the reply is neither a plan nor a shortage",
+        Reason::Form => "wrong: the reply is neither a plan nor a shortage",
         Reason::Entries => {
-            "the entries of the reply, or those that it calls gone, are not those of the problem"
+            "wrong: the entries of the reply, or those that it calls gone, are not those of the problem"
         }
-        Reason::Consumers => "a name in the reply is not that of a consumer in its place",
+        Reason::Consumers => "wrong: a name in the reply is not that of a consumer in its place",
         Reason::Prices => {
-            "the prices do not show that the plan is allowed, costs the total, and costs least"
+            "wrong: the prices do not show that the plan is allowed, costs the total, and costs least"
         }
         Reason::Places => {
-            "the entries of the shortage have enough places, or not the places that the reply says"
+            "wrong: the entries of the shortage have enough places, or not the places that the reply says"
         }
     }
 }
 
 /// What is wrong with a line of the problem.
-fn fault_text(fault: LineFault) -> &'static str {
+fn fault_text(fault: Fault) -> &'static str {
     match fault {
-        LineFault::Form => {
+        Fault::Form => {
             "not an `entry`, `gone`, `consumer` or `rate` with its words, nor `reply`"
         }
-        LineFault::Quotes => "not closed quotes around a word, or an unknown escape in them",
-        LineFault::Number => "not a number",
-        LineFault::Range => "a number out of range",
-        LineFault::Id => "not an id",
-        LineFault::Consumer => "no such consumer above",
-        LineFault::Twice => "there is such a line already",
-        LineFault::Many => "too many entries, consumers or classes",
-        LineFault::Memory => "out of memory",
+        Fault::Quotes => "not closed quotes around a word, or an unknown escape in them",
+        Fault::Number => "not a number",
+        Fault::Range => "a number out of range",
+        Fault::Id => "not an id",
+        Fault::Consumer => "no such consumer above",
+        Fault::Twice => "there is such a line already",
+        Fault::Many => "too many entries, consumers or classes",
+        Fault::Memory => "out of memory",
     }
 }

@@ -2,20 +2,20 @@
 ghost use Rattle.std.specs.Prelude.{◌≡◌, ◌≢◌, ◌⊎◌, ◌++◌, ◌∷◌, [], All, IfOk};
 ghost use Rattle.plan_check.specs.Found.{IsFound};
 
+use crate::fault::Fault;
 use crate::finding::Finding;
-use crate::problem::{LineFault, Problem};
-use crate::terminal::{Outline, TerminalFault};
-use sr_bytes::read_decimal;
+use crate::problem::Problem;
+use crate::terminal::bytes_of;
+use crate::words::{number_before, split_once};
 use sr_check::{Reason, Verified, accepts};
 use sr_policy::Snapshot;
 use std::alloc::{AllocError, Global};
-use std::io;
 
 /// The bytes of a shortage before the number of its entries.
 const SHORTAGE: &[u8] = b"*4\r\n$4\r\nnone\r\n*";
 
 /// What is found of an input: the lines of a problem, a line `reply`, and a reply to the end.
-pub(crate) fn judge(alloc: Global, input: &[u8]) -> io::Result<Finding> {
+pub(crate) fn judge(alloc: Global, input: &[u8]) -> Result<Finding, AllocError> {
     let mut problem = Problem::new(alloc);
     let mut left = input;
     for number in 1..u64::MAX {
@@ -24,14 +24,13 @@ pub(crate) fn judge(alloc: Global, input: &[u8]) -> io::Result<Finding> {
         }
         let (line, after) = first_line(left);
         if line.trim_ascii() == b"reply".as_slice() {
-            return judge_reply(alloc, &problem, after);
+            return judge_reply(alloc, problem, after);
         }
         match problem.add_line(alloc, line) {
-            Ok(()) => {}
-            Err(LineFault::Memory) => return Err(AllocError.into()),
+            Ok(()) => left = after,
+            Err(Fault::Memory) => return Err(AllocError),
             Err(fault) => return Ok(Finding::Line { number, fault }),
         }
-        left = after;
     }
     Ok(Finding::NoReply)
 }
@@ -41,17 +40,14 @@ fn first_line(bytes: &[u8]) -> (&[u8], &[u8])
     ensures whole { (bytes.now ≡ result.0.now ++ 10 ∷ result.1.now) ⊎ ((bytes.now ≡ result.0.now) × (result.1.now ≡ [])) }
     ensures one { All (λ byte. byte ≢ 10) result.0.now }
 {
-    match bytes.iter().position(|byte| *byte == b'\n') {
-        Some(end) => {
-            let (line, after) = bytes.split_at(end);
-            (line, after.strip_prefix(b"\n").unwrap_or(after))
-        }
+    match split_once(bytes, b'\n') {
+        Some(parts) => parts,
         None => (bytes, b"".as_slice()),
     }
 }
 
 /// What is found of a reply, as the server sends it or as redis-cli prints it.
-fn judge_reply(alloc: Global, problem: &Problem, reply: &[u8]) -> io::Result<Finding> {
+fn judge_reply(alloc: Global, problem: Problem, reply: &[u8]) -> Result<Finding, AllocError> {
     let Some(snapshot) = problem.snapshot(alloc)? else {
         return Ok(Finding::Unfit);
     };
@@ -59,29 +55,15 @@ fn judge_reply(alloc: Global, problem: &Problem, reply: &[u8]) -> io::Result<Fin
         return Ok(Finding::Refused);
     }
     if reply.starts_with(b"*") {
-        return Ok(worth(alloc, &snapshot, reply)?);
+        return worth(alloc, &snapshot, reply);
     }
-    match from_terminal(alloc, reply) {
-        Ok(outline) => {
-            let bytes = outline.bytes(alloc)?;
-            Ok(worth(alloc, &snapshot, bytes.as_slice())?)
-        }
-        Err(TerminalFault::Memory) => Err(AllocError.into()),
-        Err(TerminalFault::Form) => Ok(Finding::Wrong {
+    match bytes_of(alloc, reply) {
+        Ok(bytes) => worth(alloc, &snapshot, bytes.as_slice()),
+        Err(Fault::Memory) => Err(AllocError),
+        Err(_) => Ok(Finding::Wrong {
             reason: Reason::Form,
         }),
     }
-}
-
-/// The outline of a reply that redis-cli printed, without its empty lines.
-fn from_terminal(alloc: Global, reply: &[u8]) -> Result<Outline, TerminalFault> {
-    let mut outline = Outline::new(alloc);
-    for line in reply.split(|byte| *byte == b'\n') {
-        if !line.trim_ascii().is_empty() {
-            outline.add_line(alloc, line)?;
-        }
-    }
-    Ok(outline)
 }
 
 /// What the bytes of a reply are worth for a snapshot.
@@ -101,14 +83,7 @@ fn worth(alloc: Global, snapshot: &Snapshot, reply: &[u8]) -> Result<Finding, Al
 /// How many entries a reply says that a shortage has, or 0 if it is none.
 fn entries_of_shortage(reply: &[u8]) -> u64 {
     match reply.strip_prefix(SHORTAGE) {
-        Some(rest) => number_of_line(rest).unwrap_or(0),
+        Some(rest) => number_before(rest, b'\r').map_or(0, |(number, _)| number),
         None => 0,
     }
-}
-
-/// The number in the line at the front of some bytes.
-fn number_of_line(bytes: &[u8]) -> Option<u64> {
-    let end = bytes.iter().position(|byte| *byte == b'\r')?;
-    let (digits, _) = bytes.split_at(end);
-    read_decimal(digits, 20)
 }

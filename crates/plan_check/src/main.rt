@@ -4,6 +4,7 @@
 //! 2 if it is given arguments.
 #![tactic(auto)]
 
+mod fault;
 mod finding;
 mod judge;
 mod problem;

@@ -4,7 +4,8 @@ ghost use Rattle.sr_bytes.specs.Decimal.{IsDecimal};
 ghost use Rattle.sr_ids.specs.declared.id.Id as ids;
 ghost use Rattle.sr_ids.specs.Spelling.{SpellsId};
 
-use crate::words::{WordFault, words_of};
+use crate::fault::Fault;
+use crate::words::{MOST_DIGITS, words_of};
 use sr_bytes::{Name, read_decimal};
 use sr_ids::{Id, parse_strict};
 use sr_policy::{Live, Rates, Snapshot, Stranded};
@@ -24,54 +25,6 @@ const MAX_ROOM: u64 = 1_000_000_000;
 
 const MAX_RATE: u64 = 1 << 20;
 
-/// How many digits a number has at most: as many as the greatest one of 64 bits.
-const MOST_DIGITS: usize = 20;
-
-/// Why a line of a problem has no meaning.
-#[derive(Clone, Copy, Debug, PartialEq, Eq)]
-pub(crate) enum LineFault {
-    /// It has none of the forms.
-    Form,
-    /// Its quotes are not those of a word.
-    Quotes,
-    /// A word in the place of a number is not one of 64 bits.
-    Number,
-    /// A number is out of its range.
-    Range,
-    /// A word in the place of an id is not one.
-    Id,
-    /// No line before names the consumer.
-    Consumer,
-    /// A line before is about the same entry, consumer or pair.
-    Twice,
-    /// There are too many entries, consumers or classes.
-    Many,
-    /// A failed allocation.
-    Memory,
-}
-
-impl From<AllocError> for LineFault {
-    fn from(_error: AllocError) -> LineFault {
-        LineFault::Memory
-    }
-}
-
-impl From<WordFault> for LineFault {
-    fn from(fault: WordFault) -> LineFault {
-        match fault {
-            WordFault::Quotes => LineFault::Quotes,
-            WordFault::Memory => LineFault::Memory,
-        }
-    }
-}
-
-/// A stranded entry, but for its id.
-#[derive(Drop)]
-struct Entry {
-    class: Vec<u8>,
-    weight: u64,
-}
-
 /// A live consumer, but for its name.
 #[derive(Drop)]
 struct Consumer {
@@ -81,13 +34,13 @@ struct Consumer {
     rates: BTreeMap<Vec<u8>, u64>,
 }
 
-/// The lines of a problem so far.
+/// The lines of a problem so far. All entries are those of one dead consumer, which has the empty name.
 #[derive(Drop)]
 pub(crate) struct Problem {
-    entries: BTreeMap<Id, Entry>,
-    gone: BTreeSet<Id>,
+    stranded: BTreeMap<Id, Stranded>,
+    gone: BTreeMap<Id, Name>,
     consumers: BTreeMap<Vec<u8>, Consumer>,
-    /// The classes of the entries.
+    /// The classes of the stranded entries.
     classes: BTreeSet<Vec<u8>>,
 }
 
@@ -95,188 +48,175 @@ impl Problem {
     /// A problem of no lines. Takes no memory.
     pub(crate) fn new(alloc: Global) -> Problem {
         Problem {
-            entries: BTreeMap::new(alloc),
-            gone: BTreeSet::new(alloc),
+            stranded: BTreeMap::new(alloc),
+            gone: BTreeMap::new(alloc),
             consumers: BTreeMap::new(alloc),
             classes: BTreeSet::new(alloc),
         }
     }
 
     /// Adds what a line says, without the line end. After an `Err` nothing is known of the problem.
-    pub(crate) fn add_line(&mut self, alloc: Global, line: &[u8]) -> Result<(), LineFault> {
+    pub(crate) fn add_line(&mut self, alloc: Global, line: &[u8]) -> Result<(), Fault> {
         if line.trim_ascii_start().starts_with(b"#") {
             return Ok(());
         }
         let words = words_of(alloc, line)?;
-        let Some((form, operands)) = words.as_slice().split_first() else {
+        self.add_words(alloc, words.as_slice())?;
+        if self.stranded.len() > MAX_ENTRIES
+            || self.classes.len() > MAX_CLASSES
+            || self.consumers.len() > MAX_CONSUMERS
+        {
+            return Err(Fault::Many);
+        }
+        Ok(())
+    }
+
+    /// Adds what the words of a line say.
+    fn add_words(&mut self, alloc: Global, words: &[Vec<u8>]) -> Result<(), Fault> {
+        let Some((form, operands)) = words.split_first() else {
             return Ok(());
         };
-        match form.as_slice() {
-            b"entry" => self.add_entry(operands),
-            b"gone" => self.add_gone(operands),
-            b"consumer" => self.add_consumer(alloc, operands),
-            b"rate" => self.add_rate(operands),
-            _ => Err(LineFault::Form),
+        let form = form.as_slice();
+        if form == b"entry".as_slice() {
+            self.add_entry(alloc, operands)
+        } else if form == b"gone".as_slice() {
+            self.add_gone(alloc, operands)
+        } else if form == b"consumer".as_slice() {
+            self.add_consumer(alloc, operands)
+        } else if form == b"rate".as_slice() {
+            self.add_rate(operands)
+        } else {
+            Err(Fault::Form)
         }
     }
 
     /// Adds a stranded entry: its id, its class and its weight.
-    fn add_entry(&mut self, operands: &[Vec<u8>]) -> Result<(), LineFault> {
+    fn add_entry(&mut self, alloc: Global, operands: &[Vec<u8>]) -> Result<(), Fault> {
         let [id, class, weight] = operands else {
-            return Err(LineFault::Form);
+            return Err(Fault::Form);
         };
         let id = id_of(id.as_slice())?;
         let weight = number_within(weight.as_slice(), 1, MAX_WEIGHT)?;
-        let entry = Entry {
-            class: class.clone()?,
+        let entry = Stranded {
+            id,
+            class: Name::new(class.clone()?),
+            owner: Name::new(Vec::new(alloc)),
             weight,
         };
-        let before = self.entries.insert(id, entry).map_err(AllocError::from)?;
-        if before.is_some() {
-            return Err(LineFault::Twice);
-        }
-        self.classes
-            .insert(class.clone()?)
-            .map_err(AllocError::from)?;
-        if self.entries.len() > MAX_ENTRIES || self.classes.len() > MAX_CLASSES {
-            return Err(LineFault::Many);
-        }
+        insert_new(&mut self.stranded, id, entry)?;
+        self.classes.insert(class.clone()?)?;
         Ok(())
     }
 
     /// Adds an entry that is no longer in the stream: its id.
-    fn add_gone(&mut self, operands: &[Vec<u8>]) -> Result<(), LineFault> {
+    fn add_gone(&mut self, alloc: Global, operands: &[Vec<u8>]) -> Result<(), Fault> {
         let [id] = operands else {
-            return Err(LineFault::Form);
+            return Err(Fault::Form);
         };
         let id = id_of(id.as_slice())?;
-        let is_new = self.gone.insert(id).map_err(AllocError::from)?;
-        if is_new {
-            Ok(())
-        } else {
-            Err(LineFault::Twice)
-        }
+        insert_new(&mut self.gone, id, Name::new(Vec::new(alloc)))
     }
 
     /// Adds a live consumer: its name and its room.
-    fn add_consumer(&mut self, alloc: Global, operands: &[Vec<u8>]) -> Result<(), LineFault> {
+    fn add_consumer(&mut self, alloc: Global, operands: &[Vec<u8>]) -> Result<(), Fault> {
         let [name, room] = operands else {
-            return Err(LineFault::Form);
+            return Err(Fault::Form);
         };
-        let consumer = Consumer {
-            room: number_within(room.as_slice(), 0, MAX_ROOM)?,
-            rates: BTreeMap::new(alloc),
-        };
-        let before = self
-            .consumers
-            .insert(name.clone()?, consumer)
-            .map_err(AllocError::from)?;
-        if before.is_some() {
-            return Err(LineFault::Twice);
-        }
-        if self.consumers.len() > MAX_CONSUMERS {
-            return Err(LineFault::Many);
-        }
-        Ok(())
+        let room = number_within(room.as_slice(), 0, MAX_ROOM)?;
+        let rates = BTreeMap::new(alloc);
+        insert_new(&mut self.consumers, name.clone()?, Consumer { room, rates })
     }
 
     /// Adds what a unit of weight of a class costs at a consumer that a line before has named.
-    fn add_rate(&mut self, operands: &[Vec<u8>]) -> Result<(), LineFault> {
+    fn add_rate(&mut self, operands: &[Vec<u8>]) -> Result<(), Fault> {
         let [class, consumer, rate] = operands else {
-            return Err(LineFault::Form);
+            return Err(Fault::Form);
         };
         let rate = number_within(rate.as_slice(), 0, MAX_RATE)?;
-        let Some(consumer) = self.consumers.get_mut(consumer) else {
-            return Err(LineFault::Consumer);
-        };
-        let before = consumer
-            .rates
-            .insert(class.clone()?, rate)
-            .map_err(AllocError::from)?;
-        match before {
-            None => Ok(()),
-            Some(_) => Err(LineFault::Twice),
-        }
+        let consumer = self.consumers.get_mut(consumer).ok_or(Fault::Consumer)?;
+        insert_new(&mut consumer.rates, class.clone()?, rate)
     }
 
     /// The snapshot of the problem. Its key, its group and the one dead consumer have the empty name: no check looks at them.
-    pub(crate) fn snapshot(&self, alloc: Global) -> Result<Option<Snapshot>, AllocError> {
-        let mut dead = Vec::new(alloc);
-        dead.push(Name::new(Vec::new(alloc)))?;
-        let mut gone = Vec::new(alloc);
-        for id in self.gone.iter() {
-            gone.push((*id, Name::new(Vec::new(alloc))))?;
-        }
+    ///
+    /// Nothing is pending for a consumer, so that its limit is its room.
+    pub(crate) fn snapshot(self, alloc: Global) -> Result<Option<Snapshot>, AllocError> {
+        let Problem {
+            stranded,
+            gone,
+            consumers,
+            classes,
+        } = self;
+        let rates = classes
+            .into_iter()
+            .map(|class| rates_for(alloc, &consumers, class))
+            .try_collect(alloc)?;
+        let live = consumers
+            .into_iter()
+            .map(|(name, consumer)| Live {
+                name: Name::new(name),
+                limit: consumer.room,
+                pending: 0,
+            })
+            .collect(alloc)?;
+        let stranded = stranded.into_values().collect(alloc)?;
+        let gone = gone.into_iter().collect(alloc)?;
+        let dead = vec![in alloc; Name::new(Vec::new(alloc))]?;
         Ok(Snapshot::new(
             Name::new(Vec::new(alloc)),
             Name::new(Vec::new(alloc)),
             dead,
-            self.stranded(alloc)?,
+            stranded,
             gone,
-            self.live(alloc)?,
-            self.rates(alloc)?,
+            live,
+            rates,
         ))
     }
+}
 
-    /// The stranded entries by id.
-    fn stranded(&self, alloc: Global) -> Result<Vec<Stranded>, AllocError> {
-        let mut stranded = Vec::new(alloc);
-        for (id, entry) in self.entries.iter() {
-            stranded.push(Stranded {
-                id: *id,
-                owner: Name::new(Vec::new(alloc)),
-                weight: entry.weight,
-                class: Name::new(entry.class.clone()?),
-            })?;
-        }
-        Ok(stranded)
+/// Inserts what no line before has told.
+fn insert_new<K: Ord + Drop, V: Drop>(
+    map: &mut BTreeMap<K, V>,
+    key: K,
+    value: V,
+) -> Result<(), Fault> {
+    match map.insert(key, value)? {
+        None => Ok(()),
+        Some(_) => Err(Fault::Twice),
     }
+}
 
-    /// The consumers in byte order. Nothing is pending for them, so that the limit of each is its room.
-    fn live(&self, alloc: Global) -> Result<Vec<Live>, AllocError> {
-        let mut live = Vec::new(alloc);
-        for (name, consumer) in self.consumers.iter() {
-            live.push(Live {
-                name: Name::new(name.clone()?),
-                limit: consumer.room,
-                pending: 0,
-            })?;
-        }
-        Ok(live)
-    }
-
-    /// The rates of the consumers for each class of an entry, in byte order.
-    fn rates(&self, alloc: Global) -> Result<Vec<(Name, Rates)>, AllocError> {
-        let mut rates = Vec::new(alloc);
-        for class in self.classes.iter() {
-            let mut row = Vec::new(alloc);
-            for consumer in self.consumers.values() {
-                row.push(consumer.rates.get(class).copied())?;
-            }
-            rates.push((Name::new(class.clone()?), Rates::new(row)))?;
-        }
-        Ok(rates)
-    }
+/// A class and its rates at the consumers, in byte order of their names.
+fn rates_for(
+    alloc: Global,
+    consumers: &BTreeMap<Vec<u8>, Consumer>,
+    class: Vec<u8>,
+) -> Result<(Name, Rates), AllocError> {
+    let rates = consumers
+        .values()
+        .map(|consumer| consumer.rates.get(&class).copied())
+        .collect(alloc)?;
+    Ok((Name::new(class), Rates::new(rates)))
 }
 
 /// The id that a word spells.
-fn id_of(word: &[u8]) -> Result<Id, LineFault>
+fn id_of(word: &[u8]) -> Result<Id, Fault>
     ensures ok { IfOk result (SpellsId 0 word.now) }
     ensures err { IfErr result (λ _. (id : ids.Id) → SpellsId 0 word.now id → ⊥) }
 {
-    parse_strict(word).ok_or(LineFault::Id)
+    parse_strict(word).ok_or(Fault::Id)
 }
 
 /// The number that a word writes, if it is within these bounds.
-fn number_within(word: &[u8], least: u64, most: u64) -> Result<u64, LineFault>
+fn number_within(word: &[u8], least: u64, most: u64) -> Result<u64, Fault>
     ensures ok { IfOk result (λ n. IsDecimal 20 word.now n × (least ≤ n) × (n ≤ most)) }
     ensures err { IfErr result (λ _. (n : ℕ) → n < 2 ^ 64 → IsDecimal 20 word.now n → least ≤ n → n ≤ most → ⊥) }
 {
     let Some(number) = read_decimal(word, MOST_DIGITS) else {
-        return Err(LineFault::Number);
+        return Err(Fault::Number);
     };
     if number < least || number > most {
-        return Err(LineFault::Range);
+        return Err(Fault::Range);
     }
     Ok(number)
 }

@@ -1,49 +1,10 @@
 //! A reply as redis-cli prints it on a terminal, turned into the bytes that the server sent.
-use crate::words::{WordFault, words_of};
-use sr_bytes::read_decimal;
-use std::alloc::{AllocError, Global};
-use std::io::{self, Write};
-
-/// How many digits the number of an item has at most.
-const MOST_DIGITS: usize = 20;
-
-/// Why a text is not a reply that redis-cli prints.
-#[derive(Clone, Copy, Debug, PartialEq, Eq)]
-pub(crate) enum TerminalFault {
-    /// It is not of that form, or has other values than strings, integers from 0 and arrays.
-    Form,
-    /// A failed allocation.
-    Memory,
-}
-
-impl From<AllocError> for TerminalFault {
-    fn from(_error: AllocError) -> TerminalFault {
-        TerminalFault::Memory
-    }
-}
-
-impl From<WordFault> for TerminalFault {
-    fn from(fault: WordFault) -> TerminalFault {
-        match fault {
-            WordFault::Quotes => TerminalFault::Form,
-            WordFault::Memory => TerminalFault::Memory,
-        }
-    }
-}
-
-/// A part of a reply, in the order in which they are sent.
-#[derive(Drop)]
-enum Part {
-    /// The header of an array with this many items.
-    Array(u64),
-    /// A bulk string.
-    Bulk(Vec<u8>),
-    /// An integer, as it is written.
-    Integer(Vec<u8>),
-}
+use crate::fault::Fault;
+use crate::words::{number_before, quoted_word};
+use std::alloc::Global;
 
 /// An array that may get more items.
-#[derive(Drop)]
+#[derive(Clone, Copy)]
 struct OpenArray {
     /// How many bytes come before the end of the number of each of its items, in a line.
     column: usize,
@@ -53,128 +14,110 @@ struct OpenArray {
     items: u64,
 }
 
-/// The parts of a reply so far.
+/// A reply so far.
 #[derive(Drop)]
-pub(crate) struct Outline {
-    parts: Vec<Part>,
+struct Outline {
+    /// Its parts as they are sent: the headers of arrays, and values.
+    parts: Vec<Vec<u8>>,
     /// The arrays that may get more items, each an item of the one before.
     open: Vec<OpenArray>,
 }
 
-impl Outline {
-    /// An outline of nothing. Takes no memory.
-    pub(crate) fn new(alloc: Global) -> Outline {
-        Outline {
-            parts: Vec::new(alloc),
-            open: Vec::new(alloc),
+/// The bytes that the server sent, where redis-cli printed them as this. Its empty lines say nothing.
+pub(crate) fn bytes_of(alloc: Global, printed: &[u8]) -> Result<Vec<u8>, Fault> {
+    let mut outline = Outline {
+        parts: Vec::new(alloc),
+        open: Vec::new(alloc),
+    };
+    for line in printed.split(|byte| *byte == b'\n') {
+        if !line.trim_ascii().is_empty() {
+            outline.add_line(alloc, line)?;
         }
     }
+    Ok(outline.parts.as_slice().concat(alloc)?)
+}
 
+impl Outline {
     /// Adds a line: the numbers of items that begin there, and the value of the last of them.
-    pub(crate) fn add_line(&mut self, alloc: Global, line: &[u8]) -> Result<(), TerminalFault> {
+    fn add_line(&mut self, alloc: Global, line: &[u8]) -> Result<(), Fault> {
         let mut left = line;
         let mut may_begin = self.parts.is_empty();
         for _ in 0..line.len() {
-            let Some((number, after)) = first_number(left) else {
+            let Some((number, after)) = number_before(left.trim_ascii_start(), b')') else {
                 break;
             };
-            self.add_item(line.len().saturating_sub(after.len()), number, may_begin)?;
+            let column = line.len().saturating_sub(after.len());
+            self.add_item(alloc, column, number, may_begin)?;
             may_begin = true;
             left = after;
         }
         if !may_begin {
-            return Err(TerminalFault::Form);
+            return Err(Fault::Form);
         }
-        let part = value_of(alloc, left.trim_ascii())?;
-        self.parts.push(part).map_err(AllocError::from)?;
+        self.parts.push(value_of(alloc, left.trim_ascii())?)?;
         Ok(())
     }
 
     /// Adds an item whose number ends at this column: one more of an open array, or the first one of an array that begins.
     fn add_item(
         &mut self,
+        alloc: Global,
         column: usize,
         number: u64,
         may_begin: bool,
-    ) -> Result<(), TerminalFault> {
+    ) -> Result<(), Fault> {
         self.open.retain(|array| array.column <= column);
+        let is_open = matches!(self.open.last(), Some(array) if array.column == column);
+        if may_begin && !is_open {
+            let place = self.parts.len();
+            self.open.push(OpenArray {
+                column,
+                place,
+                items: 0,
+            })?;
+            self.parts.push(Vec::new(alloc))?;
+        }
         match self.open.last_mut() {
-            Some(array) if array.column == column => {
-                if array.items.checked_add(1) != Some(number) {
-                    return Err(TerminalFault::Form);
-                }
+            Some(array) if array.column == column && array.items.checked_add(1) == Some(number) => {
                 array.items = number;
-                set_items(&mut self.parts, array.place, number);
+                if let Some(header) = self.parts.get_mut(array.place) {
+                    *header = array_header(alloc, number)?;
+                }
                 Ok(())
             }
-            Some(_) | None => {
-                if number != 1 || !may_begin {
-                    return Err(TerminalFault::Form);
-                }
-                let array = OpenArray {
-                    column,
-                    place: self.parts.len(),
-                    items: 1,
-                };
-                self.open.push(array).map_err(AllocError::from)?;
-                self.parts.push(Part::Array(1)).map_err(AllocError::from)?;
-                Ok(())
-            }
+            _ => Err(Fault::Form),
         }
     }
-
-    /// The bytes that the server sent.
-    pub(crate) fn bytes(&self, alloc: Global) -> io::Result<Vec<u8>> {
-        let mut bytes = Vec::new(alloc);
-        for part in self.parts.iter() {
-            match part {
-                Part::Array(items) => write!(bytes, "*{items}\r\n")?,
-                Part::Bulk(string) => {
-                    write!(bytes, "${}\r\n", string.len())?;
-                    bytes.write_all(string.as_slice())?;
-                    bytes.write_all(b"\r\n")?;
-                }
-                Part::Integer(digits) => {
-                    bytes.write_all(b":")?;
-                    bytes.write_all(digits.as_slice())?;
-                    bytes.write_all(b"\r\n")?;
-                }
-            }
-        }
-        Ok(bytes)
-    }
 }
 
-/// Sets how many items the array has whose header is at this place.
-fn set_items(parts: &mut [Part], place: usize, items: u64) {
-    if let Some(part) = parts.get_mut(place) {
-        *part = Part::Array(items);
-    }
+/// The header of an array with this many items.
+fn array_header(alloc: Global, items: u64) -> Result<Vec<u8>, Fault> {
+    Ok(format!(in alloc; "*{items}\r\n")?.into_bytes())
 }
 
-/// The number of an item at the front of a text, after any blanks, and the bytes after its parenthesis.
-fn first_number(text: &[u8]) -> Option<(u64, &[u8])> {
-    let text = text.trim_ascii_start();
-    let end = text.iter().position(|byte| *byte == b')')?;
-    let (digits, after) = text.split_at(end);
-    let number = read_decimal(digits, MOST_DIGITS)?;
-    Some((number, after.strip_prefix(b")")?))
-}
-
-/// The part that a value is, which has no blanks at its ends.
-fn value_of(alloc: Global, text: &[u8]) -> Result<Part, TerminalFault> {
+/// A value as it is sent, which is printed without blanks at its ends.
+fn value_of(alloc: Global, text: &[u8]) -> Result<Vec<u8>, Fault> {
     if text == b"(empty array)".as_slice() || text == b"(empty list or set)".as_slice() {
-        return Ok(Part::Array(0));
+        return array_header(alloc, 0);
     }
-    if let Some(digits) = text.strip_prefix(b"(integer) ") {
-        return Ok(Part::Integer(Vec::from_slice(alloc, digits)?));
+    match text.strip_prefix(b"(integer) ") {
+        Some(digits) => ended(alloc, b":", digits),
+        None => string_of(alloc, text),
     }
-    if !text.starts_with(b"\"") {
-        return Err(TerminalFault::Form);
+}
+
+/// A string as it is sent, which is printed in quotes.
+fn string_of(alloc: Global, text: &[u8]) -> Result<Vec<u8>, Fault> {
+    let quoted = text.strip_prefix(b"\"").ok_or(Fault::Form)?;
+    let (word, after) = quoted_word(alloc, quoted)?;
+    if !after.is_empty() {
+        return Err(Fault::Form);
     }
-    let mut words = words_of(alloc, text)?;
-    match words.pop() {
-        Some(word) if words.is_empty() => Ok(Part::Bulk(word)),
-        Some(_) | None => Err(TerminalFault::Form),
-    }
+    let header = format!(in alloc; "${}\r\n", word.len())?;
+    ended(alloc, header.as_bytes(), word.as_slice())
+}
+
+/// These bytes, one after the other, and a line end.
+fn ended(alloc: Global, header: &[u8], value: &[u8]) -> Result<Vec<u8>, Fault> {
+    Ok([header, value, b"\r\n"].concat(alloc)?)
 }

@@ -1,27 +1,17 @@
 //! The words of a line, as they are or in double quotes, as redis-cli takes and prints them.
-ghost use Rattle.std.specs.Prelude.{◌≡◌, ◌≢◌, ◌++◌, ◌∷◌, ◌<◌, ℕ, List, [], Some, IsSome, IfSome, IfNone, IfOk, SomeIff};
+ghost use Rattle.std.specs.Prelude.{◌≡◌, ◌≢◌, ◌++◌, ◌∷◌, ◌<◌, ℕ, List, [], Some, IsSome, IfSome, IfNone, IfOk, SomeIff, All};
 ghost use Rattle.std.specs.Char.{digit_value, is_ascii_whitespace};
 ghost use Rattle.plan_check.specs.Words.{HasByte, HasQuoted, HasWord, escaped as escaped_by};
 
-use std::alloc::{AllocError, Global};
+use crate::fault::Fault;
+use sr_bytes::read_decimal;
+use std::alloc::Global;
 
-/// Why a line has no words.
-#[derive(Clone, Copy, Debug, PartialEq, Eq)]
-pub(crate) enum WordFault {
-    /// Quotes are not closed, an escape is unknown, or quotes end inside a word.
-    Quotes,
-    /// A failed allocation.
-    Memory,
-}
-
-impl From<AllocError> for WordFault {
-    fn from(_error: AllocError) -> WordFault {
-        WordFault::Memory
-    }
-}
+/// How many digits a number has at most: as many as the greatest one of 64 bits.
+pub(crate) const MOST_DIGITS: usize = 20;
 
 /// The words of a line: runs of bytes between blanks, or quoted ones.
-pub(crate) fn words_of(alloc: Global, line: &[u8]) -> Result<Vec<Vec<u8>>, WordFault> {
+pub(crate) fn words_of(alloc: Global, line: &[u8]) -> Result<Vec<Vec<u8>>, Fault> {
     let mut words = Vec::new(alloc);
     let mut left = line.trim_ascii();
     for _ in 0..line.len() {
@@ -29,21 +19,21 @@ pub(crate) fn words_of(alloc: Global, line: &[u8]) -> Result<Vec<Vec<u8>>, WordF
             break;
         }
         let (word, after) = first_word(alloc, left)?;
-        words.push(word).map_err(AllocError::from)?;
+        words.push(word)?;
         left = after.trim_ascii_start();
     }
     Ok(words)
 }
 
 /// The word at the front of a text that begins with no blank, and the bytes after it.
-fn first_word(alloc: Global, text: &[u8]) -> Result<(Vec<u8>, &[u8]), WordFault>
+fn first_word(alloc: Global, text: &[u8]) -> Result<(Vec<u8>, &[u8]), Fault>
     ensures { IfOk result (λ read. HasWord text.now read.0.items read.1.now) }
 {
     match text.strip_prefix(b"\"") {
         Some(quoted) => {
             let (word, after) = quoted_word(alloc, quoted)?;
             if after.first().is_some_and(|byte| !is_blank(*byte)) {
-                return Err(WordFault::Quotes);
+                return Err(Fault::Quotes);
             }
             Ok((word, after))
         }
@@ -56,7 +46,7 @@ fn first_word(alloc: Global, text: &[u8]) -> Result<(Vec<u8>, &[u8]), WordFault>
 }
 
 /// The word that a text spells up to its closing quotes, and the bytes after these.
-fn quoted_word(alloc: Global, text: &[u8]) -> Result<(Vec<u8>, &[u8]), WordFault>
+pub(crate) fn quoted_word(alloc: Global, text: &[u8]) -> Result<(Vec<u8>, &[u8]), Fault>
     ensures { IfOk result (λ read. HasQuoted text.now read.0.items read.1.now) }
 {
     let mut word = Vec::new(alloc);
@@ -65,12 +55,12 @@ fn quoted_word(alloc: Global, text: &[u8]) -> Result<(Vec<u8>, &[u8]), WordFault
         let Some((byte, after)) = first_byte(left) else {
             break;
         };
-        word.push(byte).map_err(AllocError::from)?;
+        word.push(byte)?;
         left = after;
     }
     match left.strip_prefix(b"\"") {
         Some(after) => Ok((word, after)),
-        None => Err(WordFault::Quotes),
+        None => Err(Fault::Quotes),
     }
 }
 
@@ -119,4 +109,20 @@ fn is_blank(byte: u8) -> bool
     ensures { result ≡ is_ascii_whitespace byte }
 {
     byte.is_ascii_whitespace()
+}
+
+/// The bytes before the first one of a kind, and the bytes after it. `None` where there is none.
+pub(crate) fn split_once(bytes: &[u8], mark: u8) -> Option<(&[u8], &[u8])>
+    ensures found { IfSome result (λ parts. (bytes.now ≡ parts.0.now ++ mark ∷ parts.1.now) × All (λ byte. byte ≢ mark) parts.0.now) }
+    ensures none { IfNone result (All (λ byte. byte ≢ mark) bytes.now) }
+{
+    let end = bytes.iter().position(|byte| *byte == mark)?;
+    let (before, rest) = bytes.split_at(end);
+    Some((before, rest.get(1..)?))
+}
+
+/// The number that the bytes before the first one of a kind write, and the bytes after it.
+pub(crate) fn number_before(bytes: &[u8], mark: u8) -> Option<(u64, &[u8])> {
+    let (digits, after) = split_once(bytes, mark)?;
+    Some((read_decimal(digits, MOST_DIGITS)?, after))
 }
