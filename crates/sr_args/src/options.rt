@@ -473,70 +473,41 @@ fn worse(fault: ValueFault, option: OptionWords<'_>) -> ValueFault
 }
 
 /// What is asked for after an option, or the fault of its words.
-fn judge(choice: Choice, option: OptionWords<'_>) -> Result<Choice, ValueFault>
+fn judge(mut choice: Choice, option: OptionWords<'_>) -> Result<Choice, ValueFault>
     ensures { IsJudged (written_of option.entry) (chosen_of choice) result }
 {
     match option {
         OptionWords::Count(range, most) => match read_count(range, most) {
-            None => Err(ValueFault::Number),
-            Some(count) => Ok(Choice {
-                count: Some(count),
-                ..choice
-            }),
+            None => return Err(ValueFault::Number),
+            Some(count) => choice.count = Some(count),
         },
-        OptionWords::NoMkStream => Ok(Choice {
-            add_makes: false,
-            ..choice
-        }),
-        OptionWords::MkStream => Ok(Choice {
-            create_makes: true,
-            ..choice
-        }),
-        OptionWords::JustId => Ok(Choice {
-            just_ids: true,
-            ..choice
-        }),
+        OptionWords::NoMkStream => choice.add_makes = false,
+        OptionWords::MkStream => choice.create_makes = true,
+        OptionWords::JustId => choice.just_ids = true,
         OptionWords::Idle(word) => match read_nat(word) {
-            None => Err(ValueFault::Number),
-            Some(time) => Ok(Choice {
-                time: TimeAsked::Idle(time),
-                ..choice
-            }),
+            None => return Err(ValueFault::Number),
+            Some(time) => choice.time = TimeAsked::Idle(time),
         },
         OptionWords::Time(word) => match read_nat(word) {
-            None => Err(ValueFault::Number),
-            Some(time) => Ok(Choice {
-                time: TimeAsked::At(time),
-                ..choice
-            }),
+            None => return Err(ValueFault::Number),
+            Some(time) => choice.time = TimeAsked::At(time),
         },
         OptionWords::RetryCount(word) => match read_nat(word) {
-            None => Err(ValueFault::Number),
-            Some(delivered) => Ok(Choice {
-                delivered: Some(delivered),
-                ..choice
-            }),
+            None => return Err(ValueFault::Number),
+            Some(delivered) => choice.delivered = Some(delivered),
         },
-        OptionWords::Group(_) => Ok(choice),
-        OptionWords::NoAck => Ok(Choice {
-            no_ack: true,
-            ..choice
-        }),
+        OptionWords::Group(_) => {}
+        OptionWords::NoAck => choice.no_ack = true,
         OptionWords::Block(word) => match read_nat(word) {
-            None => Err(ValueFault::Number),
-            Some(wait) => Ok(Choice {
-                block: Some(wait),
-                ..choice
-            }),
+            None => return Err(ValueFault::Number),
+            Some(wait) => choice.block = Some(wait),
         },
         OptionWords::Trim(words) => match read_trim(words) {
-            Err(fault) => Err(fault),
-            Ok(trim) => Ok(Choice {
-                trim: Some(trim),
-                ..choice
-            }),
+            Err(fault) => return Err(fault),
+            Ok(trim) => choice.trim = Some(trim),
         },
     }
+    Ok(choice)
 }
 
 /// The trim that words write. A number in it that is none comes before an id that is none.

@@ -1,4 +1,5 @@
 use Rattle.std.proofs.Common.{ap}
+use Rattle.std.proofs.lemmas.Result.{IfOk-from_err}
 use Rattle.sr_args.specs.Place.{Word}
 use Rattle.sr_args.specs.declared.call.Call.TheVariants.{Ping, Xtrim, Xlen, Xrange, Xrevrange, XinfoStream, XinfoGroups, Xread, XgroupCreate, XgroupSetId, XgroupDestroy, XinfoConsumers, XgroupCreateConsumer, XgroupDelConsumer}
 use Rattle.sr_args.proofs.call.Call.copy.Goals as goal
@@ -59,3 +60,54 @@ returns-in-Xreadgroup c = rw c.in-Xreadgroup.is c.copy_group_read.ensures
 
 pub returns-in-Xpending : goal.returns-in-Xpending
 returns-in-Xpending c = rw c.in-Xpending.is c.copy_pending.ensures
+
+pub returns-in_err-copy_name-in-Ping : goal.returns-in_err-copy_name-in-Ping
+returns-in_err-copy_name-in-Ping c = IfOk-from_err _ _ c.from_residual.ensures.0
+
+pub returns-in_err-copy-in-Xtrim : goal.returns-in_err-copy-in-Xtrim
+returns-in_err-copy-in-Xtrim c = IfOk-from_err _ _ c.from_residual-in_err-copy-in-Xtrim.ensures.0
+
+pub returns-in_err-copy-in-Xlen : goal.returns-in_err-copy-in-Xlen
+returns-in_err-copy-in-Xlen c = IfOk-from_err _ _ c.from_residual-in_err-copy-in-Xlen.ensures.0
+
+pub returns-in_err-copy-in-Xrange : goal.returns-in_err-copy-in-Xrange
+returns-in_err-copy-in-Xrange c = IfOk-from_err _ _ c.from_residual-in_err-copy-in-Xrange.ensures.0
+
+pub returns-in_err-copy-in-Xrevrange : goal.returns-in_err-copy-in-Xrevrange
+returns-in_err-copy-in-Xrevrange c = IfOk-from_err _ _ c.from_residual-in_err-copy-in-Xrevrange.ensures.0
+
+pub returns-in_err-copy-in-XinfoStream : goal.returns-in_err-copy-in-XinfoStream
+returns-in_err-copy-in-XinfoStream c = IfOk-from_err _ _ c.from_residual-in_err-copy-in-XinfoStream.ensures.0
+
+pub returns-in_err-copy-in-XinfoGroups : goal.returns-in_err-copy-in-XinfoGroups
+returns-in_err-copy-in-XinfoGroups c = IfOk-from_err _ _ c.from_residual-in_err-copy-in-XinfoGroups.ensures.0
+
+pub returns-in_err-copy-in-Xread : goal.returns-in_err-copy-in-Xread
+returns-in_err-copy-in-Xread c = IfOk-from_err _ _ c.from_residual-in_err-copy-in-Xread.ensures.0
+
+pub returns-in_err-key-in-XgroupCreate : goal.returns-in_err-key-in-XgroupCreate
+returns-in_err-key-in-XgroupCreate c = IfOk-from_err _ _ c.from_residual-in_err-key-in-XgroupCreate.ensures.0
+
+pub returns-in_err-key-in-XgroupSetId : goal.returns-in_err-key-in-XgroupSetId
+returns-in_err-key-in-XgroupSetId c = IfOk-from_err _ _ c.from_residual-in_err-key-in-XgroupSetId.ensures.0
+
+pub returns-in_err-key-in-XgroupDestroy : goal.returns-in_err-key-in-XgroupDestroy
+returns-in_err-key-in-XgroupDestroy c = IfOk-from_err _ _ c.from_residual-in_err-key-in-XgroupDestroy.ensures.0
+
+pub returns-in_err-key-in-XinfoConsumers : goal.returns-in_err-key-in-XinfoConsumers
+returns-in_err-key-in-XinfoConsumers c = IfOk-from_err _ _ c.from_residual-in_err-key-in-XinfoConsumers.ensures.0
+
+pub returns-in_err-key-in-XgroupCreateConsumer : goal.returns-in_err-key-in-XgroupCreateConsumer
+returns-in_err-key-in-XgroupCreateConsumer c = IfOk-from_err _ _ c.from_residual-in_err-key-in-XgroupCreateConsumer.ensures.0
+
+pub returns-in_err-key-in-XgroupDelConsumer : goal.returns-in_err-key-in-XgroupDelConsumer
+returns-in_err-key-in-XgroupDelConsumer c = IfOk-from_err _ _ c.from_residual-in_err-key-in-XgroupDelConsumer.ensures.0
+
+pub returns-in_err-key-in-Xautoclaim : goal.returns-in_err-key-in-Xautoclaim
+returns-in_err-key-in-Xautoclaim c = IfOk-from_err _ _ c.from_residual-in_err-key-in-Xautoclaim.ensures.0
+
+pub returns-in_err-key-in-Xclaim : goal.returns-in_err-key-in-Xclaim
+returns-in_err-key-in-Xclaim c = IfOk-from_err _ _ c.from_residual-in_err-key-in-Xclaim.ensures.0
+
+pub returns-in_err-ids-in-Xclaim : goal.returns-in_err-ids-in-Xclaim
+returns-in_err-ids-in-Xclaim c = IfOk-from_err _ _ c.from_residual-in_err-ids-in-Xclaim.ensures.0
