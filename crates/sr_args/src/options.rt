@@ -14,6 +14,7 @@ ghost use Rattle.sr_args.specs.steps.Options.{named_by, IsGiven};
 
 use crate::name::{option_named, sign_named};
 use crate::number::{read_count, read_nat};
+use crate::value::number_word;
 use crate::{CallFault, CountRange, Measure, OptionName, Sign, TimeAsked, Trim, TrimBy};
 use sr_bytes::Unread;
 use sr_ids::parse_strict;
@@ -352,17 +353,13 @@ fn limit_word<'a>(sign: Option<Sign>, words: &mut Unread<'a>) -> Option<Option<&
     ensures none { IfNone result (BeginsNone written.limit_places (IsLimitOf sign) IsUnlimitedAfter words.old) }
     ensures shorter { IfSome result (λ _. length words.new ≤ length words.old) }
 {
-    let Some(word) = words.peek() else {
+    let Some(word) = number_word(OptionName::Limit, words)? else {
         return Some(None);
     };
-    if !is_named(word, OptionName::Limit) {
-        return Some(None);
-    }
     let Some(Sign::Nearly) = sign else {
         return None;
     };
-    words.next()?;
-    words.next().map(Some)
+    Some(Some(word))
 }
 
 /// Whether the word names an option of the set.
@@ -412,19 +409,7 @@ fn index_of_kind(kind: OptionKind) -> usize
     ensures value { result ≡ index_of kind }
     ensures within { result < KINDS }
 {
-    match kind {
-        OptionKind::Count => 0,
-        OptionKind::NoMkStream => 1,
-        OptionKind::Trim => 2,
-        OptionKind::MkStream => 3,
-        OptionKind::JustId => 4,
-        OptionKind::Idle => 5,
-        OptionKind::Time => 6,
-        OptionKind::RetryCount => 7,
-        OptionKind::Group => 8,
-        OptionKind::NoAck => 9,
-        OptionKind::Block => 10,
-    }
+    kind as usize
 }
 
 /// What is asked for if no option is written.

@@ -1,4 +1,4 @@
-ghost use Rattle.std.specs.Prelude.{◌≡◌, ◌↔◌, map, take, IsTrue, IfOk, IfSome, IfNone};
+ghost use Rattle.std.specs.Prelude.{◌≡◌, ◌↔◌, ◌≤◌, length, map, take, IsTrue, IfOk, IfSome, IfNone};
 ghost use Rattle.std.specs.Option.{option_copied};
 ghost use Rattle.sr_args.specs.Place.{strict_id, spelled, HasIds, Range};
 ghost use Rattle.sr_args.specs.Form.{AreIds, IsNamedFirst, named_places};
@@ -28,6 +28,7 @@ pub(crate) fn number_word<'a>(name: OptionName, words: &mut Unread<'a>) -> Optio
     ensures none { IfNone result ((range : Range) →
         BeginsNone (named_places name range) IsAnyWord (IsNamedFirst name) words.old) }
     ensures past { IfSome result (λ read. IsPastNumber name (option_copied read) words.new) }
+    ensures shorter { IfSome result (λ _. length words.new ≤ length words.old) }
 {
     let Some(word) = words.peek() else {
         return Some(None);

@@ -1,3 +1,4 @@
+use Rattle.std.proofs.lemmas.Result.{IfOk-from_err}
 use Rattle.std.proofs.Common.{◌≡◌, ◌<◌, [], take, arith, rules, append-nil, sym, subst, List}
 use Rattle.sr_ids.specs.Spelling.{SpellsId}
 use Rattle.sr_args.specs.Place.{Word, strict_id}
@@ -30,3 +31,9 @@ returns c =
     ] in
     let none : AreIds strict_id (take c.loop-left.left c.loop-left.words) [] = subst (λ (ws : List Word). AreIds strict_id ws []) (sym done) tt in
     rw c.new.ensures (rw append-nil at (c.loop-left.invariant.whole [] none))
+
+pub returns-in_err-ids : goal.returns-in_err-ids
+returns-in_err-ids c = IfOk-from_err _ _ c.from_residual.ensures.0
+
+pub returns-in_err-push : goal.returns-in_err-push
+returns-in_err-push c = IfOk-from_err _ _ c.from_residual-in_err-push.ensures.0
