@@ -2,7 +2,7 @@ use Rattle.std.proofs.Common.{◌≡◌, List, ◌++◌, Option, Some, None, inl
 use Rattle.sr_args.specs.declared.name.OptionName.TheVariants.{Limit}
 use Rattle.sr_args.specs.declared.name.Sign.{Sign}
 use Rattle.sr_args.specs.declared.name.Sign.TheVariants.{Nearly}
-use Rattle.sr_args.specs.Place.{Word, Place, Range, nat, Fits}
+use Rattle.sr_args.specs.Place.{Word, Place, nat, Fits}
 use Rattle.sr_args.specs.Form.{IsNamedFirst, named_places}
 use Rattle.sr_args.specs.Options.{limit_places}
 use Rattle.sr_args.specs.steps.Numbers.{IsAnyWord}
