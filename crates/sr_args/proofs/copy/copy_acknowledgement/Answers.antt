@@ -1,8 +1,0 @@
-use Rattle.std.proofs.lemmas.Result.{IfOk-from_err}
-use Rattle.sr_args.proofs.copy.copy_acknowledgement.Goals as goal
-
-pub returns-in_err-key : goal.returns-in_err-key
-returns-in_err-key c = IfOk-from_err _ _ c.from_residual.ensures.0
-
-pub returns-in_err-ids : goal.returns-in_err-ids
-returns-in_err-ids c = IfOk-from_err _ _ c.from_residual-in_err-ids.ensures.0
