@@ -1,6 +1,6 @@
 -- A value that is brought in before a block of a list in blocks, and what each full block hands on.
 use Rattle.std.proofs.Common.{◌≡◌, ℕ, zero, suc, ◌+◌, ◌-◌, ◌<◌, ◌≤◌, List, [], ◌∷◌, ◌++◌, length, get_or, take, drop, set, ap, sym, subst, ◌∙◌, arith}
-use Rattle.std.proofs.lemmas.List.{append_assoc, append-nil, drop-set-add, get_or-drop}
+use Rattle.std.proofs.lemmas.List.{append_assoc, append-nil, drop-set-add, drop_all, get_or-drop, take_all}
 use Rattle.std.proofs.lemmas.List.{length-drop}
 use Rattle.std.proofs.lemmas.List.Elements.{All-set}
 use Rattle.std.specs.VecDeque.{deque_capacity, deque_len}
@@ -40,6 +40,12 @@ module _ {T Z : Type 0} where
       append_assoc d.items _ _
       ∙ ap (λ (l : List T). d.items ++ l) (pushed ds i was is value rest (omega arith) read moved)
       ∙ sym (append_assoc d.items _ _)
+
+  -- behind all blocks it comes before the rest
+  pub behind : (blocks : List (VecDeque T Z)) (at : ℕ) (value : T) (rest : List T) → length blocks ≤ at → held_in blocks ++ value ∷ rest ≡ held_in (take at blocks) ++ value ∷ (held_in (drop at blocks) ++ rest)
+  behind blocks at value rest past =
+      ap (λ (l : List (VecDeque T Z)). held_in l ++ value ∷ rest) (sym (take_all at blocks past))
+      ∙ ap (λ (l : List (VecDeque T Z)). held_in (take at blocks) ++ value ∷ (held_in l ++ rest)) (sym (drop_all at blocks past))
 
   -- behind a place all blocks stay filled if one of them is filled anew
   pub filled-set : (blocks : List (VecDeque T Z)) (from i : ℕ) (is : VecDeque T Z) → from ≤ i → 0 < length is.items → AreFilled (drop from blocks) → AreFilled (drop from (set blocks i is))

@@ -148,6 +148,14 @@ module _ {T : Type 0} where
       ∙ ap (λ (b : ℕ). slice_range (flat blocks) (start blocks from.block + from.at) (start blocks b + past.at)) (sym same)
       ∙ run-same blocks from.block from.at past.at (all-length laid.closed laid.tail from.block is_from.within) (place-within laid from is_from) short
 
+  -- one that ends before it starts
+  pub runs-none : (laid : Laid T) (from past : Place) → IsIn from laid → IsIn past laid → past.block < from.block → [] ≡ slice_range (items_of laid) (at_of from laid) (at_of past laid)
+  runs-none laid from past is_from is_past lt =
+      let blocks = laid.closed ++ laid.tail ∷ [] in
+      let within : from.block ≤ length blocks = let l = all-length laid.closed laid.tail from.block is_from.within in omega arith in
+      sym (run-none blocks from.block past.block from.at past.at lt within (place-within laid past is_past))
+      ∙ sym (laid-slice laid from past is_from is_past)
+
 module _ {T Z : Type 0} where
   -- a run within one block
   pub runs-same : (laid : Laid T) (from past : Place) (block first last : List T) (middle : List (VecDeque T Z)) (at : ℕ) → IsIn from laid → IsIn past laid → from.block ≡ past.block → block ≡ get_or (laid.closed ++ laid.tail ∷ []) from.block [] → at ≡ min from.at past.at → first ≡ slice_range block at past.at → middle ≡ [] → last ≡ [] → first ++ held_in middle ++ last ≡ slice_range (items_of laid) (at_of from laid) (at_of past laid)
@@ -161,19 +169,6 @@ module _ {T Z : Type 0} where
       ∙ slice-min block from.at past.at
       ∙ ap (λ (l : List T). slice_range l from.at past.at) read
       ∙ sym (laid-same laid from past is_from is_past same)
-
-  -- one that ends before it starts
-  pub runs-none : (laid : Laid T) (from past : Place) (first last : List T) (middle : List (VecDeque T Z)) → IsIn from laid → IsIn past laid → past.block < from.block → first ≡ [] → middle ≡ [] → last ≡ [] → first ++ held_in middle ++ last ≡ slice_range (items_of laid) (at_of from laid) (at_of past laid)
-  runs-none laid from past first last middle is_from is_past lt is_first is_middle is_last =
-      let blocks = laid.closed ++ laid.tail ∷ [] in
-      let within : from.block ≤ length blocks = let l = all-length laid.closed laid.tail from.block is_from.within in omega arith in
-      append_assoc first (held_in middle) last
-      ∙ ap (λ (l : List (VecDeque T Z)). first ++ (held_in l ++ last)) is_middle
-      ∙ ap (λ (l : List T). first ++ l) is_last
-      ∙ append-nil first
-      ∙ is_first
-      ∙ sym (run-none blocks from.block past.block from.at past.at lt within (place-within laid past is_past))
-      ∙ sym (laid-slice laid from past is_from is_past)
 
   -- the whole blocks between two places
   between : (ds : List (VecDeque T Z)) (tail : List T) (f p : ℕ) → f < p → p ≤ length (map deque_items ds) → flat (slice_range (map deque_items ds ++ tail ∷ []) (suc f) p) ≡ held_in (slice_range ds (f + 1) p)

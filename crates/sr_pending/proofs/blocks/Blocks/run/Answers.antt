@@ -1,4 +1,4 @@
-use Rattle.std.proofs.Common.{◌≡◌, ◌<◌, map, sym, ap, arith}
+use Rattle.std.proofs.Common.{◌≡◌, ◌<◌, map, sym, ap, ◌∙◌, arith}
 use Rattle.std.specs.VecDeque.{deque_items}
 use Rattle.sr_pending.specs.steps.Blocks.{Laid}
 use Rattle.sr_pending.proofs.Running.{runs-apart, runs-none, runs-same}
@@ -10,7 +10,7 @@ returns-then-from-past g c =
 
 pub returns-then-past-from : goal.returns-then-past-from
 returns-then-past-from g c =
-    runs-none c.args.self.now c.args.from c.args.past _ _ _ c.requires.from c.requires.past c.if-past-from.true c.range-then-past-from.ensures.rest c.range-then-past-from-2.ensures.rest c.range-then-past-from-3.ensures.rest
+    c.nothing.ensures ∙ runs-none c.args.self.now c.args.from c.args.past c.requires.from c.requires.past c.if-past-from.true
 
 pub returns : goal.returns
 returns g c =
