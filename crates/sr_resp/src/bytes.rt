@@ -74,21 +74,6 @@ impl Bytes {
             Kept::Long(name) => name.as_slice(),
         }
     }
-
-    /// A copy with the same bytes.
-    pub(crate) fn copy(&self, alloc: Global) -> Result<Bytes, AllocError>
-        ensures { IfOk result (λ b. b ≡ self.now) }
-    {
-        match &self.kept {
-            Kept::Short { text, len } => Ok(Bytes {
-                kept: Kept::Short {
-                    text: *text,
-                    len: *len,
-                },
-            }),
-            Kept::Long(name) => Ok(Bytes::long(name.copy(alloc)?)),
-        }
-    }
 }
 
 impl PartialEq for Bytes {

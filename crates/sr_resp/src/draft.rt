@@ -170,10 +170,7 @@ impl Draft {
     pub(crate) fn copy(&self, alloc: Global) -> Result<Draft, AllocError>
         ensures { IfOk result (λ d. d ≡ self.now) }
     {
-        Ok(Draft {
-            rest: Vec::from_slice(alloc, self.rest.as_slice())?,
-            first: self.first.copy(alloc)?,
-        })
+        Draft::read(alloc, self.first.piece(), self.rest.as_slice())
     }
 
     /// Whether both have the same parts.

@@ -1,7 +1,8 @@
-ghost use Rattle.std.specs.Prelude.{◌≡◌, ◌∷◌, ◌++◌, IfOk, OnOk, OnErr};
+ghost use Rattle.std.specs.Prelude.{◌≡◌, ◌++◌, IfOk, OnOk, OnErr};
 ghost use Rattle.std.specs.Io.{StartsWith};
 ghost use Rattle.sr_resp.specs.Reply.{line_end, part_text, reply_text};
 ghost use Rattle.sr_resp.specs.Spelled.{IsSpellable};
+ghost use Rattle.sr_resp.specs.steps.OneSpelling.{mark, line};
 ghost use Rattle.sr_resp.specs.steps.Pieces.{part_of, first_part};
 
 use crate::Reply;
@@ -45,23 +46,6 @@ pub(crate) fn append_piece(out: &mut Vec<u8>, piece: Piece<'_>) -> Result<(), Al
     appended
 }
 
-/// Appends the spelling of a first part. An `Err` leaves `out` as it was.
-pub(crate) fn append_first(out: &mut Vec<u8>, first: &First) -> Result<(), AllocError>
-    ensures ok { OnOk result (out.new.items ≡ out.old.items ++ part_text (first_part first.now)) }
-    ensures err { OnErr result (out.new.items ≡ out.old.items) }
-    ensures fit { IsSpellable (first_part first.now) }
-{
-    match first {
-        First::Simple(word) => append_piece(out, Piece::Simple(*word)),
-        First::Error(code) => append_piece(out, Piece::Error(*code)),
-        First::Int(n) => append_piece(out, Piece::Int(*n)),
-        First::Bulk(bytes) => append_piece(out, Piece::Bulk(bytes.as_slice())),
-        First::NullBulk => append_piece(out, Piece::NullBulk),
-        First::NullArray => append_piece(out, Piece::NullArray),
-        First::Array(items) => append_piece(out, Piece::Array(*items)),
-    }
-}
-
 /// Appends the spelling of a first part, and then a text. An `Err` leaves `out` as it was.
 pub(crate) fn append_parts(out: &mut Vec<u8>, first: &First, rest: &[u8]) -> Result<(), AllocError>
     ensures ok { OnOk result (out.new.items ≡ out.old.items ++ part_text (first_part first.now) ++ rest.now) }
@@ -69,7 +53,7 @@ pub(crate) fn append_parts(out: &mut Vec<u8>, first: &First, rest: &[u8]) -> Res
     ensures fit { IsSpellable (first_part first.now) }
 {
     let start = out.len();
-    append_first(out, first)?;
+    append_piece(out, first.piece())?;
     let appended = out.extend_from_slice(rest);
     if appended.is_err() {
         out.truncate(start);
@@ -84,17 +68,38 @@ fn begin_piece(out: &mut Vec<u8>, piece: Piece<'_>) -> Result<(), AllocError>
     ensures fit { IsSpellable (part_of piece.entry) }
 {
     let mut digits = Buffer::new();
+    append_line(out, &[mark_of(piece)], line_of(piece, &mut digits))?;
     match piece {
-        Piece::Simple(word) => append_line(out, b"+", word.text().as_bytes()),
-        Piece::Error(code) => append_line(out, b"-", code.text().as_bytes()),
-        Piece::Int(n) => append_line(out, b":", digits.format(n).as_bytes()),
-        Piece::Bulk(bytes) => {
-            append_line(out, b"$", digits.format(bytes.len()).as_bytes())?;
-            append_line(out, b"", bytes)
-        }
-        Piece::NullBulk => append_line(out, b"$", b"-1"),
-        Piece::NullArray => append_line(out, b"*", b"-1"),
-        Piece::Array(items) => append_line(out, b"*", digits.format(items).as_bytes()),
+        Piece::Bulk(bytes) => append_line(out, b"", bytes),
+        _ => Ok(()),
+    }
+}
+
+/// The mark that a part begins with.
+fn mark_of(piece: Piece<'_>) -> u8
+    ensures { result ≡ mark (part_of piece.entry) }
+{
+    match piece {
+        Piece::Simple(_) => b'+',
+        Piece::Error(_) => b'-',
+        Piece::Int(_) => b':',
+        Piece::Bulk(_) | Piece::NullBulk => b'$',
+        Piece::Array(_) | Piece::NullArray => b'*',
+    }
+}
+
+/// The line after it. The digits of a number are written into the buffer.
+fn line_of<'a>(piece: Piece<'a>, digits: &'a mut Buffer) -> &'a [u8]
+    ensures is { result.now ≡ line (part_of piece.entry) }
+    ensures fit { IsSpellable (part_of piece.entry) }
+{
+    match piece {
+        Piece::Simple(word) => word.text().as_bytes(),
+        Piece::Error(code) => code.text().as_bytes(),
+        Piece::Int(n) => digits.format(n).as_bytes(),
+        Piece::Bulk(bytes) => digits.format(bytes.len()).as_bytes(),
+        Piece::NullBulk | Piece::NullArray => b"-1",
+        Piece::Array(items) => digits.format(items).as_bytes(),
     }
 }
 

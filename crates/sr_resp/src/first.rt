@@ -43,18 +43,18 @@ impl First {
         })
     }
 
-    /// A copy of this part.
-    pub(crate) fn copy(&self, alloc: Global) -> Result<First, AllocError>
-        ensures { IfOk result (λ first. first ≡ self.now) }
+    /// The part with its bytes lent.
+    pub(crate) fn piece(&self) -> Piece<'_>
+        ensures { part_of result ≡ first_part self.now }
     {
-        Ok(match self {
-            First::Simple(word) => First::Simple(*word),
-            First::Error(code) => First::Error(*code),
-            First::Int(n) => First::Int(*n),
-            First::Bulk(bytes) => First::Bulk(bytes.copy(alloc)?),
-            First::NullBulk => First::NullBulk,
-            First::NullArray => First::NullArray,
-            First::Array(items) => First::Array(*items),
-        })
+        match self {
+            First::Simple(word) => Piece::Simple(*word),
+            First::Error(code) => Piece::Error(*code),
+            First::Int(n) => Piece::Int(*n),
+            First::Bulk(bytes) => Piece::Bulk(bytes.as_slice()),
+            First::NullBulk => Piece::NullBulk,
+            First::NullArray => Piece::NullArray,
+            First::Array(items) => Piece::Array(*items),
+        }
     }
 }

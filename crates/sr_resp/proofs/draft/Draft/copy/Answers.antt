@@ -1,10 +1,19 @@
-use Rattle.std.proofs.Common.{◌∷◌, ap, ◌∙◌}
-use Rattle.sr_resp.specs.Spelled.{parts_of}
-use Rattle.sr_resp.specs.steps.Pieces.{first_part}
-use Rattle.sr_resp.proofs.DraftLemmas.{parts-same}
+use Rattle.std.proofs.Common.{List, ◌≡◌, ◌∷◌, ap, sym, subst, ◌∙◌}
+use Rattle.std.specs.Prelude.{IfOk}
+use Rattle.sr_resp.specs.Reply.{Part}
+use Rattle.sr_resp.specs.Spelled.{IsSpelled, parts_of}
+use Rattle.sr_resp.proofs.DraftLemmas.{text-spelled, fit-spelled}
 use Rattle.sr_resp.proofs.draft.Draft.copy.Goals as goal
+
+pub read-requires : goal.read-requires
+read-requires c = subst IsSpelled (sym c.as_slice.ensures.value) c.self.inside.others
 
 pub returns : goal.returns
 returns c =
-    let rest = parts-same _ _ _ c.self.inside.others (c.in_ok-from_slice.ensures.items ∙ c.as_slice.ensures.value) in
-    ap (λ l. first_part c.in_ok-copy.field-0 ∷ l) rest ∙ ap (λ f. first_part f ∷ parts_of c.self.inside.rest.items c.self.inside.others) c.in_ok-copy.ensures ∙ c.self.view_is
+    let rest = c.self.inside.rest.items in
+    let parts = parts_of rest c.self.inside.others in
+    let copied = c.read.ensures parts (record {
+      spelled = c.as_slice.ensures.value ∙ text-spelled rest c.self.inside.others;
+      fit = fit-spelled rest c.self.inside.others;
+    }) in
+    subst (λ (l : List Part). IfOk c.read.result (λ d. d ≡ l)) (ap (λ (p : Part). p ∷ parts) c.piece.ensures ∙ c.self.view_is) copied
