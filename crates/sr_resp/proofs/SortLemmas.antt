@@ -105,6 +105,10 @@ looked_on new old bound at end item rest tail one before =
     let len : length rest ≡ length (drop end item) = ap length tail in
     omega (arith, len, length-drop end item)
 
+-- what is left of an item is shorter
+pub shorter : (item rest : List ℕ) (end : ℕ) → 0 < end → end ≤ length item → rest ≡ drop end item → length rest < length item
+shorter item rest end some within tail = omega (arith, ap length tail, length-drop end item)
+
 -- ---- one item after another
 
 -- an item that has not begun

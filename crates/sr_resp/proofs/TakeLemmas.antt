@@ -75,3 +75,20 @@ sorts_out old before after rest piece bytes left places failed reached is whole 
 
 pub reader_new : IsReaderAt false [] [] stages.Start
 reader_new = Standing-start [] [] refl
+
+-- told of the reader's fields, as they are again
+pub reader_still : (failed : Bool) (rest kept : List ℕ) (places left : List Place) (stage : Stage) → kept ≡ rest → left ≡ places → IsReaderAt failed rest places stage → IsReaderAt failed kept left stage
+reader_still failed rest kept places left stage same words at =
+    subst (λ (ps : List Place). IsReaderAt failed kept ps stage) (sym words) (subst (λ (b : List ℕ). IsReaderAt failed b places stage) (sym same) at)
+
+pub view_still : (now : Progress) (waiting requests : List Words) (rest kept : List ℕ) (failed : Bool) → requests ≡ waiting → kept ≡ rest → record { waiting = waiting; rest = rest; failed = failed } ≡ now
+    → record { waiting = requests; rest = kept; failed = failed } ≡ now
+view_still now waiting requests rest kept failed same bytes is =
+    ap (λ (w : List Words). record { waiting = w; rest = kept; failed = failed }) same ∙ ap (λ (b : List ℕ). record { waiting = waiting; rest = b; failed = failed }) bytes ∙ is
+
+-- what was added is cut off again
+pub cut_back : {A : Type 0} (old new cut : List A) (count : ℕ) → cut ≡ take count new → count ≡ length old → take (length old) new ≡ old → cut ≡ old
+cut_back old new cut count is all kept = is ∙ ap (λ (n : ℕ). take n new) all ∙ kept
+
+pub piece_cut : (rest piece bytes cut : List ℕ) (count : ℕ) → cut ≡ take count bytes → count ≡ length rest → bytes ≡ rest ++ piece → cut ≡ rest
+piece_cut rest piece bytes cut count is all whole = cut_back rest bytes cut count is all (ap (take (length rest)) whole ∙ take-append_seam rest piece)

@@ -1,6 +1,7 @@
-use Rattle.std.proofs.Common.{◌∙◌, length, arith, take_all}
+use Rattle.std.proofs.Common.{◌∙◌, ap, length, arith, take_all}
 use Rattle.std.proofs.lemmas.List.{take_rest}
-use Rattle.sr_resp.proofs.SortLemmas.{Examined-from, tail_examined, kept_more, kept_on, waiting_kept, in_more, found_is, looked_on, some_place, Sorting-nothing, Sorting-request, Sorting-empty, SortsOut-part, SortsOut-fault}
+use Rattle.std.proofs.lemmas.Result.{IfOk-from_err}
+use Rattle.sr_resp.proofs.SortLemmas.{Examined-from, tail_examined, kept_more, kept_on, waiting_kept, in_more, found_is, looked_on, shorter, some_place, Sorting-nothing, Sorting-request, Sorting-empty, SortsOut-part, SortsOut-fault}
 use Rattle.sr_resp.proofs.scan.sort_out.Goals as goal
 
 pub loop-found-init : goal.loop-found-init
@@ -93,3 +94,60 @@ returns-in-Fault-clause-places c = kept_on _ _ _ c.loop-found.invariant.kept c.i
 
 pub returns-in-Fault-clause-waiting : goal.returns-in-Fault-clause-waiting
 returns-in-Fault-clause-waiting c = waiting_kept _ _ _ c.loop-found.invariant.sorting.waiting
+
+pub scan-requires-clause-within : goal.scan-requires-clause-within
+scan-requires-clause-within c = c.loop-found.invariant.sorting.stands.within
+
+pub scan-requires-clause-sound : goal.scan-requires-clause-sound
+scan-requires-clause-sound c = c.loop-found.invariant.sorting.stands.sound
+
+pub returns-in_err-found-clause-ok : goal.returns-in_err-found-clause-ok
+returns-in_err-found-clause-ok c = IfOk-from_err _ _ c.from_residual.ensures.0
+
+pub returns-in_err-request-in-Request-clause-ok : goal.returns-in_err-request-in-Request-clause-ok
+returns-in_err-request-in-Request-clause-ok c = IfOk-from_err _ _ c.from_residual-in_err-request-in-Request.ensures.0
+
+pub returns-in_err-push_back-in-Request-clause-ok : goal.returns-in_err-push_back-in-Request-clause-ok
+returns-in_err-push_back-in-Request-clause-ok c = IfOk-from_err _ _ c.from_residual-in_err-push_back-in-Request.ensures.0
+
+pub returns-in_err-found-clause-looked : goal.returns-in_err-found-clause-looked
+returns-in_err-found-clause-looked c = omega (arith, c.in_err-found.ensures.looked, c.loop-found.invariant.looked)
+
+pub returns-in_err-request-in-Request-clause-looked : goal.returns-in_err-request-in-Request-clause-looked
+returns-in_err-request-in-Request-clause-looked c = omega (arith, c.in_ok-found.ensures.looked, c.loop-found.invariant.looked)
+
+pub returns-in_err-push_back-in-Request-clause-looked : goal.returns-in_err-push_back-in-Request-clause-looked
+returns-in_err-push_back-in-Request-clause-looked c = omega (arith, c.in_ok-found.ensures.looked, c.loop-found.invariant.looked)
+
+pub returns-in-Part-clause-looked : goal.returns-in-Part-clause-looked
+returns-in-Part-clause-looked c = omega (arith, c.in_ok-found.ensures.looked, c.loop-found.invariant.looked)
+
+pub returns-in-Fault-clause-looked : goal.returns-in-Fault-clause-looked
+returns-in-Fault-clause-looked c = omega (arith, c.in_ok-found.ensures.looked, c.loop-found.invariant.looked)
+
+pub slice_bounds-gather-count : goal.slice_bounds-gather-count
+slice_bounds-gather-count c =
+    let first = in_more _ _ _ _ c.loop-found.invariant.sorting.first_in c.in_ok-found.ensures.ok.whole in
+    omega (arith, first, ap length c.deref.ensures.value)
+
+pub slice_bounds-item-count : goal.slice_bounds-item-count
+slice_bounds-item-count c = (rw c.in-Request.is at c.in_ok-found.ensures.ok.sound).1
+
+pub loop-found-smaller-in-Request : goal.loop-found-smaller-in-Request
+loop-found-smaller-in-Request c =
+    let sound = rw c.in-Request.is at c.in_ok-found.ensures.ok.sound in
+    shorter _ _ _ sound.0 sound.1 (take_rest c.loop-found.item.now c.in-Request.end)
+
+pub loop-found-smaller : goal.loop-found-smaller
+loop-found-smaller c =
+    let sound = rw c.in-Empty.is at c.in_ok-found.ensures.ok.sound in
+    shorter _ _ _ sound.0 sound.1 (take_rest c.loop-found.item.now c.in-Empty.end)
+
+pub overflow_sub-result : goal.overflow_sub-result
+overflow_sub-result c = c.loop-found.invariant.sorting.shorter
+
+pub overflow_sub-result-in-Fault : goal.overflow_sub-result-in-Fault
+overflow_sub-result-in-Fault c = c.loop-found.invariant.sorting.shorter
+
+pub slice_bounds-item-count-in-Empty : goal.slice_bounds-item-count-in-Empty
+slice_bounds-item-count-in-Empty c = (rw c.in-Empty.is at c.in_ok-found.ensures.ok.sound).1
