@@ -11,7 +11,7 @@ returns-then-due-left c = (λ never. absurd (cc never), λ are. absurd (too_many
 
 pub returns-in_default : goal.returns-in_default
 returns-in_default c =
-    let none : (part : Part) (after : List ℕ) → HasPart c.loop-due.left.now part after → ⊥ = search rules in
+    let none : (part : Part) (after : List ℕ) → HasPart c.loop-due.left.now part after → ⊥ = c.in_default.ensures.none in
     (λ never. absurd (cc never), λ are. absurd (none-due c.loop-due.due c.loop-due.left.now (omega (arith, c.loop-due-test.true)) none (c.loop-due.invariant.same.1 are)))
 
 pub loop-due-preserved : goal.loop-due-preserved
@@ -21,7 +21,7 @@ loop-due-preserved c =
     let after = c.in-Some.after.now in
     let part = part_of c.in-Some.piece in
     let left = c.saturating_add-due.result in
-    let has : HasPart text part after = search rules in
+    let has : HasPart text part after = c.in-Some.ensures.found in
     let shorter = part-shorter text after part has in
     let whole : length c.args.bytes.now < 2 ^ 64 = search rules in
     let short : length text < 2 ^ 64 = omega (arith, whole, c.loop-due.invariant.within) in

@@ -25,7 +25,7 @@ returns-clause-found c =
     let end = c.in_ok-end.end in
     let within : end < length text = search rules in
     let first : (k : ℕ) → k < end → get_or text k 0 ≡ 13 → ⊥ = search rules in
-    let front : c.split_at.result.0.now ≡ take end text = search rules in
+    let front : c.split_at.result.0.now ≡ take end text = c.split_at.ensures.front in
     record {
       whole = search rules;
       one = subst IsLine (sym front) (IsLine-take text end first (omega arith));
