@@ -1,4 +1,4 @@
-use Rattle.std.proofs.Common.{◌∙◌, sym, ap}
+use Rattle.std.proofs.Common.{◌∙◌, refl, sym, ap}
 use Rattle.sr_resp.specs.Stream.{Progress, Advances}
 use Rattle.sr_resp.proofs.StreamLemmas.{Sorts-advances}
 use Rattle.sr_resp.proofs.reader.Reader.feed.Goals as goal
@@ -20,3 +20,9 @@ returns-clause-advances c =
       | then-self-2 w ↦ rw w.result-is tt
       | else-self-2 w ↦ rw w.result-is (advances c)
     ]
+
+pub returns-then-self-clause-ok : goal.returns-then-self-clause-ok
+returns-then-self-clause-ok c = tt
+
+pub returns-then-self-clause-failed : goal.returns-then-self-clause-failed
+returns-then-self-clause-failed c = λ _. (refl, refl)
