@@ -1,4 +1,4 @@
-use Rattle.std.proofs.Common.{◌≡◌, List, ap, arith, length, take, take_all, ◌∙◌}
+use Rattle.std.proofs.Common.{◌≡◌, List, ap, arith, length, take_all, ◌∙◌}
 use Rattle.std.proofs.lemmas.List.{length-map}
 use Rattle.std.proofs.lemmas.Result.{IfOk-from_err}
 use Rattle.sr_resp.specs.declared.stage.Place.{Place}
