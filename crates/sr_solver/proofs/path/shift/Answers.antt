@@ -2,7 +2,7 @@ use Rattle.std.proofs.Common.{◌≡◌, ℕ, ◌<◌, length, get_or, refl, ◌
 use Rattle.std.proofs.lemmas.List.{get_or_default}
 use Rattle.sr_transport.specs.Problem.{room_of}
 use Rattle.sr_solver.specs.Labels.{label_at}
-use Rattle.sr_solver.proofs.PathLemmas.{shifting_more, shifted_last, put_in_room}
+use Rattle.sr_solver.proofs.PathLemmas.{mover_falls, shifting_more, shifted_last, put_in_room}
 use Rattle.sr_solver.proofs.path.shift.Goals as goal
 
 pub returns-then-mover-entry-clause-assign : goal.returns-then-mover-entry-clause-assign
@@ -100,3 +100,16 @@ returns-then-mover-entry-clause-members c = c.put.ensures.members
 
 pub returns-then-mover-entry-clause-table : goal.returns-then-mover-entry-clause-table
 returns-then-mover-entry-clause-table c = c.put.ensures.table
+
+pub path-smaller : goal.path-smaller
+path-smaller c =
+    let shifting = c.path.invariant.shifting in
+    let mover : ℕ = (label_at c.args.labels.now c.path.place).mover in
+    let within : mover < length c.path.placement.assign.items =
+    omega (arith, c.requires.paths.entry c.path.place shifting.consumer shifting.reached, shifting.every) in
+    let from : c.index-from.result.now ≡ get_or c.path.placement.assign.items mover 0 =
+    c.index-from.ensures ∙ get_or_default _ _ _ 0 within in
+    rw from (
+    mover_falls c.args.labels.now c.args.entry c.args.end c.args.placement.now.assign.items c.path.placement.assign.items c.path.place
+    c.requires.paths shifting
+    )

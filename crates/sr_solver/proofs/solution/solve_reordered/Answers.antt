@@ -3,6 +3,7 @@ use Rattle.std.proofs.lemmas.List.{take_at}
 use Rattle.sr_transport.proofs.CallerLemmas.{prices_show_cheapest, shortage_excludes}
 use Rattle.sr_solver.proofs.OrderLemmas.{renamed_solution}
 use Rattle.sr_solver.proofs.RenamedShortageLemmas.{renamed_shortage_is, shortage_places}
+use Rattle.std.proofs.lemmas.Result.{IfOk-from_err}
 use Rattle.sr_solver.proofs.solution.solve_reordered.Goals as goal
 
 pub returns-in-Best-clause-solution : goal.returns-in-Best-clause-solution
@@ -36,3 +37,36 @@ returns-clause-solution c =
 
 pub returns-clause-optimal : goal.returns-clause-optimal
 returns-clause-optimal c = shortage_excludes c.args.problem.now c.in_ok-set-in-Short.set.items (returns-clause-solution c)
+
+pub returns-in_err-order-clause-solution : goal.returns-in_err-order-clause-solution
+returns-in_err-order-clause-solution c = IfOk-from_err _ _ c.from_residual.ensures.0
+
+pub returns-in_err-order-clause-optimal : goal.returns-in_err-order-clause-optimal
+returns-in_err-order-clause-optimal c = IfOk-from_err _ _ c.from_residual.ensures.0
+
+pub returns-in_err-other-clause-solution : goal.returns-in_err-other-clause-solution
+returns-in_err-other-clause-solution c = IfOk-from_err _ _ c.from_residual-in_err-other.ensures.0
+
+pub returns-in_err-other-clause-optimal : goal.returns-in_err-other-clause-optimal
+returns-in_err-other-clause-optimal c = IfOk-from_err _ _ c.from_residual-in_err-other.ensures.0
+
+pub returns-in_err-renamed-clause-solution : goal.returns-in_err-renamed-clause-solution
+returns-in_err-renamed-clause-solution c = IfOk-from_err _ _ c.from_residual-in_err-renamed.ensures.0
+
+pub returns-in_err-renamed-clause-optimal : goal.returns-in_err-renamed-clause-optimal
+returns-in_err-renamed-clause-optimal c = IfOk-from_err _ _ c.from_residual-in_err-renamed.ensures.0
+
+pub returns-in_err-assign-clause-solution : goal.returns-in_err-assign-clause-solution
+returns-in_err-assign-clause-solution c = IfOk-from_err _ _ c.from_residual-in_err-assign.ensures.0
+
+pub returns-in_err-assign-clause-optimal : goal.returns-in_err-assign-clause-optimal
+returns-in_err-assign-clause-optimal c = IfOk-from_err _ _ c.from_residual-in_err-assign.ensures.0
+
+pub returns-in_err-set-in-Short-clause-solution : goal.returns-in_err-set-in-Short-clause-solution
+returns-in_err-set-in-Short-clause-solution c = IfOk-from_err _ _ c.from_residual-in_err-set-in-Short.ensures.0
+
+pub returns-in_err-set-in-Short-clause-optimal : goal.returns-in_err-set-in-Short-clause-optimal
+returns-in_err-set-in-Short-clause-optimal c = IfOk-from_err _ _ c.from_residual-in_err-set-in-Short.ensures.0
+
+pub reordered-requires : goal.reordered-requires
+reordered-requires c = rw c.deref.ensures.value c.in_ok-order.ensures

@@ -1,0 +1,43 @@
+use Rattle.std.proofs.Common.{◌≡◌, ◌+◌, ◌*◌, refl, ap, arith}
+use Rattle.std.proofs.lemmas.Nat.{mul-add-lt}
+use Rattle.sr_transport.specs.Problem.{consumers}
+use Rattle.sr_solver.proofs.TableLemmas.{row_more}
+use Rattle.sr_solver.proofs.table.leave.Goals as goal
+
+pub loop-to-preserved : goal.loop-to-preserved
+loop-to-preserved c =
+    row_more (consumers c.args.problem.now) c.args.from c.loop-to.to _ _ c.args.table.now c.loop-to.table c.without-known.result
+    c.loop-to.invariant c.requires.from (omega arith) c.requires.each_pair
+    (ap (λ n. c.args.from * n + c.loop-to.to) c.consumers.ensures.count) c.without-known.ensures
+
+pub loop-to-init : goal.loop-to-init
+loop-to-init c = record {
+  one_each = refl;
+  row = λ b below. absurd (omega arith);
+  others = λ q out. refl;
+}
+
+pub returns : goal.returns
+returns c =
+    let at_end : c.loop-to.to ≡ consumers c.args.problem.now = omega arith in
+    rw at_end at c.loop-to.invariant
+
+pub bounds-table-pair : goal.bounds-table-pair
+bounds-table-pair c =
+    let n = c.consumers.result in
+    omega (
+      arith,
+      mul-add-lt c.args.from n c.loop-to.to n (omega arith) (omega arith),
+      ap (λ k. k * k) c.consumers.ensures.count,
+      c.requires.each_pair,
+    )
+
+pub slice_copy_out-without : goal.slice_copy_out-without
+slice_copy_out-without c =
+    let n = c.consumers.result in
+    omega (
+      arith,
+      mul-add-lt c.args.from n c.loop-to.to n (omega arith) (omega arith),
+      ap (λ k. k * k) c.consumers.ensures.count,
+      c.requires.each_pair,
+    )
