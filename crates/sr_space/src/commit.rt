@@ -29,9 +29,6 @@ impl Space {
         ensures err { OnErr result (self.new ≡ self.old) }
     {
         let calls = verdict.claim_calls(alloc)?;
-        if calls.is_empty() {
-            return Ok(());
-        }
         let snapshot = verdict.snapshot();
         match self.keys.get_mut(snapshot.key()) {
             Some(stream) => {
