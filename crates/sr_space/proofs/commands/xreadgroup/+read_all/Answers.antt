@@ -1,11 +1,52 @@
-use Rattle.std.proofs.Common.{◌≡◌, List, ◌∷◌, Result, Ok, Err, OnErr, ◌++◌, ap, sym, subst, ◌∙◌}
+use Rattle.std.proofs.Common.{◌≡◌, Bool, true, false, ◌&&◌, List, ◌∷◌, Result, Ok, Err, OnErr, ◌++◌, refl, ap, sym, subst, ◌∙◌, true≢false, rules}
 use Rattle.sr_args.specs.Different.{AreDifferent}
 use Rattle.sr_args.specs.declared.reads.ReadAsked.{ReadAsked}
-use Rattle.sr_space.specs.Keys.{Key, shown_keys}
+use Rattle.sr_space.specs.Keys.{Key, Keys, shown_keys}
 use Rattle.sr_space.specs.steps.Reading.{StayBesideAll, keys_after, listed_by, named_by}
 use Rattle.sr_space.specs.commands.Xread.{listed_or_null}
+use Rattle.sr_space.specs.commands.Xreadgroup.{have_group}
 use Rattle.sr_space.proofs.ReadGroupLemmas.{first-listed, first-read, others-read, others-shown}
 use Rattle.sr_space.proofs.commands.xreadgroup.+read_all.Goals as goal
+
+-- both of two tests that hold together hold
+first_of : (a b : Bool) → a && b ≡ true → a ≡ true
+first_of true b both = refl
+first_of false b both = both
+
+second_of : (a b : Bool) → a && b ≡ true → b ≡ true
+second_of true b both = both
+second_of false b both = absurd (true≢false (sym both))
+
+pub prepare_at-requires : goal.prepare_at-requires
+prepare_at-requires t c =
+    let name = c.args.read.now.group.now in
+    let keys = shown_keys c.args.keys.now.entries in
+    let first = c.in-Some.first.now in
+    let rest = c.in-Some.rest.now in
+    let streams : c.args.streams.now ≡ first ∷ rest = c.in-Some.ensures.cases.0 in
+    let there : have_group name keys (first ∷ rest) ≡ true = rw streams at c.requires.there in
+    record { array = c.requires.array; there = first_of _ (have_group name keys rest) there }
+
+pub read_all-requires : goal.read_all-requires
+read_all-requires t c =
+    let name = c.args.read.now.group.now in
+    let keys = shown_keys c.args.keys.now.entries in
+    let first = c.in-Some.first.now in
+    let rest = c.in-Some.rest.now in
+    let streams : c.args.streams.now ≡ first ∷ rest = c.in-Some.ensures.cases.0 in
+    let different : AreDifferent (named_by (first ∷ rest)) = rw streams at c.requires.different in
+    let there : have_group name keys (first ∷ rest) ≡ true = rw streams at c.requires.there in
+    let others : have_group name keys rest ≡ true = second_of _ (have_group name keys rest) there in
+    (search rules, ((_, c.in_ok-shown.ensures.listed c.requires.array.0 c.requires.array.1), (different.1, ap (λ (k : Keys). have_group name k rest) c.prepare_at.ensures.keys ∙ others)))
+
+pub show_at-requires : goal.show_at-requires
+show_at-requires t c =
+    let first = c.in-Some.first.now in
+    let rest = c.in-Some.rest.now in
+    let streams : c.args.streams.now ≡ first ∷ rest = c.in-Some.ensures.cases.0 in
+    let different : AreDifferent (named_by (first ∷ rest)) = rw streams at c.requires.different in
+    let room = c.in_ok-shown.ensures.room in
+    record { kept = room.kept; there = c.read_all.ensures.others first.0 different.0 ∙ room.there; room = room.room }
 
 pub returns-clause-keys : goal.returns-clause-keys
 returns-clause-keys t c =
