@@ -3,6 +3,7 @@ pub mod DeliveryLemmas
 pub mod FoundLemmas
 pub mod GroupLemmas
 pub mod JudgeLemmas
+pub mod LoopLemmas
 pub mod MovingLemmas
 pub mod NameLemmas
 pub mod ScanLemmas
