@@ -1,5 +1,5 @@
 -- What is shown of the stored reads, against what the map says of them.
-use Rattle.std.proofs.Common.{◌≡◌, ℕ, ◌==◌, Bool, true, false, cond, not, ◌||◌, List, [], ◌∷◌, ◌++◌, Option, Some, None, is_some, nat_eq, slice_get, refl, sym, ap, ◌∙◌, true≢false}
+use Rattle.std.proofs.Common.{◌≡◌, ℕ, ◌<◌, ◌==◌, Bool, true, false, cond, not, ◌||◌, List, [], ◌∷◌, ◌++◌, length, Option, Some, None, is_some, nat_eq, slice_get, refl, sym, ap, ◌∙◌, true≢false, arith}
 use Rattle.std.proofs.lemmas.Bool.{eqb-true}
 use Rattle.std.proofs.lemmas.Cmp.{nat_eq_equiv}
 use Rattle.std.proofs.lemmas.Map.Keys.{IsDistinct-head, IsDistinct-tail}
@@ -142,3 +142,7 @@ is_some_first_due moment (read ∷ list) = by (is_due moment read) (is_some_firs
         → is_some (session_of (slice_get (cond test (read ∷ due_at moment list) (due_at moment list)) 0)) ≡ (test || list_any (is_due moment) list)
     by true rest = refl
     by false rest = rest
+
+-- what is left is shorter after a read
+pub shorter-next : (e : ℕ × Blocked) (rest left : Stored) → rest ≡ e ∷ left → length left < length rest
+shorter-next e rest left steps = rw steps (omega arith)
