@@ -3,3 +3,4 @@ pub mod VerdictLemmas
 pub mod ArrayLemmas
 pub mod PlanReplyLemmas
 pub mod CallsLemmas
+pub mod BestLemmas

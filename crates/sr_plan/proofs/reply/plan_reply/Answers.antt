@@ -1,15 +1,29 @@
-use Rattle.std.proofs.Common.{List, ◌∙◌, ap, map}
+use Rattle.std.proofs.Common.{List, ◌∙◌, length, ap, map, refl, sym, arith}
+use Rattle.std.proofs.lemmas.List.{length-map}
 use Rattle.std.specs.List.{zip}
 use Rattle.std.proofs.lemmas.Result.{IfOk-from_err, IfOk-weaker}
 use Rattle.sr_ids.specs.declared.id.Id.{Id}
 use Rattle.sr_policy.specs.declared.live.Live.{Live}
 use Rattle.sr_policy.specs.declared.stranded.Stranded.{Stranded}
+use Rattle.sr_policy.specs.Problem.{room_at}
 use Rattle.sr_policy.specs.Rules.{Text}
 use Rattle.sr_resp.specs.Reply.{array_of, bulk_string}
 use Rattle.sr_check.specs.PlanReply.{id_answer, move_answer, share_answer}
 use Rattle.sr_plan.specs.Verdict.{name_at}
+use Rattle.sr_plan.proofs.BestLemmas.{AreMoves-best}
 use Rattle.sr_plan.proofs.PlanReplyLemmas.{plan-written}
 use Rattle.sr_plan.proofs.reply.plan_reply.Goals as goal
+
+pub new-moves-requires : goal.new-moves-requires
+new-moves-requires c =
+    let moves = AreMoves-best c.args.snapshot.now c.args.assign.now c.args.assign.now c.args.prices.now c.args.total c.stranded.result.now c.live-live.result.now c.requires refl c.stranded.ensures c.live-live.ensures in
+    record { each = moves.each; consumers = moves.consumers }
+
+pub number_reply-cost-requires : goal.number_reply-cost-requires
+number_reply-cost-requires c = omega (arith, c.requires.small_total)
+
+pub prices_reply-requires : goal.prices_reply-requires
+prices_reply-requires c = record { each = c.requires.shown.one_each ∙ length-map c.args.snapshot.now.live room_at ∙ sym (ap length c.live-live.ensures); small = λ k d within. omega (arith, c.requires.small_prices k d within) }
 
 pub returns-in_err-moves : goal.returns-in_err-moves
 returns-in_err-moves c = IfOk-from_err _ _ c.from_residual.ensures.0
