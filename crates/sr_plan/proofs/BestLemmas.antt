@@ -1,5 +1,5 @@
 -- What a best assignment says of the moves of a plan.
-use Rattle.std.proofs.Common.{◌≡◌, ℕ, ◌+◌, ◌<◌, List, length, get_or, map, ap, sym, ◌∙◌, arith}
+use Rattle.std.proofs.Common.{◌≡◌, ℕ, ◌<◌, List, length, map, ap, sym, ◌∙◌}
 use Rattle.std.proofs.lemmas.List.{get_or_default, length-map}
 use Rattle.sr_transport.specs.Solved.{IsBest}
 use Rattle.sr_policy.specs.declared.live.Live.{Live}

@@ -1,4 +1,3 @@
-use Rattle.std.proofs.Common.{refl}
 use Rattle.sr_plan.proofs.BestLemmas.{AreMoves-best}
 use Rattle.sr_plan.proofs.judgement.Judgement.moves.Goals as goal
 
