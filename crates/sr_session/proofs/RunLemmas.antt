@@ -71,3 +71,32 @@ IsPieceEnd-desk (ends.SendFault sent) is = absurd is
 IsPieceEnd-desk ends.Turns is = absurd is
 IsPieceEnd-desk ends.Memory is = tt
 IsPieceEnd-desk ends.Desk is = tt
+
+-- ---- ends that differ
+
+pub Closed≢ReadFault : ends.Closed ≡ ends.ReadFault → ⊥
+Closed≢ReadFault e = cc
+
+pub Closed≢SendFault : (sent : ℕ) → ends.Closed ≡ ends.SendFault sent → ⊥
+Closed≢SendFault sent e = cc
+
+pub Closed≢Turns : ends.Closed ≡ ends.Turns → ⊥
+Closed≢Turns e = cc
+
+pub ReadFault≢Closed : ends.ReadFault ≡ ends.Closed → ⊥
+ReadFault≢Closed e = cc
+
+pub ReadFault≢SendFault : (sent : ℕ) → ends.ReadFault ≡ ends.SendFault sent → ⊥
+ReadFault≢SendFault sent e = cc
+
+pub ReadFault≢Turns : ends.ReadFault ≡ ends.Turns → ⊥
+ReadFault≢Turns e = cc
+
+pub Turns≢Closed : ends.Turns ≡ ends.Closed → ⊥
+Turns≢Closed e = cc
+
+pub Turns≢ReadFault : ends.Turns ≡ ends.ReadFault → ⊥
+Turns≢ReadFault e = cc
+
+pub Turns≢SendFault : (sent : ℕ) → ends.Turns ≡ ends.SendFault sent → ⊥
+Turns≢SendFault sent e = cc

@@ -1,7 +1,7 @@
 use Rattle.std.proofs.Common.{◌≡◌, ◌+◌, [], ◌++◌, take, arith, rules, refl, ◌∙◌, subst}
 use Rattle.std.proofs.KnownBytes.{Appends-nil, Appends-trans, Consumes-kept, Consumes-nil, Consumes-trans}
 use Rattle.sr_session.specs.steps.Underway.{IsPieceEnd}
-use Rattle.sr_session.proofs.RunLemmas.{Consumes-none, CountsReads-more, CountsReads-none, IsNoted-sent, IsNoted-unsent}
+use Rattle.sr_session.proofs.RunLemmas.{Closed≢ReadFault, Closed≢SendFault, Closed≢Turns, Consumes-none, CountsReads-more, CountsReads-none, IsNoted-sent, IsNoted-unsent, ReadFault≢Closed, ReadFault≢SendFault, ReadFault≢Turns, Turns≢Closed, Turns≢ReadFault, Turns≢SendFault}
 use Rattle.sr_session.proofs.UnderwayLemmas.{IsAnswered-from_goes_on}
 use Rattle.sr_session.proofs.run.serve_requests.Goals as goal
 
@@ -26,11 +26,11 @@ returns-in-Ok-eq0 g c =
     let none : c.in-Ok-eq0.field-0 ≡ 0 = search rules in
     record {
       session = (b.0, b.1, Consumes-none _ _ _ b.0 _ _ none b.2 c.in-Ok-eq0.ensures.bytes.0, b.3, IsAnswered-from_goes_on _ _ b.0 b.1 _ _ _ b.4);
-      reads = (c.loop-turn._turn + 1, omega arith, CountsReads-more _ _ _ _ i.reads c.in-Ok-eq0.ensures.count, λ e. cc);
+      reads = (c.loop-turn._turn + 1, omega arith, CountsReads-more _ _ _ _ i.reads c.in-Ok-eq0.ensures.count, λ e. absurd (Closed≢Turns e));
       same = i.same;
       closed = λ e. c.in-Ok-eq0.ensures.end none (search rules);
-      read_fault = λ e. cc;
-      send_fault = λ sent e. cc;
+      read_fault = λ e. absurd (Closed≢ReadFault e);
+      send_fault = λ sent e. absurd (Closed≢SendFault sent e);
       heeds_end = λ other. absurd (other refl);
       heeds_read_fault = λ other. c.in-Ok-eq0.ensures.ok ∙ i.read_failed;
       heeds_send_fault = λ other. i.write_failed;
@@ -42,11 +42,11 @@ returns-in-Err g c =
     let b = i.bytes in
     record {
       session = (b.0, b.1, Consumes-kept _ _ _ b.0 b.2 c.in-Err.ensures.bytes, b.3, IsAnswered-from_goes_on _ _ b.0 b.1 _ _ _ b.4);
-      reads = (c.loop-turn._turn + 1, omega arith, CountsReads-more _ _ _ _ i.reads c.in-Err.ensures.count, λ e. cc);
+      reads = (c.loop-turn._turn + 1, omega arith, CountsReads-more _ _ _ _ i.reads c.in-Err.ensures.count, λ e. absurd (ReadFault≢Turns e));
       same = i.same;
-      closed = λ e. cc;
+      closed = λ e. absurd (ReadFault≢Closed e);
       read_fault = λ e. c.in-Err.ensures.err;
-      send_fault = λ sent e. cc;
+      send_fault = λ sent e. absurd (ReadFault≢SendFault sent e);
       heeds_end = λ other. c.in-Err.ensures.err_end ∙ i.ended;
       heeds_read_fault = λ other. absurd (other refl);
       heeds_send_fault = λ other. i.write_failed;
@@ -107,9 +107,9 @@ returns g c =
       session = (b.0, b.1, b.2, b.3, IsAnswered-from_goes_on _ _ b.0 b.1 _ _ _ b.4);
       reads = (c.loop-turn._turn, omega arith, i.reads, λ e. omega arith);
       same = i.same;
-      closed = λ e. cc;
-      read_fault = λ e. cc;
-      send_fault = λ sent e. cc;
+      closed = λ e. absurd (Turns≢Closed e);
+      read_fault = λ e. absurd (Turns≢ReadFault e);
+      send_fault = λ sent e. absurd (Turns≢SendFault sent e);
       heeds_end = λ other. i.ended;
       heeds_read_fault = λ other. i.read_failed;
       heeds_send_fault = λ other. i.write_failed;

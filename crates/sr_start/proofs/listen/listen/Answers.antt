@@ -1,9 +1,12 @@
 use Rattle.std.proofs.Common.{[], refl}
 use Rattle.std.proofs.KnownBytes.{Appends-nil}
 use Rattle.sr_book.specs.Records.{empty_book}
-use Rattle.sr_start.specs.Listening.{binds_not, ends}
+use Rattle.sr_start.specs.Listening.{binds_not, ends, opens_not}
 use Rattle.sr_start.proofs.ListenLemmas.{may_end_so, said_unless_failed}
 use Rattle.sr_start.proofs.listen.listen.Goals as goal
+
+pub returns-in-Err : goal.returns-in-Err
+returns-in-Err g c = record { listened = ([], Appends-nil _, opens_not c.in-Err.ensures.book refl) }
 
 pub returns-in-Ok-listen : goal.returns-in-Ok-listen
 returns-in-Ok-listen g c =
