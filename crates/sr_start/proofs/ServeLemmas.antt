@@ -1,5 +1,5 @@
 -- A session that starts with an empty book is one that the program serves, and one without a book is none.
-use Rattle.std.proofs.Common.{◌≡◌, ℕ, Bool, false, List, [], Option, Some, Result, Err, subst, refl, ap, inl, inr}
+use Rattle.std.proofs.Common.{◌≡◌, ◌≤◌, ◌⊎◌, ◌∙◌, ℕ, Bool, true, false, true≢false, List, [], Option, Some, Result, Err, subst, refl, sym, ap, arith, inl, inr}
 use Rattle.sr_policy.specs.Rules.{Rules}
 use Rattle.sr_book.specs.Records.{BookState, empty_book}
 use Rattle.sr_session.specs.Whole.{RunsAs}
@@ -21,3 +21,19 @@ pub not_opened : (may_tell : ℕ → Bool) (may_hold : List ℕ → Option (List
     → Opens may_hold policy (Err fault) → Runs may_tell may_hold policy [] [] (Err fault)
 not_opened may_tell may_hold policy fault (inl is) = starts_not refl refl (inr (ap Err is))
 not_opened may_tell may_hold policy fault (inr loads) = loads_not fault refl refl loads refl
+
+-- ---- a command line that is refused
+
+-- its status is a fault's
+pub refused-some : (status : ℕ) → (status ≡ 1) ⊎ (status ≡ 2) → 1 ≤ status
+refused-some status (inl is) = omega (arith, is)
+refused-some status (inr is) = omega (arith, is)
+
+pub refused-not_0 : (status : ℕ) → (status ≡ 1) ⊎ (status ≡ 2) → status ≡ 0 → ⊥
+refused-not_0 status (inl is) none = omega (arith, is, none)
+refused-not_0 status (inr is) none = omega (arith, is, none)
+
+-- neither the reader nor the writer failed
+pub none_failed : (read write : Bool) → read ≡ false → write ≡ false → (read ≡ true) ⊎ (write ≡ true) → ⊥
+none_failed read write sound whole (inl failed) = true≢false (sym failed ∙ sound)
+none_failed read write sound whole (inr failed) = true≢false (sym failed ∙ whole)

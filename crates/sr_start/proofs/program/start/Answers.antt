@@ -1,4 +1,4 @@
-use Rattle.std.proofs.Common.{[], Err, refl, inl, subst}
+use Rattle.std.proofs.Common.{[], ◌∙◌, Err, inl, refl, subst, sym, true≢false}
 use Rattle.std.proofs.KnownBytes.{Consumes-nil, Appends-nil}
 use Rattle.sr_start.specs.declared.fault.Fault.TheVariants.{StartMemory}
 use Rattle.sr_options.specs.Command.{AsksForNothing, AsksForStdio, AsksToListen}
@@ -7,6 +7,7 @@ use Rattle.sr_serve.specs.Moment.{any_moment}
 use Rattle.sr_start.specs.Listening.{Listens, starts_not as listens_not}
 use Rattle.sr_options.specs.Options.{Asked}
 use Rattle.sr_options.proofs.CommandLemmas.{not_both}
+use Rattle.sr_start.proofs.ServeLemmas.{none_failed, refused-not_0, refused-some}
 use Rattle.sr_start.proofs.program.start.Goals as goal
 
 -- ---- the options are refused
@@ -20,6 +21,18 @@ pub returns-in-Err-clause-listened : goal.returns-in-Err-clause-listened
 returns-in-Err-clause-listened g c = λ name flags words_are once asks.
     let is_1 = c.refuse.ensures.memory (c.in-Err.ensures.err name flags words_are once) in
     (asks.0, asks.1, asks.2, asks.3, [], Appends-nil _, StartMemory, listens_not refl refl, is_1, refl)
+
+pub returns-in-Err-clause-both : goal.returns-in-Err-clause-both
+returns-in-Err-clause-both g c = λ name flags words_are once nothing. (refused-some _ c.refuse.ensures.status, refl, refl, refl, refl)
+
+pub returns-in-Err-clause-ok : goal.returns-in-Err-clause-ok
+returns-in-Err-clause-ok g c = (λ e. absurd (refused-not_0 _ c.refuse.ensures.status e), λ e. absurd (true≢false (sym e ∙ c.requires.unread.0)))
+
+pub returns-in-Err-clause-failed : goal.returns-in-Err-clause-failed
+returns-in-Err-clause-failed g c = λ e. absurd (none_failed _ _ c.requires.unread.1 c.requires.unwritten e)
+
+pub returns-in-Err-clause-refused : goal.returns-in-Err-clause-refused
+returns-in-Err-clause-refused g c = λ e. (refl, refl, refl, refl)
 
 -- ---- they ask for standard input and output
 
