@@ -9,4 +9,4 @@ told_or_greatest (Ok x) n told value fits is same = omega (arith, fits.0, fits.1
 told_or_greatest (Err e) n told value fits is same = omega (arith, fits, is, same)
 
 pub returns : goal.returns
-returns c = told_or_greatest c.try_from.result _ _ _ c.try_from.ensures c.unwrap_or.ensures cc
+returns c = told_or_greatest c.try_from.result _ _ _ c.try_from.ensures c.unwrap_or.ensures c.as_millis.ensures
