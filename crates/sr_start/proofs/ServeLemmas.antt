@@ -1,11 +1,13 @@
 -- A session that starts with an empty book is one that the program serves, and one without a book is none.
-use Rattle.std.proofs.Common.{◌≡◌, ◌≤◌, ◌⊎◌, ◌∙◌, ℕ, Bool, true, false, true≢false, List, [], Option, Some, Result, Err, subst, refl, sym, ap, arith, inl, inr}
+use Rattle.std.proofs.Common.{◌≡◌, ◌≤◌, ◌⊎◌, ◌∙◌, ◌↔◌, ℕ, Bool, true, false, true≢false, List, [], Option, Some, Result, Ok, Err, IsOk, subst, refl, sym, ap, arith, inl, inr}
+use Rattle.std.specs.Result.{IsErrOf}
 use Rattle.sr_policy.specs.Rules.{Rules}
 use Rattle.sr_book.specs.Records.{BookState, empty_book}
 use Rattle.sr_session.specs.Whole.{RunsAs}
 use Rattle.sr_session.specs.declared.run.Ended.{Ended}
 use Rattle.sr_start.specs.declared.fault.Fault.{Fault}
-use Rattle.sr_start.specs.Fault.{Runs, Serves, loads_not, outcome_of, starts_not}
+use Rattle.sr_start.specs.declared.fault.Fault.TheVariants.{Read, Write}
+use Rattle.sr_start.specs.Fault.{Runs, Serves, loads_not, outcome_of, starts_not, status_of}
 use Rattle.sr_start.specs.Listening.{Opens}
 
 pub served_from : (may_tell : ℕ → Bool) (rules : Rules) (taken written : List ℕ) (found now : Option BookState) (ended : Ended) (outcome : Result (Unit {0}) Fault)
@@ -37,3 +39,19 @@ refused-not_0 status (inr is) none = omega (arith, is, none)
 pub none_failed : (read write : Bool) → read ≡ false → write ≡ false → (read ≡ true) ⊎ (write ≡ true) → ⊥
 none_failed read write sound whole (inl failed) = true≢false (sym failed ∙ sound)
 none_failed read write sound whole (inr failed) = true≢false (sym failed ∙ whole)
+
+-- ---- the status of a session
+
+pub ended-ok : (ended : Result (Unit {0}) Fault) (status : ℕ) (Closed : Type 0) → status ≡ status_of ended → IsOk ended ↔ Closed → (status ≡ 0) ↔ Closed
+ended-ok (Ok done) status Closed is just = (λ e. just.0 refl, λ closed. is)
+ended-ok (Err fault) status Closed is just = (λ e. absurd (omega (arith, is, e)), λ closed. absurd (true≢false (sym (just.1 closed))))
+
+pub ended-failed : (ended : Result (Unit {0}) Fault) (status : ℕ) (NoRead NoWrite : Type 0) → status ≡ status_of ended → IsErrOf ended Read ↔ NoRead → IsErrOf ended Write ↔ NoWrite
+    → NoRead ⊎ NoWrite → status ≡ 1
+ended-failed (Ok done) status NoRead NoWrite is reads writes (inl failed) = cc (reads.1 failed)
+ended-failed (Ok done) status NoRead NoWrite is reads writes (inr failed) = cc (writes.1 failed)
+ended-failed (Err fault) status NoRead NoWrite is reads writes failed = is
+
+pub ended-not_2 : (ended : Result (Unit {0}) Fault) (status : ℕ) → status ≡ status_of ended → status ≡ 2 → ⊥
+ended-not_2 (Ok done) status is two = omega (arith, is, two)
+ended-not_2 (Err fault) status is two = omega (arith, is, two)

@@ -1,4 +1,4 @@
-use Rattle.std.proofs.Common.{[], ◌∙◌, Err, inl, refl, subst, sym, true≢false}
+use Rattle.std.proofs.Common.{[], ◌∙◌, Err, inl, inr, refl, subst, sym, true≢false}
 use Rattle.std.proofs.KnownBytes.{Consumes-nil, Appends-nil}
 use Rattle.sr_start.specs.declared.fault.Fault.TheVariants.{StartMemory}
 use Rattle.sr_options.specs.Command.{AsksForNothing, AsksForStdio, AsksToListen}
@@ -7,7 +7,7 @@ use Rattle.sr_serve.specs.Moment.{any_moment}
 use Rattle.sr_start.specs.Listening.{Listens, starts_not as listens_not}
 use Rattle.sr_options.specs.Options.{Asked}
 use Rattle.sr_options.proofs.CommandLemmas.{not_both}
-use Rattle.sr_start.proofs.ServeLemmas.{none_failed, refused-not_0, refused-some}
+use Rattle.sr_start.proofs.ServeLemmas.{ended-failed, ended-not_2, ended-ok, none_failed, refused-not_0, refused-some}
 use Rattle.sr_start.proofs.program.start.Goals as goal
 
 -- ---- the options are refused
@@ -53,6 +53,15 @@ returns-in-Ok-Stdio-clause-both g c = λ name flags words_are once nothing.
     let stdio = subst AsksForStdio (c.in-Ok.ensures.ok name flags words_are once) (rw c.in-Ok-Stdio.field-0-is at c.in-Ok-Stdio.ensures.ok) in
     absurd (nothing.no_stdio stdio)
 
+pub returns-in-Ok-Stdio-clause-ok : goal.returns-in-Ok-Stdio-clause-ok
+returns-in-Ok-Stdio-clause-ok g c = ended-ok c.connect.result _ _ c.report.ensures c.connect.ensures.ok
+
+pub returns-in-Ok-Stdio-clause-failed : goal.returns-in-Ok-Stdio-clause-failed
+returns-in-Ok-Stdio-clause-failed g c = ended-failed c.connect.result _ _ _ c.report.ensures c.connect.ensures.read c.connect.ensures.write
+
+pub returns-in-Ok-Stdio-clause-refused : goal.returns-in-Ok-Stdio-clause-refused
+returns-in-Ok-Stdio-clause-refused g c = λ e. absurd (ended-not_2 c.connect.result _ c.report.ensures e)
+
 -- ---- they ask for an address
 
 pub returns-in-Ok-Listen-clause-served : goal.returns-in-Ok-Listen-clause-served
@@ -80,6 +89,16 @@ returns-in-Ok-Listen-clause-both g c = λ name flags words_are once nothing.
     (c.in-Ok.ensures.ok name flags words_are once) (rw c.in-Ok-Listen.field-0-is at c.in-Ok-Listen.ensures.ok) in
     absurd (nothing.no_address (asked.text.now, asked.address, asked.workers, listen))
 
+pub returns-in-Ok-Listen-clause-ok : goal.returns-in-Ok-Listen-clause-ok
+returns-in-Ok-Listen-clause-ok g c =
+    (λ e. absurd (refused-not_0 _ (inl c.report-in-Ok-Listen.ensures) e), λ e. absurd (true≢false (sym e ∙ c.requires.unread.0)))
+
+pub returns-in-Ok-Listen-clause-failed : goal.returns-in-Ok-Listen-clause-failed
+returns-in-Ok-Listen-clause-failed g c = λ e. c.report-in-Ok-Listen.ensures
+
+pub returns-in-Ok-Listen-clause-refused : goal.returns-in-Ok-Listen-clause-refused
+returns-in-Ok-Listen-clause-refused g c = λ e. absurd (ended-not_2 (Err c.listen-fault.result) _ c.report-in-Ok-Listen.ensures e)
+
 -- ---- they ask for nothing
 
 pub returns-in-Err-request_of-clause-served : goal.returns-in-Err-request_of-clause-served
@@ -91,3 +110,16 @@ pub returns-in-Err-request_of-clause-listened : goal.returns-in-Err-request_of-c
 returns-in-Err-request_of-clause-listened g c = λ name flags words_are once asks.
     let nothing = subst AsksForNothing (c.in-Ok.ensures.ok name flags words_are once) c.in-Err-request_of.ensures.err in
     absurd (nothing.no_address asks)
+
+pub returns-in-Err-request_of-clause-both : goal.returns-in-Err-request_of-clause-both
+returns-in-Err-request_of-clause-both g c = λ name flags words_are once nothing. (refused-some _ (inr c.refuse_usage.ensures), refl, refl, refl, refl)
+
+pub returns-in-Err-request_of-clause-ok : goal.returns-in-Err-request_of-clause-ok
+returns-in-Err-request_of-clause-ok g c =
+    (λ e. absurd (refused-not_0 _ (inr c.refuse_usage.ensures) e), λ e. absurd (true≢false (sym e ∙ c.requires.unread.0)))
+
+pub returns-in-Err-request_of-clause-failed : goal.returns-in-Err-request_of-clause-failed
+returns-in-Err-request_of-clause-failed g c = λ e. absurd (none_failed _ _ c.requires.unread.1 c.requires.unwritten e)
+
+pub returns-in-Err-request_of-clause-refused : goal.returns-in-Err-request_of-clause-refused
+returns-in-Err-request_of-clause-refused g c = λ e. (refl, refl, refl, refl)
