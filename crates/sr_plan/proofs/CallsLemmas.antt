@@ -1,10 +1,14 @@
 -- The calls that carry out a plan, consumer by consumer.
-use Rattle.std.proofs.Common.{◌≡◌, ℕ, ◌+◌, ◌<◌, ◌≤◌, List, ◌∷◌, ◌++◌, length, map, drop, get_or, ap, sym, ◌∙◌, append_assoc, append-nil}
+use Rattle.std.proofs.Common.{◌≡◌, ℕ, ◌+◌, ◌<◌, ◌≤◌, ◌==◌, true, false, pos, None, arith, List, [], ◌∷◌, ◌++◌, length, map, drop, get_or, ap, sym, ◌∙◌, append_assoc, append-nil}
+use Rattle.std.proofs.lemmas.Bool.{eqb-true, eqb-false}
 use Rattle.std.proofs.lemmas.List.{drop_all, drop_more}
 use Rattle.sr_args.specs.declared.call.Call.{Call}
+use Rattle.sr_args.specs.declared.call.Call.TheVariants.{Xclaim}
+use Rattle.sr_args.specs.declared.call.TimeAsked.TheVariants.{Now}
 use Rattle.sr_ids.specs.declared.id.Id.{Id}
 use Rattle.sr_policy.specs.declared.live.Live.{Live}
 use Rattle.sr_policy.specs.declared.stranded.Stranded.{Stranded}
+use Rattle.sr_policy.specs.Rules.{Text}
 use Rattle.sr_policy.specs.Snapshot.{Shown}
 use Rattle.sr_plan.specs.Calls.{calls_from, claim_call, ids_for}
 
@@ -32,3 +36,19 @@ pub calls_all : (shown : Shown) (assign : List ℕ) (n : ℕ) (live : List Live)
 calls_all shown assign n live calls past same whole =
     sym (append-nil calls) ∙ ap (λ (rest : List Live). calls ++ calls_from shown assign n rest) (sym (drop_all n live past)) ∙ whole
     ∙ ap (calls_from shown assign 0) same
+
+-- without ids no call is added
+pub no_call : (key group name : Text) (n : ℕ) (ids : List Id) (calls : List Call) → n ≡ length ids → (n == 0) ≡ true
+    → calls ≡ calls ++ claim_call key group name ids
+no_call key group name n [] calls count none = sym (append-nil calls)
+no_call key group name n (id ∷ ids) calls count none = absurd (omega (arith, count, eqb-true n 0 none))
+
+-- and with some it is this one
+pub one_call : (key group name k g m : Text) (n : ℕ) (ids list : List Id) (old new : List Call) → n ≡ length ids → (n == 0) ≡ false
+    → k ≡ key → g ≡ group → m ≡ name → list ≡ ids → new ≡ old ++ Xclaim k g m (pos 0) list Now None true ∷ []
+    → new ≡ old ++ claim_call key group name ids
+one_call key group name k g m n [] list old new count some a b d e added = absurd (eqb-false n 0 some count)
+one_call key group name k g m n (id ∷ ids) list old new count some a b d e added =
+    let whole : Text → Text → Text → List Id → List Call = λ x y z l. old ++ Xclaim x y z (pos 0) l Now None true ∷ [] in
+    added ∙ ap (λ (x : Text). whole x g m list) a ∙ ap (λ (y : Text). whole key y m list) b ∙ ap (λ (z : Text). whole key group z list) d
+    ∙ ap (whole key group name) e
