@@ -45,6 +45,9 @@ overflow_add-entry c = omega arith
 pub returns-then-entry-searches : goal.returns-then-entry-searches
 returns-then-entry-searches c = c.if-not-is_patient.true
 
+pub returns-then-not-place : goal.returns-then-not-place
+returns-then-not-place c = c.place.ensures.stuck c.if-not-place.true
+
 pub returns : goal.returns
 returns c =
     let all : c.loop-entry.entry ≡ c.args.problem.now.entries = omega arith in
