@@ -174,7 +174,7 @@ impl Problem {
     }
 }
 
-/// Inserts what no line before has told.
+/// Inserts a value whose key no line before has given.
 fn insert_new<K: Ord + Drop, V: Drop>(
     map: &mut BTreeMap<K, V>,
     key: K,

@@ -23,7 +23,7 @@ struct Outline {
     open: Vec<OpenArray>,
 }
 
-/// The bytes that the server sent, where redis-cli printed them as this. Its empty lines say nothing.
+/// The bytes that the server sent, from what redis-cli printed. Empty lines are passed over.
 pub(crate) fn bytes_of(alloc: Global, printed: &[u8]) -> Result<Vec<u8>, Fault> {
     let mut outline = Outline {
         parts: Vec::new(alloc),
@@ -95,7 +95,7 @@ fn array_header(alloc: Global, items: u64) -> Result<Vec<u8>, Fault> {
     Ok(format!(in alloc; "*{items}\r\n")?.into_bytes())
 }
 
-/// A value as it is sent, which is printed without blanks at its ends.
+/// A value as it is sent, from its printed text, which has no blanks at its ends.
 fn value_of(alloc: Global, text: &[u8]) -> Result<Vec<u8>, Fault> {
     if text == b"(empty array)".as_slice() || text == b"(empty list or set)".as_slice() {
         return array_header(alloc, 0);
@@ -106,7 +106,7 @@ fn value_of(alloc: Global, text: &[u8]) -> Result<Vec<u8>, Fault> {
     }
 }
 
-/// A string as it is sent, which is printed in quotes.
+/// A string as it is sent, from its printed text, which is in quotes.
 fn string_of(alloc: Global, text: &[u8]) -> Result<Vec<u8>, Fault> {
     let quoted = text.strip_prefix(b"\"").ok_or(Fault::Form)?;
     let (word, after) = quoted_word(alloc, quoted)?;

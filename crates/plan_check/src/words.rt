@@ -111,7 +111,7 @@ fn is_blank(byte: u8) -> bool
     byte.is_ascii_whitespace()
 }
 
-/// The bytes before the first one of a kind, and the bytes after it. `None` where there is none.
+/// The bytes before the first `mark`, and those after it. `None` if there is no `mark`.
 pub(crate) fn split_once(bytes: &[u8], mark: u8) -> Option<(&[u8], &[u8])>
     ensures found { IfSome result (λ parts. (bytes.now ≡ parts.0.now ++ mark ∷ parts.1.now) × All (λ byte. byte ≢ mark) parts.0.now) }
     ensures none { IfNone result (All (λ byte. byte ≢ mark) bytes.now) }
@@ -121,7 +121,7 @@ pub(crate) fn split_once(bytes: &[u8], mark: u8) -> Option<(&[u8], &[u8])>
     Some((before, rest.get(1..)?))
 }
 
-/// The number that the bytes before the first one of a kind write, and the bytes after it.
+/// The number written before the first `mark`, and the bytes after it.
 pub(crate) fn number_before(bytes: &[u8], mark: u8) -> Option<(u64, &[u8])> {
     let (digits, after) = split_once(bytes, mark)?;
     Some((read_decimal(digits, MOST_DIGITS)?, after))
