@@ -1,6 +1,6 @@
 //! A book, and what is done with it for each line.
 use crate::held::HeldSnapshots;
-use crate::line::{Ask, Deed};
+use crate::line::{Action, Ask};
 use sr_book::{Answer, Book, BookFault, Event, Letter, Out, Record, Status, StepFault};
 use sr_plan::Verdict;
 use sr_policy::Policy;
@@ -75,8 +75,8 @@ impl Driver {
             Ask::Session {
                 told,
                 session,
-                deed,
-            } => return self.do_deed(alloc, told, self.number_of(session), deed),
+                action,
+            } => return self.do_action(alloc, told, self.number_of(session), action),
             Ask::Expire { told } => self.step(alloc, told, NO_SESSION, Event::Expire),
             Ask::Due { told } => Outcome::Due(self.book.due(told)),
             Ask::Collect { session } => {
@@ -96,28 +96,28 @@ impl Driver {
     }
 
     /// A session does something.
-    fn do_deed(
+    fn do_action(
         &mut self,
         alloc: Global,
         told: u64,
         session: u64,
-        deed: Deed,
+        action: Action,
     ) -> Result<Outcome, AllocError> {
         self.held.reserve()?;
-        let event = match deed {
-            Deed::Call { call } => Event::Call { session, call },
-            Deed::Board { key, group } => Event::Board {
+        let event = match action {
+            Action::Call { call } => Event::Call { session, call },
+            Action::Board { key, group } => Event::Board {
                 session,
                 key,
                 group,
             },
-            Deed::Snapshot { key, group, dead } => Event::Snapshot {
+            Action::Snapshot { key, group, dead } => Event::Snapshot {
                 session,
                 key,
                 group,
                 dead,
             },
-            Deed::Conclude { apply, last } => {
+            Action::Conclude { apply, last } => {
                 let Some(snapshot) = self.held.copy_of(alloc, session)? else {
                     return Ok(Outcome::NoVerdict);
                 };
@@ -128,7 +128,7 @@ impl Driver {
                     last,
                 }
             }
-            Deed::Leave => Event::Leave { session },
+            Action::Leave => Event::Leave { session },
         };
         Ok(self.step(alloc, told, session, event))
     }

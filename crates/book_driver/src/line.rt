@@ -15,26 +15,42 @@ const MOST_DIGITS: usize = 20;
 #[derive(Drop)]
 pub(crate) enum Ask {
     /// A new book, with this policy, takes the place of the one that there was.
-    NewBook { policy: Policy },
+    NewBook {
+        policy: Policy,
+    },
     /// A session opens.
-    Join { told: u64 },
+    Join {
+        told: u64,
+    },
     /// A session does something.
-    Session { told: u64, session: u64, deed: Deed },
+    Session {
+        told: u64,
+        session: u64,
+        action: Action,
+    },
     /// Reads whose deadline is reached are answered.
-    Expire { told: u64 },
+    Expire {
+        told: u64,
+    },
     /// Whether a deadline is reached.
-    Due { told: u64 },
+    Due {
+        told: u64,
+    },
     /// What a session was given while it waited.
-    Collect { session: u64 },
+    Collect {
+        session: u64,
+    },
     /// How a session stands.
-    Status { session: u64 },
+    Status {
+        session: u64,
+    },
     /// The records so far.
     Records,
 }
 
 /// What a session does.
 #[derive(Drop)]
-pub(crate) enum Deed {
+pub(crate) enum Action {
     /// It calls.
     Call { call: Call },
     /// It asks for the board of a group.
@@ -103,25 +119,29 @@ fn read_form(alloc: Global, parts: &mut Split<'_, char>) -> Result<Ask, LineFaul
         _ => Ok(Ask::Session {
             told: read_number(parts)?,
             session: read_session(parts)?,
-            deed: read_deed(alloc, form, parts)?,
+            action: read_action(alloc, form, parts)?,
         }),
     }
 }
 
 /// What a session does in a line of this form.
-fn read_deed(alloc: Global, form: &str, parts: &mut Split<'_, char>) -> Result<Deed, LineFault> {
+fn read_action(
+    alloc: Global,
+    form: &str,
+    parts: &mut Split<'_, char>,
+) -> Result<Action, LineFault> {
     match form {
         "call" => read_call_line(alloc, parts),
-        "board" => Ok(Deed::Board {
+        "board" => Ok(Action::Board {
             key: read_name(alloc, parts)?,
             group: read_name(alloc, parts)?,
         }),
         "snapshot" => read_snapshot(alloc, parts),
-        "conclude" => Ok(Deed::Conclude {
+        "conclude" => Ok(Action::Conclude {
             apply: read_flag(parts)?,
             last: read_flag(parts)?,
         }),
-        "leave" => Ok(Deed::Leave),
+        "leave" => Ok(Action::Leave),
         _ => Err(LineFault::Form),
     }
 }
@@ -143,8 +163,8 @@ fn read_policy(alloc: Global, parts: &mut Split<'_, char>) -> Result<Ask, LineFa
 }
 
 /// A snapshot: its key, its group, and the names of the dead.
-fn read_snapshot(alloc: Global, parts: &mut Split<'_, char>) -> Result<Deed, LineFault> {
-    Ok(Deed::Snapshot {
+fn read_snapshot(alloc: Global, parts: &mut Split<'_, char>) -> Result<Action, LineFault> {
+    Ok(Action::Snapshot {
         key: read_name(alloc, parts)?,
         group: read_name(alloc, parts)?,
         dead: read_names(alloc, parts)?,
@@ -180,13 +200,13 @@ fn read_flag(parts: &mut Split<'_, char>) -> Result<bool, LineFault> {
 }
 
 /// A call: its words, which are at least one.
-fn read_call_line(alloc: Global, parts: &mut Split<'_, char>) -> Result<Deed, LineFault> {
+fn read_call_line(alloc: Global, parts: &mut Split<'_, char>) -> Result<Action, LineFault> {
     let words = read_words(alloc, parts)?;
     if words.len() == 0 {
         return Err(LineFault::Form);
     }
     match read_call(alloc, &words) {
-        Ok(Command::Call(call)) => Ok(Deed::Call { call }),
+        Ok(Command::Call(call)) => Ok(Action::Call { call }),
         Ok(Command::Board { .. } | Command::Recover { .. }) => Err(LineFault::Form),
         Err(CallFault::Memory) => Err(LineFault::Memory),
         Err(fault) => Err(LineFault::Refused(fault)),
