@@ -1,5 +1,11 @@
-//! The tests of sr_start and sr_serve, in a crate of their own: a crate that has tests is proved twice.
+//! The tests of crates that are dear to prove, and of the crates below them, in a crate of their own: a crate that has tests is proved twice.
 #![tactic(auto)]
 
 #[cfg(test)]
-mod tests;
+mod parts;
+#[cfg(test)]
+mod program;
+#[cfg(test)]
+mod run;
+#[cfg(test)]
+mod session;

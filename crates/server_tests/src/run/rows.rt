@@ -1,4 +1,4 @@
-// Rows that were worked out by hand, and how they are played: over a held book or one behind a lock, by sessions at two seats.
+// Rows that were worked out by hand, and how they are played: over a book behind a lock, by sessions at two seats.
 use super::command;
 use super::records::keep;
 use sr_args::{Call, Command};
@@ -6,7 +6,7 @@ use sr_book::{Answer, Event, Letter, Out};
 use sr_plan::Verdict;
 use sr_policy::Snapshot;
 use sr_resp::append_reply;
-use sr_run::{ActFault, Held, Receipt, Seat, SeatFault, Shared};
+use sr_run::{ActFault, Receipt, Seat, SeatFault, Shared};
 use std::alloc::{AllocError, Global};
 use std::process::Abort;
 use std::sync::Wait;
@@ -55,7 +55,6 @@ pub(super) const READERS: Row = Row {
         (10, 2, "XREADGROUP GROUP g B BLOCK 0 STREAMS s >", "blocked"),
         (10, 3, "XADD s 1-1 a b", "$3\r\n1-1\r\n"),
         (10, 1, "letter", FIRST),
-        (10, 2, "look", "waits"),
         (10, 2, "PING", "busy"),
         (10, 3, "letter", "idle"),
         (10, 1, "leave", "left"),
@@ -74,7 +73,6 @@ pub(super) const DEADLINE: Row = Row {
         (10, 1, "XREAD BLOCK 100 STREAMS s $", "blocked"),
         (20, 2, "XADD s MAXLEN 0 * a b", "$4\r\n20-0\r\n"),
         (109, 0, "tick", "false"),
-        (109, 1, "look", "waits"),
         (110, 0, "tick", "true"),
         (110, 1, "letter", "5 *-1\r\n"),
         (111, 0, "tick", "false"),
@@ -139,82 +137,6 @@ impl Told {
             receipts: Vec::new(alloc),
             letters: Vec::new(alloc),
             snapshot: None,
-        }
-    }
-}
-
-/// A book that seats use: held, or behind a lock.
-#[derive(Drop)]
-pub(super) enum Hands<'a, L: Ledger> {
-    Held(&'a mut Held<L>),
-    Shared(&'a Shared<L>),
-}
-
-impl<L: Ledger> Hands<'_, L> {
-    /// Whether one who asks for a letter waits for it.
-    fn waits(&self) -> bool {
-        match self {
-            Hands::Held(_) => false,
-            Hands::Shared(_) => true,
-        }
-    }
-
-    /// Carries out an event. It counts as refused for memory if a reader was not served for that: it would be waited for in vain.
-    fn act<R: AllocGlobal + Wait>(
-        &mut self,
-        rt: &R,
-        seat: &mut Seat<L>,
-        told: u64,
-        event: Event,
-    ) -> Result<Answer, SeatFault> {
-        let acted = match self {
-            Hands::Held(held) => held.act(rt.alloc(), seat, told, event),
-            Hands::Shared(shared) => shared.act(rt, rt.alloc(), seat, told, event),
-        };
-        match acted {
-            Ok(answer) => settled(answer),
-            Err(refused) => Err(fault_of(refused)),
-        }
-    }
-
-    /// Makes a call of a session.
-    fn exchange<R: AllocGlobal + Wait>(
-        &mut self,
-        rt: &R,
-        seat: &mut Seat<L>,
-        told: u64,
-        session: u64,
-        call: &Call,
-    ) -> Result<Receipt, SeatFault> {
-        match self {
-            Hands::Held(held) => held.exchange(rt.alloc(), seat, told, session, call),
-            Hands::Shared(shared) => shared.exchange(rt, rt.alloc(), seat, told, session, call),
-        }
-    }
-
-    /// Answers reads whose deadline is reached.
-    fn tick<R: AllocGlobal + Wait>(
-        &mut self,
-        rt: &R,
-        seat: &mut Seat<L>,
-        told: u64,
-    ) -> Result<bool, SeatFault> {
-        match self {
-            Hands::Held(held) => held.tick(rt.alloc(), seat, told),
-            Hands::Shared(shared) => shared.tick(rt, rt.alloc(), seat, told),
-        }
-    }
-
-    /// The letter of a session, which is waited for if the book is behind a lock.
-    fn letter<R: AllocGlobal + Wait>(
-        &self,
-        rt: &R,
-        seat: &mut Seat<L>,
-        session: u64,
-    ) -> Result<Option<Letter>, SeatFault> {
-        match self {
-            Hands::Held(held) => held.look(rt.alloc(), seat, session),
-            Hands::Shared(shared) => Ok(Some(shared.await_reply(rt, rt.alloc(), seat, session)?)),
         }
     }
 }
@@ -309,35 +231,35 @@ fn letter_text(alloc: Global, letter: &Letter) -> Result<Vec<u8>, AllocError> {
 }
 
 /// Makes a call, and keeps the receipt.
-///
-/// Behind a lock an XADD is handed in as an event, since a receipt does not say whether a reader was refused memory.
 fn call<L: Ledger, R: AllocGlobal + Wait>(
     rt: &R,
-    hands: &mut Hands<'_, L>,
+    shared: &Shared<L>,
     seat: &mut Seat<L>,
     told: &mut Told,
     moment: u64,
     session: u64,
     call: &Call,
 ) -> Result<Vec<u8>, Fail> {
-    match made(rt, hands, seat, moment, session, call) {
+    match made(rt, shared, seat, moment, session, call) {
         Ok(receipt) => keep_receipt(rt.alloc(), told, receipt),
         Err(fault) => fault_text(rt.alloc(), fault),
     }
 }
 
 /// Makes a call. What holds a receipt or an answer has one exit each: at every exit these are dear to prove.
+///
+/// An XADD is handed in as an event, since a receipt does not say whether a reader was refused memory.
 fn made<L: Ledger, R: AllocGlobal + Wait>(
     rt: &R,
-    hands: &mut Hands<'_, L>,
+    shared: &Shared<L>,
     seat: &mut Seat<L>,
     moment: u64,
     session: u64,
     call: &Call,
 ) -> Result<Receipt, SeatFault> {
     match call {
-        Call::Xadd { .. } if hands.waits() => add(rt, hands, seat, moment, session, call),
-        _ => hands.exchange(rt, seat, moment, session, call),
+        Call::Xadd { .. } => add(rt, shared, seat, moment, session, call),
+        _ => shared.exchange(rt, rt.alloc(), seat, moment, session, call),
     }
 }
 
@@ -349,6 +271,20 @@ fn keep_receipt(alloc: Global, told: &mut Told, receipt: Receipt) -> Result<Vec<
         Ok(text?)
     } else {
         Err(Fail::from(AllocError))
+    }
+}
+
+/// Carries out an event. It counts as refused for memory if a reader was not served for that: it would be waited for in vain.
+fn carried_out<L: Ledger, R: AllocGlobal + Wait>(
+    rt: &R,
+    shared: &Shared<L>,
+    seat: &mut Seat<L>,
+    moment: u64,
+    event: Event,
+) -> Result<Answer, SeatFault> {
+    match shared.act(rt, rt.alloc(), seat, moment, event) {
+        Ok(answer) => settled(answer),
+        Err(refused) => Err(fault_of(refused)),
     }
 }
 
@@ -369,14 +305,14 @@ fn fault_of(refused: ActFault) -> SeatFault {
 /// Makes a call as an event.
 fn add<L: Ledger, R: AllocGlobal + Wait>(
     rt: &R,
-    hands: &mut Hands<'_, L>,
+    shared: &Shared<L>,
     seat: &mut Seat<L>,
     moment: u64,
     session: u64,
     call: &Call,
 ) -> Result<Receipt, SeatFault> {
     let event = event_of_copy(rt.alloc(), session, call)?;
-    let answer = hands.act(rt, seat, moment, event)?;
+    let answer = carried_out(rt, shared, seat, moment, event)?;
     receipt_of(rt.alloc(), seat.number(), session, call, answer)
 }
 
@@ -411,35 +347,32 @@ fn receipt_of(
 /// Hands in an event that is no call, and keeps the snapshot if it gives one.
 fn act<L: Ledger, R: AllocGlobal + Wait>(
     rt: &R,
-    hands: &mut Hands<'_, L>,
+    shared: &Shared<L>,
     seat: &mut Seat<L>,
     told: &mut Told,
     moment: u64,
     event: Event,
 ) -> Result<Vec<u8>, Fail> {
-    let answer = hands.act(rt, seat, moment, event)?;
+    let answer = carried_out(rt, shared, seat, moment, event)?;
     let text = out_text(rt.alloc(), &answer.out)?;
     keep(answer, &mut told.snapshot);
     Ok(text)
 }
 
-/// Asks for the letter of a session, and keeps it. One who is to have one and waits was refused memory.
+/// Waits for the letter of a session, and keeps it.
 fn letter<L: Ledger, R: AllocGlobal + Wait>(
     rt: &R,
-    hands: &Hands<'_, L>,
+    shared: &Shared<L>,
     seat: &mut Seat<L>,
     told: &mut Told,
     session: u64,
-    line: &str,
 ) -> Result<Vec<u8>, Fail> {
-    match hands.letter(rt, seat, session) {
-        Ok(Some(letter)) => {
+    match shared.await_reply(rt, rt.alloc(), seat, session) {
+        Ok(letter) => {
             let text = letter_text(rt.alloc(), &letter)?;
             told.letters.push(letter)?;
             Ok(text)
         }
-        Ok(None) if line == "look" => Ok(word(rt.alloc(), "waits")?),
-        Ok(None) => Err(Fail::from(SeatFault::Memory)),
         Err(fault) => fault_text(rt.alloc(), fault),
     }
 }
@@ -447,23 +380,23 @@ fn letter<L: Ledger, R: AllocGlobal + Wait>(
 /// Plays a line at a seat. What is said of it.
 fn play_line<L: Ledger, R: AllocGlobal + Wait>(
     rt: &R,
-    hands: &mut Hands<'_, L>,
+    shared: &Shared<L>,
     seat: &mut Seat<L>,
     told: &mut Told,
     (moment, session, line, _): Line,
 ) -> Result<Vec<u8>, Fail> {
     match line {
-        "letter" | "look" => letter(rt, hands, seat, told, session, line),
+        "letter" => letter(rt, shared, seat, told, session),
         "tick" => {
-            let due = hands.tick(rt, seat, moment)?;
+            let due = shared.tick(rt, rt.alloc(), seat, moment)?;
             Ok(word(rt.alloc(), if due { "true" } else { "false" })?)
         }
         _ => match event_of(rt.alloc(), session, line, &mut told.snapshot)? {
             Event::Call {
                 session,
                 call: asked,
-            } => call(rt, hands, seat, told, moment, session, &asked),
-            event => act(rt, hands, seat, told, moment, event),
+            } => call(rt, shared, seat, told, moment, session, &asked),
+            event => act(rt, shared, seat, told, moment, event),
         },
     }
 }
@@ -477,10 +410,10 @@ fn is_said(line: &str, want: &str, said: &[u8]) -> bool {
     }
 }
 
-/// Plays lines, each at the seat of its session. Behind a lock nobody looks at one who waits.
+/// Plays lines, each at the seat of its session.
 pub(super) fn play<L: Ledger, R: AllocGlobal + Abort + Wait>(
     rt: &R,
-    hands: &mut Hands<'_, L>,
+    shared: &Shared<L>,
     seats: &mut [Seat<L>],
     told: &mut Told,
     lines: &[Line],
@@ -490,10 +423,8 @@ pub(super) fn play<L: Ledger, R: AllocGlobal + Abort + Wait>(
         let Some(seat) = seats.get_mut((session % 2) as usize) else {
             return Err(Fail::new("no seat"));
         };
-        if line != "look" || !hands.waits() {
-            let said = play_line(rt, hands, seat, told, *played)?;
-            assert!(rt; is_said(line, want, said.as_slice()), "{session} {line}");
-        }
+        let said = play_line(rt, shared, seat, told, *played)?;
+        assert!(rt; is_said(line, want, said.as_slice()), "{session} {line}");
     }
     Ok(())
 }

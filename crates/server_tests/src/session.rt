@@ -1,4 +1,4 @@
-// What no clause says and no program shows: what a session makes of readers and writers that fail, how often it reads, and, in the
+// The tests of `sr_session`, what no clause says and no program shows: what a session makes of readers and writers that fail, how often it reads, and, in the
 // modules, what it makes of a desk's answers.
 ghost use Rattle.std.specs.Prelude.{◌≡◌, ◌≤◌, None, true, false, IfOk};
 
@@ -17,15 +17,15 @@ mod desks;
 mod recovery;
 
 /// `PING`, `XADD s 1-1 a b`, `XLEN s` and `XRANGE s - +`
-const RUN: &[u8; 116] =
+pub(crate) const RUN: &[u8; 116] =
     b"*1\r\n$4\r\nPING\r\n*5\r\n$4\r\nXADD\r\n$1\r\ns\r\n$3\r\n1-1\r\n$1\r\na\r\n$1\r\nb\r\n*2\r\n$4\r\nXLEN\r\n$1\r\ns\r\n*4\r\n$6\r\nXRANGE\r\n$1\r\ns\r\n$1\r\n-\r\n$1\r\n+\r\n";
 
 /// The replies to them.
-const REPLIES: &[u8; 55] =
+pub(crate) const REPLIES: &[u8; 55] =
     b"+PONG\r\n$3\r\n1-1\r\n:1\r\n*1\r\n*2\r\n$3\r\n1-1\r\n*2\r\n$1\r\na\r\n$1\r\nb\r\n";
 
 /// It is 5 milliseconds past 1970.
-struct Stopped;
+pub(crate) struct Stopped;
 
 impl Clock for Stopped {
     ghost may_tell = { λ _ _. true };
@@ -260,7 +260,7 @@ fn a_failed_write_says_what_was_sent(rt: HostRuntime) -> Result<(), Fail> {
 }
 
 /// The spelling of requests: one a line, their words between single spaces.
-fn spelled(alloc: Global, lines: &str) -> Result<Vec<u8>, Fail> {
+pub(crate) fn spelled(alloc: Global, lines: &str) -> Result<Vec<u8>, Fail> {
     let mut bytes = Vec::new(alloc);
     for line in lines.split('\n') {
         let header = format!(in alloc; "*{}\r\n", line.split(' ').count())?;

@@ -3,6 +3,7 @@ ghost use Rattle.std.specs.Prelude.{None};
 
 use super::desks::Told;
 use super::{Pieces, Stopped, spelled};
+use crate::run::TWO;
 use sr_book::{Answer, Book, Event, Letter};
 use sr_policy::Policy;
 use sr_session::{Desk, DeskFault, End, Gate, NoGate, PlainDesk, run_session};
@@ -11,20 +12,6 @@ use std::cell::Cell;
 use std::hash::RandomState;
 use std::random::RandomSource;
 use std::test::Fail;
-
-/// Two consumers with one place each: A takes both classes, and B the class y at a hundred times its rate.
-const TWO: &str = r#"
-class_field = "c"
-[limits]
-A = 1
-B = 1
-[rates.x]
-A = 1
-B = 2
-[rates.y]
-A = 1
-B = 100
-"#;
 
 /// One entry is pending for D, and one for A, which has no room then.
 const FULL: &str = "XADD s 1-1 c x

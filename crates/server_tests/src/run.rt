@@ -1,17 +1,11 @@
-// What no clause says: that calls succeed while there is memory, and histories that were worked out by hand.
-ghost use Rattle.std.specs.Prelude.{◌≡◌, ◌<◌, ◌⊎◌};
-
+// The tests of `sr_seats` and `sr_run`: what no clause says, that calls succeed while there is memory, and histories that were worked out by hand.
 use sr_args::{Call, Command, read_call};
 use sr_book::Book;
 use sr_bytes::Words;
 use sr_policy::Policy;
-use sr_run::{HoldFault, hold};
 use std::alloc::Global;
 use std::hash::RandomState;
-use std::marker::Brand;
-use std::process::Abort;
 use std::random::RandomSource;
-use std::sync::ledger::{Blank, Ledger};
 use std::test::Fail;
 
 mod closing;
@@ -21,7 +15,7 @@ mod rows;
 mod workers;
 
 /// Two consumers with one place each: A takes both classes, and B the class y at a hundred times its rate.
-const TWO: &str = "class_field = \"c\"
+pub(crate) const TWO: &str = "class_field = \"c\"
 [limits]
 A = 1
 B = 1
@@ -57,27 +51,4 @@ fn call(alloc: Global, line: &str) -> Result<Call, Fail> {
 fn book_under(rt: &(impl AllocGlobal + RandomSource), policy: &str) -> Result<Book, Fail> {
     let policy = Policy::read(rt.alloc(), policy)?;
     Ok(Book::new(rt.alloc(), policy, RandomState::new(rt)?))
-}
-
-/// Fails the test unless that number of seats is refused.
-fn refuses<L: Ledger, R: AllocGlobal + Abort + RandomSource>(
-    rt: &R,
-    blank: Blank,
-    n: usize,
-) -> Result<(), Fail>
-    requires name { blank.name ≡ L.name }
-    requires whole { blank.parts ≡ L.parts }
-    requires wrong { (n ≡ 0) ⊎ (65 < n) }
-{
-    match hold::<L>(rt.alloc(), book_under(rt, TWO)?, n, blank) {
-        Ok(_made) => assert!(rt; false),
-        Err(fault) => assert!(rt; fault == HoldFault::Count),
-    }
-    Ok(())
-}
-
-#[test]
-fn wrong_counts(rt: HostRuntime) -> Result<(), Fail> {
-    refuses::<Brand, HostRuntime>(&rt, Blank::new(0), 0)?;
-    refuses::<Brand, HostRuntime>(&rt, Blank::new(66), 66)
 }

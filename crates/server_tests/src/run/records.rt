@@ -58,7 +58,7 @@ fn drive_all(alloc: Global, book: &mut Book, lines: &[Line]) -> Result<(), Fail>
 
 /// Whether a line is no event.
 fn is_look(line: &str, said: &str) -> bool {
-    line == "letter" || line == "look" || said == "false"
+    line == "letter" || said == "false"
 }
 
 /// What an act is, and whose.

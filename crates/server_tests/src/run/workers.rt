@@ -1,13 +1,12 @@
 // Scripts that workers run, each in a thread of its own.
-ghost use Rattle.std.specs.Prelude.{true};
-
 use super::call;
+use crate::session::Stopped;
 use sr_args::Call;
 use sr_book::Out;
 use sr_policy::Policy;
 use sr_resp::append_reply;
 use sr_run::{Ran, Receipt, RunFault, SeatFault, run_workers};
-use sr_session::{Clock, Gate, NoGate};
+use sr_session::{Gate, NoGate};
 use std::alloc::{AllocError, Global};
 use std::hash::RandomState;
 use std::process::Abort;
@@ -16,17 +15,6 @@ use std::sync::Wait;
 use std::sync::atomic::{AtomicU64, Ordering};
 use std::test::Fail;
 use std::thread::Threads;
-
-/// A clock that stands at 10.
-struct Still;
-
-impl Clock for Still {
-    ghost may_tell = { λ _ _. true };
-
-    fn now(&self) -> u64 {
-        10
-    }
-}
 
 /// Counts the calls that workers come to.
 #[derive(Drop)]
@@ -71,7 +59,7 @@ fn is_memory(fault: RunFault) -> bool {
     }
 }
 
-/// Runs scripts at 10, past a gate. It fails for memory if that was refused.
+/// Runs scripts past a gate. It fails for memory if that was refused.
 fn run_past<G: Gate + Sync, R: AllocGlobal + RandomSource + Threads + Wait + Sync>(
     rt: &R,
     scripts: Vec<Vec<Call>>,
@@ -80,13 +68,13 @@ fn run_past<G: Gate + Sync, R: AllocGlobal + RandomSource + Threads + Wait + Syn
     let alloc = rt.alloc();
     let hasher = RandomState::new(rt)?;
     let policy = Policy::empty(alloc);
-    match run_workers(rt, alloc, scripts, policy, &Still, gate, hasher) {
+    match run_workers(rt, alloc, scripts, policy, &Stopped, gate, hasher) {
         Err(fault) if is_memory(fault) => Err(Fail::from(AllocError)),
         ran => Ok(ran),
     }
 }
 
-/// Runs scripts at 10.
+/// Runs scripts.
 fn run<R: AllocGlobal + RandomSource + Threads + Wait + Sync>(
     rt: &R,
     scripts: Vec<Vec<Call>>,
@@ -178,21 +166,6 @@ fn a_worker_is_stopped_by_a_refused_call_and_the_other_goes_on(
         let stopped = stopped(&rt, scripts(alloc, lines)?)?;
         let fault = SeatFault::Busy;
         assert!(rt; stopped == (count, RunFault::Worker { at, fault }), "{at}");
-    }
-    Ok(())
-}
-
-#[test]
-fn no_script_and_too_many_are_refused(rt: HostRuntime) -> Result<(), Fail> {
-    for count in [0, 65] {
-        let mut scripts = Vec::new(rt.alloc());
-        for _ in 0..count {
-            scripts.push(Vec::new(rt.alloc()))?;
-        }
-        match run(&rt, scripts)? {
-            Ok(_ran) => assert!(rt; false, "{count}"),
-            Err(fault) => assert!(rt; fault == RunFault::Count, "{count}"),
-        }
     }
     Ok(())
 }

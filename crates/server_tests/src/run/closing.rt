@@ -1,12 +1,12 @@
-// Rows over a held book and over one behind a lock, and how their runs end.
+// Rows over a book behind a lock, and how their runs end. Each call of it is one of a held book, whose contract tells what comes of it.
 ghost use Rattle.std.specs.Prelude.{◌≡◌};
 
 use super::records::compare;
-use super::rows::{DEADLINE, Hands, READERS, RECOVERY, Row, SCRIPTS, TWO_SEATS, Told, play};
+use super::rows::{DEADLINE, READERS, RECOVERY, Row, SCRIPTS, TWO_SEATS, Told, play};
 use super::{TWO, book_under};
 use sr_book::Out;
 use sr_resp::Reply;
-use sr_run::{CloseFault, Closed, Held, Seat, Shared, Unclosed, hold, open};
+use sr_run::{CloseFault, Closed, Seat, Shared, Unclosed, open};
 use std::alloc::Global;
 use std::marker::Brand;
 use std::mem;
@@ -122,14 +122,7 @@ fn play_shared<L: Ledger, R: AllocGlobal + Abort + Wait>(
     row: Row,
     altered: Altered,
 ) -> Result<(Option<CloseFault>, Closed), Fail> {
-    let played = play(
-        rt,
-        &mut Hands::Shared(&shared),
-        seats.as_mut_slice(),
-        told,
-        row.lines,
-    );
-    match played {
+    match play(rt, &shared, seats.as_mut_slice(), told, row.lines) {
         Ok(()) => close(rt.alloc(), shared, seats, told, altered),
         Err(fail) => Err(fail),
     }
@@ -155,35 +148,6 @@ fn closes_by<L: Ledger, R: AllocGlobal + Abort + RandomSource + Wait>(
     compare(rt, row.lines, closed.book.records())
 }
 
-/// Fails the test unless a row over a held book has its events and records, and receipts and letters that agree with them.
-fn play_held<L: Ledger, R: AllocGlobal + Abort + RandomSource + Wait>(
-    rt: &R,
-    held: &mut Held<L>,
-    seats: &mut [Seat<L>],
-    told: &mut Told,
-    row: Row,
-) -> Result<(), Fail> {
-    play(rt, &mut Hands::Held(held), seats, told, row.lines)?;
-    let agree = held.audit(rt.alloc(), &told.receipts, &told.letters);
-    assert!(rt; agree == Ok(()));
-    assert_eq!(rt; held.acts(), row.acts);
-    compare(rt, row.lines, held.book().records())
-}
-
-fn holds_by<L: Ledger, R: AllocGlobal + Abort + RandomSource + Wait>(
-    rt: &R,
-    blank: Blank,
-    row: Row,
-) -> Result<(), Fail>
-    requires name { blank.name ≡ L.name }
-    requires whole { blank.parts ≡ L.parts }
-    requires parts { blank.parts ≡ 2 }
-{
-    let (mut held, mut seats) = hold::<L>(rt.alloc(), book_under(rt, TWO)?, 2, blank)?;
-    let mut told = Told::new(rt.alloc());
-    play_held(rt, &mut held, seats.as_mut_slice(), &mut told, row)
-}
-
 fn closes<R: AllocGlobal + Abort + RandomSource + Wait>(
     rt: &R,
     row: Row,
@@ -193,9 +157,8 @@ fn closes<R: AllocGlobal + Abort + RandomSource + Wait>(
     closes_by::<Brand, R>(rt, Blank::new(2), row, altered, want)
 }
 
-/// Plays a row over a held book, and then over one behind a lock, which is closed.
+/// Plays a row, and closes its run.
 fn plays<R: AllocGlobal + Abort + RandomSource + Wait>(rt: &R, row: Row) -> Result<(), Fail> {
-    holds_by::<Brand, R>(rt, Blank::new(2), row)?;
     closes(rt, row, Altered::Nothing, None)
 }
 

@@ -1,5 +1,0 @@
-//! The tests of sr_session, in a crate of their own: a crate that has tests is proved twice.
-#![tactic(auto)]
-
-#[cfg(test)]
-mod tests;
