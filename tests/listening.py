@@ -1,5 +1,5 @@
 #!/usr/bin/env python3
-"""Has clients use a server over sockets: reads that wait, clients that vanish, and more connections than it has workers.
+"""Has clients use a server over sockets: reads that wait, clients that vanish, a recovery, and more connections than it has workers.
 
 usage: tests/listening.py PROGRAM
 
@@ -16,6 +16,7 @@ import signal
 import socket
 import struct
 import sys
+import tempfile
 import time
 
 sys.path.insert(0, os.path.join(os.path.dirname(os.path.abspath(__file__)), "..", "scripts"))
@@ -31,6 +32,25 @@ BEYOND = 2  # connections that are accepted beyond the workers: one that waits f
 OWN = 100  # descriptors that this program needs for itself
 
 ENTRIES = [[b"s", [[b"1-1", [b"a", b"b"]]]], [b"s", [[b"2-1", [b"a", b"c"]]]]]
+
+# One consumer may take entries of class x, and has room for two.
+POLICY = 'class_field = "c"\n[limits]\nA = 2\n[rates.x]\nA = 1\n'
+
+# A reader dies with an entry, and another takes it over: the entry goes to A, at a cost of 2, and no price is needed.
+RECOVERY = [
+    ("PING", b"+PONG\r\n"),
+    ("XGROUP CREATE s g $ MKSTREAM", b"+OK\r\n"),
+    ("XADD s 1-1 c x", b"$3\r\n1-1\r\n"),
+    (
+        "XREADGROUP GROUP g D STREAMS s >",
+        b"*1\r\n*2\r\n$1\r\ns\r\n*1\r\n*2\r\n$3\r\n1-1\r\n*2\r\n$1\r\nc\r\n$1\r\nx\r\n",
+    ),
+    (
+        "RECOVER.RUN s g DEAD D",
+        b"*5\r\n$4\r\ndone\r\n:2\r\n*1\r\n*2\r\n$3\r\n1-1\r\n$1\r\nA\r\n*1\r\n*2\r\n$1\r\nA\r\n:0\r\n*0\r\n",
+    ),
+    ("XLEN s", b":1\r\n"),
+]
 
 
 class Late(Exception):
@@ -136,6 +156,16 @@ def more_than_workers(tally, server):
             waiting.remove(late)
 
 
+def recovered(tally, server):
+    """A session over a book that others may use writes what it writes over one of its own, and ends when its client has said all."""
+    with server.connect(PATIENCE) as connection:
+        for line, _ in RECOVERY:
+            connection.send(*line.split(" "))
+        connection.socket.shutdown(socket.SHUT_WR)
+        found = connection.file.read()
+    tally.compare("a recovery at a seat", b"".join(reply for _, reply in RECOVERY), found)
+
+
 def started(number, port):
     """That many connections, each begun and none waited for: a listener takes only some of them."""
     connections = []
@@ -190,6 +220,10 @@ def run(program, tally):
         return
     play(answered, tally, listening.Server(program, workers=WORKERS))
     play(more_than_workers, tally, listening.Server(program, workers=FEW))
+    with tempfile.NamedTemporaryFile("w", suffix=".toml") as policy:
+        policy.write(POLICY)
+        policy.flush()
+        play(recovered, tally, listening.Server(program, policy=policy.name, workers=FEW))
     number = min(MANY, raised_limit() - OWN)
     play(many, tally, listening.Server(program, workers=FEW, descriptors=DESCRIPTORS), number)
 

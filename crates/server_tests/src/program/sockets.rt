@@ -21,6 +21,6 @@ fn answers_a_client(rt: HostRuntime) -> Result<(), Fail> {
     assert!(rt; served == Ok(1), "{served:?}");
     let mut replies = Vec::new(alloc);
     client.read_to_end(&mut replies)?;
-    assert!(rt; replies.as_slice() == REPLIES);
+    assert!(rt; replies.as_slice() == REPLIES.as_slice());
     Ok(())
 }

@@ -1,0 +1,103 @@
+#!/usr/bin/env python3
+"""Gives sr_server command lines that it refuses, and readers and writers that fail, and compares what it does with what is written here.
+
+usage: tests/program.py PROGRAM
+
+A refused command line ends with status 2, no reply and some text on standard error. A reader that fails is a folder or a socket, a writer
+that fails is /dev/full. Prints what differs; the status is 1 if anything does.
+"""
+
+import os
+import socket
+import subprocess
+import sys
+
+SECONDS = 60
+PING, XLEN = b"*1\r\n$4\r\nPING\r\n", b"*2\r\n$4\r\nXLEN\r\n$1\r\ns\r\n"
+
+REFUSED = [
+    "sr_server",
+    "sr_server --other",
+    "sr_server --help",
+    "sr_server --version",
+    "sr_server word",
+    "sr_server --stdio word",
+    "sr_server --stdio --stdio",
+    "sr_server --stdio --listen 127.0.0.1:6379",
+    "sr_server --stdio --policy",
+    "sr_server --stdio --policy -x",
+    "sr_server --policy p.toml",
+    "sr_server --stdio --policy p.toml --policy q.toml",
+    "sr_server --stdio --workers 0",
+    "sr_server --stdio --workers 65",
+    "sr_server --workers 8",
+    "sr_server --listen 127.0.0.1",
+    "sr_server --listen localhost:6379",
+    "sr_server --listen 127.0.0.1:6379 --workers many",
+]
+
+
+def run(program, line, **pipes):
+    """The status, the replies and the text on standard error of the program with these words. What is not captured is none."""
+    pipes = {"stdout": subprocess.PIPE, "stderr": subprocess.PIPE, **pipes}
+    ended = subprocess.run([program, *line.split()[1:]], timeout=SECONDS, check=False, **pipes)
+    return ended.returncode, ended.stdout, ended.stderr
+
+
+def refused(program, line):
+    status, replies, text = run(program, line, input=PING)
+    return status, replies, text != b""
+
+
+def from_folder(program):
+    """A session whose first read fails."""
+    folder = os.open("/", os.O_RDONLY)
+    try:
+        return run(program, "sr_server --stdio", stdin=folder)
+    finally:
+        os.close(folder)
+
+
+def from_reset(program):
+    """A session whose read fails after a request: the other end of its socket was closed before all that it got was read."""
+    client, server = socket.socketpair()
+    with server:
+        with client:
+            client.sendall(XLEN)
+            server.sendall(b"unread")
+        return run(program, "sr_server --stdio", stdin=server)
+
+
+def to_full(program, line, name, sent):
+    """A program of which what it writes at this name is refused."""
+    with open("/dev/full", "wb") as full:
+        return run(program, line, input=sent, **{name: full})
+
+
+def rows(program):
+    """What is tried, what is wanted of it and what came of it."""
+    for line in REFUSED:
+        yield line, (2, b"", True), refused(program, line)
+    yield "a read that fails", (1, b"", b"session: read fault\n"), from_folder(program)
+    yield "a read that fails after a request", (1, b":0\r\n", b"session: read fault\n"), from_reset(program)
+    stdio = "sr_server --stdio"
+    yield "a write that fails", (1, None, b"session: write fault\n"), to_full(program, stdio, "stdout", XLEN)
+    error = b"-ERR Protocol error\r\n"
+    yield "a line that cannot be written", (1, error, None), to_full(program, stdio, "stderr", b"$1\r\n")
+    yield "a refusal that cannot be written", (2, b"", None), to_full(program, "sr_server", "stderr", PING)
+
+
+def main():
+    if len(sys.argv) != 2:
+        sys.exit(__doc__.split("\n\n")[1])
+    count, wrong = 0, 0
+    for what, wanted, found in rows(os.path.abspath(sys.argv[1])):
+        count += 1
+        if found != wanted:
+            wrong += 1
+            print(f"{what}\nexpected: {wanted}\ngiven:    {found}")
+    print(f"program: {count} runs, {wrong} wrong")
+    sys.exit(1 if wrong else 0)
+
+
+main()
