@@ -10,8 +10,8 @@ use std::test::Fail;
 
 mod closing;
 mod desks;
-mod records;
-mod rows;
+pub(crate) mod records;
+pub(crate) mod rows;
 mod workers;
 
 /// Two consumers with one place each: A takes both classes, and B the class y at a hundred times its rate.
@@ -48,7 +48,10 @@ fn call(alloc: Global, line: &str) -> Result<Call, Fail> {
 }
 
 /// A book under a policy.
-fn book_under(rt: &(impl AllocGlobal + RandomSource), policy: &str) -> Result<Book, Fail> {
+pub(crate) fn book_under(
+    rt: &(impl AllocGlobal + RandomSource),
+    policy: &str,
+) -> Result<Book, Fail> {
     let policy = Policy::read(rt.alloc(), policy)?;
     Ok(Book::new(rt.alloc(), policy, RandomState::new(rt)?))
 }

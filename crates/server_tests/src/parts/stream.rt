@@ -11,8 +11,7 @@ fn fill(stream: &mut Stream, alloc: Global, name: &Name) -> Result<(), Fail> {
     fields.add(b"f", b"v")?;
     stream.add(Spec::Written(Id { ms: 1, seq: 1 }), 0, fields)?;
     stream.create_group(alloc, name, Id { ms: 0, seq: 0 })?;
-    deliver(stream, alloc, name)?;
-    Ok(())
+    Ok(deliver(stream, alloc, name)?)
 }
 
 /// Delivers what is new to a reader of a group, both of this name.
@@ -33,8 +32,9 @@ fn counts(stream: &Stream, name: &Name) -> (usize, usize) {
     }
 }
 
-/// Copies a stream, and counts what the copy has.
-fn count_copied(stream: &Stream, alloc: Global, name: &Name) -> Result<(usize, usize), AllocError> {
+/// Fills a stream, and counts what a copy has.
+fn count_copied(stream: &mut Stream, alloc: Global, name: &Name) -> Result<(usize, usize), Fail> {
+    fill(stream, alloc, name)?;
     let copy = stream.copy(alloc)?;
     Ok(counts(&copy, name))
 }
@@ -43,8 +43,7 @@ fn count_copied(stream: &Stream, alloc: Global, name: &Name) -> Result<(usize, u
 fn a_stream_is_copied_with_its_groups(rt: HostRuntime) -> Result<(), Fail> {
     let name = Name::new(Vec::from_slice(rt.alloc(), b"g")?);
     let mut stream = Stream::new(rt.alloc());
-    fill(&mut stream, rt.alloc(), &name)?;
-    let counted = count_copied(&stream, rt.alloc(), &name)?;
+    let counted = count_copied(&mut stream, rt.alloc(), &name)?;
     assert!(rt; counted == (1, 1));
     Ok(())
 }

@@ -4,22 +4,10 @@ use sr_transport::Problem;
 use std::alloc::{AllocError, Global};
 use std::test::Fail;
 
-/// Whether a problem of this size and with these rooms and costs is taken.
-fn is_taken(
-    alloc: Global,
-    consumers: usize,
-    room: u64,
-    entries: usize,
-    places: usize,
-    cost: u64,
-) -> Result<bool, AllocError> {
-    let rooms = vec![in alloc; room; consumers]?;
-    let costs = vec![in alloc; Some(cost); places]?;
-    Ok(Problem::new(rooms, entries, costs).is_some())
-}
-
 /// What is tried: how many consumers, their room, how many entries, how many costs, each cost, and whether that is taken.
-const LIMITS: &[(&str, usize, u64, usize, usize, u64, bool)] = &[
+type Limit = (&'static str, usize, u64, usize, usize, u64, bool);
+
+const LIMITS: &[Limit] = &[
     ("a cost of 2 ^ 40", 1, 1, 1, 1, 1_099_511_627_776, true),
     ("a cost of one more", 1, 1, 1, 1, 1_099_511_627_777, false),
     ("64 consumers", 64, 1, 1, 64, 1, true),
@@ -33,11 +21,18 @@ const LIMITS: &[(&str, usize, u64, usize, usize, u64, bool)] = &[
     ("a place for each pair", 2, 1, 3, 6, 1, true),
 ];
 
+/// Whether a problem of this size and with these rooms and costs is taken if it should be.
+fn is_right(alloc: Global, limit: Limit) -> Result<bool, AllocError> {
+    let (_, consumers, room, entries, places, cost, want) = limit;
+    let rooms = vec![in alloc; room; consumers]?;
+    let costs = vec![in alloc; Some(cost); places]?;
+    Ok(Problem::new(rooms, entries, costs).is_some() == want)
+}
+
 #[test]
 fn limits_are_taken_and_one_more_is_refused(rt: HostRuntime) -> Result<(), Fail> {
-    for (what, consumers, room, entries, places, cost, want) in LIMITS {
-        let taken = is_taken(rt.alloc(), *consumers, *room, *entries, *places, *cost)?;
-        assert_eq!(rt; taken, *want, "at {what}");
+    for limit in LIMITS {
+        assert!(rt; is_right(rt.alloc(), *limit)?, "at {}", limit.0);
     }
     Ok(())
 }

@@ -14,8 +14,10 @@ fn wait(waiters: &mut Waiters, session: u64) -> Result<(), AllocError> {
     Ok(())
 }
 
-/// How many reads a copy has.
-fn count_copied(waiters: &Waiters, alloc: Global) -> Result<usize, AllocError> {
+/// Has two sessions wait, and counts the reads that a copy has.
+fn count_copied(waiters: &mut Waiters, alloc: Global) -> Result<usize, AllocError> {
+    wait(waiters, 9)?;
+    wait(waiters, 5)?;
     let copy = waiters.copy(alloc)?;
     Ok(copy.len())
 }
@@ -23,9 +25,7 @@ fn count_copied(waiters: &Waiters, alloc: Global) -> Result<usize, AllocError> {
 #[test]
 fn reads_are_copied(rt: HostRuntime) -> Result<(), Fail> {
     let mut waiters = Waiters::new(rt.alloc(), RandomState::new(&rt)?);
-    wait(&mut waiters, 9)?;
-    wait(&mut waiters, 5)?;
-    let count = count_copied(&waiters, rt.alloc())?;
-    assert_eq!(rt; count, 2);
+    let count = count_copied(&mut waiters, rt.alloc())?;
+    assert!(rt; count == 2);
     Ok(())
 }

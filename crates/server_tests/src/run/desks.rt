@@ -107,12 +107,10 @@ fn at_a_seat<L: Ledger, R: AllocGlobal + Abort + RandomSource + Wait>(
     requires parts { blank.parts ≡ 2 }
 {
     let (shared, mut seats) = open::<L>(rt.alloc(), book_under(rt, TWO)?, 2, blank)?;
-    let (Some(mut seat), Some(mut other)) = (seats.pop(), seats.pop()) else {
-        return Err(Fail::new("two seats"));
-    };
-    match scene {
-        Scene::Letters => letters(rt, &shared, &mut seat),
-        Scene::Pause => pause(rt, &shared, &mut seat, &mut other),
+    match (scene, seats.as_mut_slice()) {
+        (Scene::Letters, [seat, _]) => letters(rt, &shared, seat),
+        (Scene::Pause, [seat, other]) => pause(rt, &shared, seat, other),
+        _ => Err(Fail::new("two seats")),
     }
 }
 

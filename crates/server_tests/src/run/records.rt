@@ -1,14 +1,11 @@
 // The records of a book that seats use are those of a book that is driven by the same events.
 use super::rows::{Line, event_of};
-use super::{TWO, book_under};
 use sr_args::Call;
 use sr_book::{Act, Answer, Book, BookFault, Event, Out, Record};
 use sr_policy::Snapshot;
 use sr_resp::Reply;
 use std::alloc::{AllocError, Global};
 use std::mem;
-use std::process::Abort;
-use std::random::RandomSource;
 use std::test::Fail;
 
 /// Drives a book by a list of events, and keeps the last snapshot that one gives. A refused event is passed over, but not one that is refused
@@ -37,8 +34,12 @@ pub(super) fn keep(answer: Answer, snapshot: &mut Option<Snapshot>) {
 }
 
 /// Drives a book by the events of lines, all in one list, or in two if there is a verdict, since it is made of a snapshot that the first gives.
-fn drive_all(alloc: Global, book: &mut Book, lines: &[Line]) -> Result<(), Fail> {
-    let mut snapshot = None;
+fn drive_all(
+    alloc: Global,
+    book: &mut Book,
+    lines: &[Line],
+    snapshot: &mut Option<Snapshot>,
+) -> Result<(), Fail> {
     let mut events = Vec::new(alloc);
     for (moment, session, line, said) in lines {
         if *line == "conclude" {
@@ -46,14 +47,14 @@ fn drive_all(alloc: Global, book: &mut Book, lines: &[Line]) -> Result<(), Fail>
                 alloc,
                 book,
                 mem::replace(&mut events, Vec::new(alloc)),
-                &mut snapshot,
+                snapshot,
             )?;
         }
         if !is_look(line, said) {
-            events.push((*moment, event_of(alloc, *session, line, &mut snapshot)?))?;
+            events.push((*moment, event_of(alloc, *session, line, snapshot)?))?;
         }
     }
-    Ok(drive(alloc, book, events, &mut snapshot)?)
+    Ok(drive(alloc, book, events, snapshot)?)
 }
 
 /// Whether a line is no event.
@@ -112,23 +113,33 @@ fn same_records(one: &[Record], other: &[Record]) -> bool {
         })
 }
 
-/// Whether these are the records of a book that is driven by the events of lines. The book is dropped here alone.
-fn are_driven(alloc: Global, book: Book, lines: &[Line], records: &[Record]) -> Result<bool, Fail> {
+/// The last snapshot that the events of lines give, if no verdict was made of it. The book is dropped here alone.
+pub(crate) fn snapshot_of(
+    alloc: Global,
+    book: Book,
+    lines: &[Line],
+) -> Result<Option<Snapshot>, Fail> {
     let mut book = book;
-    let driven = drive_all(alloc, &mut book, lines);
+    let mut snapshot = None;
+    let driven = drive_all(alloc, &mut book, lines, &mut snapshot);
+    drop(book);
+    match driven {
+        Ok(()) => Ok(snapshot),
+        Err(fail) => Err(fail),
+    }
+}
+
+/// Whether these are the records of a book that is driven by the events of lines. The book is dropped here alone.
+pub(super) fn are_driven(
+    alloc: Global,
+    book: Book,
+    lines: &[Line],
+    records: &[Record],
+) -> Result<bool, Fail> {
+    let mut book = book;
+    let driven = drive_all(alloc, &mut book, lines, &mut None);
     let same = same_records(book.records(), records);
     drop(book);
     driven?;
     Ok(same)
-}
-
-/// Fails the test unless these are the records of a book that is driven by the events of lines.
-pub(super) fn compare(
-    rt: &(impl AllocGlobal + Abort + RandomSource),
-    lines: &[Line],
-    records: &[Record],
-) -> Result<(), Fail> {
-    let same = are_driven(rt.alloc(), book_under(rt, TWO)?, lines, records)?;
-    assert!(rt; same);
-    Ok(())
 }

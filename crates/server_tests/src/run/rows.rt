@@ -14,7 +14,7 @@ use std::sync::ledger::Ledger;
 use std::test::Fail;
 
 /// A moment, a session, its call or what else happens, and what is said of it.
-pub(super) type Line = (u64, u64, &'static str, &'static str);
+pub(crate) type Line = (u64, u64, &'static str, &'static str);
 
 /// A run, and how many events it has.
 #[derive(Clone, Copy, Drop)]

@@ -74,14 +74,6 @@ fn run_past<G: Gate + Sync, R: AllocGlobal + RandomSource + Threads + Wait + Syn
     }
 }
 
-/// Runs scripts.
-fn run<R: AllocGlobal + RandomSource + Threads + Wait + Sync>(
-    rt: &R,
-    scripts: Vec<Vec<Call>>,
-) -> Result<Result<Ran, RunFault>, Fail> {
-    run_past(rt, scripts, &NoGate)
-}
-
 /// The scripts whose lines these are.
 fn scripts(alloc: Global, lists: &[&[&str]]) -> Result<Vec<Vec<Call>>, Fail> {
     let mut scripts = Vec::with_capacity(alloc, lists.len())?;
@@ -92,45 +84,33 @@ fn scripts(alloc: Global, lists: &[&[&str]]) -> Result<Vec<Vec<Call>>, Fail> {
 }
 
 /// One worker adds to a stream, and another acknowledges in vain.
-fn two_scripts(alloc: Global) -> Result<Vec<Vec<Call>>, Fail> {
-    scripts(
-        alloc,
-        &[
-            &["XADD s 1-1 a b", "XLEN s", "XADD s 2-1 a b", "XLEN s"],
-            &["XACK s g 1-1", "XACK s g 1-1"],
-        ],
-    )
-}
-
-/// The replies to a script that was run.
-fn replies_to(alloc: Global, ran: &Ran, at: usize) -> Result<Vec<u8>, Fail> {
-    match ran.receipts.get(at) {
-        Some(receipts) => Ok(replies_of(alloc, receipts.as_slice())?),
-        None => Err(Fail::new("no such script")),
-    }
-}
+const SCRIPTS: &[&[&str]] = &[
+    &["XADD s 1-1 a b", "XLEN s", "XADD s 2-1 a b", "XLEN s"],
+    &["XACK s g 1-1", "XACK s g 1-1"],
+];
 
 /// The replies to each script.
 const SAID: &[&str] = &["$3\r\n1-1\r\n:1\r\n$3\r\n2-1\r\n:2\r\n", ":0\r\n:0\r\n"];
 
-/// Fails the test unless each script has its replies.
-fn compare(rt: &(impl AllocGlobal + Abort), ran: &Ran) -> Result<(), Fail> {
-    assert_eq!(rt; ran.closed.acts, 10);
-    assert_eq!(rt; ran.receipts.len(), 2);
-    for (at, want) in SAID.iter().enumerate() {
-        let replies = replies_to(rt.alloc(), ran, at)?;
-        assert!(rt; replies.as_slice() == want.as_bytes(), "{at}");
+/// Whether each script has its replies.
+fn have_replies(alloc: Global, ran: &Ran) -> Result<bool, AllocError> {
+    let mut have = ran.closed.acts == 10 && ran.receipts.len() == 2;
+    for (receipts, want) in ran.receipts.iter().zip(SAID) {
+        let replies = replies_of(alloc, receipts.as_slice())?;
+        have &= replies.as_slice() == want.as_bytes();
     }
-    Ok(())
+    Ok(have)
 }
 
 #[test]
 fn two_scripts_have_their_replies(rt: HostRuntime) -> Result<(), Fail> {
-    let scripts = two_scripts(rt.alloc())?;
-    match run(&rt, scripts)? {
-        Ok(ran) => compare(&rt, &ran),
-        Err(_fault) => Err(Fail::new("refused")),
-    }
+    let scripts = scripts(rt.alloc(), SCRIPTS)?;
+    let have = match run_past(&rt, scripts, &NoGate)? {
+        Ok(ran) => have_replies(rt.alloc(), &ran)?,
+        Err(_fault) => false,
+    };
+    assert!(rt; have);
+    Ok(())
 }
 
 /// How many calls workers came to, and what stopped one of them.
@@ -147,25 +127,32 @@ fn stopped<R: AllocGlobal + RandomSource + Threads + Wait + Sync>(
     }
 }
 
+/// A script that is stopped at its second call, and one that is not.
+const WAITS: &[&str] = &["XREAD BLOCK 0 STREAMS t $", "PING", "PING"];
+
+const ADDS: &[&str] = &[
+    "XADD s 1-1 a b",
+    "XLEN s",
+    "XADD s 2-1 a b",
+    "XLEN s",
+    "PING",
+];
+
+/// Which worker is stopped, how many calls workers come to, and their scripts.
+const STOPPED: &[(usize, u64, &[&[&str]])] = &[(0, 2, &[WAITS]), (1, 7, &[ADDS, WAITS])];
+
 /// The second worker calls for a session that waits, and is stopped there, before its third call. The first one makes all its calls.
 #[test]
 fn a_worker_is_stopped_by_a_refused_call_and_the_other_goes_on(
     rt: HostRuntime,
 ) -> Result<(), Fail> {
-    let alloc = rt.alloc();
-    let waits = ["XREAD BLOCK 0 STREAMS t $", "PING", "PING"].as_slice();
-    let adds = [
-        "XADD s 1-1 a b",
-        "XLEN s",
-        "XADD s 2-1 a b",
-        "XLEN s",
-        "PING",
-    ]
-    .as_slice();
-    for (at, count, lines) in [(0, 2, [waits].as_slice()), (1, 7, [adds, waits].as_slice())] {
-        let stopped = stopped(&rt, scripts(alloc, lines)?)?;
-        let fault = SeatFault::Busy;
-        assert!(rt; stopped == (count, RunFault::Worker { at, fault }), "{at}");
+    for (at, count, lines) in STOPPED {
+        let found = stopped(&rt, scripts(rt.alloc(), lines)?)?;
+        let fault = RunFault::Worker {
+            at: *at,
+            fault: SeatFault::Busy,
+        };
+        assert!(rt; found == (*count, fault), "{at}");
     }
     Ok(())
 }
