@@ -224,31 +224,37 @@ fn what_came_before_a_failed_read_is_answered(rt: HostRuntime) -> Result<(), Fai
     Ok(())
 }
 
+/// How often a session may read, how many bytes it writes then, and how it ends.
+const TURNS: &[(u64, usize, End)] = &[
+    (0, 0, End::Turns),
+    (1, 0, End::Turns),
+    (115, 20, End::Turns),
+    (116, 55, End::Turns),
+    (117, 55, End::Closed),
+];
+
 #[test]
 fn reads_as_often_as_it_may(rt: HostRuntime) -> Result<(), Fail> {
-    for (turns, count, end) in [
-        (0, 0, End::Turns),
-        (1, 0, End::Turns),
-        (115, 20, End::Turns),
-        (116, 55, End::Turns),
-        (117, 55, End::Closed),
-    ] {
+    for (turns, count, end) in TURNS {
         let talk = Talk {
             size: 1,
-            turns,
+            turns: *turns,
             ..TALK
         };
-        assert!(rt; ends(&rt, talk, end, &REPLIES[..count])?, "{turns} turns");
+        assert!(rt; ends(&rt, talk, *end, &REPLIES[..*count])?, "{turns} turns");
     }
     Ok(())
 }
 
+/// How many bytes a read gives.
+const SIZES: &[usize] = &[1, 4096];
+
 #[test]
 fn a_failed_write_says_what_was_sent(rt: HostRuntime) -> Result<(), Fail> {
     for sent in 0..REPLIES.len() {
-        for size in [1, 4096] {
+        for size in SIZES {
             let talk = Talk {
-                size,
+                size: *size,
                 room: sent,
                 ..TALK
             };
@@ -318,11 +324,14 @@ fn reads_again(alloc: Global, hasher: RandomState, fails: bool, end: End) -> boo
     is_told(ended.end, end, written.as_slice(), REPLIES)
 }
 
+/// Whether the read after the last byte fails, and how the session ends.
+const INTERRUPTED: &[(bool, End)] = &[(false, End::Closed), (true, End::ReadFault)];
+
 #[test]
 fn an_interrupted_read_is_tried_again(rt: HostRuntime) -> Result<(), Fail> {
-    for (fails, end) in [(false, End::Closed), (true, End::ReadFault)] {
+    for (fails, end) in INTERRUPTED {
         let hasher = RandomState::new(&rt)?;
-        assert!(rt; reads_again(rt.alloc(), hasher, fails, end), "{end:?}");
+        assert!(rt; reads_again(rt.alloc(), hasher, *fails, *end), "{end:?}");
     }
     Ok(())
 }

