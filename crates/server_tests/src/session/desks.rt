@@ -76,7 +76,7 @@ fn taken(event: Event) -> Asked {
 }
 
 /// What a desk refuses, and why.
-#[derive(Clone, Copy, Debug, Drop)]
+#[derive(Clone, Copy, Drop)]
 enum Refused {
     Nothing,
     Join(DeskFault),
@@ -288,13 +288,13 @@ const FAULTS: &[(Refused, End, bool, &str)] = &[
 #[test]
 fn faults_of_a_desk(rt: HostRuntime) -> Result<(), Fail> {
     let bytes = spelled(rt.alloc(), "PING\nXREAD BLOCK 0 STREAMS s $\nPING")?;
-    for (refused, end, left, text) in FAULTS {
+    for (row, (refused, end, left, text)) in FAULTS.iter().enumerate() {
         let ended = Ended {
             end: *end,
             left: *left,
         };
         let as_told = ends(rt.alloc(), bytes.as_slice(), true, *refused, ended, text);
-        assert!(rt; as_told, "{refused:?}");
+        assert!(rt; as_told, "row {row}");
     }
     Ok(())
 }
@@ -336,7 +336,7 @@ impl Clock for Counting {
 }
 
 /// Requests, how their session ends, what it writes, and what its records are of.
-#[derive(Clone, Copy, Debug, Drop)]
+#[derive(Clone, Copy, Drop)]
 struct Recorded<'a> {
     lines: &'a str,
     end: End,
@@ -411,12 +411,10 @@ fn records(alloc: Global, hasher: RandomState, bytes: &[u8], row: &Recorded<'_>)
 #[test]
 fn records_are_the_join_the_calls_and_the_leave(rt: HostRuntime) -> Result<(), Fail> {
     for row in RECORDED {
-        let bytes = spelled(rt.alloc(), row.lines)?;
         let hasher = RandomState::new(&rt)?;
-        assert!(rt;
-            records(rt.alloc(), hasher, bytes.as_slice(), row),
-            "{row:?}"
-        );
+        let bytes = spelled(rt.alloc(), row.lines)?;
+        let as_wanted = records(rt.alloc(), hasher, bytes.as_slice(), row);
+        assert!(rt; as_wanted, "{}", row.lines);
     }
     Ok(())
 }
@@ -506,8 +504,8 @@ const PAUSES: &[(&str, &str)] = &[
 #[test]
 fn a_pause_comes_before_a_write_and_before_a_plan(rt: HostRuntime) -> Result<(), Fail> {
     for (lines, want) in PAUSES {
-        let bytes = spelled(rt.alloc(), lines)?;
         let hasher = RandomState::new(&rt)?;
+        let bytes = spelled(rt.alloc(), lines)?;
         let as_wanted = notes(rt.alloc(), hasher, bytes.as_slice(), want);
         assert!(rt; as_wanted, "{lines}");
     }
