@@ -271,26 +271,22 @@ fn ends_have_their_lines(rt: HostRuntime) {
     }
 }
 
-/// The seconds and nanoseconds that a system tells, or none if its clock fails, and the milliseconds of that.
-const TIMES: &[(Option<(u64, u32)>, u64)] = &[
-    (Some((1_526_919_030, 474_999_999)), 1_526_919_030_474),
-    (Some((0, 0)), 0),
-    (None, 0),
-];
-
-/// What the clock of a system tells.
-fn milliseconds(alloc: Global, time: Option<(u64, u32)>) -> u64 {
-    let time = match time {
-        Some((seconds, nanoseconds)) => Some(Duration::new(seconds, nanoseconds)),
-        None => None,
-    };
-    let system = StillSystem { alloc, time };
-    sr_session::Clock::now(&SystemClock::new(&system))
-}
-
 #[test]
 fn clock_tells_milliseconds(rt: HostRuntime) {
-    for (time, want) in TIMES {
-        assert!(rt; milliseconds(rt.alloc(), *time) == *want);
+    let rows = [
+        (
+            Some(Duration::new(1_526_919_030, 474_999_999)),
+            1_526_919_030_474,
+        ),
+        (Some(Duration::ZERO), 0),
+        (None, 0),
+    ];
+    for (time, want) in rows {
+        let system = StillSystem {
+            alloc: rt.alloc(),
+            time,
+        };
+        let told = sr_session::Clock::now(&SystemClock::new(&system));
+        assert_eq!(rt; told, want);
     }
 }
