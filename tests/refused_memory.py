@@ -121,10 +121,11 @@ LOOK = ["XPENDING", "s", "g", "-", "+", "10"]
 
 
 class Run:
-    """What came of a run: whether it came to the refused allocation, which requests were refused, whether it ended early, and what is wrong."""
+    """What came of a run: whether it came to the refused allocation, which requests were refused, whether it ended early, with which line, and
+    what is wrong."""
 
     def __init__(self):
-        self.reached, self.refused, self.ended, self.wrong = False, [], False, None
+        self.reached, self.refused, self.ended, self.line, self.wrong = False, [], False, None, None
 
     def end(self, status, errors, lines):
         """Takes in how the program ended. Only what was refused ends it early, and then no request was refused as well."""
@@ -135,7 +136,7 @@ class Run:
         is_whole = (status, told) == (0, []) and not self.ended and len(self.refused) <= self.reached
         if not is_refused and not is_whole and not self.wrong:
             self.wrong = f"status {status}, lines {told}, ended early: {self.ended}, refused: {self.refused}"
-        self.ended = is_refused
+        self.ended, self.line = is_refused, told[0] if is_refused else None
 
 
 def environment(library, number):
@@ -221,8 +222,9 @@ def first_behind(run_with):
     return not_made
 
 
-def walk(name, run_with, needed, least=1):
-    """Refuses the allocations of a run in turn, up to the run that makes fewer. Tells what came of it. Some `needed` request has to be refused."""
+def walk(name, run_with, needed, least=1, lines=()):
+    """Refuses the allocations of a run in turn, up to the run that makes fewer. Tells what came of it. Some `needed` request has to be refused,
+    and for each of these lines some run has to end with it."""
     runs = []
     with ThreadPoolExecutor(os.cpu_count()) as pool:
         for first in itertools.count(least, BATCH):
@@ -234,6 +236,7 @@ def walk(name, run_with, needed, least=1):
     wrong = [f"allocation {number}: {run.wrong}" for number, run in enumerate(runs, least) if run.wrong]
     if not any(needed in run.refused for run in runs):
         wrong.append(f"no {needed} was refused")
+    wrong += [f"no run ended with the line {line!r}" for line in lines if all(run.line != line for run in runs)]
     refused, ended = sum(len(run.refused) for run in runs), sum(run.ended for run in runs)
     told = f"{refused:,} requests refused and {ended:,} sessions ended for them"
     print(f"refused_memory, {name}: {count:,} allocations refused in turn, {told}; {len(wrong)} wrong", *wrong[:5], sep="\n  ", flush=True)
@@ -262,7 +265,8 @@ def main():
         failed.append(walk("lists in blocks", given([*FILLED, *BLOCKS]), "XREADGROUP", least))
         with open(policy, "w") as file:
             file.write(bulk_move.SMALL_POLICY)
-        failed.append(walk("a recovery", lambda number: recovered(program, library, policy, number), "RECOVER.RUN"))
+        lines = [*LINES, POLICY_LINE]
+        failed.append(walk("a recovery", lambda number: recovered(program, library, policy, number), "RECOVER.RUN", lines=lines))
     return 1 if any(failed) else 0
 
 
