@@ -1,7 +1,7 @@
 -- Words name one command at most, and a name cut short is not the name of another command.
-use Rattle.std.proofs.Common.{◌≡◌, ℕ, ◌+◌, ◌<◌, Bool, cond, true, false, List, [], ◌∷◌, ◌++◌, length, take, get_or, map, Option, Some, None, refl, sym, ap, ◌∙◌, append_assoc, append-nil, length-append, arith}
+use Rattle.std.proofs.Common.{◌≡◌, ℕ, ◌+◌, ◌<◌, ◌≤◌, Bool, cond, true, false, List, [], ◌∷◌, ◌++◌, length, take, get_or, map, Option, Some, None, refl, sym, ap, ◌∙◌, append_assoc, append-nil, length-append, arith}
 use Rattle.std.proofs.lemmas.Option.{same_Some}
-use Rattle.std.proofs.lemmas.List.{take_more}
+use Rattle.std.proofs.lemmas.List.{take_more, take_all}
 use Rattle.std.specs.Char.{to_ascii_lowercase}
 use Rattle.std.specs.Str.{bytes_eq}
 use Rattle.sr_args.specs.declared.table.CommandName.{CommandName}
@@ -9,6 +9,10 @@ use Rattle.sr_args.specs.declared.table.CommandName.TheVariants.{Ping}
 use Rattle.sr_args.specs.declared.table.Found.{Found}
 use Rattle.sr_args.specs.declared.table.Found.TheVariants as found
 use Rattle.sr_args.specs.declared.table.TheConstants.{COMMANDS}
+use Rattle.sr_args.specs.declared.name.OptionName.{OptionName}
+use Rattle.sr_args.specs.declared.name.OptionName.TheVariants as options
+use Rattle.sr_args.specs.declared.name.TheConstants.{OPTIONS}
+use Rattle.sr_args.specs.Name.{IsSameName, option_text}
 use Rattle.sr_args.specs.Place.{Word}
 use Rattle.sr_args.specs.Table.{Row, row_of, Begins, IsCut, IsNamed}
 use Rattle.sr_args.specs.steps.Names.{IsOther, AreOther, IsFound, IsFoundAmong}
@@ -105,3 +109,24 @@ pub IsFound-from_among : (words : List Word) (which : Found) → IsFoundAmong CO
 IsFound-from_among words (found.Command command operands) f = f
 IsFound-from_among words found.HalfNamed f = f
 IsFound-from_among words found.Unknown f = λ command. listed words f command
+
+-- the word names none of these options
+abbrev pub AreUnnamed : List OptionName → Word → Type 0
+AreUnnamed [] word = Unit {0}
+AreUnnamed (option ∷ rest) word = (IsSameName word (option_text option) → ⊥) × AreUnnamed rest word
+
+AreUnnamed-append : (rest : List OptionName) (option : OptionName) (word : Word) → AreUnnamed rest word → (IsSameName word (option_text option) → ⊥) → AreUnnamed (rest ++ option ∷ []) word
+AreUnnamed-append [] option word p o = (o, tt)
+AreUnnamed-append (other ∷ rest) option word p o = (p.0, AreUnnamed-append rest option word p.1 o)
+
+pub AreUnnamed-more : (k : ℕ) (name word : Word) → k < length OPTIONS → name ≡ option_text (get_or OPTIONS k options.Count) → AreUnnamed (take k OPTIONS) word → (IsSameName word name → ⊥) → AreUnnamed (take (k + 1) OPTIONS) word
+AreUnnamed-more k name word lt e p o =
+    rw (take_more OPTIONS k options.Count lt) (AreUnnamed-append (take k OPTIONS) (get_or OPTIONS k options.Count) word p (rw e at o))
+
+unnamed : (word : Word) → AreUnnamed OPTIONS word → (option : OptionName) → IsSameName word (option_text option) → ⊥
+unnamed word none options.Count = none.0
+unnamed word none option = assumption none
+
+-- each option stands among them
+pub unnamed-end : (k : ℕ) (word : Word) → length OPTIONS ≤ k → AreUnnamed (take k OPTIONS) word → (option : OptionName) → IsSameName word (option_text option) → ⊥
+unnamed-end k word le none = unnamed word (rw (take_all k OPTIONS le) at none)

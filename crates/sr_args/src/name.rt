@@ -62,64 +62,66 @@ pub(crate) enum Sign {
     Nearly,
 }
 
+/// The options in the order in which a word is looked up.
+const OPTIONS: [OptionName; 18] = [
+    OptionName::Count,
+    OptionName::NoMkStream,
+    OptionName::MaxLen,
+    OptionName::MinId,
+    OptionName::Limit,
+    OptionName::MkStream,
+    OptionName::JustId,
+    OptionName::Idle,
+    OptionName::Time,
+    OptionName::RetryCount,
+    OptionName::Group,
+    OptionName::NoAck,
+    OptionName::Block,
+    OptionName::Force,
+    OptionName::LastId,
+    OptionName::Streams,
+    OptionName::Tries,
+    OptionName::Dead,
+];
+
+/// Their names, in the order in which the options are declared.
+const NAMES: &[&[u8]] = &[
+    b"COUNT",
+    b"NOMKSTREAM",
+    b"MAXLEN",
+    b"MINID",
+    b"LIMIT",
+    b"MKSTREAM",
+    b"JUSTID",
+    b"IDLE",
+    b"TIME",
+    b"RETRYCOUNT",
+    b"GROUP",
+    b"NOACK",
+    b"BLOCK",
+    b"FORCE",
+    b"LASTID",
+    b"STREAMS",
+    b"TRIES",
+    b"DEAD",
+];
+
+/// The name of an option.
+fn name_of(option: OptionName) -> &'static [u8]
+    ensures { result.now ≡ option_text option }
+{
+    NAMES[option as usize]
+}
+
 /// The option that a word names.
 pub(crate) fn option_named(word: &[u8]) -> Option<OptionName>
     ensures found { IfSome result (λ option. IsSameName word.now (option_text option)) }
     ensures none { IfNone result ((option : options.OptionName) → IsSameName word.now (option_text option) → ⊥) }
 {
-    if word.eq_ignore_ascii_case(b"COUNT") {
-        return Some(OptionName::Count);
-    }
-    if word.eq_ignore_ascii_case(b"NOMKSTREAM") {
-        return Some(OptionName::NoMkStream);
-    }
-    if word.eq_ignore_ascii_case(b"MAXLEN") {
-        return Some(OptionName::MaxLen);
-    }
-    if word.eq_ignore_ascii_case(b"MINID") {
-        return Some(OptionName::MinId);
-    }
-    if word.eq_ignore_ascii_case(b"LIMIT") {
-        return Some(OptionName::Limit);
-    }
-    if word.eq_ignore_ascii_case(b"MKSTREAM") {
-        return Some(OptionName::MkStream);
-    }
-    if word.eq_ignore_ascii_case(b"JUSTID") {
-        return Some(OptionName::JustId);
-    }
-    if word.eq_ignore_ascii_case(b"IDLE") {
-        return Some(OptionName::Idle);
-    }
-    if word.eq_ignore_ascii_case(b"TIME") {
-        return Some(OptionName::Time);
-    }
-    if word.eq_ignore_ascii_case(b"RETRYCOUNT") {
-        return Some(OptionName::RetryCount);
-    }
-    if word.eq_ignore_ascii_case(b"GROUP") {
-        return Some(OptionName::Group);
-    }
-    if word.eq_ignore_ascii_case(b"NOACK") {
-        return Some(OptionName::NoAck);
-    }
-    if word.eq_ignore_ascii_case(b"BLOCK") {
-        return Some(OptionName::Block);
-    }
-    if word.eq_ignore_ascii_case(b"FORCE") {
-        return Some(OptionName::Force);
-    }
-    if word.eq_ignore_ascii_case(b"LASTID") {
-        return Some(OptionName::LastId);
-    }
-    if word.eq_ignore_ascii_case(b"STREAMS") {
-        return Some(OptionName::Streams);
-    }
-    if word.eq_ignore_ascii_case(b"TRIES") {
-        return Some(OptionName::Tries);
-    }
-    if word.eq_ignore_ascii_case(b"DEAD") {
-        return Some(OptionName::Dead);
+    for option in &OPTIONS {
+        if word.eq_ignore_ascii_case(name_of(*option)) {
+            return Some(*option);
+        }
     }
     None
 }
