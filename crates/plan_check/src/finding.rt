@@ -41,19 +41,26 @@ pub(crate) fn status_of(finding: &Finding) -> u8
 
 impl fmt::Display for Finding {
     fn fmt<W: fmt::Write>(&self, f: &mut fmt::Formatter<W>) -> fmt::Result {
-        match self {
-            Finding::Cheapest { total } => write!(f, "cheapest, total {total}"),
+        let text = match self {
+            Finding::Cheapest { total } => return write!(f, "cheapest, total {total}"),
             Finding::Impossible { places, entries } => {
-                let place = if *places == 1 { "place" } else { "places" };
-                let entry = if *entries == 1 { "entry" } else { "entries" };
-                write!(f, "impossible, {places} {place} for {entries} {entry}")
+                let place = if *places == 1 {
+                    " place for "
+                } else {
+                    " places for "
+                };
+                let entry = if *entries == 1 { " entry" } else { " entries" };
+                return write!(f, "impossible, {places}{place}{entries}{entry}");
             }
-            Finding::Wrong { reason } => f.write_str(reason_text(*reason)),
-            Finding::Refused => f.write_str("wrong: the reply is an error"),
-            Finding::Line { number, fault } => write!(f, "line {number}: {}", fault_text(*fault)),
-            Finding::NoReply => f.write_str("no line `reply`"),
-            Finding::Unfit => f.write_str("no snapshot has these entries and consumers"),
-        }
+            Finding::Line { number, fault } => {
+                return write!(f, "line {number}: {}", fault_text(*fault));
+            }
+            Finding::Wrong { reason } => reason_text(*reason),
+            Finding::Refused => "wrong: the reply is an error",
+            Finding::NoReply => "no line `reply`",
+            Finding::Unfit => "no snapshot has these entries and consumers",
+        };
+        f.write_str(text)
     }
 }
 

@@ -82,8 +82,11 @@ fn worth(alloc: Global, snapshot: &Snapshot, reply: &[u8]) -> Result<Finding, Al
 
 /// How many entries a reply says that a shortage has, or 0 if it is none.
 fn entries_of_shortage(reply: &[u8]) -> u64 {
-    match reply.strip_prefix(SHORTAGE) {
-        Some(rest) => number_before(rest, b'\r').map_or(0, |(number, _)| number),
+    let Some(rest) = reply.strip_prefix(SHORTAGE) else {
+        return 0;
+    };
+    match number_before(rest, b'\r') {
+        Some((number, _)) => number,
         None => 0,
     }
 }

@@ -147,21 +147,12 @@ impl Problem {
             consumers,
             classes,
         } = self;
-        let rates = classes
-            .into_iter()
-            .map(|class| rates_for(alloc, &consumers, class))
-            .try_collect(alloc)?;
-        let live = consumers
-            .into_iter()
-            .map(|(name, consumer)| Live {
-                name: Name::new(name),
-                limit: consumer.room,
-                pending: 0,
-            })
-            .collect(alloc)?;
+        let rates = rates_of(alloc, &classes, &consumers)?;
+        let live = live_of(alloc, &consumers)?;
         let stranded = stranded.into_values().collect(alloc)?;
         let gone = gone.into_iter().collect(alloc)?;
-        let dead = vec![in alloc; Name::new(Vec::new(alloc))]?;
+        let mut dead = Vec::with_capacity(alloc, 1)?;
+        dead.push_reserved(Name::new(Vec::new(alloc)));
         Ok(Snapshot::new(
             Name::new(Vec::new(alloc)),
             Name::new(Vec::new(alloc)),
@@ -186,17 +177,37 @@ fn insert_new<K: Ord + Drop, V: Drop>(
     }
 }
 
-/// A class and its rates at the consumers, in byte order of their names.
-fn rates_for(
+/// The live consumers, in byte order of their names.
+fn live_of(
     alloc: Global,
     consumers: &BTreeMap<Vec<u8>, Consumer>,
-    class: Vec<u8>,
-) -> Result<(Name, Rates), AllocError> {
-    let rates = consumers
-        .values()
-        .map(|consumer| consumer.rates.get(&class).copied())
-        .collect(alloc)?;
-    Ok((Name::new(class), Rates::new(rates)))
+) -> Result<Vec<Live>, AllocError> {
+    let mut live = Vec::new(alloc);
+    for (name, consumer) in consumers {
+        live.push(Live {
+            name: Name::new(name.clone()?),
+            limit: consumer.room,
+            pending: 0,
+        })?;
+    }
+    Ok(live)
+}
+
+/// Each class and its rates at the consumers, in byte order of their names.
+fn rates_of(
+    alloc: Global,
+    classes: &BTreeSet<Vec<u8>>,
+    consumers: &BTreeMap<Vec<u8>, Consumer>,
+) -> Result<Vec<(Name, Rates)>, AllocError> {
+    let mut table = Vec::new(alloc);
+    for class in classes {
+        let mut rates = Vec::new(alloc);
+        for consumer in consumers.values() {
+            rates.push(consumer.rates.get(class).copied())?;
+        }
+        table.push((Name::new(class.clone()?), Rates::new(rates)))?;
+    }
+    Ok(table)
 }
 
 /// The id that a word spells.

@@ -58,7 +58,8 @@ impl Outline {
         Ok(())
     }
 
-    /// Adds an item whose number ends at this column: one more of an open array, or the first one of an array that begins.
+    /// Adds an item whose number ends at this column: one more of an open array, or the first one of an array that begins. One may
+    /// begin where no open array has this column: at the first line, and behind another number of the same line.
     fn add_item(
         &mut self,
         alloc: Global,
@@ -67,12 +68,10 @@ impl Outline {
         may_begin: bool,
     ) -> Result<(), Fault> {
         self.open.retain(|array| array.column <= column);
-        let is_open = matches!(self.open.last(), Some(array) if array.column == column);
-        if may_begin && !is_open {
-            let place = self.parts.len();
+        if may_begin {
             self.open.push(OpenArray {
                 column,
-                place,
+                place: self.parts.len(),
                 items: 0,
             })?;
             self.parts.push(Vec::new(alloc))?;

@@ -117,8 +117,7 @@ pub(crate) fn split_once(bytes: &[u8], mark: u8) -> Option<(&[u8], &[u8])>
     ensures none { IfNone result (All (λ byte. byte ≢ mark) bytes.now) }
 {
     let end = bytes.iter().position(|byte| *byte == mark)?;
-    let (before, rest) = bytes.split_at(end);
-    Some((before, rest.get(1..)?))
+    Some((&bytes[..end], &bytes[end + 1..]))
 }
 
 /// The number written before the first `mark`, and the bytes after it.
