@@ -99,29 +99,27 @@ fn read_form(alloc: Global, parts: &mut Split<'_, char>) -> Result<Ask, LineFaul
         return Err(LineFault::Form);
     };
     match form {
-        "policy" => read_policy(alloc, parts),
-        "join" => Ok(Ask::Join {
-            told: read_number(parts)?,
-        }),
-        "expire" => Ok(Ask::Expire {
-            told: read_number(parts)?,
-        }),
-        "due" => Ok(Ask::Due {
-            told: read_number(parts)?,
-        }),
-        "collect" => Ok(Ask::Collect {
-            session: read_session(parts)?,
-        }),
-        "status" => Ok(Ask::Status {
-            session: read_session(parts)?,
-        }),
-        "records" => Ok(Ask::Records),
-        _ => Ok(Ask::Session {
-            told: read_number(parts)?,
-            session: read_session(parts)?,
-            action: read_action(alloc, form, parts)?,
-        }),
+        "policy" => return read_policy(alloc, parts),
+        "records" => return Ok(Ask::Records),
+        _ => {}
     }
+    let number = read_number(parts)?;
+    Ok(match form {
+        "join" => Ask::Join { told: number },
+        "expire" => Ask::Expire { told: number },
+        "due" => Ask::Due { told: number },
+        "collect" => Ask::Collect {
+            session: ordinal(number)?,
+        },
+        "status" => Ask::Status {
+            session: ordinal(number)?,
+        },
+        _ => Ask::Session {
+            told: number,
+            session: ordinal(read_number(parts)?)?,
+            action: read_action(alloc, form, parts)?,
+        },
+    })
 }
 
 /// What a session does in a line of this form.
@@ -131,7 +129,7 @@ fn read_action(
     parts: &mut Split<'_, char>,
 ) -> Result<Action, LineFault> {
     match form {
-        "call" => read_call_line(alloc, parts),
+        "call" => call_of(alloc, &read_words(alloc, parts)?),
         "board" => Ok(Action::Board {
             key: read_name(alloc, parts)?,
             group: read_name(alloc, parts)?,
@@ -175,9 +173,8 @@ fn read_snapshot(alloc: Global, parts: &mut Split<'_, char>) -> Result<Action, L
 fn read_names(alloc: Global, parts: &mut Split<'_, char>) -> Result<Names, LineFault> {
     let mut names = Vec::new(alloc);
     for part in parts {
-        let name = Name::new(read_word(alloc, part)?);
         names.reserve(1)?;
-        names.push_reserved(name);
+        names.push_reserved(Name::new(read_word(alloc, part)?));
     }
     Ok(Names::new(names))
 }
@@ -199,13 +196,12 @@ fn read_flag(parts: &mut Split<'_, char>) -> Result<bool, LineFault> {
     }
 }
 
-/// A call: its words, which are at least one.
-fn read_call_line(alloc: Global, parts: &mut Split<'_, char>) -> Result<Action, LineFault> {
-    let words = read_words(alloc, parts)?;
+/// The call of these words, which are at least one.
+fn call_of(alloc: Global, words: &Words) -> Result<Action, LineFault> {
     if words.len() == 0 {
         return Err(LineFault::Form);
     }
-    match read_call(alloc, &words) {
+    match read_call(alloc, words) {
         Ok(Command::Call(call)) => Ok(Action::Call { call }),
         Ok(Command::Board { .. } | Command::Recover { .. }) => Err(LineFault::Form),
         Err(CallFault::Memory) => Err(LineFault::Memory),
@@ -236,12 +232,12 @@ fn read_word(alloc: Global, part: &str) -> Result<Vec<u8>, LineFault> {
     }
 }
 
-/// The ordinal of a session's join line.
-fn read_session(parts: &mut Split<'_, char>) -> Result<u64, LineFault> {
-    match read_number(parts)? {
-        0 => Err(LineFault::Form),
-        ordinal => Ok(ordinal),
+/// The ordinal of a session's join line: a number, but not 0.
+fn ordinal(number: u64) -> Result<u64, LineFault> {
+    if number == 0 {
+        return Err(LineFault::Form);
     }
+    Ok(number)
 }
 
 /// The number that the next part has as decimal digits.

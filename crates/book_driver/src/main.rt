@@ -10,7 +10,7 @@ mod print;
 
 use crate::drive::Driver;
 use crate::line::read_line;
-use crate::print::{print_fault, print_outcome};
+use crate::print::{fault_line, print_outcome};
 use sr_policy::Policy;
 use std::alloc::Global;
 use std::hash::RandomState;
@@ -64,6 +64,6 @@ fn answer_line<W: Write>(
             let outcome = driver.answer(alloc, ask)?;
             print_outcome(alloc, driver.records(), &outcome, out)
         }
-        Err(fault) => print_fault(fault, out),
+        Err(fault) => out.write_all(fault_line(fault)),
     }
 }
