@@ -23,8 +23,7 @@ fn main(rt: HostRuntime) -> io::Result<ExitCode> {
         return Ok(ExitCode::from(REFUSED));
     };
     let input = BufReader::new(rt.alloc(), rt.reader())?;
-    let mut source = Source::new(rt.alloc(), input);
-    answer(&rt, is_timed, &mut source)
+    answer(&rt, is_timed, &mut Source::new(rt.alloc(), input))
 }
 
 /// Whether the command line asks for times, or `None` where it is not understood.
@@ -46,7 +45,7 @@ fn answer<R: AllocGlobal + Clock + Print + Eprint, B: BufRead>(
     match answer_all(rt, is_timed, source) {
         Ok(()) => Ok(ExitCode::SUCCESS),
         Err(error) => {
-            eprintln!(rt; "line {}: {error}", source.line_number())?;
+            eprintln!(rt; "line {}: {error}", source.line_number)?;
             Ok(ExitCode::FAILURE)
         }
     }
@@ -62,7 +61,7 @@ fn answer_all<R: AllocGlobal + Clock + Print, B: BufRead>(
         let Some(problem) = source.next_problem(rt.alloc())? else {
             break;
         };
-        print_line(rt, is_timed, source.name(), &problem)?;
+        print_line(rt, is_timed, source.name.as_str(), &problem)?;
     }
     Ok(())
 }

@@ -9,8 +9,10 @@ use std::io::{self, BufRead};
 pub(crate) struct Source<B> {
     input: B,
     line: String,
-    line_number: u64,
-    name: String,
+    /// How many lines have been read.
+    pub(crate) line_number: u64,
+    /// The name of the problem that was read last.
+    pub(crate) name: String,
 }
 
 impl<B: BufRead> Source<B> {
@@ -24,16 +26,6 @@ impl<B: BufRead> Source<B> {
         }
     }
 
-    /// How many lines have been read.
-    pub(crate) fn line_number(&self) -> u64 {
-        self.line_number
-    }
-
-    /// The name of the problem that was read last.
-    pub(crate) fn name(&self) -> &str {
-        self.name.as_str()
-    }
-
     /// Reads the next problem, if there is one.
     pub(crate) fn next_problem(&mut self, alloc: Global) -> io::Result<Option<Problem>> {
         let is_at_end = self.meets_end()?;
@@ -45,7 +37,10 @@ impl<B: BufRead> Source<B> {
         self.read_line()?;
         let entries = number(self.line.as_str().trim())? as usize;
         let rooms = self.rooms(alloc)?;
-        let costs = self.costs(alloc, entries, rooms.len())?;
+        let mut costs = Vec::new(alloc);
+        for _ in 0..entries {
+            self.read_row(rooms.len(), &mut costs)?;
+        }
         match Problem::new(rooms, entries, costs) {
             None => Err(io::Error::other("the problem is not within the limits")),
             problem => Ok(problem),
@@ -62,20 +57,6 @@ impl<B: BufRead> Source<B> {
             .try_collect(alloc)
     }
 
-    /// Reads the costs of all entries.
-    fn costs(
-        &mut self,
-        alloc: Global,
-        entries: usize,
-        consumers: usize,
-    ) -> io::Result<Vec<Option<u64>>> {
-        let mut costs = Vec::new(alloc);
-        for _ in 0..entries {
-            self.read_row(consumers, &mut costs)?;
-        }
-        Ok(costs)
-    }
-
     /// Reads the costs of an entry, and adds them to these.
     fn read_row(&mut self, consumers: usize, costs: &mut Vec<Option<u64>>) -> io::Result<()> {
         self.read_line()?;
@@ -84,7 +65,12 @@ impl<B: BufRead> Source<B> {
             return Err(io::Error::other("an entry has a cost or `-` for each consumer"));
         }
         for word in words.split_whitespace() {
-            costs.push(cost(word)?)?;
+            let cost = if word == "-" {
+                None
+            } else {
+                Some(number(word)?)
+            };
+            costs.push(cost)?;
         }
         Ok(())
     }
@@ -102,14 +88,6 @@ impl<B: BufRead> Source<B> {
         self.line.clear();
         self.line_number = self.line_number.saturating_add(1);
         Ok(self.input.read_line(&mut self.line)? == 0)
-    }
-}
-
-/// The cost that a word writes, `None` for `-`.
-fn cost(word: &str) -> io::Result<Option<u64>> {
-    match word {
-        "-" => Ok(None),
-        digits => Ok(Some(number(digits)?)),
     }
 }
 
