@@ -127,12 +127,13 @@ def stepped(program, text, stranded, others):
     ask("join 0")
     for words in setting(stranded, others):
         ask("call 0 1 " + " ".join(word.hex() for word in words))
-    snapshot = min(ask("snapshot 0 1 73 67 " + b"dead".hex()) for _ in range(3))
-    concluded = min(ask("conclude 0 1 0 1") for _ in range(3))
-    applied = ask("conclude 0 1 1 1")
+    snapshots, concluded = [], []
+    for apply in (0, 0, 0, 1):
+        snapshots.append(ask("snapshot 0 1 73 67 " + b"dead".hex()))
+        concluded.append(ask(f"conclude 0 1 {apply} 1"))
     driver.stdin.close()
     driver.wait()
-    return snapshot, concluded, applied
+    return min(snapshots), min(concluded[:3]), concluded[3]
 
 
 def main():

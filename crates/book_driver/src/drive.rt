@@ -1,51 +1,18 @@
 //! A book, and what is done with it for each line.
-use crate::held::HeldSnapshots;
 use crate::line::{Action, Ask};
-use sr_book::{Answer, Book, BookFault, Event, Letter, Out, Record, Status, StepFault};
-use sr_plan::Verdict;
+use crate::print::{due_text, letter_line, line_of, records_line, status_text, stepped_line};
+use crate::sessions::{NO_PLACE, Sessions};
+use sr_book::{Book, Event};
 use sr_policy::Policy;
 use std::alloc::{AllocError, Global};
 use std::hash::RandomState;
-
-/// The number of no session: an ordinal without a join line stands for it.
-const NO_SESSION: u64 = 1 << 62;
 
 /// A book, and the sessions that lines name.
 #[derive(Drop)]
 pub(crate) struct Driver {
     hasher: RandomState,
     book: Book,
-    /// The session of each join line, in their order.
-    joined: Vec<u64>,
-    /// The last snapshot of each session.
-    held: HeldSnapshots,
-}
-
-/// What came of a line.
-#[derive(Drop)]
-pub(crate) enum Outcome {
-    /// The book is new.
-    NewBook,
-    /// An event was accepted.
-    Answered(Answer),
-    /// An event was refused.
-    Refused(BookFault),
-    /// A session got a snapshot: fresh after a stale verdict, or the first one.
-    Snapped {
-        index: u64,
-        settled: bool,
-        stale: bool,
-    },
-    /// The session holds no snapshot of which a verdict could be made.
-    NoVerdict,
-    /// Whether a deadline is reached.
-    Due(bool),
-    /// What a session was given while it waited.
-    Collected(Option<Letter>),
-    /// How a session stands.
-    Stands(Status),
-    /// The records are asked for.
-    Records,
+    sessions: Sessions,
 }
 
 impl Driver {
@@ -54,45 +21,44 @@ impl Driver {
         Driver {
             hasher,
             book: Book::new(alloc, policy, hasher),
-            joined: Vec::new(alloc),
-            held: HeldSnapshots::new(alloc),
+            sessions: Sessions::new(alloc),
         }
     }
 
-    /// The records of the book.
-    pub(crate) fn records(&self) -> &[Record] {
-        self.book.records()
-    }
-
-    /// Does what a line asks for. An `Err` leaves the book as it was.
-    pub(crate) fn answer(&mut self, alloc: Global, ask: Ask) -> Result<Outcome, AllocError> {
-        Ok(match ask {
+    /// Does what a line asks for. Returns the line that tells what came of it.
+    pub(crate) fn answer(&mut self, alloc: Global, ask: Ask) -> Result<String, AllocError> {
+        match ask {
             Ask::NewBook { policy } => {
                 *self = Driver::new(alloc, policy, self.hasher);
-                Outcome::NewBook
+                line_of(alloc, "ok")
             }
-            Ask::Join { told } => return self.join(alloc, told),
+            Ask::Join { told } => self.join(alloc, told),
             Ask::Session {
                 told,
-                session,
+                place,
                 action,
-            } => return self.do_action(alloc, told, self.number_of(session), action),
-            Ask::Expire { told } => self.step(alloc, told, NO_SESSION, Event::Expire),
-            Ask::Due { told } => Outcome::Due(self.book.due(told)),
-            Ask::Collect { session } => {
-                Outcome::Collected(self.book.collect(alloc, self.number_of(session))?)
+            } => self.do_action(alloc, told, place, action),
+            Ask::Expire { told } => self.step(alloc, told, NO_PLACE, Event::Expire),
+            Ask::Due { told } => line_of(alloc, due_text(self.book.due(told))),
+            Ask::Collect { place } => self.collect(alloc, place),
+            Ask::Status { place } => {
+                let status = self.book.status(self.sessions.number(place));
+                line_of(alloc, status_text(status))
             }
-            Ask::Status { session } => Outcome::Stands(self.book.status(self.number_of(session))),
-            Ask::Records => Outcome::Records,
-        })
+            Ask::Records => records_line(alloc, self.book.records()),
+        }
     }
 
-    /// A session opens, and its line gets the next ordinal, also if it is refused.
-    fn join(&mut self, alloc: Global, told: u64) -> Result<Outcome, AllocError> {
-        self.joined.reserve(1)?;
-        let stepped = self.book.step(alloc, told, Event::Join);
-        self.joined.push_reserved(number_in(&stepped));
-        Ok(self.outcome_of(NO_SESSION, stepped))
+    /// A session opens, and its line gets the next place, also if it is refused.
+    fn join(&mut self, alloc: Global, told: u64) -> Result<String, AllocError> {
+        self.sessions.reserve()?;
+        self.step(alloc, told, NO_PLACE, Event::Join)
+    }
+
+    /// The line for what a session was given while it waited.
+    fn collect(&self, alloc: Global, place: usize) -> Result<String, AllocError> {
+        let letter = self.book.collect(alloc, self.sessions.number(place))?;
+        letter_line(alloc, letter)
     }
 
     /// A session does something.
@@ -100,10 +66,10 @@ impl Driver {
         &mut self,
         alloc: Global,
         told: u64,
-        session: u64,
+        place: usize,
         action: Action,
-    ) -> Result<Outcome, AllocError> {
-        self.held.reserve()?;
+    ) -> Result<String, AllocError> {
+        let session = self.sessions.number(place);
         let event = match action {
             Action::Call { call } => Event::Call { session, call },
             Action::Board { key, group } => Event::Board {
@@ -118,78 +84,45 @@ impl Driver {
                 dead,
             },
             Action::Conclude { apply, last } => {
-                let Some(snapshot) = self.held.copy_of(alloc, session)? else {
-                    return Ok(Outcome::NoVerdict);
-                };
-                Event::Conclude {
-                    session,
-                    verdict: Verdict::make(alloc, snapshot)?,
-                    apply,
-                    last,
-                }
+                return self.conclude(alloc, told, place, apply, last);
             }
             Action::Leave => Event::Leave { session },
         };
-        Ok(self.step(alloc, told, session, event))
+        self.step(alloc, told, place, event)
     }
 
-    /// Hands the book an event. A snapshot that it answers is held for the session, if there is room for it.
-    fn step(&mut self, alloc: Global, told: u64, session: u64, event: Event) -> Outcome {
+    /// A session concludes its verdict, if it holds one or a snapshot to make it of.
+    fn conclude(
+        &mut self,
+        alloc: Global,
+        told: u64,
+        place: usize,
+        apply: bool,
+        last: bool,
+    ) -> Result<String, AllocError> {
+        let Some(held) = self.sessions.take(place) else {
+            return line_of(alloc, "none");
+        };
+        let event = Event::Conclude {
+            session: self.sessions.number(place),
+            verdict: held.verdict(alloc)?,
+            apply,
+            last,
+        };
+        self.step(alloc, told, place, event)
+    }
+
+    /// Hands the book an event of the session at a place, or of none.
+    fn step(
+        &mut self,
+        alloc: Global,
+        told: u64,
+        place: usize,
+        event: Event,
+    ) -> Result<String, AllocError> {
         let stepped = self.book.step(alloc, told, event);
-        self.outcome_of(session, stepped)
-    }
-
-    /// What came of an event. The snapshot of its answer is held, if it has one.
-    fn outcome_of(&mut self, session: u64, stepped: Result<Answer, StepFault>) -> Outcome {
-        let Answer {
-            index,
-            out,
-            settled,
-        } = match stepped {
-            Ok(answer) => answer,
-            Err(refused) => return Outcome::Refused(refused.fault),
-        };
-        let (snapshot, stale) = match out {
-            Out::Snap(snapshot) => (snapshot, false),
-            Out::Stale(snapshot) => (snapshot, true),
-            out => {
-                return Outcome::Answered(Answer {
-                    index,
-                    out,
-                    settled,
-                });
-            }
-        };
-        self.held.hold(session, snapshot);
-        Outcome::Snapped {
-            index,
-            settled,
-            stale,
-        }
-    }
-
-    /// The number of the session whose join line has this ordinal, from 1.
-    fn number_of(&self, ordinal: u64) -> u64 {
-        match ordinal.checked_sub(1) {
-            None => NO_SESSION,
-            Some(place) => self
-                .joined
-                .get(place as usize)
-                .copied()
-                .unwrap_or(NO_SESSION),
-        }
-    }
-}
-
-/// The number of the session that opened.
-fn number_in(stepped: &Result<Answer, StepFault>) -> u64 {
-    match stepped {
-        Ok(
-            Answer {
-                out: Out::Joined(number),
-                ..
-            },
-        ) => *number,
-        _ => NO_SESSION,
+        let line = stepped_line(alloc, &stepped);
+        self.sessions.note(place, stepped);
+        line
     }
 }

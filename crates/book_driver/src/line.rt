@@ -11,7 +11,7 @@ const MOST_DIGITS: usize = 20;
 
 /// What a line asks for.
 ///
-/// `told` is a moment in milliseconds since 1970. A session is named by the ordinal of its join line, from 1.
+/// `told` is a moment in milliseconds since 1970. A session is named by the place of its join line, from 0.
 #[derive(Drop)]
 pub(crate) enum Ask {
     /// A new book, with this policy, takes the place of the one that there was.
@@ -25,7 +25,7 @@ pub(crate) enum Ask {
     /// A session does something.
     Session {
         told: u64,
-        session: u64,
+        place: usize,
         action: Action,
     },
     /// Reads whose deadline is reached are answered.
@@ -38,11 +38,11 @@ pub(crate) enum Ask {
     },
     /// What a session was given while it waited.
     Collect {
-        session: u64,
+        place: usize,
     },
     /// How a session stands.
     Status {
-        session: u64,
+        place: usize,
     },
     /// The records so far.
     Records,
@@ -57,7 +57,7 @@ pub(crate) enum Action {
     Board { key: Name, group: Name },
     /// It asks for a snapshot of a group with these consumers dead.
     Snapshot { key: Name, group: Name, dead: Names },
-    /// It concludes the verdict on the snapshot that it got last.
+    /// It concludes the verdict on the snapshot that it got last, if it has not yet.
     Conclude { apply: bool, last: bool },
     /// It closes.
     Leave,
@@ -109,14 +109,14 @@ fn read_form(alloc: Global, parts: &mut Split<'_, char>) -> Result<Ask, LineFaul
         "expire" => Ask::Expire { told: number },
         "due" => Ask::Due { told: number },
         "collect" => Ask::Collect {
-            session: ordinal(number)?,
+            place: place_of(number)?,
         },
         "status" => Ask::Status {
-            session: ordinal(number)?,
+            place: place_of(number)?,
         },
         _ => Ask::Session {
             told: number,
-            session: ordinal(read_number(parts)?)?,
+            place: place_of(read_number(parts)?)?,
             action: read_action(alloc, form, parts)?,
         },
     })
@@ -232,12 +232,12 @@ fn read_word(alloc: Global, part: &str) -> Result<Vec<u8>, LineFault> {
     }
 }
 
-/// The ordinal of a session's join line: a number, but not 0.
-fn ordinal(number: u64) -> Result<u64, LineFault> {
-    if number == 0 {
-        return Err(LineFault::Form);
+/// The place of the session that this ordinal names, from 1.
+fn place_of(ordinal: u64) -> Result<usize, LineFault> {
+    match ordinal.checked_sub(1) {
+        Some(place) => Ok(place as usize),
+        None => Err(LineFault::Form),
     }
-    Ok(number)
 }
 
 /// The number that the next part has as decimal digits.

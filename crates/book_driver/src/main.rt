@@ -4,39 +4,27 @@
 #![tactic(auto)]
 
 mod drive;
-mod held;
 mod line;
 mod print;
+mod sessions;
 
 use crate::drive::Driver;
 use crate::line::read_line;
-use crate::print::{fault_line, print_outcome};
+use crate::print::{fault_text, line_of};
 use sr_policy::Policy;
-use std::alloc::Global;
+use std::alloc::{AllocError, Global};
 use std::hash::RandomState;
-use std::io::{self, BufRead, BufReader, LineWriter, Write};
+use std::io::{self, BufRead, BufReader, Write};
 
 fn main(rt: HostRuntime) -> io::Result<()> {
     let alloc = rt.alloc();
     let hasher = RandomState::new(&rt)?;
     let input = BufReader::new(alloc, rt.reader())?;
-    let mut out = LineWriter::new(alloc, io::writer(&rt))?;
-    answer_input(alloc, hasher, input, &mut out)?;
-    out.flush()
-}
-
-/// Answers the lines of the input over a new book.
-fn answer_input<R: BufRead + Drop, W: Write>(
-    alloc: Global,
-    hasher: RandomState,
-    input: R,
-    out: &mut W,
-) -> io::Result<()> {
     let mut driver = Driver::new(alloc, Policy::empty(alloc), hasher);
-    answer_lines(alloc, &mut driver, input, out)
+    answer_lines(alloc, &mut driver, input, &mut io::writer(&rt))
 }
 
-/// Answers the lines of the input.
+/// Answers the lines of the input, each before the next one is read.
 fn answer_lines<R: BufRead + Drop, W: Write>(
     alloc: Global,
     driver: &mut Driver,
@@ -44,26 +32,19 @@ fn answer_lines<R: BufRead + Drop, W: Write>(
     out: &mut W,
 ) -> io::Result<()> {
     for line in input.split(alloc, b'\n') {
-        answer_line(alloc, driver, line?.as_slice(), out)?;
+        let answer = answer_to(alloc, driver, line?.as_slice())?;
+        out.write_all(answer.as_bytes())?;
     }
     Ok(())
 }
 
-/// Answers a line, unless it is empty.
-fn answer_line<W: Write>(
-    alloc: Global,
-    driver: &mut Driver,
-    line: &[u8],
-    out: &mut W,
-) -> io::Result<()> {
+/// The answer to a line, which is none to an empty one.
+fn answer_to(alloc: Global, driver: &mut Driver, line: &[u8]) -> Result<String, AllocError> {
     if line.is_empty() {
-        return Ok(());
+        return Ok(String::new(alloc));
     }
     match read_line(alloc, line) {
-        Ok(ask) => {
-            let outcome = driver.answer(alloc, ask)?;
-            print_outcome(alloc, driver.records(), &outcome, out)
-        }
-        Err(fault) => out.write_all(fault_line(fault)),
+        Ok(ask) => driver.answer(alloc, ask),
+        Err(fault) => line_of(alloc, fault_text(fault)),
     }
 }
