@@ -3,7 +3,7 @@
 //
 // scripts/memory builds it as a library and loads it with LD_PRELOAD. REFUSE=1 refuses the first call of the process, REFUSE=2 the
 // second, and REFUSE=0 none. When it refuses one, it writes the line `refused` to standard error; where blocks are left at the end, the line
-// `blocks left`. It needs glibc.
+// `blocks left`. With REFUSE_RANDOM no random bytes are given. It needs glibc.
 #define _GNU_SOURCE
 #include <errno.h>
 #include <stdatomic.h>
@@ -72,6 +72,15 @@ void free(void *block)
     if (block)
         atomic_fetch_sub(&blocks, 1);
     __libc_free(block);
+}
+
+int getentropy(void *bytes, size_t length)
+{
+    if (getenv("REFUSE_RANDOM")) {
+        errno = ENOSYS;
+        return -1;
+    }
+    return syscall(SYS_getrandom, bytes, length, 0) == (long)length ? 0 : -1;
 }
 
 // Called at the end of the process, which is a return from main or a call of _exit.

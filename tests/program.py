@@ -1,10 +1,11 @@
 #!/usr/bin/env python3
-"""Gives sr_server command lines that it refuses, and readers and writers that fail, and compares what it does with what is written here.
+"""Gives sr_server command lines that it refuses, addresses, and readers and writers that fail, and compares what it does with what is written here.
 
 usage: tests/program.py PROGRAM
 
-A refused command line ends with status 2, no reply and some text on standard error. A reader that fails is a folder or a socket, a writer
-that fails is /dev/full. Prints what differs; the status is 1 if anything does.
+A refused command line ends with status 2, no reply and some text on standard error. An address of which another program is listening cannot
+be bound. At one that other machines may reach the server warns before it says that it listens. A reader that fails is a folder or a socket, a
+writer that fails is /dev/full. Prints what differs; the status is 1 if anything does.
 """
 
 import os
@@ -12,7 +13,11 @@ import socket
 import subprocess
 import sys
 
+sys.path.insert(0, os.path.join(os.path.dirname(os.path.abspath(__file__)), "..", "scripts"))
+from listening import HOST, free_port  # noqa: E402  (that of scripts/)
+
 SECONDS = 60
+WARNING = b"warning: there is no access control: any client that reaches this address can read, add and delete every entry\n"
 PING, XLEN = b"*1\r\n$4\r\nPING\r\n", b"*2\r\n$4\r\nXLEN\r\n$1\r\ns\r\n"
 
 REFUSED = [
@@ -74,6 +79,32 @@ def to_full(program, line, name, sent):
         return run(program, line, input=sent, **{name: full})
 
 
+def to_taken(program):
+    """A server that is told an address at which another one listens."""
+    with socket.socket() as other:
+        other.bind((HOST, 0))
+        other.listen()
+        return run(program, f"sr_server --listen {HOST}:{other.getsockname()[1]}", stdin=subprocess.DEVNULL)
+
+
+def begun(program, line):
+    """What a server says once it listens, and the text on standard error until then."""
+    pipes = {"stdin": subprocess.DEVNULL, "stdout": subprocess.PIPE, "stderr": subprocess.PIPE}
+    with subprocess.Popen([program, *line.split()[1:]], **pipes) as process:
+        said = process.stdout.readline()
+        process.kill()
+        return said, process.communicate(timeout=SECONDS)[1]
+
+
+def addresses(program):
+    """What is tried of addresses, what is wanted of it and what came of it. The text of an address is said as it was given."""
+    yield "an address that is taken", (1, b"", b"listen: cannot bind\n"), to_taken(program)
+    local = f"{HOST}:{free_port()}"
+    yield local, (f"listening on {local}\n".encode(), b""), begun(program, f"sr_server --listen {local} --workers 3")
+    every = f"0.0.0.0:0{free_port()}"
+    yield every, (f"listening on {every}\n".encode(), WARNING), begun(program, f"sr_server --policy=/dev/null --listen={every}")
+
+
 def rows(program):
     """What is tried, what is wanted of it and what came of it."""
     for line in REFUSED:
@@ -85,6 +116,7 @@ def rows(program):
     error = b"-ERR Protocol error\r\n"
     yield "a line that cannot be written", (1, error, None), to_full(program, stdio, "stderr", b"$1\r\n")
     yield "a refusal that cannot be written", (2, b"", None), to_full(program, "sr_server", "stderr", PING)
+    yield from addresses(program)
 
 
 def main():

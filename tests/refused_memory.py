@@ -12,6 +12,8 @@ that says so, and has written the first of the right replies.
 - A recovery under a policy, one request after the other: a refused one is sent again, and then it and all others have to be replied as
   bulk_move.py says. Before a refused RECOVER.RUN is sent again, each entry is where it was, and as it was.
 
+And once the random bytes that the program needs are refused: it says so, though its policy file is missing too, and replies nothing.
+
 Prints the runs in which anything else happens; then the status is 1. It needs cc and glibc (scripts/refuse.c).
 """
 
@@ -206,6 +208,15 @@ def recovered(program, library, policy, number):
     return run
 
 
+def without_random(program, library):
+    """Whether a run that gets no random bytes does anything but say so."""
+    pipes = {"input": listening.spelled("PING"), "capture_output": True, "env": {"LD_PRELOAD": library, "REFUSE_RANDOM": "1"}}
+    ran = subprocess.run([program, "--stdio", "--policy", "missing.toml"], timeout=SECONDS, check=False, **pipes)
+    found, wanted = (ran.returncode, ran.stdout, ran.stderr), (1, b"", b"start: no random source\n")
+    print(f"refused_memory, no random bytes: {'as expected' if found == wanted else found}", flush=True)
+    return found != wanted
+
+
 def compare(run, name, wanted, reply):
     if reply != wanted and not run.wrong:
         run.wrong = f"{name}, {piped.difference(wanted, reply)}"
@@ -266,6 +277,7 @@ def main():
         with open(policy, "w") as file:
             file.write(bulk_move.SMALL_POLICY)
         lines = [*LINES, POLICY_LINE]
+        failed.append(without_random(program, library))
         failed.append(walk("a recovery", lambda number: recovered(program, library, policy, number), "RECOVER.RUN", lines=lines))
     return 1 if any(failed) else 0
 
