@@ -1,6 +1,6 @@
-ghost use Rattle.std.specs.Prelude.{◌≡◌, IfOk, true};
+ghost use Rattle.std.specs.Prelude.{◌≡◌, Ok, Err, IfOk, IfErr, true};
 ghost use Rattle.toml.specs.View.{table_view};
-ghost use Rattle.sr_policy.specs.File.{is_in_range as is_file_in_range, rules_of as rules_of_file, rates_of as rates_in_table};
+ghost use Rattle.sr_policy.specs.File.{is_in_range as is_file_in_range, meaning_of_file, rules_of as rules_of_file, rates_of as rates_in_table};
 
 use crate::Policy;
 use crate::numbers::{Numbers, numbers_of};
@@ -38,17 +38,27 @@ impl Policy {
             Err(error) if error.is_memory() => return Err(PolicyFault::Memory),
             Err(_) => return Err(PolicyFault::Toml),
         };
-        if !has_shape(&file) {
-            return Err(PolicyFault::Shape);
-        }
-        if !is_in_range(&file) {
-            return Err(PolicyFault::Range);
-        }
+        judge(&file)?;
         match policy_of(alloc, &file) {
             Ok(policy) => Ok(policy),
             Err(_) => Err(PolicyFault::Memory),
         }
     }
+}
+
+/// Whether a file has the shape of a policy, and then whether its numbers are in range.
+fn judge(file: &Table) -> Result<(), PolicyFault>
+    ensures ok { IfOk result (λ _. is_file_in_range (table_view file.now) ≡ true) }
+    ensures meant { IfOk result (λ _. meaning_of_file (table_view file.now) ≡ Ok (rules_of_file (table_view file.now))) }
+    ensures err { IfErr result (λ fault. meaning_of_file (table_view file.now) ≡ Err fault) }
+{
+    if !has_shape(file) {
+        return Err(PolicyFault::Shape);
+    }
+    if !is_in_range(file) {
+        return Err(PolicyFault::Range);
+    }
+    Ok(())
 }
 
 /// The policy of a file that has the shape of one and is in range.
