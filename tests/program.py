@@ -116,6 +116,8 @@ def rows(program):
     error = b"-ERR Protocol error\r\n"
     yield "a line that cannot be written", (1, error, None), to_full(program, stdio, "stderr", b"$1\r\n")
     yield "a refusal that cannot be written", (2, b"", None), to_full(program, "sr_server", "stderr", PING)
+    text = b"error: the command line is not UTF-8\n"
+    yield "words that are not UTF-8", (2, b"", text), run(program, "sr_server --stdio \udcff", input=PING)
     yield from addresses(program)
 
 

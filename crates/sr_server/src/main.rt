@@ -1,18 +1,33 @@
 //! The server as a program: `sr_server --stdio` serves one connection, over standard input and output, and `sr_server --listen`
 //! serves those that come to an address.
 //!
+//! - `--stdio` or `--listen ADDR`, an IP address and a port: exactly one of them is given;
+//! - `--policy FILE` names who may take which entries, and without it nobody may take any;
+//! - `--workers N` is how many connections are served at a time, from 1 to 64, and 64 without it.
+//!
 //! It ends with status 0 at the end of standard input, with 1 after a fault, which is one line on standard error, and with 2
-//! if the command line is refused.
+//! if the command line is refused. Of several faults the first of these ends it: the command line, the random source, the policy,
+//! the address, the threads, and then the session or accepting connections.
+//!
+//! `start` of `sr_start` does all that over any files, network, reader and writers. Those of the system are here.
 #![tactic(auto)]
 
 ghost use Rattle.std.specs.Prelude.{◌≤◌};
 
+mod command_line;
+mod files;
+mod network;
+
+use crate::command_line::{refuse_words, words};
+use crate::files::SystemFiles;
+use crate::network::{SystemNetwork, serve_all_that_come};
 use sr_resp::WriteTo;
 use sr_serve::ServeFault;
 use sr_session::ReadFrom;
-use sr_start::{SystemFiles, SystemNetwork, refuse_words, serve_all_that_come, start, words};
+use sr_start::start;
 use std::process::ExitCode;
 
+/// Hands `start` the system's files, network, standard input and output.
 fn main(rt: HostRuntime) -> ExitCode {
     let mut files = SystemFiles::new(&rt);
     let mut network = SystemNetwork::new(

@@ -9,7 +9,7 @@ use sr_options::UsageFault;
 use std::io::Write;
 
 /// The status where the command line is refused.
-pub(crate) const REFUSED: u8 = 2;
+const REFUSED: u8 = 2;
 
 /// Says what went wrong, if anything, and answers the status.
 pub fn report<E: Write>(err: &mut E, ended: Result<(), Fault>) -> u8

@@ -1,9 +1,4 @@
 ghost use Rattle.std.specs.Prelude.{IsTrue, List, ℕ, Bool, Option, Some, None, IfOk, IsErrOf, string_bytes};
-ghost use Rattle.sr_start.specs.Policy.{any_text};
-
-use std::fs;
-use std::io::ErrorKind;
-use std::rt::Files;
 
 /// Why a file gave no text.
 #[derive(Clone, Copy, Debug, PartialEq, Eq)]
@@ -23,29 +18,4 @@ pub trait TextFiles {
     fn read_text(&mut self, path: &str) -> Result<String, TextFault>
         ensures ok { IfOk result (λ text. IsTrue (may_hold self.old path.now (Some (string_bytes text)))) }
         ensures unreadable { IsErrOf result TextFault.Unreadable → IsTrue (may_hold self.old path.now None) };
-}
-
-/// The system's files. They may hold any text.
-#[derive(Drop)]
-pub struct SystemFiles<'a, R> {
-    rt: &'a R,
-}
-
-impl<'a, R> SystemFiles<'a, R> {
-    /// The files of the system.
-    pub fn new(rt: &'a R) -> SystemFiles<'a, R> {
-        SystemFiles { rt }
-    }
-}
-
-impl<'a, R: AllocGlobal + Files> TextFiles for SystemFiles<'a, R> {
-    ghost may_hold = { λ _. any_text };
-
-    fn read_text(&mut self, path: &str) -> Result<String, TextFault> {
-        match fs::read_to_string(self.rt, path) {
-            Ok(text) => Ok(text),
-            Err(error) if error.kind() == ErrorKind::OutOfMemory => Err(TextFault::Memory),
-            Err(_) => Err(TextFault::Unreadable),
-        }
-    }
 }
