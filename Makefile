@@ -109,7 +109,7 @@ check:
 	cd crates/$(C) && rt check
 
 # Builds the tests of a crate once, and runs each with its first allocation refused, then its second and so on. Prints each test
-# that then fails for any other reason: make memory C=server_tests, or with at most 500 runs of each test make memory C=server_tests N=500
+# that then fails for any other reason: make memory C=sr_server, or with at most 500 runs of each test make memory C=sr_server N=500
 memory:
 	@cd crates/$(C) && rt test
 	@scripts/memory crates/$(C)/out/$(C)_tests $(N)

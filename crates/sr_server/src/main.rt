@@ -17,6 +17,8 @@ ghost use Rattle.std.specs.Prelude.{◌≤◌};
 mod command_line;
 mod files;
 mod network;
+#[cfg(test)]
+mod tests;
 
 use crate::command_line::{refuse_words, words};
 use crate::files::SystemFiles;

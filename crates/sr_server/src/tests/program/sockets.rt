@@ -1,5 +1,5 @@
 //! The server over a loopback socket.
-use crate::session::{REPLIES, RUN};
+use crate::tests::session::{REPLIES, RUN};
 use sr_book::Book;
 use sr_policy::Policy;
 use sr_serve::serve;

@@ -3,7 +3,7 @@ ghost use Rattle.std.specs.Prelude.{None};
 
 use super::desks::Told;
 use super::{Pieces, Stopped, spelled};
-use crate::run::TWO;
+use crate::tests::run::TWO;
 use sr_book::{Answer, Book, Event, Letter};
 use sr_policy::Policy;
 use sr_session::{Desk, DeskFault, End, Gate, NoGate, PlainDesk, run_session};

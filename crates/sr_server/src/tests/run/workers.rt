@@ -1,6 +1,6 @@
 // Scripts that workers run, each in a thread of its own.
 use super::call;
-use crate::session::Stopped;
+use crate::tests::session::Stopped;
 use sr_args::Call;
 use sr_book::Out;
 use sr_policy::Policy;
