@@ -24,9 +24,8 @@ use crate::command_line::{refuse_words, words};
 use crate::files::SystemFiles;
 use crate::network::{SystemNetwork, serve_all_that_come};
 use sr_resp::WriteTo;
-use sr_serve::ServeFault;
 use sr_session::ReadFrom;
-use sr_start::start;
+use sr_start::{ServeFault, start};
 use std::process::ExitCode;
 
 /// Hands `start` the system's files, network, standard input and output.

@@ -4,8 +4,7 @@ ghost use Rattle.std.specs.Prelude.{◌≤◌, ℕ, IsTrue};
 ghost use Rattle.sr_start.specs.Listening.{any_end, any_refusal};
 
 use sr_book::Book;
-use sr_serve::{ServeFault, serve};
-use sr_start::{Bound, ListenFault, Network};
+use sr_start::{Bound, ListenFault, Network, ServeFault, serve};
 use std::alloc::Global;
 use std::io::ErrorKind;
 use std::net::{SocketAddr, TcpListener};

@@ -1,2 +1,3 @@
 pub mod ListenLemmas
+pub mod SeatLemmas
 pub mod ServeLemmas

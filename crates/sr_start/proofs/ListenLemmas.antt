@@ -3,7 +3,7 @@ use Rattle.std.proofs.Common.{◌≡◌, ◌∙◌, sym, subst, refl, ℕ, List,
 use Rattle.std.specs.Io.KnownBytes.{Appends}
 use Rattle.std.specs.declared.net.socket_addr.SocketAddr.{SocketAddr}
 use Rattle.sr_book.specs.Records.{BookState}
-use Rattle.sr_serve.specs.declared.serving.ServeFault.{ServeFault}
+use Rattle.sr_start.specs.declared.serving.ServeFault.{ServeFault}
 
 -- the line is written whole, or a write failed
 pub said_unless_failed : {T E : Type 0} (sent : Result T E) (old new : Option (List ℕ)) (line : List ℕ) (failed : Bool)

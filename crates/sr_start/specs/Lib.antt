@@ -1,3 +1,4 @@
 pub mod Fault
 pub mod Listening
+pub mod Moment
 pub mod Policy

@@ -9,8 +9,8 @@ use Rattle.sr_start.specs.declared.fault.Fault.{Fault}
 use Rattle.sr_start.specs.declared.fault.Fault.TheVariants as faults
 use Rattle.sr_start.specs.declared.network.ListenFault.{ListenFault}
 use Rattle.sr_start.specs.declared.network.ListenFault.TheVariants as listens
-use Rattle.sr_serve.specs.declared.serving.ServeFault.{ServeFault}
-use Rattle.sr_serve.specs.declared.serving.ServeFault.TheVariants as serves
+use Rattle.sr_start.specs.declared.serving.ServeFault.{ServeFault}
+use Rattle.sr_start.specs.declared.serving.ServeFault.TheVariants as serves
 
 -- what the program says of an address that it cannot listen at
 abbrev pub fault_of_listening : ListenFault → Fault

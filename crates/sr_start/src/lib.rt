@@ -1,18 +1,24 @@
-//! The server as a function of its command line, files, network, reader and writers: the status that it ends with.
+//! The server as a function of its command line, files, network, reader and writers: the status that it ends with. And the serving
+//! of a listener's connections, each from one of several threads, over one book, while a timer answers the reads that have waited for
+//! long enough.
 #![tactic(auto)]
 
+mod clock;
 mod fault;
 mod listen;
 mod load;
 mod network;
 mod opening;
 mod program;
+mod serving;
 mod status;
 mod text_files;
 
+pub use clock::SystemClock;
 pub use fault::{Fault, outcome};
 pub use listen::WARNING;
 pub use network::{Bound, ListenFault, Network};
 pub use program::start;
+pub use serving::{ServeFault, serve};
 pub use status::report;
 pub use text_files::{TextFault, TextFiles};

@@ -5,10 +5,10 @@ ghost use Rattle.sr_start.specs.Listening.{Listens, fault_of_listening, fault_of
 use crate::fault::Fault;
 use crate::network::{ListenFault, Network};
 use crate::opening::open_book;
+use crate::serving::ServeFault;
 use crate::text_files::TextFiles;
 use sr_options::Listening;
 use sr_resp::{SendFault, Sink, send_all};
-use sr_serve::ServeFault;
 use std::io::Write;
 use std::net::SocketAddr;
 use std::random::RandomSource;

@@ -2,10 +2,10 @@ ghost use Rattle.std.specs.Prelude.{◌≡◌, ◌≤◌, ℕ, Bool, IsTrue, IfO
 ghost use Rattle.std.specs.declared.net.socket_addr.SocketAddr.{SocketAddr};
 ghost use Rattle.sr_book.specs.Records.{BookState};
 ghost use Rattle.sr_start.specs.declared.network.ListenFault.{ListenFault};
-ghost use Rattle.sr_serve.specs.declared.serving.ServeFault.{ServeFault};
+ghost use Rattle.sr_start.specs.declared.serving.ServeFault.{ServeFault};
 
+use crate::serving::ServeFault;
 use sr_book::Book;
-use sr_serve::ServeFault;
 use std::net::SocketAddr;
 
 /// Why there is nothing that listens.

@@ -1,7 +1,7 @@
 ghost use Rattle.std.specs.Prelude.{◌≡◌, ◌≤◌, ◌↔◌, ◌⊎◌, ℕ, List, ◌∷◌, map, true, false, option_map, Result, IsOk, IfErr, IsErrOf};
 ghost use Rattle.std.specs.Io.KnownBytes.{Appends, Consumes};
 ghost use Rattle.sr_start.specs.Fault.{Serves, Runs, is_of_session, status_of};
-ghost use Rattle.sr_serve.specs.Moment.{any_moment};
+ghost use Rattle.sr_start.specs.Moment.{any_moment};
 ghost use Rattle.sr_book.specs.Records.{empty_book};
 ghost use Rattle.sr_policy.specs.Rules.{Rules};
 ghost use Rattle.std.specs.declared.net.socket_addr.SocketAddr.{SocketAddr};
@@ -9,16 +9,17 @@ ghost use Rattle.sr_options.specs.Command.{AsksForAddress, AsksForNothing, AsksF
 ghost use Rattle.sr_start.specs.Listening.{Listens};
 ghost use Rattle.sr_options.specs.Options.{AreOnce, Flag, asked_by, word_of};
 
+use crate::clock::SystemClock;
 use crate::fault::{Fault, outcome};
 use crate::listen::listen;
 use crate::network::Network;
 use crate::opening::open_book;
+use crate::serving::TURNS;
 use crate::status::{refuse, refuse_usage, report};
 use crate::text_files::TextFiles;
 use sr_book::Book;
 use sr_options::{Request, read_options, request_of};
 use sr_resp::Sink;
-use sr_serve::{SystemClock, TURNS};
 use sr_session::{Clock, NoGate, PlainDesk, Source, run_session};
 use std::alloc::Global;
 use std::convert::AsStr;
@@ -133,14 +134,14 @@ where
     match open_book(rt, files, policy) {
         Ok(mut book) => {
             let clock = SystemClock::new(rt);
-            serve(rt.alloc(), &mut book, &clock, reader, writer)
+            serve_session(rt.alloc(), &mut book, &clock, reader, writer)
         }
         Err(fault) => Err(fault),
     }
 }
 
 /// Serves one connection to its end.
-fn serve<C: Clock, I: Source, O: Sink>(
+fn serve_session<C: Clock, I: Source, O: Sink>(
     alloc: Global,
     book: &mut Book,
     clock: &C,

@@ -1,7 +1,6 @@
-// The tests of `sr_serve` and `sr_start` that no program can show: the line of each fault, since not each can be brought about, and what
+// The tests of `sr_start` that no program can show: the line of each fault, since not each can be brought about, and what
 // the clock tells. What the program makes of its command line, of addresses, and of readers and writers that fail is in tests/program.py.
-use sr_serve::SystemClock;
-use sr_start::{Fault, report};
+use sr_start::{Fault, SystemClock, report};
 use std::alloc::Global;
 use std::io::{self, Error, ErrorKind};
 use std::rt::Clock;

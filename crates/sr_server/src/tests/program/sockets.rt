@@ -2,7 +2,7 @@
 use crate::tests::session::{REPLIES, RUN};
 use sr_book::Book;
 use sr_policy::Policy;
-use sr_serve::serve;
+use sr_start::serve;
 use std::hash::RandomState;
 use std::io::{Read, Write};
 use std::net::{Shutdown, TcpListener, TcpStream};

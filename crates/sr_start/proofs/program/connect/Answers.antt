@@ -6,7 +6,7 @@ use Rattle.sr_start.proofs.program.connect.Goals as goal
 
 pub returns-in-Ok-clause-served : goal.returns-in-Ok-clause-served
 returns-in-Ok-clause-served g c =
-    let s = c.serve.ensures.served in
+    let s = c.serve_session.ensures.served in
     let opened = c.in-Ok.ensures.book in
     (s.0, s.1, s.2, s.3, serves opened.0 opened.1 (s.4 opened.0 opened.2))
 

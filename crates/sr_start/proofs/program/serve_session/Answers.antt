@@ -1,6 +1,6 @@
 use Rattle.std.proofs.Common.{◌∙◌, ap, Some}
 use Rattle.sr_start.proofs.ServeLemmas.{served_from}
-use Rattle.sr_start.proofs.program.serve.Goals as goal
+use Rattle.sr_start.proofs.program.serve_session.Goals as goal
 
 pub returns-clause-served : goal.returns-clause-served
 returns-clause-served g c =

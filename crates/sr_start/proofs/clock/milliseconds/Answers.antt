@@ -1,6 +1,6 @@
 use Rattle.std.proofs.Common.{◌≡◌, ◌<◌, ℕ, min, Result, Ok, Err, arith}
 use Rattle.std.specs.Result.{OkIff, result_unwrap_or}
-use Rattle.sr_serve.proofs.clock.milliseconds.Goals as goal
+use Rattle.sr_start.proofs.clock.milliseconds.Goals as goal
 
 -- a number that fits is told, and the greatest one else
 told_or_greatest : {E : Type 0} (fitted : Result ℕ E) (n told value : ℕ) → OkIff fitted (n < 18446744073709551616) n

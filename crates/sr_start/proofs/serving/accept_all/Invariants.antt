@@ -1,5 +1,5 @@
 use Rattle.std.specs.Prelude.{◌≤◌, ◌-◌}
-use Rattle.sr_serve.proofs.serving.accept_all.Given as goal
+use Rattle.sr_start.proofs.serving.accept_all.Given as goal
 
 abbrev pub invariant-loop-count : goal.invariant-loop-count
 invariant-loop-count g l = l.count ≤ l.accepts

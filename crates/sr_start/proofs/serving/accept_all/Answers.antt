@@ -1,5 +1,5 @@
-use Rattle.sr_serve.proofs.SeatLemmas.{all_came, one_fits, one_less, one_more}
-use Rattle.sr_serve.proofs.serving.accept_all.Goals as goal
+use Rattle.sr_start.proofs.SeatLemmas.{all_came, one_fits, one_less, one_more}
+use Rattle.sr_start.proofs.serving.accept_all.Goals as goal
 
 pub loop-count-preserved : goal.loop-count-preserved
 loop-count-preserved g c = one_more _ _ c.loop-count-test.true

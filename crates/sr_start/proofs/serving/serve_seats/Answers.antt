@@ -1,6 +1,6 @@
 use Rattle.std.proofs.Common.{◌≡◌, ◌+◌, ◌<◌, ◌∙◌, ap, arith, length, sym, true≢false, vec_len}
-use Rattle.sr_serve.proofs.SeatLemmas.{length-new_seats}
-use Rattle.sr_serve.proofs.serving.serve_seats.Goals as goal
+use Rattle.sr_start.proofs.SeatLemmas.{length-new_seats}
+use Rattle.sr_start.proofs.serving.serve_seats.Goals as goal
 
 -- one of this many seats and one more was taken
 pub serve_timed-requires-clause-some : goal.serve_timed-requires-clause-some

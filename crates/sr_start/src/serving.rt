@@ -17,7 +17,7 @@ use std::time::Duration;
 use std::{rt, thread};
 
 /// The number of reads after which a session ends.
-pub const TURNS: u64 = 1 << 40;
+pub(crate) const TURNS: u64 = 1 << 40;
 
 /// How long the timer sleeps between two looks at the deadlines, in milliseconds.
 const TICK: u64 = 10;

@@ -1,6 +1,6 @@
 ghost use Rattle.std.specs.Prelude.{◌≡◌, ◌-◌, ◌/◌, ◌^◌, min};
 ghost use Rattle.std.specs.Duration.{as_nanos};
-ghost use Rattle.sr_serve.specs.Moment.{any_moment};
+ghost use Rattle.sr_start.specs.Moment.{any_moment};
 
 use sr_session::Clock;
 use std::rt;
