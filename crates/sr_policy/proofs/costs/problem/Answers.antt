@@ -1,3 +1,4 @@
+use Rattle.std.proofs.Common.{rules}
 use Rattle.std.proofs.lemmas.Result.{IfOk-from_err}
 use Rattle.sr_policy.proofs.costs.problem.Goals as goal
 
@@ -12,3 +13,6 @@ returns-in_err-costs-clause-ok c = IfOk-from_err _ _ c.from_residual-in_err-cost
 
 pub returns-in_err-costs-clause-within : goal.returns-in_err-costs-clause-within
 returns-in_err-costs-clause-within c = IfOk-from_err _ _ c.from_residual-in_err-costs.ensures.0
+
+pub returns-clause-ok : goal.returns-clause-ok
+returns-clause-ok c = search rules
