@@ -1,6 +1,6 @@
 use Rattle.std.proofs.Common.{◌≡◌, length, map, ap, ◌∙◌, arith}
 use Rattle.std.proofs.lemmas.List.{length-map}
-use Rattle.std.proofs.lemmas.Result.{err_from_is_err_and}
+use Rattle.std.proofs.lemmas.Result.{IfOk-from_err, err_from_is_err_and}
 use Rattle.sr_run.proofs.WorkedLemmas.{crew_has_not_run, receipts_by_sizes, whole_run}
 use Rattle.sr_run.proofs.workers.run_over.Goals as goal
 
@@ -27,3 +27,20 @@ returns-in-Ok-by_script-clause-ok g c =
     whole_run (λ script. script.items) (λ group. group.items) c.new.result c.args.scripts.items c.as_slice-3.result.now c.in-Ok-by_script.receipts.items finished.seats.items finished.receipts.items
     c.as_slice-2.result.now c.in-Ok-close.closed.book c.in-Ok-close.closed.acts c.in_ok-seats.ensures c.new.ensures.first c.new.ensures.scripts sizes c.in-Ok-by_script.ensures.sizes
     c.in-Ok-by_script.ensures.same c.as_slice-2.ensures.value c.in-Ok-close.ensures.ok c.in-Ok-close.ensures.acts
+
+pub returns-in_err-seats-clause-ok : goal.returns-in_err-seats-clause-ok
+returns-in_err-seats-clause-ok g c = IfOk-from_err _ _ c.from_residual.ensures.0
+
+pub returns-in_err-seats-clause-counted : goal.returns-in_err-seats-clause-counted
+returns-in_err-seats-clause-counted g c =
+    let p = err_from_is_err_and c.from_residual.result c.from_residual.ensures.1 in
+    let scripts = c.args.scripts in
+    let many : length c.new.result.scripts ≡ scripts.len = ap length c.new.ensures.scripts ∙ length-map scripts.items (λ script. script.items) ∙ omega (arith, scripts.ok.0) in
+    rw (p.1, p.2) (crew_has_not_run scripts.len c.new.result c.in_err-seats.field-0.0 c.new.ensures.first many c.in_err-seats.ensures).1
+
+pub returns-in-Err-clause-err : goal.returns-in-Err-clause-err
+returns-in-Err-clause-err g c = λ e.
+    let scripts = c.args.scripts in
+    let finished = c.in_ok-seats.field-0 in
+    let many : length c.new.result.scripts ≡ scripts.len = ap length c.new.ensures.scripts ∙ length-map scripts.items (λ script. script.items) ∙ omega (arith, scripts.ok.0) in
+    omega (arith, c.in-Err.ensures.short.0 e, c.in_ok-seats.ensures.all, many, c.requires.parts, c.requires.whole, finished.seats.ok.0)
