@@ -325,6 +325,10 @@ pub receipts_by_sizes : {V : Type 0} (f : V → List Call) (crew : CrewState) (s
 receipts_by_sizes f crew scripts sizes seats receipts worked told same =
     worked_count crew seats receipts worked ∙ ap (λ (ss : List (List Call)). sum (map length ss)) told ∙ ap sum (sizes_of_all f scripts ∙ sym same)
 
+-- a crew has as many scripts as it was made of
+pub crew_of_scripts : {V : Type 0} (f : V → List Call) (crew : CrewState) (scripts : List V) (n : ℕ) → crew.scripts ≡ map f scripts → length scripts ≡ n → length crew.scripts ≡ n
+crew_of_scripts f crew scripts n are many = ap length are ∙ length-map scripts f ∙ many
+
 -- a crew that has not worked has not run
 pub crew_has_not_run : (count : ℕ) (crew : CrewState) (fault : RunFault) → crew.first ≡ 0 → length crew.scripts ≡ count → HasNotWorked crew fault → HasNotRun count fault × (fault ≢ faults.Count)
 crew_has_not_run count crew faults.Count first many refused = absurd refused

@@ -1,14 +1,13 @@
 use Rattle.std.proofs.Common.{◌≡◌, length, map, ap, ◌∙◌, arith}
-use Rattle.std.proofs.lemmas.List.{length-map}
 use Rattle.std.proofs.lemmas.Result.{IfOk-from_err, err_from_is_err_and}
-use Rattle.sr_run.proofs.WorkedLemmas.{crew_has_not_run, receipts_by_sizes, whole_run}
+use Rattle.sr_run.proofs.WorkedLemmas.{crew_has_not_run, crew_of_scripts, receipts_by_sizes, whole_run}
 use Rattle.sr_run.proofs.workers.run_over.Goals as goal
 
 pub returns-in_err-seats-clause-err : goal.returns-in_err-seats-clause-err
 returns-in_err-seats-clause-err g c =
     let p = err_from_is_err_and c.from_residual.result c.from_residual.ensures.1 in
     let scripts = c.args.scripts in
-    let many : length c.new.result.scripts ≡ scripts.len = ap length c.new.ensures.scripts ∙ length-map scripts.items (λ script. script.items) ∙ omega (arith, scripts.ok.0) in
+    let many = crew_of_scripts (λ script. script.items) c.new.result scripts.items scripts.len c.new.ensures.scripts (omega (arith, scripts.ok.0)) in
     rw (p.1, p.2) (crew_has_not_run scripts.len c.new.result c.in_err-seats.field-0.0 c.new.ensures.first many c.in_err-seats.ensures).0
 
 pub by_script-requires : goal.by_script-requires
@@ -35,12 +34,12 @@ pub returns-in_err-seats-clause-counted : goal.returns-in_err-seats-clause-count
 returns-in_err-seats-clause-counted g c =
     let p = err_from_is_err_and c.from_residual.result c.from_residual.ensures.1 in
     let scripts = c.args.scripts in
-    let many : length c.new.result.scripts ≡ scripts.len = ap length c.new.ensures.scripts ∙ length-map scripts.items (λ script. script.items) ∙ omega (arith, scripts.ok.0) in
+    let many = crew_of_scripts (λ script. script.items) c.new.result scripts.items scripts.len c.new.ensures.scripts (omega (arith, scripts.ok.0)) in
     rw (p.1, p.2) (crew_has_not_run scripts.len c.new.result c.in_err-seats.field-0.0 c.new.ensures.first many c.in_err-seats.ensures).1
 
 pub returns-in-Err-clause-err : goal.returns-in-Err-clause-err
 returns-in-Err-clause-err g c = λ e.
     let scripts = c.args.scripts in
     let finished = c.in_ok-seats.field-0 in
-    let many : length c.new.result.scripts ≡ scripts.len = ap length c.new.ensures.scripts ∙ length-map scripts.items (λ script. script.items) ∙ omega (arith, scripts.ok.0) in
+    let many = crew_of_scripts (λ script. script.items) c.new.result scripts.items scripts.len c.new.ensures.scripts (omega (arith, scripts.ok.0)) in
     omega (arith, c.in-Err.ensures.short.0 e, c.in_ok-seats.ensures.all, many, c.requires.parts, c.requires.whole, finished.seats.ok.0)
