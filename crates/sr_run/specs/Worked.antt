@@ -33,7 +33,7 @@ joined_up lists = flat_map (λ list. list) lists
 abbrev pub count_calls : List (List Call) → ℕ
 count_calls scripts = sum_by length scripts
 
--- a run of scripts: the receipts of each are those of its calls, each worker joined and left besides, and it is closed with all of them
+-- a run of scripts: the receipts of each are those of its calls, each worker made two events besides, and it is closed with all of them
 pub record HasRun (scripts : List (List Call)) (receipts : List (List Receipt)) (book : BookState) (acts : ℕ) : Type 0 where
   pub worked : AreWorked 0 scripts receipts
   pub counted : acts ≡ count_calls scripts + 2 * length scripts

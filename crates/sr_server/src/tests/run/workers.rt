@@ -2,7 +2,7 @@
 use super::call;
 use crate::tests::session::Stopped;
 use sr_args::Call;
-use sr_book::Out;
+use sr_book::{Book, Out, Status};
 use sr_policy::Policy;
 use sr_resp::append_reply;
 use sr_run::{Ran, Receipt, RunFault, SeatFault, run_workers};
@@ -92,12 +92,23 @@ const SCRIPTS: &[&[&str]] = &[
 /// The replies to each script.
 const SAID: &[&str] = &["$3\r\n1-1\r\n:1\r\n$3\r\n2-1\r\n:2\r\n", ":0\r\n:0\r\n"];
 
-/// Whether each script has its replies.
+/// Whether the sessions of these receipts have left.
+fn have_left(book: &Book, receipts: &[Receipt]) -> bool {
+    for receipt in receipts {
+        if book.status(receipt.session) != Status::Closed {
+            return false;
+        }
+    }
+    true
+}
+
+/// Whether each script has its replies, and its worker has left.
 fn have_replies(alloc: Global, ran: &Ran) -> Result<bool, AllocError> {
     let mut have = ran.closed.acts == 10 && ran.receipts.len() == 2;
     for (receipts, want) in ran.receipts.iter().zip(SAID) {
         let replies = replies_of(alloc, receipts.as_slice())?;
         have &= replies.as_slice() == want.as_bytes();
+        have &= have_left(&ran.closed.book, receipts.as_slice());
     }
     Ok(have)
 }
