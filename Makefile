@@ -37,10 +37,10 @@ test:
 	@$(TWO) given
 	@tests/listening.py $(SERVER)
 
-# What the programs are given, each by itself. They have to be proved and built before.
-given: given-server given-driver given-checker given-demo
+# What the programs are given, each by itself, and first what takes longest. They have to be proved and built before.
+given: given-driver given-server given-checker given-demo
 given-server: given-sessions given-requests given-groups given-moves given-streams given-room given-refused
-given-driver: given-histories given-refusals
+given-driver: given-refusals given-histories
 given-checker: given-plans
 
 given-sessions:

@@ -63,8 +63,10 @@ rate y B 100
 # Each number is the greatest that it may be. The entry costs 2^20 a unit, and is 2^20 units.
 GREATEST = "entry 1-1 x 1048576\nconsumer A 1000000000\nrate x A 1048576\n"
 
-# One consumer more than a group may have.
-CROWDED = "".join(f"consumer C{number} 1\n" for number in range(65))
+# As many consumers as a problem may have, and one more; and the same of entries, which nobody may take.
+MOST = "".join(f"consumer C{number} 1\n" for number in range(64))
+CROWDED = MOST + "consumer C64 1\n"
+MOST_ENTRIES = "".join(f"entry {number}-1 x 1\n" for number in range(1, 4097))
 
 CHEAPEST = "cheapest, total 6"
 
@@ -138,10 +140,21 @@ SENT = [
     (TWO, "*4 $4 none *2 $3 1-1 $3 2-1 *2 *2 $1 A :1 *2 $1 B :1 :2", PLACES),
     # Nobody may take 1-1.
     ("entry 1-1 x 1\nconsumer A 1\n", "*4 $4 none *1 $3 1-1 *0 :0", "impossible, 0 places for 1 entry"),
+    (MOST + "entry 1-1 x 1\n", "*4 $4 none *1 $3 1-1 *0 :0", "impossible, 0 places for 1 entry"),
+    (MOST_ENTRIES, "*4 $4 none *1 $3 1-1 *0 :0", "impossible, 0 places for 1 entry"),
     ("", "*5 $4 plan :0 *0 *0 *0", "cheapest, total 0"),
     (GREATEST, "*5 $4 plan :1099511627776 *1 *2 $3 1-1 $1 A *1 *2 $1 A :0 *0", "cheapest, total 1099511627776"),
     (TWO, "-STALE the group has changed", "wrong: the reply is an error"),
     (TWO, "*5", FORM),
+    # Numbers as the server does not spell them, one that is too great, and lengths of what is not there.
+    (TWO, "*5 $4 plan :06 *2 *2 $3 1-1 $1 B *2 $3 2-1 $1 A *2 *2 $1 A :2 *2 $1 B :0 *0", FORM),
+    (TWO, "*5 $4 plan :+6 *2 *2 $3 1-1 $1 B *2 $3 2-1 $1 A *2 *2 $1 A :2 *2 $1 B :0 *0", FORM),
+    (TWO, "*5 $4 plan :-0 *2 *2 $3 1-1 $1 B *2 $3 2-1 $1 A *2 *2 $1 A :2 *2 $1 B :0 *0", FORM),
+    (TWO, "*5 $04 plan :6 *2 *2 $3 1-1 $1 B *2 $3 2-1 $1 A *2 *2 $1 A :2 *2 $1 B :0 *0", FORM),
+    (TWO, "*5 $4 plan :9223372036854775808 *2 *2 $3 1-1 $1 B *2 $3 2-1 $1 A *2 *2 $1 A :2 *2 $1 B :0 *0", FORM),
+    (TWO, "*18446744073709551615", FORM),
+    (TWO, "*18446744073709551616", FORM),
+    (TWO, "*2 *18446744073709551615 :1", FORM),
     # A line too many, and an empty one alone.
     (TWO, "*5 $4 plan :6 *2 *2 $3 1-1 $1 B *2 $3 2-1 $1 A *2 *2 $1 A :2 *2 $1 B :0 *0 !", FORM),
     (TWO, "", FORM),
@@ -187,6 +200,7 @@ INPUTS = [
     ("gone \"\\q\"", "line 1: not closed quotes around a word, or an unknown escape in them"),
     ("entry 1-1 x", "line 1: not an `entry`, `gone`, `consumer` or `rate` with its words, nor `reply`"),
     (CROWDED, "line 65: too many entries, consumers or classes"),
+    (MOST_ENTRIES + "entry 5000-1 x 1\n", "line 4097: too many entries, consumers or classes"),
     ("reply\n(error) STALE the group has changed\n", "wrong: the reply is an error"),
     ("reply\n", FORM),
 ]

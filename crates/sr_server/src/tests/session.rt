@@ -267,16 +267,14 @@ fn a_failed_write_says_what_was_sent(rt: HostRuntime) -> Result<(), Fail> {
 
 /// The spelling of requests: one a line, their words between single spaces.
 pub(crate) fn spelled(alloc: Global, lines: &str) -> Result<Vec<u8>, Fail> {
-    let mut bytes = Vec::new(alloc);
+    let mut text = String::new(alloc);
     for line in lines.split('\n') {
-        let header = format!(in alloc; "*{}\r\n", line.split(' ').count())?;
-        bytes.extend_from_slice(header.as_bytes())?;
+        write!(text, "*{}\r\n", line.split(' ').count())?;
         for word in line.split(' ') {
-            let text = format!(in alloc; "${}\r\n{word}\r\n", word.len())?;
-            bytes.extend_from_slice(text.as_bytes())?;
+            write!(text, "${}\r\n{word}\r\n", word.len())?;
         }
     }
-    Ok(bytes)
+    Ok(text.into_bytes())
 }
 
 /// Each read of it is interrupted once.

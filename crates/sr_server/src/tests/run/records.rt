@@ -3,7 +3,6 @@ use super::rows::{Line, event_of};
 use sr_args::Call;
 use sr_book::{Act, Answer, Book, BookFault, Event, Out, Record};
 use sr_policy::Snapshot;
-use sr_resp::Reply;
 use std::alloc::{AllocError, Global};
 use std::mem;
 use std::test::Fail;
@@ -93,24 +92,22 @@ fn same_act(one: &Act, other: &Act) -> bool {
     same_call && kind_of(one) == kind_of(other)
 }
 
-/// Whether two lists of replies are the same.
-fn same_replies(one: &[(u64, Reply)], other: &[(u64, Reply)]) -> bool {
-    one.len() == other.len()
-        && one
-            .iter()
-            .zip(other.iter())
-            .all(|(left, right)| left.0 == right.0 && left.1 == right.1)
+/// Whether two records are the same.
+fn same_record(one: &Record, other: &Record) -> bool {
+    one.index == other.index
+        && one.moment == other.moment
+        && same_act(&one.act, &other.act)
+        && one.replies == other.replies
 }
 
 /// Whether two lists of records are the same.
 fn same_records(one: &[Record], other: &[Record]) -> bool {
+    for (left, right) in one.iter().zip(other) {
+        if !same_record(left, right) {
+            return false;
+        }
+    }
     one.len() == other.len()
-        && one.iter().zip(other.iter()).all(|(left, right)| {
-            left.index == right.index
-                && left.moment == right.moment
-                && same_act(&left.act, &right.act)
-                && same_replies(&left.replies, &right.replies)
-        })
 }
 
 /// The last snapshot that the events of lines give, if no verdict was made of it. The book is dropped here alone.

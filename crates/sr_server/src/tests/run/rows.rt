@@ -221,8 +221,9 @@ fn fault_text(alloc: Global, fault: SeatFault) -> Result<Vec<u8>, Fail> {
 
 /// What is said of a letter: the index of its record, and its reply.
 fn letter_text(alloc: Global, letter: &Letter) -> Result<Vec<u8>, AllocError> {
-    let index = format!(in alloc; "{} ", letter.index)?;
-    let mut text = Vec::from_slice(alloc, index.as_bytes())?;
+    let mut index = String::new(alloc);
+    write!(index, "{} ", letter.index)?;
+    let mut text = index.into_bytes();
     append_reply(&mut text, &letter.reply)?;
     Ok(text)
 }

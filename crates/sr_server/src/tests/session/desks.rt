@@ -1,9 +1,8 @@
-// What a session makes of a desk's answers: when it writes, how it ends, and what it leaves in the book.
+// What a session makes of a desk's answers: when it writes, how it ends, and when it asks the clock.
 ghost use Rattle.std.specs.Prelude.{None, true, false};
 
 use super::{Pieces, Stopped, spelled};
-use sr_args::Call;
-use sr_book::{Act, Answer, Book, Event, Letter, Out, Record};
+use sr_book::{Answer, Book, Event, Letter, Out};
 use sr_policy::Policy;
 use sr_resp::{Reply, Sink, WriteFailed};
 use sr_session::{Clock, Desk, DeskFault, End, Ended, NoGate, PlainDesk, run_session};
@@ -299,27 +298,6 @@ fn faults_of_a_desk(rt: HostRuntime) -> Result<(), Fail> {
     Ok(())
 }
 
-/// What a record is of, in a word.
-fn word_of(record: &Record) -> &str {
-    match &record.act {
-        Act::Event(Event::Join) => "join",
-        Act::Event(Event::Call { session: 1, call }) => match call {
-            Call::Ping { .. } => "ping",
-            Call::Xadd { .. } => "xadd",
-            Call::Xlen { .. } => "xlen",
-            _ => "another call",
-        },
-        Act::Event(Event::Call { .. }) => "a call of another session",
-        Act::Event(Event::Board { .. }) => "a board",
-        Act::Event(Event::Snapshot { .. }) => "a snapshot",
-        Act::Event(Event::Conclude { .. }) => "a verdict",
-        Act::Event(Event::Expire) => "expire",
-        Act::Event(Event::Leave { session: 1 }) => "leave",
-        Act::Event(Event::Leave { .. }) => "a leave of another session",
-        Act::Serve { .. } => "serve",
-    }
-}
-
 /// Tells 1, then 2 and so on.
 #[derive(Drop)]
 struct Counting {
@@ -335,95 +313,12 @@ impl Clock for Counting {
     }
 }
 
-/// Requests, how their session ends, what it writes, and what its records are of.
-#[derive(Clone, Copy, Drop)]
-struct Recorded<'a> {
-    lines: &'a str,
-    end: End,
-    text: &'a str,
-    words: &'a [&'a str],
-}
-
-const RECORDED: &[Recorded<'_>] = &[
-    Recorded {
-        lines: "PING\nFOO\nXADD s 0-0 a b\nXADD s 1-1 a b\nXADD s 1-1 a b\nXLEN s",
-        end: End::Closed,
-        text: "+PONG\r\n-ERR unknown command\r\n-ERR The ID specified in XADD must be greater than 0-0\r\n$3\r\n1-1\r\n-ERR The ID specified in XADD is equal or smaller than the target stream top item\r\n:1\r\n",
-        words: &["join", "ping", "xadd", "xadd", "xadd", "xlen", "leave"],
-    },
-    Recorded {
-        lines: "PING a b\nXADD s x a b",
-        end: End::Closed,
-        text: "-ERR wrong number of arguments\r\n-ERR Invalid stream ID specified as stream command argument\r\n",
-        words: &["join", "leave"],
-    },
-    Recorded {
-        lines: "XREAD BLOCK 0 STREAMS s $",
-        end: End::Desk,
-        text: "",
-        words: &["join", "another call", "leave"],
-    },
-];
-
-/// Whether the records are of these, in their order, at moments 1, 2 and so on.
-fn are_these(records: &[Record], words: &[&str]) -> bool {
-    let mut moment = 0u64;
-    for (record, word) in records.iter().zip(words) {
-        moment = moment.saturating_add(1);
-        if word_of(record) != *word || record.moment != moment {
-            return false;
-        }
-    }
-    records.len() == words.len()
-}
-
-/// Whether a session that ended so, wrote this and has these records went as its row says.
-fn is_recorded(found: Ended, written: &[u8], records: &[Record], row: &Recorded<'_>) -> bool {
-    found.end == row.end
-        && found.left
-        && written == row.text.as_bytes()
-        && are_these(records, row.words)
-}
-
-/// Whether a session of these bytes, which are those of the row, goes as it says at a book without records.
-fn records(alloc: Global, hasher: RandomState, bytes: &[u8], row: &Recorded<'_>) -> bool {
-    let mut book = Book::new(alloc, Policy::empty(alloc), hasher);
-    let count = Cell::new(0);
-    let mut writer = Told::new(alloc, &count);
-    let clock = Counting {
-        asked: Cell::new(0),
-    };
-    let found = run_session(
-        alloc,
-        &mut Pieces::whole(bytes),
-        &mut writer,
-        &mut PlainDesk::new(&mut book),
-        &clock,
-        &NoGate,
-        true,
-        9,
-    );
-    is_recorded(found, writer.bytes.as_slice(), book.records(), row)
-}
-
-/// A session's records are its join, its calls and its leave. The clock is asked once for each of them, and not for words that are not a
-/// command, which have no record. A read of a stream that is empty waits; no one else calls, so it has no reply.
-#[test]
-fn records_are_the_join_the_calls_and_the_leave(rt: HostRuntime) -> Result<(), Fail> {
-    for row in RECORDED {
-        let hasher = RandomState::new(&rt)?;
-        let bytes = spelled(rt.alloc(), row.lines)?;
-        let as_wanted = records(rt.alloc(), hasher, bytes.as_slice(), row);
-        assert!(rt; as_wanted, "{}", row.lines);
-    }
-    Ok(())
-}
-
-/// A desk over a book, which notes what it is asked: `s` for a step, `a` for a letter and `p` for a pause. Before each
-/// it notes `w` if something was written meanwhile.
+/// A desk over a book, which notes what it is asked: `s` for a step at the moment that the clock told last, `m` for one at another moment, `a` for
+/// a letter and `p` for a pause. Before each it notes `w` if something was written meanwhile.
 #[derive(Drop)]
 struct Watched<'a> {
     book: &'a mut Book,
+    clock: &'a Counting,
     count: &'a Cell<usize>,
     seen: usize,
     noted: Vec<u8>,
@@ -446,7 +341,11 @@ impl Desk for Watched<'_> {
     ghost borrows = { λ _. 0 };
 
     fn step(&mut self, alloc: Global, moment: u64, event: Event) -> Result<Answer, DeskFault> {
-        self.note(b's');
+        self.note(if moment == self.clock.asked.get() {
+            b's'
+        } else {
+            b'm'
+        });
         PlainDesk::new(self.book).step(alloc, moment, event)
     }
 
@@ -461,12 +360,27 @@ impl Desk for Watched<'_> {
     }
 }
 
-/// Whether a desk is asked this in a session of these bytes, which come in one read.
+/// Whether this was noted, and the clock was asked once for each step.
+fn is_noted(noted: &[u8], asked: u64, want: &str) -> bool {
+    let mut steps = 0u64;
+    for letter in noted {
+        if *letter == b's' {
+            steps = steps.saturating_add(1);
+        }
+    }
+    noted == want.as_bytes() && asked == steps
+}
+
+/// Whether a desk is asked this in a session of these bytes, which come in one read, and the clock once for each step.
 fn notes(alloc: Global, hasher: RandomState, bytes: &[u8], want: &str) -> bool {
     let count = Cell::new(0);
     let mut book = Book::new(alloc, Policy::empty(alloc), hasher);
+    let clock = Counting {
+        asked: Cell::new(0),
+    };
     let mut desk = Watched {
         book: &mut book,
+        clock: &clock,
         count: &count,
         seen: 0,
         noted: Vec::new(alloc),
@@ -476,12 +390,12 @@ fn notes(alloc: Global, hasher: RandomState, bytes: &[u8], want: &str) -> bool {
         &mut Pieces::whole(bytes),
         &mut Told::new(alloc, &count),
         &mut desk,
-        &Stopped,
+        &clock,
         &NoGate,
         true,
         9,
     );
-    desk.noted.as_slice() == want.as_bytes()
+    is_noted(desk.noted.as_slice(), clock.asked.get(), want)
 }
 
 /// Requests, and what the desk is asked for them.
@@ -500,7 +414,8 @@ const PAUSES: &[(&str, &str)] = &[
 ];
 
 /// No pause comes between the requests of one read. One comes after them all, before their replies are written; one
-/// before the replies that go out before a call that may wait; and one before a plan is made.
+/// before the replies that go out before a call that may wait; and one before a plan is made. The clock is asked once for each step, and so
+/// not for words that are not a command, which have none.
 #[test]
 fn a_pause_comes_before_a_write_and_before_a_plan(rt: HostRuntime) -> Result<(), Fail> {
     for (lines, want) in PAUSES {
