@@ -13,7 +13,7 @@ use Rattle.sr_args.specs.Place.{Word, Place, Range, int, nat, from_one, tries, N
 use Rattle.sr_args.specs.Form.{Form, end, text, id, number, optional_text, ids, pairs, options, grouped, trim, before, maybe, ids_before, streams, texts_after, barring, named_places, IsNamedFirst, AreUnnamed, IsMaybeNumber, Reading, Values, places, pair_places, IsFit, Reads, AreIds, Means}
 use Rattle.sr_args.proofs.ChoiceLemmas.{HasNumbers-append, HasIds-append, Choose-one, Choose-numbers, Choose-ids, IsTrim-one, trim-numbers, trim-ids}
 use Rattle.sr_args.proofs.NumberLemmas.{IsInt-one, IsNat-one}
-use Rattle.sr_args.proofs.OptionLemmas.{GoOn, IsPast-end, head-of_set, options-one, trim-one}
+use Rattle.sr_args.proofs.OptionLemmas.{GoOn, Fits-texts, IsPast-end, head-of_set, options-one, trim-one}
 use Rattle.sr_args.proofs.PositionLemmas.{SpellsPosition-one, SpellsRead-one}
 use Rattle.sr_args.proofs.StreamsLemmas.{streams-one, keys-numbers, keys-ids}
 
@@ -288,11 +288,6 @@ HasIds-from_means (barring names form) r v p = HasIds-from_means form r v p
 pub Fits-ids : (spelling : IdForm) (words : List Word) → Fits words (map (spelled spelling) words)
 Fits-ids spelling [] = tt
 Fits-ids spelling (word ∷ words) = (refl, Fits-ids spelling words)
-
--- words are the texts that they are
-pub Fits-texts : (words : List Word) → Fits words (map any words)
-Fits-texts [] = tt
-Fits-texts (word ∷ words) = (refl, Fits-texts words)
 
 -- words in the places of texts are these texts
 pub texts-from_fits : (words texts : List Word) → Fits words (map any texts) → words ≡ texts

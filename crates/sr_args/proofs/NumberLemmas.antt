@@ -1,5 +1,5 @@
 -- Numbers among the words of a command: how the code reads them, and that no word is read to two.
-use Rattle.std.proofs.Common.{◌≡◌, ℕ, List, ◌∷◌, ◌++◌, codes, Option, Some, None, IfSome, Result, Ok, Err, ℤ, pos, neg_ℤ, ◌-ℤ◌, sym, ap, ◌∙◌, arith, w64, FitsSigned}
+use Rattle.std.proofs.Common.{◌≡◌, ℕ, ◌<◌, ◌^◌, List, ◌∷◌, ◌++◌, codes, Option, Some, None, IfSome, IfNone, Result, Ok, Err, ℤ, pos, neg_ℤ, ◌-ℤ◌, sym, ap, ◌∙◌, arith, w64, FitsSigned}
 use Rattle.std.specs.Option.{SomeIff}
 use Rattle.std.specs.Result.{OkIff, result_ok}
 use Rattle.std.proofs.lemmas.Int.{ints}
@@ -32,3 +32,27 @@ IsInt-one word x y (negative ds m v d _ e) (negative es n w f _ g) =
 
 pub IsNat-one : (word : List ℕ) (m n : ℕ) → IsNat word m → IsNat word n → m ≡ n
 IsNat-one word m n p q = let same = IsInt-one word (pos m) (pos n) p q in omega (arith, ints)
+
+-- a word that writes no number: too many digits or too few, after a dash or without one
+outside : (word digits : List ℕ) (n : ℕ) → word ≡ 45 ∷ digits → IsDecimal 19 digits n → (FitsSigned w64 (pos 0 -ℤ pos n) → ⊥) → (z : ℤ) → IsInt word z → ⊥
+outside word digits n e d unfit z (positive m f _ _) = IsDecimal-no_dash word digits m e f
+outside word digits n e d unfit z (negative ds m w f le _) =
+    let behind : ds ≡ digits = cc (e, w) in
+    let same : m ≡ n = IsDecimal-one (rw behind at f) d in
+    unfit (omega (arith, ints))
+
+pub IsInt-none_negative : (word digits : List ℕ) (n : ℕ) (read : Option ℤ) → word ≡ 45 ∷ digits → IsDecimal 19 digits n → SomeIff read (FitsSigned w64 (pos 0 -ℤ pos n)) (pos 0 -ℤ pos n) → IfNone read ((z : ℤ) → IsInt word z → ⊥)
+IsInt-none_negative word digits n None e d h = outside word digits n e d h
+IsInt-none_negative word digits n (Some z) e d h = tt
+
+above : (word : List ℕ) (n : ℕ) → IsDecimal 19 word n → (FitsSigned w64 (pos n) → ⊥) → (z : ℤ) → IsInt word z → ⊥
+above word n d unfit z (positive m f lt _) = let same : m ≡ n = IsDecimal-one f d in unfit (omega (arith, ints))
+above word n d unfit z (negative ds m w f _ _) = IsDecimal-no_dash word ds n w d
+
+pub IsInt-none_positive : {E : Type 0} (word : List ℕ) (n : ℕ) (read : Result ℤ E) → IsDecimal 19 word n → OkIff read (FitsSigned w64 (pos n)) (pos n) → IfNone (result_ok read) ((z : ℤ) → IsInt word z → ⊥)
+IsInt-none_positive word n (Ok z) d h = tt
+IsInt-none_positive word n (Err e) d h = above word n d h
+
+pub IsInt-no_digits : (word digits : List ℕ) → word ≡ 45 ∷ digits → ((n : ℕ) → n < 2 ^ 64 → IsDecimal 19 digits n → ⊥) → (z : ℤ) → IsInt word z → ⊥
+IsInt-no_digits word digits e none z (positive m f _ _) = IsDecimal-no_dash word digits m e f
+IsInt-no_digits word digits e none z (negative ds m w f le _) = let behind : ds ≡ digits = cc (e, w) in none m (omega arith) (rw behind at f)

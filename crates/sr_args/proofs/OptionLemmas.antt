@@ -79,6 +79,11 @@ same_parts by by′ sign sign′ bound bound′ limit limit′ e f g h = cc
 pub same_trim : (a b : TrimReading) → a.by ≡ b.by → a.sign ≡ b.sign → a.bound ≡ b.bound → a.limit ≡ b.limit → a ≡ b
 same_trim a b = same_parts a.by b.by a.sign b.sign a.bound b.bound a.limit b.limit
 
+-- words are the texts that they are
+pub Fits-texts : (words : List Word) → Fits words (map any words)
+Fits-texts [] = tt
+Fits-texts (word ∷ words) = (refl, Fits-texts words)
+
 -- the words after a part of a form that is read in one way, and the two forms that go on with them
 pub record GoOn (ps qs : List Place) : Type 0 where
   pub rest : List Word
@@ -175,7 +180,7 @@ kind_named NoAck = kinds.NoAck
 kind_named Block = kinds.Block
 kind_named name = kinds.Trim
 
-measure-kind : (by : Measure) → kind_named (measure_name by) ≡ kinds.Trim
+pub measure-kind : (by : Measure) → kind_named (measure_name by) ≡ kinds.Trim
 measure-kind measures.MaxLen = refl
 measure-kind measures.MinId = refl
 

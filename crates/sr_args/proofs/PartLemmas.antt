@@ -1,14 +1,19 @@
 -- The parts of an option, as they are read one after the other.
-use Rattle.std.proofs.Common.{◌≡◌, ◌∙◌, List, [], ◌∷◌, ◌++◌, Option, Some, None, refl, sym, ap, subst}
+use Rattle.std.proofs.Common.{◌≡◌, ◌≤◌, length, arith, ◌∙◌, List, [], ◌∷◌, ◌++◌, Bool, true, false, Option, Some, None, map, refl, sym, ap, subst}
+use Rattle.std.specs.Prelude.{MatchOption, IsSomeAnd, IfSome, IfNone}
+use Rattle.sr_args.specs.declared.number.CountRange.{CountRange}
+use Rattle.sr_args.specs.declared.number.CountRange.TheVariants.{Any, FromOne}
+use Rattle.sr_args.specs.declared.name.OptionName.{OptionName}
 use Rattle.sr_args.specs.declared.name.Measure.{Measure}
 use Rattle.sr_args.specs.declared.name.Sign.{Sign}
-use Rattle.sr_args.specs.declared.name.OptionName.TheVariants.{Group}
+use Rattle.sr_args.specs.declared.name.OptionName.TheVariants.{Group, NoMkStream, MkStream, JustId, NoAck}
 use Rattle.sr_args.specs.declared.options.OptionKind.TheVariants as kinds
 use Rattle.sr_args.specs.declared.options.OptionSet.{OptionSet}
-use Rattle.sr_args.specs.Place.{Word, Place, Fits, any}
-use Rattle.sr_args.specs.Options.{TrimReading, Written, named_group, limit_places, operand_places, kind}
+use Rattle.sr_args.specs.Name.{measure_name}
+use Rattle.sr_args.specs.Place.{Word, Place, Stands, Fits, any}
+use Rattle.sr_args.specs.Options.{TrimReading, Written, no_make, make_key, ids_only, named_group, no_ack, trimming, sign_places, bound_place, limit_places, count_place, first_name, operand_places, kind, IsOptionFit}
 use Rattle.sr_args.specs.steps.Options.{Begins, BeginsNone, IsOptionEnd, IsOptionNamed, IsAny, IsSigned, IsLimitOf, IsUnlimitedAfter, IsTrimBy, IsTrimEnd, signed_places, trim_operands}
-use Rattle.sr_args.proofs.OptionLemmas.{same_trim, trim_with, kind_named, kind-from_name}
+use Rattle.sr_args.proofs.OptionLemmas.{same_trim, trim_with, kind_named, kind-from_name, measure-kind, measure_name-one, operands-one, Fits-texts}
 
 -- a trim is a signed bound and a limit
 parts : (by : Measure) (sign : Option Sign) (bound : Word) (limit : Option Word) (places : List Place) → trim_operands (trim_with by sign bound limit) ++ places ≡ signed_places by (sign, bound) ++ (limit_places limit ++ places)
@@ -59,3 +64,89 @@ no_group-at words o places e none f = cc
 pub BeginsNone-group : (set : OptionSet) (words : List Word) → ((group consumer : Word) (rest : List Word) → words ≡ group ∷ consumer ∷ rest → ⊥) → BeginsNone operand_places (IsOptionNamed set Group) IsOptionEnd words
 BeginsNone-group set words none other places r u f =
     no_group-at words other places (sym (kind-from_name other) ∙ ap kind_named r.name_is) none f
+
+-- an option that its operands alone tell: another one that the words go on with is this one
+Begins-operands : (set : OptionSet) (o : Written) (words rest : List Word) → IsOptionFit set o → ((ps : List Place) → IsOptionEnd o ps) → ((ps : List Place) → Fits rest ps → Fits words (operand_places o ++ ps)) → ((ps : List Place) → Fits words (operand_places o ++ ps) → Fits rest ps) → Begins operand_places (IsOptionNamed set (first_name o)) IsOptionEnd words o rest
+Begins-operands set o words rest fit last forth back = record {
+  right = record { name_is = refl; fit = fit };
+  fits = forth;
+  only = λ other places r u f.
+      let one = operands-one set words other o places (map any rest) r.name_is r.fit fit u (last (map any rest)) f (forth (map any rest) (Fits-texts rest)) in
+      (one.0, back places (subst (λ (x : Written). Fits words (operand_places x ++ places)) one.0 f));
+}
+
+pub Begins-bare : (set : OptionSet) (o : Written) (words : List Word) → IsOptionFit set o → ((ps : List Place) → IsOptionEnd o ps) → operand_places o ≡ [] → Begins operand_places (IsOptionNamed set (first_name o)) IsOptionEnd words o words
+Begins-bare set o words fit last bare = Begins-operands set o words words fit last (λ ps f. rw bare f) (λ ps f. rw bare at f)
+
+pub Begins-word : (set : OptionSet) (o : Written) (place : Place) (words rest : List Word) (word : Word) → words ≡ word ∷ rest → IsOptionFit set o → ((ps : List Place) → IsOptionEnd o ps) → operand_places o ≡ place ∷ [] → Stands word place → Begins operand_places (IsOptionNamed set (first_name o)) IsOptionEnd words o rest
+Begins-word set o place words rest word e fit last are stands =
+    Begins-operands set o words rest fit last (λ ps f. rw (e, are) (stands, f)) (λ ps f. (rw (e, are) at f).1)
+
+pub Begins-group : (set : OptionSet) (words rest : List Word) (group consumer : Word) → words ≡ group ∷ consumer ∷ rest → Begins operand_places (IsOptionNamed set Group) IsOptionEnd words (named_group group consumer) rest
+Begins-group set words rest group consumer e =
+    Begins-operands set (named_group group consumer) words rest tt (λ ps. tt) (λ ps f. rw e (refl, (refl, f))) (λ ps f. (rw e at f).1.1)
+
+pub count-stands : (range : CountRange) (word : Word) → Stands word (count_place range word)
+count-stands Any word = refl
+count-stands FromOne word = refl
+
+-- a trim is read by the words after its name
+trimming-name : (set : OptionSet) (by : Measure) (o : Written) → IsOptionNamed set (measure_name by) o → kind o ≡ kinds.Trim
+trimming-name set by o r = sym (kind-from_name o) ∙ ap kind_named r.name_is ∙ measure-kind by
+
+trimming-only : (set : OptionSet) (by : Measure) (words rest : List Word) (trim : TrimReading) → Begins trim_operands (IsTrimBy by) IsTrimEnd words trim rest → (other : Written) (places : List Place) → kind other ≡ kinds.Trim → IsOptionNamed set (measure_name by) other → IsOptionEnd other places → Fits words (operand_places other ++ places) → (other ≡ trimming trim) × Fits rest places
+trimming-only set by words rest trim b (trimming t) places k r u f =
+    let one = b.only t places (record { by_is = measure_name-one t.by by r.name_is; fit = r.fit }) u f in (ap trimming one.0, one.1)
+trimming-only set by words rest trim b other places k r u f = cc
+
+pub Begins-trimming : (set : OptionSet) (by : Measure) (words rest : List Word) (trim : TrimReading) → Begins trim_operands (IsTrimBy by) IsTrimEnd words trim rest → Begins operand_places (IsOptionNamed set (measure_name by)) IsOptionEnd words (trimming trim) rest
+Begins-trimming set by words rest trim b = record {
+  right = record { name_is = ap measure_name b.right.by_is; fit = b.right.fit };
+  fits = b.fits;
+  only = λ other places r. trimming-only set by words rest trim b other places (trimming-name set by other r) r;
+}
+
+no_trimming : (set : OptionSet) (by : Measure) (words : List Word) → BeginsNone trim_operands (IsTrimBy by) IsTrimEnd words → (other : Written) (places : List Place) → kind other ≡ kinds.Trim → IsOptionNamed set (measure_name by) other → IsOptionEnd other places → Fits words (operand_places other ++ places) → ⊥
+no_trimming set by words none (trimming t) places k r u f = none t places (record { by_is = measure_name-one t.by by r.name_is; fit = r.fit }) u f
+no_trimming set by words none other places k r u f = cc
+
+pub BeginsNone-trimming : (set : OptionSet) (by : Measure) (words : List Word) → BeginsNone trim_operands (IsTrimBy by) IsTrimEnd words → BeginsNone operand_places (IsOptionNamed set (measure_name by)) IsOptionEnd words
+BeginsNone-trimming set by words none other places r = no_trimming set by words none other places (trimming-name set by other r) r
+
+-- no word is left for an option that takes one
+abbrev is_bare : OptionName → Bool
+is_bare NoMkStream = true
+is_bare MkStream = true
+is_bare JustId = true
+is_bare NoAck = true
+is_bare name = false
+
+no_bound : (sign : Option Sign) (place : Place) (ps qs : List Place) → Fits [] ((sign_places sign ++ (place ∷ ps)) ++ qs) → ⊥
+no_bound None place ps qs f = f
+no_bound (Some sign) place ps qs f = f
+
+no_word : (o : Written) (places : List Place) → is_bare (first_name o) ≡ false → Fits [] (operand_places o ++ places) → ⊥
+no_word no_make places takes f = cc
+no_word make_key places takes f = cc
+no_word ids_only places takes f = cc
+no_word no_ack places takes f = cc
+no_word (trimming t) places takes f = no_bound t.sign (bound_place t.by t.bound) (limit_places t.limit) places f
+no_word o places takes f = f
+
+pub BeginsNone-word : (set : OptionSet) (name : OptionName) (words : List Word) → words ≡ [] → is_bare name ≡ false → BeginsNone operand_places (IsOptionNamed set name) IsOptionEnd words
+BeginsNone-word set name words e takes other places r u f = no_word other places (ap is_bare r.name_is ∙ takes) (rw e at f)
+
+-- what is left after a word is no longer
+pub shorter : (words rest : List Word) (word : Word) → words ≡ word ∷ rest → length rest ≤ length words
+shorter words rest word e = let long : length words ≡ length (word ∷ rest) = ap length e in omega (arith, long)
+
+-- what a word or a trim is made into, as `map` makes it
+pub mapped-some : {X Y : Type 0} (make : X → Y) (read : Option X) (made : Option Y) {P : X → Type 0} (Q : Y → Type 0) → MatchOption read (made ≡ None) (λ x. IsSomeAnd made (λ y. y ≡ make x)) → IfSome read P → ((x : X) → P x → Q (make x)) → IfSome made Q
+mapped-some make None made Q e p then = rw e tt
+mapped-some make (Some x) None Q e p then = absurd e
+mapped-some make (Some x) (Some y) Q e p then = rw e (then x p)
+
+pub mapped-none : {X Y : Type 0} (make : X → Y) (read : Option X) (made : Option Y) {P Q : Type 0} → MatchOption read (made ≡ None) (λ x. IsSomeAnd made (λ y. y ≡ make x)) → IfNone read P → (P → Q) → IfNone made Q
+mapped-none make None made e p then = rw e (then p)
+mapped-none make (Some x) None e p then = absurd e
+mapped-none make (Some x) (Some y) e p then = tt

@@ -1,18 +1,19 @@
 -- What XPENDING answers, over the words of a listing.
-use Rattle.std.proofs.Common.{◌≡◌, ℤ, List, [], ◌∷◌, Option, Some, None, refl, ap, to_z, of_z, w64}
+use Rattle.std.proofs.Common.{◌≡◌, ℤ, List, [], ◌∷◌, Option, Some, None, option_copied, Bor, refl, ap, subst, to_z, of_z, w64}
 use Rattle.std.specs.Prelude.{IfSome, IfNone}
 use Rattle.sr_ids.specs.declared.id.Id.{Id}
 use Rattle.sr_ids.specs.Spelling.{IsStart, IsEnd}
 use Rattle.sr_args.specs.declared.call.PendingAsked.{PendingAsked}
 use Rattle.sr_args.specs.declared.name.OptionName.TheVariants as names
+use Rattle.sr_args.specs.Name.{IsSameName, option_text}
 use Rattle.sr_args.specs.Number.{IsInt}
 use Rattle.sr_args.specs.Place.{Word, Place, Fits, HasNumbers, HasIds, int, numeric, spelled, range_start, range_end}
-use Rattle.sr_args.specs.Form.{Reading, Reads, places, optional_text, named_places}
+use Rattle.sr_args.specs.Form.{Reading, Reads, IsNamedFirst, places, optional_text, named_places}
 use Rattle.sr_args.specs.commands.Xpending.{listing, asked}
 use Rattle.sr_args.specs.steps.Gives.{GivesCall}
 use Rattle.sr_args.specs.steps.Numbers.{IsAnyWord}
 use Rattle.sr_args.specs.steps.Options.{Begins}
-use Rattle.sr_args.specs.steps.Pending.{listing_reading, IsBeforeStart, IsMaybeInt}
+use Rattle.sr_args.specs.steps.Pending.{listing_reading, IsBeforeStart, IsPastIdle, IsMaybeInt}
 use Rattle.sr_args.proofs.ChoiceLemmas.{HasNumbers-append, HasNumbers-front, HasNumbers-back, HasIds-back, count-back}
 
 -- a word too many
@@ -27,6 +28,23 @@ listing-word_left now read words first a b left last least_idle start until most
     let one = begins.only reading.0 (spelled range_start reading.1.0 ∷ spelled range_end reading.1.1.0 ∷ numeric int reading.1.1.1.0 ∷ places optional_text reading.1.1.1.1) tt r.fit.0 r.fits in
     let rest = rw f at (rw e at (rw d at one.1).1).1 in
     no_word_left now read left last some none more reading.1.1.1.1 rest.1
+
+-- the words of a listing, one after the other
+start_unnamed : (least_idle : Option Word) (first a : List Word) (start : Word) (ps : List Place) → first ≡ start ∷ a → IsPastIdle least_idle first → IsNamedFirst names.Idle least_idle (spelled range_start start ∷ ps)
+start_unnamed None first a start ps d past = record { unnamed = λ word words f same. past start a d (subst (λ (w : Word). IsSameName w (option_text names.Idle)) f.0 same) }
+start_unnamed (Some word) first a start ps d past = tt
+
+fits-last : (read : Option (Bor Word)) (left last : List Word) → IfSome read (λ word. left ≡ word.now ∷ last) → IfNone read (left ≡ []) → last ≡ [] → Fits left (places optional_text (option_copied read))
+fits-last None left last some none done = rw none tt
+fits-last (Some word) left last some none done = rw (some, done) (refl, tt)
+
+pub listing-reads : (words first a b left last : List Word) (least_idle : Option Word) (start until most : Word) (consumer : Option (Bor Word)) → Begins (named_places names.Idle int) IsAnyWord IsBeforeStart words least_idle first → IsPastIdle least_idle first → first ≡ start ∷ a → a ≡ until ∷ b → b ≡ most ∷ left → IfSome consumer (λ word. left ≡ word.now ∷ last) → IfNone consumer (left ≡ []) → last ≡ [] → Reads listing words (listing_reading least_idle start until most (option_copied consumer))
+listing-reads words first a b left last least_idle start until most consumer begins past d e f some none done =
+    let after = spelled range_end until ∷ numeric int most ∷ places optional_text (option_copied consumer) in
+    record {
+      fits = begins.fits (spelled range_start start ∷ after) (rw d (refl, rw e (refl, rw f (refl, fits-last consumer left last some none done))));
+      fit = (start_unnamed least_idle first a start after d past, tt);
+    }
 
 -- numbers and ids of a listing
 abbrev after_idle : (start until most : Word) → Option Word → List Place

@@ -12,7 +12,8 @@ use Rattle.sr_args.specs.steps.Numbers.{IsAnyWord}
 use Rattle.sr_args.specs.steps.Options.{Begins}
 use Rattle.sr_args.specs.steps.Rounds.{dead_form, dead_of, rounds_form, rounds_of, IsMaybeTries}
 use Rattle.sr_args.proofs.ChoiceLemmas.{HasNumbers-front}
-use Rattle.sr_args.proofs.FormLemmas.{Fits-texts, texts-from_fits}
+use Rattle.sr_args.proofs.FormLemmas.{texts-from_fits}
+use Rattle.sr_args.proofs.OptionLemmas.{Fits-texts}
 use Rattle.sr_args.proofs.OptionLemmas.{name-one}
 
 -- DEAD and the words after it

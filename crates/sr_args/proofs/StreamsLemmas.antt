@@ -1,10 +1,10 @@
 -- Keys and ids after STREAMS are the two halves of the words.
-use Rattle.std.proofs.Common.{◌≡◌, ◌≢◌, ◌⊎◌, inl, inr, ℕ, ◌<◌, ◌≤◌, ◌+◌, ◌-◌, ◌*◌, ◌/◌, ◌%◌, zero, suc, List, [], ◌∷◌, ◌++◌, length, map, take, drop, refl, sym, ap, ◌∙◌, subst, arith, length-append, length-drop}
+use Rattle.std.proofs.Common.{◌≡◌, ◌≢◌, ◌⊎◌, inl, inr, ℕ, ◌<◌, ◌≤◌, ◌+◌, ◌-◌, ◌*◌, ◌/◌, ◌%◌, zero, suc, List, [], ◌∷◌, ◌++◌, length, map, take, drop, refl, sym, ap, ◌∙◌, subst, append_assoc, arith, length-append, length-drop}
 use Rattle.std.proofs.lemmas.List.{length-take, length-take-le, take-append-drop}
 use Rattle.std.proofs.Math.Seq.{take-append_seam, drop-append_seam}
 use Rattle.sr_args.specs.declared.name.OptionName.TheVariants.{Streams}
 use Rattle.sr_args.specs.Name.{IsSameName, option_text}
-use Rattle.sr_args.specs.Place.{Word, Place, Fits, IdForm, IdOf, any, option, spelled, HasNumbers, HasIds}
+use Rattle.sr_args.specs.Place.{Word, Place, Fits, IdForm, IdOf, Spells, any, option, spelled, HasNumbers, HasIds}
 use Rattle.sr_args.proofs.IdsLemmas.{take-next, take-none}
 use Rattle.sr_args.specs.Different.{IsAmong, AreDifferent}
 use Rattle.sr_args.specs.Form.{streams, Reading, Reads, AreIds, ArePaired}
@@ -117,6 +117,15 @@ AreDifferent-with n words rest word lt e new different = subst (λ (ws : List Wo
 -- streams word by word
 abbrev Stream : IdForm → Type 0
 Stream spelling = Word × IdOf spelling
+
+-- the streams so far, and one more
+pub AreStreams-more : (spelling : IdForm) (all_keys all keys words front rest : List Word) (copy key word : Word) (list : List (Stream spelling)) (found : IdOf spelling) → keys ≡ key ∷ front → words ≡ word ∷ rest → copy ≡ key → Spells spelling word found → ((more : List (Stream spelling)) → AreStreams spelling keys words more → AreStreams spelling all_keys all (list ++ more)) → (more : List (Stream spelling)) → AreStreams spelling front rest more → AreStreams spelling all_keys all ((list ++ (copy, found) ∷ []) ++ more)
+AreStreams-more spelling all_keys all keys words front rest copy key word list found d e same spells so_far more are =
+    let one : AreStreams spelling keys words ((copy, found) ∷ more) = rw (d, e) (same, spells, are) in
+    rw (append_assoc list ((copy, found) ∷ []) more) (so_far ((copy, found) ∷ more) one)
+
+pub next-enough : (keys words front rest : List Word) (key word : Word) → keys ≡ key ∷ front → words ≡ word ∷ rest → length words ≤ length keys → length rest ≤ length front
+next-enough keys words front rest key word d e enough = omega (arith, ap length d, ap length e)
 
 streams-keys : (spelling : IdForm) (keys words : List Word) (list : List (Stream spelling)) → AreStreams spelling keys words list → map (λ (s : Stream spelling). s.0) list ≡ take (length words) keys
 streams-keys spelling keys [] [] are = refl

@@ -1,5 +1,5 @@
 -- What blocks hold where one of them changes.
-use Rattle.std.proofs.Common.{◌≡◌, ℕ, zero, suc, ◌+◌, ◌-◌, ◌<◌, ◌≤◌, List, [], ◌∷◌, ◌++◌, length, get_or, take, drop, set, refl, ap, sym, subst, ◌∙◌, arith}
+use Rattle.std.proofs.Common.{rules, ◌≡◌, ℕ, zero, suc, ◌+◌, ◌-◌, ◌<◌, ◌≤◌, ◌==◌, Bool, true, false, Option, Some, None, IsSome, OnSome, ◌↔◌, List, [], ◌∷◌, ◌++◌, length, get_or, take, drop, set, refl, ap, sym, subst, ◌∙◌, arith}
 use Rattle.std.proofs.lemmas.List.{append_assoc, append-nil, length-append, set_split}
 use Rattle.std.proofs.lemmas.List.Edits.{insert-append_left, insert-append_right, remove-append_left, remove-append_right}
 use Rattle.std.proofs.lemmas.List.Elements.{All-append}
@@ -24,6 +24,18 @@ pub remove-behind : {X : Type 0} (a b : List X) (n : ℕ) → remove (a ++ b) (l
 remove-behind a b n =
     let less : length a + n - length a ≡ n = omega arith in
     remove-append_right a b (length a) (length a + n) refl (omega arith) ∙ ap (λ m. a ++ remove b m) less
+
+-- what `is_empty` tells
+pub is_none : (n : ℕ) (test : Bool) → test ≡ (n == 0) → test ≡ true → n ≡ 0
+is_none n test says is = search rules
+
+pub is_some : (n : ℕ) (test : Bool) → test ≡ (n == 0) → test ≡ false → 0 < n
+is_some n test says is = search rules
+
+-- what `remove` leaves, of a place within
+pub removed-within : {X : Type 0} (r : Option X) (P : Type 0) (n i : ℕ) → (IsSome r ↔ (i < n)) → i < n → OnSome r P → P
+removed-within None P n i variant within left = absurd (let yes = variant.1 within in cc)
+removed-within (Some x) P n i variant within left = left
 
 module _ {T Z : Type 0} where
   -- what a block has

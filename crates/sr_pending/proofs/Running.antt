@@ -1,12 +1,12 @@
 -- The elements from one place to another, where they lie in blocks one after another.
 use Rattle.std.proofs.Common.{◌≡◌, ℕ, zero, suc, ◌+◌, ◌-◌, ◌<◌, ◌≤◌, List, [], ◌∷◌, ◌++◌, length, get_or, take, drop, map, min, ◌⊎◌, inl, inr, ap, sym, subst, ◌∙◌, arith}
-use Rattle.std.proofs.lemmas.List.{append_assoc, append-nil, drop-map, length-append, length-drop, take-append-le, take-map, take_rest, drop-append-le}
+use Rattle.std.proofs.lemmas.List.{append_assoc, append-nil, drop-map, length-append, length-drop, length-map, take-append-le, take-map, take_rest, drop-append-le}
 use Rattle.std.proofs.lemmas.Bool.{cases_lt}
 use Rattle.std.proofs.lemmas.List.Folds.{flat_map-map}
 use Rattle.std.proofs.lemmas.Grind.{flat_map-append}
 use Rattle.std.proofs.Math.Seq.{take-append-add, drop-append-add}
 use Rattle.std.specs.List.{flat_map, slice_range}
-use Rattle.std.specs.VecDeque.{deque_items}
+use Rattle.std.specs.VecDeque.{deque_items, deque_len}
 use Rattle.std.specs.declared.collections.VecDeque.{VecDeque}
 use Rattle.sr_pending.specs.declared.blocks.Place.{Place}
 use Rattle.sr_pending.specs.steps.Blocks.{IsIn, Laid, at_of, held_in, items_of}
@@ -157,6 +157,16 @@ module _ {T : Type 0} where
       ∙ sym (laid-slice laid from past is_from is_past)
 
 module _ {T Z : Type 0} where
+  -- where its block is read
+  pub place-fits : (laid : Laid T) (place : Place) (b : ℕ) (block : VecDeque T Z) → IsIn place laid → b ≡ place.block → block.items ≡ get_or (laid.closed ++ laid.tail ∷ []) b [] → place.at ≤ deque_len block
+  place-fits laid place b block is same read =
+      let here = read ∙ ap (λ (n : ℕ). get_or (laid.closed ++ laid.tail ∷ []) n []) same in
+      omega (arith, block.ok.0, ap (λ (l : List T). length l) here, place-within laid place is)
+
+  -- the closed blocks up to a place
+  pub blocks-fit : (laid : Laid T) (closed : VecDeque (VecDeque T Z) Z) (n : ℕ) → map deque_items closed.items ≡ laid.closed → n ≤ length laid.closed → n ≤ deque_len closed
+  blocks-fit laid closed n shown le = omega (arith, closed.ok.0, length-map closed.items deque_items, ap (λ (l : List (List T)). length l) shown)
+
   -- a run within one block
   pub runs-same : (laid : Laid T) (from past : Place) (block first last : List T) (middle : List (VecDeque T Z)) (at : ℕ) → IsIn from laid → IsIn past laid → from.block ≡ past.block → block ≡ get_or (laid.closed ++ laid.tail ∷ []) from.block [] → at ≡ min from.at past.at → first ≡ slice_range block at past.at → middle ≡ [] → last ≡ [] → first ++ held_in middle ++ last ≡ slice_range (items_of laid) (at_of from laid) (at_of past laid)
   runs-same laid from past block first last middle at is_from is_past same read least is_first is_middle is_last =

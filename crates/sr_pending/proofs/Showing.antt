@@ -69,6 +69,11 @@ pub slice_get-right : {X : Type 0} (a b : List X) (i : ℕ) → slice_get (a ++ 
 slice_get-right [] b i = ap (λ n. slice_get b n) (let e : 0 + i ≡ i = omega arith in e)
 slice_get-right (x ∷ xs) b i = ap (λ n. slice_get (x ∷ (xs ++ b)) n) (let e : suc (length xs) + i ≡ suc (length xs + i) = omega arith in e) ∙ slice_get-right xs b i
 
+pub last-behind : {X : Type 0} (a b : List X) → 0 < length b → slice_get b (length b - 1) ≡ slice_get (a ++ b) (length (a ++ b) - 1)
+last-behind a b some =
+    let far : length a + (length b - 1) ≡ length (a ++ b) - 1 = let l = length-append a b in omega arith in
+    sym (slice_get-right a b (length b - 1)) ∙ ap (λ n. slice_get (a ++ b) n) far
+
 pub got : {T : Type 0} (closed : List (List T)) (tail : List T) (block at : ℕ) → block ≤ length closed → (block < length closed → at < length (get_or closed block [])) → slice_get (get_or (closed ++ tail ∷ []) block []) at ≡ slice_get (flat_map (λ (b : List T). b) closed ++ tail) (length (flat_map (λ (b : List T). b) (take block closed)) + at)
 got [] tail zero at within short = ap (λ n. slice_get tail n) (let e : at ≡ 0 + at = omega arith in e)
 got [] tail (suc block) at within short = absurd (omega arith)

@@ -18,6 +18,7 @@ use Rattle.sr_run.specs.Shared.{HasMade}
 use Rattle.sr_run.specs.Worked.{AreWorked, HasNotRun, HasRun, IsWorked, count_calls, joined_up}
 use Rattle.sr_run.specs.declared.fault.RunFault.{RunFault}
 use Rattle.sr_run.specs.declared.fault.RunFault.TheVariants as faults
+use Rattle.sr_seats.specs.declared.fault.CloseFault.{CloseFault}
 use Rattle.sr_seats.specs.declared.receipt.Receipt.{Receipt}
 
 -- ---- seats that count on
@@ -193,6 +194,14 @@ one_has_worked f first seats rest left xs others seat seat_after script asked re
     let Q : List SeatState → Type 0 = λ ss. HasWorked (record { first = first; scripts = map f xs }) ss receipts in
     subst Q (sym left_alone) (subst P (sym (ap (λ ys. map f ys) alone)) done)
 
+-- its seat has room where it was taken from
+pub room_again : (len cap old_len old_cap : ℕ) → len + 1 ≡ old_len → old_len ≤ old_cap → cap ≡ old_cap → len < cap
+room_again len cap old_len old_cap one within same = omega (arith, one, within, same)
+
+-- its first worker is one of it
+pub alone_is_at : (crew : CrewState) (first : ℕ) → first ≡ crew.first → length crew.scripts ≡ 1 → (crew.first ≤ first) × (first < crew.first + length crew.scripts)
+alone_is_at crew first same one = (omega (arith, same), omega (arith, same, one))
+
 -- a crew that has worked has a receipt for each call
 pub worked_count : (crew : CrewState) (seats : List SeatState) (receipts : List Receipt) → HasWorked crew seats receipts → length receipts ≡ sum (map length crew.scripts)
 worked_count crew seats receipts worked =
@@ -314,6 +323,13 @@ halves_together seats receipts front back (Err one) (Err other) (Err fault) halv
     subst P (sym is) (first_of_both front back one other halves p q)
 
 -- ---- the run
+
+-- a fault of a crew that was begun is not one of its count
+pub Memory≢Count : faults.Memory ≢ faults.Count
+Memory≢Count is = cc
+
+pub Close≢Count : (why : CloseFault) → faults.Close why ≢ faults.Count
+Close≢Count why is = cc
 
 sizes_of_all : {V X : Type 0} (f : V → List X) (xs : List V) → map length (map f xs) ≡ map (λ x. length (f x)) xs
 sizes_of_all f [] = refl

@@ -1,9 +1,12 @@
 -- The rounds of a recovery, one after another, and what they leave of their session.
-use Rattle.std.proofs.Common.{◌≡◌, ◌==◌, ◌-◌, ℕ, zero, suc, ◌⊎◌, inl, inr, Bool, true, false, arith, Option, Some, None, Ok, Err, refl, sym, ap, subst, ◌∙◌}
+use Rattle.std.proofs.Common.{◌≡◌, ◌==◌, ◌-◌, ◌<◌, ℕ, zero, suc, max, ◌⊎◌, inl, inr, Bool, true, false, arith, List, [], ◌∷◌, Option, Some, None, Result, Ok, Err, IfOk, IfErr, refl, sym, ap, subst, ◌∙◌}
+use Rattle.std.specs.Prelude.{IsTrue}
 use Rattle.std.proofs.lemmas.Bool.{ne_eqb}
+use Rattle.std.proofs.lemmas.Result.{IfErr-weaker, IfOk-weaker}
 use Rattle.sr_resp.specs.Reply.{Answer as ReplyParts}
 use Rattle.sr_policy.specs.Snapshot.{Shown}
 use Rattle.sr_plan.specs.Verdict.{Judged}
+use Rattle.sr_args.specs.declared.call.Command.TheVariants as commands
 use Rattle.sr_book.specs.Records.{BookState, IsStepped}
 use Rattle.sr_book.specs.declared.answer.Answer.{Answer}
 use Rattle.sr_book.specs.declared.event.BookFault.TheVariants as book
@@ -14,9 +17,13 @@ use Rattle.sr_book.specs.declared.event.Out.TheVariants as outs
 use Rattle.sr_book.proofs.HeardLemmas.{Asks}
 use Rattle.sr_book.proofs.SessionLaws.{asked-idle, conclude-answers, conclude-last, steps-asked-not-idle}
 use Rattle.sr_session.specs.Desk.{IsIdle, StepsAt, StepsTo}
+use Rattle.sr_session.specs.Answered.{Replies, in_rounds}
+use Rattle.sr_session.specs.Unanswered.{IsUnanswered, breaks_off}
 use Rattle.sr_session.specs.Rounds.{BreaksIn, IsRefusedRound, IsRound, RepliesIn}
+use Rattle.sr_session.specs.steps.Calling.{Adds}
 use Rattle.sr_session.specs.declared.desk.DeskFault.{DeskFault}
 use Rattle.sr_session.specs.declared.desk.DeskFault.TheVariants as faults
+use Rattle.sr_session.proofs.GrowthLemmas.{Adds-recorded, Adds-replied, Adds-snapped, Adds-stale, Adds-then, if_err_both, if_ok_both}
 
 -- ---- an event at a desk
 
@@ -99,6 +106,11 @@ is_last (suc rounds) = ne_eqb (suc (suc rounds)) 1 (λ is. cc) ∙ sym (ne_eqb (
 one_less : (rounds : ℕ) → suc rounds - 1 ≡ rounds
 one_less rounds = omega arith
 
+-- fewer are left after one
+pub fewer_left : (rounds most : ℕ) → (rounds ≡ 0 → ⊥) → rounds ≡ most → rounds - 1 < most
+fewer_left zero most some all = absurd (some refl)
+fewer_left (suc rounds) most some all = omega (arith, all)
+
 -- the last round is not stale
 last-hidden : (told session : ℕ) (judged : Judged) (apply : Bool) (answer : Answer) (shown : Shown) (old new : Option BookState)
     → StepsAt old told (events.Conclude session judged apply true) (Ok answer) new → answer.out ≡ outs.Stale shown → old ≡ None
@@ -167,6 +179,100 @@ module _ (may_tell : ℕ → Bool) (session : ℕ) (apply : Bool) (shown : Shown
       → (old ≡ None) × (new ≡ None) → BreaksIn may_tell session apply rounds shown old fault new
   hidden-breaks zero fault new some hidden = absurd (some refl)
   hidden-breaks (suc rounds) fault new some hidden = inl hidden
+
+-- ---- one round, by its steps
+
+-- of a desk that shows after a pause what it showed before
+pub made-round : (may_tell : ℕ → Bool) (session : ℕ) (apply last : Bool) (shown : Shown) (old paused : Option BookState) (told : ℕ) (judged : Judged) (answer : Answer) (out : Out) (new : Option BookState)
+    → paused ≡ old → IsTrue (may_tell told) → judged.snapshot ≡ shown → StepsAt paused told (events.Conclude session judged apply last) (Ok answer) new → answer.out ≡ out
+    → IsRound may_tell session apply last shown old out new
+made-round may_tell session apply last shown old paused told judged answer out new same by_clock of_snapshot step comes =
+    let P : Option BookState → Type 0 = λ o. StepsAt o told (events.Conclude session judged apply last) (Ok answer) new in
+    record { told = told; judged = judged; answer = answer; by_clock = by_clock; of_snapshot = of_snapshot; step = subst P same step; comes = comes }
+
+-- a round that is replied
+module _ (may_tell : ℕ → Bool) (session : ℕ) (apply : Bool) (shown : Shown) (old : Option BookState) (rounds : ℕ) (passed reply : ReplyParts) (new : Option BookState) where
+  pub reply-ok : (rounds ≡ 0 → ⊥) → passed ≡ reply → IsRound may_tell session apply (rounds == 1) shown old (outs.Reply reply) new → RepliesIn may_tell session apply rounds shown old passed new
+  reply-ok some same round =
+      let P : ReplyParts → Type 0 = λ it. RepliesIn may_tell session apply rounds shown old it new in
+      subst P (sym same) (round-replies may_tell session apply shown old rounds reply new some round)
+
+  pub reply-recorded : passed ≡ reply → IsRound may_tell session apply (rounds == 1) shown old (outs.Reply reply) new → Adds session old (passed ∷ []) new
+  reply-recorded same round =
+      let P : ReplyParts → Type 0 = λ it. Adds session old (it ∷ []) new in
+      let event : Event = events.Conclude session round.judged apply (rounds == 1) in
+      subst P (sym same) (Adds-replied session round.told event round.answer refl old new reply round.step round.comes)
+
+-- what comes of the rounds after one that is stale comes of all of them
+module _ (may_tell : ℕ → Bool) (session : ℕ) (apply : Bool) (shown : Shown) (old : Option BookState) (rounds : ℕ) (fresh : Shown) (middle new : Option BookState) (r : Result ReplyParts DeskFault)
+    (round : IsRound may_tell session apply (rounds == 1) shown old (outs.Stale fresh) middle) where
+  pub stale-ok : (passed : Shown) → (rounds ≡ 0 → ⊥) → passed ≡ fresh → IfOk r (λ reply. RepliesIn may_tell session apply (rounds - 1) passed middle reply new)
+      → IfOk r (λ reply. RepliesIn may_tell session apply rounds shown old reply new)
+  stale-ok passed some same others =
+      let P : Shown → Type 0 = λ s. IfOk r (λ reply. RepliesIn may_tell session apply (rounds - 1) s middle reply new) in
+      IfOk-weaker r _ _ (λ reply later. stale-replies may_tell session apply shown old rounds fresh middle reply new some round later) (subst P same others)
+
+  pub stale-err : (passed : Shown) → (rounds ≡ 0 → ⊥) → passed ≡ fresh → IfErr r (λ fault. BreaksIn may_tell session apply (rounds - 1) passed middle fault new)
+      → IfErr r (λ fault. BreaksIn may_tell session apply rounds shown old fault new)
+  stale-err passed some same others =
+      let P : Shown → Type 0 = λ s. IfErr r (λ fault. BreaksIn may_tell session apply (rounds - 1) s middle fault new) in
+      IfErr-weaker r _ _ (λ fault later. stale-breaks may_tell session apply shown old rounds fresh middle fault new some round later) (subst P same others)
+
+  pub stale-recorded : IfOk r (λ reply. Adds session middle (reply ∷ []) new) → IfOk r (λ reply. Adds session old (reply ∷ []) new)
+  stale-recorded later =
+      let event : Event = events.Conclude session round.judged apply (rounds == 1) in
+      IfOk-weaker r _ _ (λ reply more. Adds-then session old [] middle (reply ∷ []) new (Adds-stale session round.told event round.answer refl old middle fresh round.step round.comes) more) later
+
+  pub stale-unrecorded : IfErr r (λ fault. Adds session middle [] new) → IfErr r (λ fault. Adds session old [] new)
+  stale-unrecorded later =
+      let event : Event = events.Conclude session round.judged apply (rounds == 1) in
+      IfErr-weaker r _ _ (λ fault more. Adds-then session old [] middle [] new (Adds-stale session round.told event round.answer refl old middle fresh round.step round.comes) more) later
+
+-- the rounds after a snapshot are those of its recovery
+module _ (may_tell : ℕ → Bool) (session : ℕ) (apply : Bool) (tries : ℕ) (key group : List ℕ) (dead : List (List ℕ)) (told : ℕ) (answer : Answer) (shown : Shown) (old middle new : Option BookState)
+    (r : Result ReplyParts DeskFault) (by_clock : IsTrue (may_tell told)) (step : StepsAt old told (events.Snapshot session key group dead) (Ok answer) middle) (out : answer.out ≡ outs.Snap shown)
+    (rounds : ℕ) (all : rounds ≡ max tries 1) (passed : Shown) (same : passed ≡ shown) where
+  pub rounds-ok : IfOk r (λ reply. RepliesIn may_tell session apply rounds passed middle reply new) → IfOk r (λ reply. Adds session middle (reply ∷ []) new)
+      → IfOk r (λ reply. Replies may_tell session (commands.Recover apply tries key group dead) old reply new)
+  rounds-ok replied recorded =
+      let adds = Adds-snapped session told (events.Snapshot session key group dead) answer refl old middle shown step out in
+      IfOk-weaker r _ _ (λ reply both. in_rounds (record {
+        apply = apply;
+        tries = tries;
+        key = key;
+        group = group;
+        dead = dead;
+        told = told;
+        answer = answer;
+        shown = shown;
+        middle = middle;
+        is = refl;
+        by_clock = by_clock;
+        step = step;
+        out = out;
+        rounds = rw (same, all) at both.0;
+      }) (Adds-recorded session old (reply ∷ []) new (Adds-then session old [] middle (reply ∷ []) new adds both.1))) (if_ok_both _ _ r replied recorded)
+
+  pub rounds-err : IfErr r (λ fault. BreaksIn may_tell session apply rounds passed middle fault new) → IfErr r (λ fault. Adds session middle [] new)
+      → IfErr r (λ fault. IsUnanswered may_tell session (commands.Recover apply tries key group dead) old fault new)
+  rounds-err broke unrecorded =
+      let adds = Adds-snapped session told (events.Snapshot session key group dead) answer refl old middle shown step out in
+      IfErr-weaker r _ _ (λ fault both. breaks_off (record {
+        apply = apply;
+        tries = tries;
+        key = key;
+        group = group;
+        dead = dead;
+        told = told;
+        answer = answer;
+        shown = shown;
+        middle = middle;
+        is = refl;
+        by_clock = by_clock;
+        step = step;
+        out = out;
+        rounds = rw (same, all) at both.0;
+      }) (Adds-recorded session old [] new (Adds-then session old [] middle [] new adds both.1))) (if_err_both _ _ r broke unrecorded)
 
 -- ---- a recovery that broke off
 

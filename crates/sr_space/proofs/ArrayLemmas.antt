@@ -31,6 +31,9 @@ pub left-after : (reply now : Answer) (more left all : List Answer) → HasLeft 
     → ((items : List Answer) → reply ≡ array_of items → now ≡ array_of (items ++ more)) → HasLeft now left all
 left-after reply now more left all has added = record { items = has.items ++ more; is = added has.items has.is; whole = append_assoc has.items more left ∙ has.whole }
 
+pub left-same : (reply : Answer) (left rest all : List Answer) → left ≡ rest → HasLeft reply left all → HasLeft reply rest all
+left-same reply left rest all same has = record { items = has.items; is = has.is; whole = ap (λ (l : List Answer). has.items ++ l) (sym same) ∙ has.whole }
+
 -- and in the end none is left
 pub left-none : (reply : Answer) (left all : List Answer) → HasLeft reply left all → left ≡ [] → reply ≡ array_of all
 left-none reply left all has none = has.is ∙ ap array_of (sym (append-nil has.items) ∙ ap (λ (l : List Answer). has.items ++ l) (sym none) ∙ has.whole)

@@ -1,6 +1,6 @@
 -- What XINFO counts and lists.
-use Rattle.std.proofs.Common.{◌≡◌, codes, ℕ, zero, suc, ◌<◌, ◌≤◌, Bool, true, false, cond, List, [], ◌∷◌, length, map, get_or, refl, ap, arith}
-use Rattle.std.proofs.lemmas.List.{length-map}
+use Rattle.std.proofs.Common.{◌≡◌, codes, ℕ, zero, suc, ◌<◌, ◌≤◌, Bool, true, false, cond, List, [], ◌∷◌, length, map, get_or, refl, ap, sym, ◌∙◌, arith}
+use Rattle.std.proofs.lemmas.List.{get_or-map, length-map}
 use Rattle.sr_group.specs.Group.{KeptGroup, counts_of}
 use Rattle.sr_group.specs.declared.consumer.Consumer.{Consumer}
 use Rattle.sr_pending.specs.declared.nack.Nack.{Nack}
@@ -38,6 +38,13 @@ counts_of-few (consumer ∷ consumers) nacks (m ∷ counts) zero n bound is with
 counts_of-few (consumer ∷ consumers) nacks (m ∷ counts) (suc i) n bound is within read few =
     let rest : counts ≡ counts_of consumers nacks = cc in
     counts_of-few consumers nacks counts i n bound rest (omega arith) read few
+
+-- the count at a consumer's place is how many entries it has pending
+pub counts_of-read : (consumers : List Consumer) (nacks : List Nack) (counts : List ℕ) (i n : ℕ) (consumer : Consumer) → counts ≡ counts_of consumers nacks → i < length consumers
+    → n ≡ get_or counts i n → consumer ≡ get_or consumers i consumer → n ≡ length (owned_by consumer.name nacks)
+counts_of-read consumers nacks counts i n consumer is within read at =
+    let pending : Consumer → ℕ = λ other. length (owned_by other.name nacks) in
+    read ∙ ap (λ (l : List ℕ). get_or l i n) is ∙ get_or-map pending consumers i consumer n within ∙ ap pending (sym at)
 
 -- what is told of a stream, name by name and value by value
 pub stream_told : (stream : StreamState) (count_name count last_name last added_name added groups_name groups first_name first end_name end : Answer) → count_name ≡ bulk_string (codes "length") → count ≡ number (length stream.entries) → last_name ≡ bulk_string (codes "last-generated-id") → last ≡ bulk_string (spelling stream.last) → added_name ≡ bulk_string (codes "entries-added") → added ≡ number stream.added → groups_name ≡ bulk_string (codes "groups") → groups ≡ number (length stream.groups) → first_name ≡ bulk_string (codes "first-entry") → first ≡ entry_or_null (first_entry stream.entries) → end_name ≡ bulk_string (codes "last-entry") → end ≡ entry_or_null (last_entry stream.entries) → array_of (count_name ∷ count ∷ last_name ∷ last ∷ added_name ∷ added ∷ groups_name ∷ groups ∷ first_name ∷ first ∷ end_name ∷ end ∷ []) ≡ stream_answer stream

@@ -1,6 +1,7 @@
 pub mod Lawful
 pub mod AddLemmas
 pub mod ArrayLemmas
+pub mod LoopLemmas
 pub mod PendingLemmas
 pub mod ClaimLemmas
 pub mod GroupLaws

@@ -3,25 +3,29 @@ use Rattle.std.proofs.Common.{◌≡◌, ℕ, IsTrue, Bool, true, false, cond, �
 use Rattle.std.specs.List.{list_all}
 use Rattle.sr_args.specs.Different.{IsAmong}
 use Rattle.sr_args.specs.declared.reads.ReadAsked.{ReadAsked}
+use Rattle.sr_args.specs.declared.reads.ReadAsked.TheVariants.{New, PendingAfter}
 use Rattle.sr_bytes.specs.Order.{comes_before}
 use Rattle.sr_entries.specs.declared.entry.Entry.{Entry}
-use Rattle.sr_entries.specs.Entries.{entry_with}
+use Rattle.sr_entries.specs.Entries.{entries_above, entry_with}
+use Rattle.sr_entries.specs.Entries as entries
 use Rattle.sr_group.specs.declared.shown.Listed.{Listed}
-use Rattle.sr_group.specs.Delivery.{listed_in}
+use Rattle.sr_group.specs.Delivery.{after_delivery, after_history, history_of, listed_in, new_entries}
 use Rattle.sr_group.specs.Group.{GroupState, KeptGroup}
 use Rattle.sr_group.specs.Shown.{HasRoomFor, ShownState}
 use Rattle.sr_group.proofs.NameLemmas.{is_same_name-before, is_same_name-refl}
+use Rattle.sr_ids.specs.declared.id.Id.{Id}
 use Rattle.sr_pending.specs.declared.nack.Nack.{Nack}
 use Rattle.sr_resp.specs.Reply.{Answer, array_of, bulk_string}
 use Rattle.sr_stream.specs.Groups.{ByName, AreInOrder, group_with, has_group, with_group}
 use Rattle.sr_stream.specs.Stream.{StreamState, KeptStream, kept_with_group, with_groups}
 use Rattle.sr_stream.proofs.GroupsLemmas.{with_group-same}
+use Rattle.sr_space.specs.Bounds.{in_63_bits}
 use Rattle.sr_space.specs.Keys.{Key, Keys, shown_keys, shown_of, stream_at, with_stream}
 use Rattle.sr_space.specs.Touched.{left_at, reply_of}
-use Rattle.sr_space.specs.commands.Xread.{listed_or_null}
+use Rattle.sr_space.specs.commands.Xread.{count_of, entries_of_key, listed_or_null}
 use Rattle.sr_space.specs.commands.Xreadgroup.{again_answer, has_group_in, have_group, history_answer}
 use Rattle.sr_space.specs.declared.commands.xreadgroup.GroupRead.{GroupRead}
-use Rattle.sr_space.specs.steps.Reading.{HasRoomAt, HasRoomIn, StayBeside, StayBesideAll, Stored, Writes, WritesAt, after_call, by_read, history_item, in_stream, kept_at, keys_after, listed_by, named_by}
+use Rattle.sr_space.specs.steps.Reading.{HasRoomAt, HasRoomIn, StayBeside, StayBesideAll, Stored, Writes, WritesAt, after_call, by_read, history_item, in_group, in_stream, kept_at, keys_after, listed_by, named_by}
 use Rattle.sr_space.proofs.KeysLemmas.{stream_at-shown}
 use Rattle.sr_space.proofs.ArrayLemmas.{HasLeft}
 
@@ -130,3 +134,16 @@ module _ (r : GroupRead) (asked : ReadAsked) (key : Key) (rest : List (Key × Re
 -- what all streams list is what the call leads to, if each of the keys has the group
 pub read-outcome : (r : GroupRead) (streams : List (Key × ReadAsked)) (keys : Keys) → have_group r.group.now keys streams ≡ true → reply_of (listed_or_null (listed_by r keys streams)) ≡ (by_read r streams keys).outcome
 read-outcome r streams keys there = rw there refl
+
+-- what is delivered of a stream, and what is listed of it then
+module _ (r : GroupRead) (asked : ReadAsked) (key : Key) (list : List Entry) (group : GroupState) (moment : ℕ) (count : Option ℕ) where
+  pub delivered : moment ≡ in_63_bits r.moment → count ≡ count_of r.count → asked ≡ New → after_delivery r.consumer.now moment r.no_ack (new_entries group.last count list) group ≡ (in_group r asked key list group).group
+  delivered at most is = rw (is, at, most) refl
+
+  pub new-listed : (above found : List Entry) (last : Id) → count ≡ count_of r.count → asked ≡ New → last ≡ group.last → above ≡ entries_above last list → found ≡ entries.first_of count above
+      → entries_of_key key found ≡ (in_group r asked key list group).listed
+  new-listed above found last most is at all first = rw (is, first, all, at, most) refl
+
+  pub shown-again : (id : Id) → moment ≡ in_63_bits r.moment → count ≡ count_of r.count → asked ≡ PendingAfter id
+      → after_history r.consumer.now moment list (history_of r.consumer.now id count group.nacks) group ≡ (in_group r asked key list group).group
+  shown-again id at most is = rw (is, at, most) refl

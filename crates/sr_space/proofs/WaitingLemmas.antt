@@ -1,6 +1,9 @@
 -- Whether a read finds nothing: stream by stream, whatever COUNT and the moment are.
 use Rattle.std.proofs.Common.{◌≡◌, ℕ, zero, suc, ℤ, pos, negsuc, Bool, true, false, ◌&&◌, ◌||◌, not, List, [], ◌∷◌, ◌++◌, map, Option, Some, None, refl, ap, sym, ◌∙◌}
+use Rattle.sr_args.specs.Blocking.{without_block}
 use Rattle.sr_args.specs.Different.{AreDifferent}
+use Rattle.sr_args.specs.declared.call.Call.{Call}
+use Rattle.sr_args.specs.declared.call.Call.TheVariants as calls
 use Rattle.sr_args.specs.declared.call.Position.{Position}
 use Rattle.sr_args.specs.declared.reads.ReadAsked.{ReadAsked}
 use Rattle.sr_args.specs.declared.reads.ReadAsked.TheVariants as asked
@@ -10,7 +13,7 @@ use Rattle.sr_group.specs.Group.{GroupState}
 use Rattle.sr_resp.specs.Reply.{Answer}
 use Rattle.sr_stream.specs.Groups.{group_with}
 use Rattle.sr_stream.specs.Stream.{StreamState}
-use Rattle.sr_space.specs.Blocking.{fixed_position, is_nothing}
+use Rattle.sr_space.specs.Blocking.{fixed_position, is_nothing, waiting_as}
 use Rattle.sr_space.specs.Keys.{Key, Keys, entries_of, stream_at}
 use Rattle.sr_space.specs.commands.Xread.{count_of, entries_of_key, read_from, read_streams}
 use Rattle.sr_space.specs.commands.Xread as xread
@@ -94,3 +97,27 @@ fixed-keys keys (stream ∷ streams) = ap (λ (l : List Key). stream.0 ∷ l) (f
 
 pub fixed-different : (keys : Keys) (streams list : List (Key × Position)) → AreDifferent (map (λ stream. stream.0) streams) → list ≡ map (fixed_position keys) streams → AreDifferent (map (λ stream. stream.0) list)
 fixed-different keys streams list different is = rw (is, sym (fixed-keys keys streams)) different
+
+-- another call than XREAD waits as it does without BLOCK
+pub without-waits : (keys : Keys) (call : Call) → ((count : Option ℤ) (block : Option ℕ) (streams : List (Key × Position)) → call ≡ calls.Xread count block streams → ⊥) → without_block call ≡ waiting_as keys call
+without-waits keys (calls.Xread count block streams) other = absurd (other count block streams refl)
+without-waits keys (calls.Xreadgroup group consumer count block no_ack streams) other = refl
+without-waits keys (calls.Ping message) other = refl
+without-waits keys (calls.Xadd key make trim spec fields) other = refl
+without-waits keys (calls.Xtrim key trim) other = refl
+without-waits keys (calls.Xdel key ids) other = refl
+without-waits keys (calls.Xlen key) other = refl
+without-waits keys (calls.Xrange key start end count) other = refl
+without-waits keys (calls.Xrevrange key end start count) other = refl
+without-waits keys (calls.Xack key group ids) other = refl
+without-waits keys (calls.XgroupCreate key group from make) other = refl
+without-waits keys (calls.XgroupSetId key group from) other = refl
+without-waits keys (calls.XgroupDestroy key group) other = refl
+without-waits keys (calls.XgroupCreateConsumer key group consumer) other = refl
+without-waits keys (calls.XgroupDelConsumer key group consumer) other = refl
+without-waits keys (calls.XinfoStream key) other = refl
+without-waits keys (calls.XinfoGroups key) other = refl
+without-waits keys (calls.XinfoConsumers key group) other = refl
+without-waits keys (calls.Xpending key group listing) other = refl
+without-waits keys (calls.Xclaim key group consumer least_idle ids time count just_ids) other = refl
+without-waits keys (calls.Xautoclaim key group consumer least_idle start count just_ids) other = refl

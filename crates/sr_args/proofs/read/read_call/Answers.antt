@@ -1,4 +1,5 @@
-use Rattle.std.proofs.Common.{inl, inr, length, Err, rules}
+use Rattle.std.proofs.Common.{inl, inr, length, Err, refl}
+use Rattle.std.proofs.lemmas.Bool.{false≢true}
 use Rattle.sr_args.specs.declared.fault.CallFault.TheVariants.{Arity}
 use Rattle.sr_args.specs.Table.{IsCounted, IsHalfNamed, IsNamed}
 use Rattle.sr_args.specs.Command.{IsWellCounted, Refuses}
@@ -10,8 +11,8 @@ returns-else-not-is_counted-clause-ok c =
     let words = c.args.words.now in
     let command = c.in-Command.command in
     let operands = c.in-Command.operands in
-    let named : IsNamed command words operands = search rules in
-    let counted : IsCounted command (length words) = search rules in
+    let named : IsNamed command words operands = rw c.unread.ensures at c.in-Command.ensures in
+    let counted : IsCounted command (length words) = (rw c.len.ensures at c.if-not-is_counted.ensures).0 refl in
     let right : IsWellCounted words command operands = record { named = named; counted = counted } in
     let right_answer = Answers-from_gives words operands command c.read_operands.result right c.read_operands.ensures in
     IsCommand-from_answers words c.read_operands.result right_answer
@@ -21,8 +22,8 @@ returns-else-not-is_counted-clause-err c =
     let words = c.args.words.now in
     let command = c.in-Command.command in
     let operands = c.in-Command.operands in
-    let named : IsNamed command words operands = search rules in
-    let counted : IsCounted command (length words) = search rules in
+    let named : IsNamed command words operands = rw c.unread.ensures at c.in-Command.ensures in
+    let counted : IsCounted command (length words) = (rw c.len.ensures at c.if-not-is_counted.ensures).0 refl in
     let right : IsWellCounted words command operands = record { named = named; counted = counted } in
     let right_answer = Answers-from_gives words operands command c.read_operands.result right c.read_operands.ensures in
     Refuses-from_answers words c.read_operands.result right_answer
@@ -32,8 +33,8 @@ returns-else-not-is_counted-clause-only c = λ answer n other.
     let words = c.args.words.now in
     let command = c.in-Command.command in
     let operands = c.in-Command.operands in
-    let named : IsNamed command words operands = search rules in
-    let counted : IsCounted command (length words) = search rules in
+    let named : IsNamed command words operands = rw c.unread.ensures at c.in-Command.ensures in
+    let counted : IsCounted command (length words) = (rw c.len.ensures at c.if-not-is_counted.ensures).0 refl in
     let right : IsWellCounted words command operands = record { named = named; counted = counted } in
     let right_answer = Answers-from_gives words operands command c.read_operands.result right c.read_operands.ensures in
     Answers-only words c.read_operands.result answer right_answer n other
@@ -44,14 +45,14 @@ returns-then-not-is_counted-clause-only c = λ answer n other.
     let words = c.args.words.now in
     let command = c.in-Command.command in
     let operands = c.in-Command.operands in
-    let named : IsNamed command words operands = search rules in
-    let uncounted : IsCounted command (length words) → ⊥ = search rules in
+    let named : IsNamed command words operands = rw c.unread.ensures at c.in-Command.ensures in
+    let uncounted : IsCounted command (length words) → ⊥ = λ i. false≢true ((rw c.len.ensures at c.if-not-is_counted.ensures).1 i) in
     let refused : Refuses words Arity = inl (record { name = command; operands = operands; named = named; uncounted = uncounted }) in
     Answers-only words (Err Arity) answer refused n other
 
 pub returns-in-HalfNamed-clause-only : goal.returns-in-HalfNamed-clause-only
 returns-in-HalfNamed-clause-only c = λ answer n other.
     let words = c.args.words.now in
-    let half : IsHalfNamed words = search rules in
+    let half : IsHalfNamed words = rw c.unread.ensures at c.in-HalfNamed.ensures in
     let refused : Refuses words Arity = inr half in
     Answers-only words (Err Arity) answer refused n other

@@ -1,5 +1,5 @@
 use Rattle.std.proofs.lemmas.Result.{IfOk-from_err}
-use Rattle.std.proofs.Common.{◌≡◌, ◌<◌, [], take, arith, rules, append-nil, sym, subst, List}
+use Rattle.std.proofs.Common.{◌≡◌, ◌<◌, [], take, rules, append-nil, sym, subst, List}
 use Rattle.sr_ids.specs.Spelling.{SpellsId}
 use Rattle.sr_args.specs.Place.{Word, strict_id}
 use Rattle.sr_args.specs.Form.{AreIds}
@@ -9,15 +9,15 @@ use Rattle.sr_args.proofs.value.copy_first_ids.Goals as goal
 
 pub unwrap-id-requires : goal.unwrap-id-requires
 unwrap-id-requires c =
-    let more : 0 < c.loop-left.left = omega arith in
+    let more : 0 < c.loop-left.left = c.loop-left-test.true in
     let next = HasIds-next c.loop-left.left c.loop-left.words c.next.new.self c.in-Some.word.now more c.in-Some.ensures.some c.loop-left.invariant.left in
     search (rules, next.0)
 
 pub loop-left-preserved : goal.loop-left-preserved
 loop-left-preserved c =
-    let more : 0 < c.loop-left.left = omega arith in
+    let more : 0 < c.loop-left.left = c.loop-left-test.true in
     let next = HasIds-next c.loop-left.left c.loop-left.words c.next.new.self c.in-Some.word.now more c.in-Some.ensures.some c.loop-left.invariant.left in
-    let spells : SpellsId 0 c.in-Some.word.now c.unwrap-id.result = search rules in
+    let spells : SpellsId 0 c.in-Some.word.now c.unwrap-id.result = rw c.unwrap-id.ensures at c.parse_strict.ensures.found in
     record {
       left = next.1;
       whole = λ list are. rw c.in_ok-push.ensures.items (AreIds-more c.loop-left.left c.loop-left.words c.next.new.self (take c.args.many c.args.words) c.in-Some.word.now c.loop-left.ids.items c.unwrap-id.result more c.in-Some.ensures.some spells c.loop-left.invariant.whole list are);

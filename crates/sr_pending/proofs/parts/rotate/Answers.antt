@@ -1,10 +1,11 @@
-use Rattle.std.proofs.Common.{rules, ◌≡◌, ◌+◌, ◌-◌, ◌<◌, ◌≤◌, List, [], ◌++◌, length, get_or, refl, ap, subst, sym, ◌∙◌, arith, Global}
+use Rattle.std.proofs.Common.{◌≡◌, ◌+◌, ◌-◌, ◌<◌, ◌≤◌, List, [], ◌++◌, length, get_or, refl, ap, subst, sym, ◌∙◌, arith, Global}
 use Rattle.std.proofs.lemmas.List.{nil_from_length}
 use Rattle.std.proofs.lemmas.List.Elements.{All-take}
 use Rattle.std.specs.VecDeque.{deque_capacity, deque_len}
 use Rattle.std.specs.declared.collections.VecDeque.{VecDeque}
 use Rattle.sr_pending.specs.steps.Blocks.{AreSpare, held_in}
 use Rattle.sr_pending.proofs.Closing.{closed-filled, closed-items}
+use Rattle.sr_pending.proofs.Holding.{is_none, is_some}
 use Rattle.sr_pending.proofs.parts.rotate.Goals as goal
 
 pub returns-else-is_empty : goal.returns-else-is_empty
@@ -24,7 +25,7 @@ returns-else-is_empty g c =
     let none : tail.items ≡ [] = ap (λ (d : VecDeque g.row.T.Denot Global). d.items) is ∙ is_spare.0 in
     let wide : 640 ≤ deque_capacity tail = subst (λ (d : VecDeque g.row.T.Denot Global). 640 ≤ deque_capacity d) (sym is) is_spare.1 in
     let short : deque_len tail ≡ 0 = tail.ok.0 ∙ ap length none in
-    let held : 0 < length full.items = search rules in
+    let held : 0 < length full.items = omega (arith, is_some (deque_len full) c.is_empty.result c.is_empty.ensures c.if-is_empty.false, full.ok.0) in
     record {
       items = closed-items closed.items more.items full c.push_back_reserved.ensures.items c.args.tail.now.items tail.items (ap (λ (d : VecDeque g.row.T.Denot Global). d.items) was) none;
       filled = closed-filled closed.items more.items full c.push_back_reserved.ensures.items c.requires.filled held;
@@ -73,7 +74,7 @@ returns-then-is_empty g c =
     let none : tail.items ≡ [] = ap (λ (d : VecDeque g.row.T.Denot Global). d.items) is ∙ is_spare.0 in
     let wide : 640 ≤ deque_capacity tail = subst (λ (d : VecDeque g.row.T.Denot Global). 640 ≤ deque_capacity d) (sym is) is_spare.1 in
     let short : deque_len tail ≡ 0 = tail.ok.0 ∙ ap length none in
-    let gone : deque_len full ≡ 0 = search rules in
+    let gone : deque_len full ≡ 0 = is_none (deque_len full) c.is_empty.result c.is_empty.ensures c.if-is_empty.true in
     let was : full.items ≡ c.args.tail.now.items = ap (λ (d : VecDeque g.row.T.Denot Global). d.items) c.replace-full.ensures.value in
     let nothing : full.items ≡ [] = nil_from_length full.items (omega (arith, gone, full.ok.0)) in
     record {

@@ -1,9 +1,29 @@
-use Rattle.std.proofs.Common.{◌≡◌, ◌+◌, ◌≤◌, take, drop, get_or, length, ap, ◌∙◌, arith}
+use Rattle.std.proofs.Common.{◌≡◌, ◌+◌, ◌≤◌, ◌++◌, take, drop, get_or, length, map, ap, ◌∙◌, arith}
+use Rattle.std.specs.List.{flat_map}
 use Rattle.std.specs.Prelude.{sum}
 use Rattle.std.proofs.lemmas.List.{drop_all, length-take-le, take_all}
 use Rattle.std.proofs.lemmas.List.Sums.{sum_by-drop_more}
 use Rattle.sr_run.proofs.WorkedLemmas.{nothing_left, one_group_more, one_more_pushed}
 use Rattle.sr_run.proofs.workers.by_script.Goals as goal
+
+pub loop-size-init : goal.loop-size-init
+loop-size-init c =
+    let none = c.in_ok-groups.ensures.items in
+    record {
+      sizes = ap (λ groups. map (λ group. length group.items) groups) none;
+      same = ap (λ groups. flat_map (λ group. group.items) groups ++ c.args.receipts.items) none;
+      left = c.requires;
+      many = c.in_ok-groups.ensures.len;
+      room = c.in_ok-groups.ensures.capacity;
+    }
+
+pub split_off-requires : goal.split_off-requires
+split_off-requires c =
+    let here = c.loop-size in
+    omega (arith, here.invariant.left, sum_by-drop_more (λ n. n) c.args.sizes.now here.size-index 0 c.loop-size-test.true)
+
+pub push_reserved-requires : goal.push_reserved-requires
+push_reserved-requires c = omega (arith, c.loop-size.invariant.many, c.loop-size.invariant.room, c.loop-size-test.true)
 
 pub loop-size-preserved : goal.loop-size-preserved
 loop-size-preserved c =

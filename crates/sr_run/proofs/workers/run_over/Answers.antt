@@ -1,6 +1,6 @@
 use Rattle.std.proofs.Common.{◌≡◌, length, map, ap, ◌∙◌, arith}
 use Rattle.std.proofs.lemmas.Result.{IfOk-from_err, err_from_is_err_and}
-use Rattle.sr_run.proofs.WorkedLemmas.{crew_has_not_run, crew_of_scripts, receipts_by_sizes, whole_run}
+use Rattle.sr_run.proofs.WorkedLemmas.{Close≢Count, Memory≢Count, crew_has_not_run, crew_of_scripts, receipts_by_sizes, whole_run}
 use Rattle.sr_run.proofs.workers.run_over.Goals as goal
 
 pub returns-in_err-seats-clause-err : goal.returns-in_err-seats-clause-err
@@ -9,6 +9,15 @@ returns-in_err-seats-clause-err g c =
     let scripts = c.args.scripts in
     let many = crew_of_scripts (λ script. script.items) c.new.result scripts.items scripts.len c.new.ensures.scripts (omega (arith, scripts.ok.0)) in
     rw (p.1, p.2) (crew_has_not_run scripts.len c.new.result c.in_err-seats.field-0.0 c.new.ensures.first many c.in_err-seats.ensures).0
+
+pub returns-in_default : goal.returns-in_default
+returns-in_default g c = record { ok = tt; err = tt; counted = Memory≢Count }
+
+pub returns-in_default-open : goal.returns-in_default-open
+returns-in_default-open g c = record { ok = tt; err = tt; counted = Memory≢Count }
+
+pub returns : goal.returns
+returns g c = record { ok = tt; err = tt; counted = Memory≢Count }
 
 pub by_script-requires : goal.by_script-requires
 by_script-requires g c =
@@ -43,3 +52,9 @@ returns-in-Err-clause-err g c = λ e.
     let finished = c.in_ok-seats.field-0 in
     let many = crew_of_scripts (λ script. script.items) c.new.result scripts.items scripts.len c.new.ensures.scripts (omega (arith, scripts.ok.0)) in
     omega (arith, c.in-Err.ensures.short.0 e, c.in_ok-seats.ensures.all, many, c.requires.parts, c.requires.whole, finished.seats.ok.0)
+
+pub returns-in-Err-clause-ok : goal.returns-in-Err-clause-ok
+returns-in-Err-clause-ok g c = tt
+
+pub returns-in-Err-clause-counted : goal.returns-in-Err-clause-counted
+returns-in-Err-clause-counted g c = Close≢Count _

@@ -1,7 +1,7 @@
-use Rattle.std.proofs.Common.{refl, sym, ◌∙◌}
-use Rattle.std.proofs.lemmas.Result.{IfErr-weaker, IfOk-weaker}
-use Rattle.sr_session.proofs.GrowthLemmas.{Adds-replied, Adds-same, Adds-stale, Adds-then}
-use Rattle.sr_session.proofs.RoundLemmas.{StepsAt-refused, asked-leaves_idle, hidden-breaks, lacks-breaks, none-breaks, refused-breaks, round-replies, stale-breaks, stale-replies, stray-conclude, stray-verdict}
+use Rattle.std.proofs.Common.{◌==◌, refl, sym, ◌∙◌}
+use Rattle.std.proofs.lemmas.Result.{IfOk-weaker}
+use Rattle.sr_session.proofs.GrowthLemmas.{Adds-same}
+use Rattle.sr_session.proofs.RoundLemmas.{StepsAt-refused, asked-leaves_idle, fewer_left, hidden-breaks, lacks-breaks, made-round, none-breaks, refused-breaks, reply-ok, reply-recorded, stale-err, stale-left, stale-ok, stale-recorded, stale-unrecorded, stray-conclude, stray-verdict}
 use Rattle.sr_session.proofs.recovery.+make_rounds.Goals as goal
 
 pub returns-then-rounds-eq0 : goal.returns-then-rounds-eq0
@@ -26,27 +26,41 @@ returns-in_default g t c = record {
 
 pub returns-in-Reply : goal.returns-in-Reply
 returns-in-Reply g t c =
-    let step = rw c.pause.ensures.shows at c.in-Ok-step.ensures.step in
+    let a = c.args in
+    let M = g.C.Clock.may_tell a.clock.now in
+    let old = g.D.Desk.shows a.desk.now in
+    let new = g.D.Desk.shows c.step.new.self in
+    let round = made-round M a.session a.apply (a.rounds == 1) a.snapshot old _ c.now.result c.in-Ok.verdict c.in-Ok-step.answer _ new c.pause.ensures.shows c.now.ensures c.in-Ok.ensures c.in-Ok-step.ensures.step c.in-Reply.is in
     record {
-      ok = rw c.in-Reply.reply-is (round-replies _ _ _ _ _ _ _ _ c.if-rounds-eq0.false (record { told = c.now.result; judged = c.in-Ok.verdict; answer = c.in-Ok-step.answer; by_clock = c.now.ensures; of_snapshot = c.in-Ok.ensures; step = step; comes = c.in-Reply.is }));
-      recorded = rw c.in-Reply.reply-is (Adds-replied _ _ _ _ refl _ _ _ step c.in-Reply.is);
+      ok = reply-ok M a.session a.apply a.snapshot old a.rounds _ c.in-Reply.reply new c.if-rounds-eq0.false c.in-Reply.reply-is round;
+      recorded = reply-recorded M a.session a.apply a.snapshot old a.rounds _ c.in-Reply.reply new c.in-Reply.reply-is round;
       idle = λ idle. asked-leaves_idle _ _ _ _ _ _ refl c.in-Ok-step.ensures.step;
       err = tt;
       unrecorded = tt;
       same = c.in-Ok-step.ensures.same ∙ c.pause.ensures.same;
     }
 
+pub make_rounds-requires : goal.make_rounds-requires
+make_rounds-requires g t c κs within =
+    let some = c.if-rounds-eq0.false in
+    (fewer_left _ _ some c.decreases, (within.0, (within.1.0, (within.1.1, stale-left _ _ _ _ _ _ _ _ _ some c.in-Ok-step.ensures.step c.in-Stale.is))))
+
 pub returns-in-Stale : goal.returns-in-Stale
 returns-in-Stale g t c =
-    let step = rw c.pause.ensures.shows at c.in-Ok-step.ensures.step in
-    let adds = Adds-stale _ _ _ _ refl _ _ _ step c.in-Stale.is in
+    let a = c.args in
+    let M = g.C.Clock.may_tell a.clock.now in
+    let old = g.D.Desk.shows a.desk.now in
+    let middle = g.D.Desk.shows c.step.new.self in
+    let new = g.D.Desk.shows c.make_rounds.new.desk in
+    let round = made-round M a.session a.apply (a.rounds == 1) a.snapshot old _ c.now.result c.in-Ok.verdict c.in-Ok-step.answer _ middle c.pause.ensures.shows c.now.ensures c.in-Ok.ensures c.in-Ok-step.ensures.step c.in-Stale.is in
+    let later = c.make_rounds.ensures in
     record {
-      ok = IfOk-weaker c.make_rounds.result _ _ (λ reply others. stale-replies _ _ _ _ _ _ c.in-Stale.fresh _ _ _ c.if-rounds-eq0.false (record { told = c.now.result; judged = c.in-Ok.verdict; answer = c.in-Ok-step.answer; by_clock = c.now.ensures; of_snapshot = c.in-Ok.ensures; step = step; comes = c.in-Stale.is }) (rw c.in-Stale.fresh-is at others)) c.make_rounds.ensures.ok;
-      recorded = IfOk-weaker c.make_rounds.result _ _ (λ reply more. Adds-then _ _ _ _ _ _ adds more) c.make_rounds.ensures.recorded;
-      idle = IfOk-weaker c.make_rounds.result _ _ (λ reply goes idle. goes (asked-leaves_idle _ _ _ _ _ _ refl c.in-Ok-step.ensures.step)) c.make_rounds.ensures.idle;
-      err = IfErr-weaker c.make_rounds.result _ _ (λ fault others. stale-breaks _ _ _ _ _ _ c.in-Stale.fresh _ _ _ c.if-rounds-eq0.false (record { told = c.now.result; judged = c.in-Ok.verdict; answer = c.in-Ok-step.answer; by_clock = c.now.ensures; of_snapshot = c.in-Ok.ensures; step = step; comes = c.in-Stale.is }) (rw c.in-Stale.fresh-is at others)) c.make_rounds.ensures.err;
-      unrecorded = IfErr-weaker c.make_rounds.result _ _ (λ fault more. Adds-then _ _ _ _ _ _ adds more) c.make_rounds.ensures.unrecorded;
-      same = c.make_rounds.ensures.same ∙ c.in-Ok-step.ensures.same ∙ c.pause.ensures.same;
+      ok = stale-ok M a.session a.apply a.snapshot old a.rounds c.in-Stale.fresh middle new c.make_rounds.result round _ c.if-rounds-eq0.false c.in-Stale.fresh-is later.ok;
+      recorded = stale-recorded M a.session a.apply a.snapshot old a.rounds c.in-Stale.fresh middle new c.make_rounds.result round later.recorded;
+      idle = IfOk-weaker c.make_rounds.result _ _ (λ reply goes idle. goes (asked-leaves_idle _ _ _ _ _ _ refl c.in-Ok-step.ensures.step)) later.idle;
+      err = stale-err M a.session a.apply a.snapshot old a.rounds c.in-Stale.fresh middle new c.make_rounds.result round _ c.if-rounds-eq0.false c.in-Stale.fresh-is later.err;
+      unrecorded = stale-unrecorded M a.session a.apply a.snapshot old a.rounds c.in-Stale.fresh middle new c.make_rounds.result round later.unrecorded;
+      same = later.same ∙ c.in-Ok-step.ensures.same ∙ c.pause.ensures.same;
     }
 
 pub returns-in-Ok-step : goal.returns-in-Ok-step

@@ -1,12 +1,12 @@
 use Rattle.std.proofs.Common.{[], ◌++◌, refl, ap, ◌∙◌, subst}
-use Rattle.std.proofs.lemmas.Result.{err_from_is_err_and, on_ok_weaker, IfErr-weaker}
+use Rattle.std.proofs.lemmas.Result.{on_ok_weaker, IfErr-weaker}
 use Rattle.std.proofs.KnownBytes.{Appends-nil}
 use Rattle.sr_resp.specs.Reply.{reply_text, error_reply}
 use Rattle.sr_session.specs.Answered.{refuses}
 use Rattle.sr_session.specs.steps.Asked.{IsAsked}
 use Rattle.sr_session.specs.steps.Gathered.{stay, silent}
 use Rattle.sr_session.proofs.GatheredLemmas.{Gathers-made}
-use Rattle.sr_session.proofs.RunLemmas.{on_ok_none}
+use Rattle.sr_session.proofs.RunLemmas.{IsNoted-err, err_as, on_ok_none}
 use Rattle.sr_session.proofs.request.answer_asked.Goals as goal
 
 pub returns-in-Ok : goal.returns-in-Ok
@@ -32,12 +32,12 @@ returns-in_ok-gather_error-in-Err g c = record {
 pub returns-in_err-gather_error-in-Err : goal.returns-in_err-gather_error-in-Err
 returns-in_err-gather_error-in-Err g c =
     let failed = c.from_residual.ensures.0 in
-    let p = err_from_is_err_and c.from_residual.result c.from_residual.ensures.1 in
+    let is = c.from_residual.ensures.1 in
     record {
       ok = on_ok_none _ _ failed;
       idle = on_ok_none _ _ failed;
-      err = rw p.1 ([], Appends-nil _, λ words asks. silent _ _ _ (stay refl refl refl) (refuses _ (subst (IsAsked words) c.in-Err.is asks) refl refl) p.2);
-      end = rw (p.1, p.2) tt;
-      noted = rw (p.1, p.2) refl;
+      err = err_as _ _ _ is ([], Appends-nil _, λ words asks. silent _ _ _ (stay refl refl refl) (refuses _ (subst (IsAsked words) c.in-Err.is asks) refl refl) refl);
+      end = err_as _ _ _ is tt;
+      noted = IsNoted-err _ _ _ _ _ is refl refl;
       same = refl;
     }

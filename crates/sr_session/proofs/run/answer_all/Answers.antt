@@ -1,10 +1,9 @@
 use Rattle.std.proofs.Common.{rules, ◌≡◌, [], ◌∷◌, ◌++◌, refl, sym, ◌∙◌, subst}
-use Rattle.std.proofs.lemmas.Result.{err_from_is_err_and}
 use Rattle.std.proofs.KnownBytes.{Appends-nil, Appends-trans}
 use Rattle.std.specs.Vec.Iter.{into_iter_items}
 use Rattle.sr_session.specs.steps.Asked.{AreAsked}
 use Rattle.sr_session.proofs.AskedLemmas.{AreAsked-first, AreAsked-none, IsAnswering-all, Stands-next, with_waiting}
-use Rattle.sr_session.proofs.RunLemmas.{on_ok_none}
+use Rattle.sr_session.proofs.RunLemmas.{IsNoted-err, err_as, on_ok_none}
 use Rattle.sr_session.proofs.UnderwayLemmas.{IsAnswering-start, IsAnswering-more, EndsAs-more}
 use Rattle.sr_session.proofs.run.answer_all.Goals as goal
 
@@ -45,11 +44,11 @@ returns-in_err-answer_asked g c =
     let items : into_iter_items c.loop-one.one-iterator ≡ c.in-Some.one ∷ left = c.in-Some.ensures.steps.0 in
     let one = c.in_err-answer_asked.ensures.err in
     let failed = c.from_residual.ensures.0 in
-    let p = err_from_is_err_and c.from_residual.result c.from_residual.ensures.1 in
+    let is = c.from_residual.ensures.1 in
     record {
       ok = on_ok_none _ _ failed;
       idle = on_ok_none _ _ failed;
-      err = rw (p.1, p.2) (
+      err = err_as _ _ _ is (
         i.so_far.0 ++ one.0,
         Appends-trans _ _ _ i.so_far.0 one.0 i.so_far.1 one.1,
         λ progress asks found taken written start.
@@ -57,8 +56,8 @@ returns-in_err-answer_asked g c =
             let split = AreAsked-first before.0 c.in-Some.one left (subst (AreAsked before.0) items before.1) in
             EndsAs-more _ _ found taken written i.so_far.0 _ one.0 _ (with_waiting before.0 progress) (with_waiting split.others progress) _ _ split.words _ (Stands-next (with_waiting before.0 progress) split.words split.others split.is) (one.2 split.words split.asks) before.2,
       );
-      end = rw (p.1, p.2) c.in_err-answer_asked.ensures.end;
-      noted = rw (p.1, p.2) (rw i.noted at c.in_err-answer_asked.ensures.noted);
+      end = err_as _ _ _ is c.in_err-answer_asked.ensures.end;
+      noted = IsNoted-err _ _ _ _ _ is i.noted c.in_err-answer_asked.ensures.noted;
       same = c.answer_asked.ensures.same ∙ i.same;
     }
 

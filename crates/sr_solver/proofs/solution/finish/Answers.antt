@@ -1,4 +1,4 @@
-use Rattle.std.proofs.Common.{◌≡◌, ◌*◌, length, ◌∙◌, sym, ap, arith}
+use Rattle.std.proofs.Common.{◌≡◌, ℕ, ◌*◌, ◌<◌, ◌≤◌, length, ◌∙◌, sym, ap, arith}
 use Rattle.std.proofs.lemmas.Bool.{false≢true}
 use Rattle.std.proofs.lemmas.Result.{IfOk-from_err}
 use Rattle.std.proofs.lemmas.List.{take_at}
@@ -20,6 +20,14 @@ place_all-requires-clause-table c =
     unknown_table p _ (length c.deref_mut.result.now) c.forget.new.table c.consumers-consumers.ensures.limits pairs c.forget.ensures.length
     c.forget.ensures.unknown
     )
+
+pub stranded-requires-clause-entry : goal.stranded-requires-clause-entry
+stranded-requires-clause-entry c = rw (c.deref.ensures.value, c.in-Stuck.ensures.every) c.in-Stuck.ensures.entry
+
+pub stranded-requires-clause-placed : goal.stranded-requires-clause-placed
+stranded-requires-clause-placed c i lt =
+    let many : length c.deref-in-Stuck.result.now ≡ consumers c.args.problem.now = c.deref-in-Stuck.ensures.len ∙ c.in_ok-labels.ensures.len ∙ c.consumers-consumers.ensures.count in
+    rw (c.deref.ensures.value, many) (c.in-Stuck.ensures.placed_below i lt).0
 
 pub returns-in_ok-set-in-Stuck-clause-solution : goal.returns-in_ok-set-in-Stuck-clause-solution
 returns-in_ok-set-in-Stuck-clause-solution c =
@@ -51,8 +59,14 @@ returns-in_err-labels-clause-optimal c = IfOk-from_err _ _ c.from_residual-in_er
 pub returns-in_err-labels-clause-patient : goal.returns-in_err-labels-clause-patient
 returns-in_err-labels-clause-patient c = λ yes. IfOk-from_err _ _ c.from_residual-in_err-labels.ensures.0
 
+below : (a b : ℕ) → a < b → a ≤ b
+below a b lt = omega arith
+
 pub place_all-requires-clause-first : goal.place_all-requires-clause-first
-place_all-requires-clause-first c = omega arith
+place_all-requires-clause-first c = below c.args.first _ c.requires.first
+
+pub place_all-requires-clause-labels : goal.place_all-requires-clause-labels
+place_all-requires-clause-labels c = c.deref_mut-3.ensures.len ∙ c.in_ok-labels.ensures.len ∙ c.consumers-consumers.ensures.count
 
 pub place_all-requires-clause-standing : goal.place_all-requires-clause-standing
 place_all-requires-clause-standing c = c.requires.standing

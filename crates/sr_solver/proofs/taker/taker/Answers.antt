@@ -1,7 +1,14 @@
-use Rattle.std.proofs.Common.{refl, arith}
+use Rattle.std.proofs.Common.{◌≡◌, ℕ, ◌<◌, true, Option, get_or, nat_lt, refl, sym, ap, ◌∙◌, arith}
+use Rattle.std.proofs.lemmas.Bool.{false≢true, ltb-true, lt-ltb}
+use Rattle.std.specs.Option.{IsSome, is_some}
+use Rattle.sr_transport.specs.Problem.{consumers, cost_at, room_of}
 use Rattle.sr_transport.proofs.LimitLemmas.{cost_at_small, cost_small}
-use Rattle.sr_solver.proofs.TakerLemmas.{none_compared, free_takes, none_takes}
+use Rattle.sr_solver.proofs.TakerLemmas.{compared_next, compared_not, none_compared, free_takes, none_takes}
 use Rattle.sr_solver.proofs.taker.taker.Goals as goal
+use Rattle.sr_solver.proofs.taker.taker.Goals.{then-is_some, else-is_some}
+
+has_room : (load room of : ℕ) → room ≡ of → (nat_lt load room ≡ true → load < of) × (load < of → nat_lt load room ≡ true)
+has_room load room of is = (λ h. rw (← is) (ltb-true load room h), λ lt. lt-ltb load room (rw is lt))
 
 pub costs-cost-items-requires : goal.costs-cost-items-requires
 costs-cost-items-requires c = c.requires.entry
@@ -54,3 +61,18 @@ returns-clause-none c =
       c.requires.low x allowed.0,
     ))
     c.loop-consumer.invariant.attained c.loop-consumer.invariant.none
+
+pub loop-consumer-preserved : goal.loop-consumer-preserved
+loop-consumer-preserved c =
+    let p = c.args.problem.now in
+    let n = c.loop-consumer.consumer in
+    let lt : n < consumers p = omega (arith, c.loop-consumer-test.true, c.costs-cost-items.ensures.each_consumer) in
+    let cost = c.costs-cost-items.ensures.costs n lt in
+    elim c.if-is_some.branch [
+      | then-is_some w ↦
+          let room = has_room (get_or c.args.loads.now n 0) w.room.result (room_of p n) w.room.ensures in
+          rw w.cheapest-is (compared_next p _ _ _ n _ _ _ _ _ lt (sym cost) refl room.0 room.1 c.loop-consumer.invariant w.compared-cheapest.ensures)
+      | else-is_some w ↦
+          let none = λ (some : IsSome (cost_at p c.args.entry n)). false≢true (sym w.if-is_some.false ∙ c.is_some.ensures ∙ ap (λ (o : Option ℕ). is_some o) cost ∙ some) in
+          rw w.cheapest-is (compared_not p _ _ _ n _ lt none c.loop-consumer.invariant)
+    ]

@@ -1,3 +1,5 @@
+use Rattle.std.proofs.Common.{rules, w64, FitsSigned}
+use Rattle.std.proofs.lemmas.Int.{to_z-of_z}
 use Rattle.sr_args.proofs.call.Call.equals.Goals as goal
 
 pub returns-in-Ping : goal.returns-in-Ping
@@ -56,3 +58,13 @@ returns-in-Xreadgroup c = rw c.in-Xreadgroup.is c.is_xreadgroup.ensures
 
 pub returns-in-Xpending : goal.returns-in-Xpending
 returns-in-Xpending c = rw c.in-Xpending.is c.is_xpending.ensures
+
+pub returns-in-Xautoclaim : goal.returns-in-Xautoclaim
+returns-in-Xautoclaim c =
+    let fits : FitsSigned w64 c.in-Xautoclaim.least_idle = search rules in
+    rw c.in-Xautoclaim.is (rw (to_z-of_z w64 c.in-Xautoclaim.least_idle fits) at c.is_xautoclaim.ensures)
+
+pub returns-in-Xclaim : goal.returns-in-Xclaim
+returns-in-Xclaim c =
+    let fits : FitsSigned w64 c.in-Xclaim.least_idle = search rules in
+    rw c.in-Xclaim.is (rw (to_z-of_z w64 c.in-Xclaim.least_idle fits) at c.is_xclaim.ensures)

@@ -1,6 +1,7 @@
-use Rattle.std.proofs.Common.{◌≡◌, ◌≢◌, List, [], ◌∷◌, map, refl, rules}
+use Rattle.std.proofs.Common.{◌≡◌, ◌≢◌, List, [], ◌∷◌, map, refl}
 use Rattle.std.proofs.lemmas.Result.{err_from_is_err_and}
 use Rattle.sr_ids.specs.declared.id.Id.{Id}
+use Rattle.std.proofs.lemmas.Bool.{false≢true}
 use Rattle.sr_args.specs.declared.call.Call.TheVariants.{Xack}
 use Rattle.sr_args.specs.Place.{Word, HasIds, strict_id, spelled}
 use Rattle.sr_args.specs.Form.{Reading, Reads, AreIds}
@@ -27,23 +28,23 @@ no_ids words after key group d e (k, (g, word ∷ rest)) r = (rw e at (rw d at r
 
 pub returns-then-is_empty : goal.returns-then-is_empty
 returns-then-is_empty c =
-    let none : c.next-2.new.self ≡ [] = search rules in
+    let none : c.next-2.new.self ≡ [] = c.if-is_empty.ensures.0 refl in
     let all = rw none at c.in-Some-next.ensures.some in
     no_ids c.args.words c.next.new.self c.in-Some.key.now c.in-Some-next.group.now c.in-Some.ensures.some all
 
 pub returns-then-not-are_ids : goal.returns-then-not-are_ids
 returns-then-not-are_ids c =
     let rest = c.next-2.new.self in
-    let some : rest ≢ [] = search rules in
-    let unspelled : HasIds (map (spelled strict_id) rest) → ⊥ = search rules in
+    let some : rest ≢ [] = λ e. false≢true (c.if-is_empty.ensures.1 e) in
+    let unspelled : HasIds (map (spelled strict_id) rest) → ⊥ = λ h. false≢true ((rw c.again.ensures at c.if-not-are_ids.ensures).1 h) in
     ((c.in-Some.key.now, (c.in-Some-next.group.now, rest)), reads c.args.words c.next.new.self rest c.in-Some.key.now c.in-Some-next.group.now c.in-Some.ensures.some c.in-Some-next.ensures.some some, (tt, (tt, ids-numbers strict_id rest)), λ h. unspelled h.1.1)
 
 pub returns-in_err-ids : goal.returns-in_err-ids
 returns-in_err-ids c =
     let p = err_from_is_err_and c.from_residual.result c.from_residual.ensures.1 in
     let rest = c.next-2.new.self in
-    let some : rest ≢ [] = search rules in
-    let spelled : HasIds (map (spelled strict_id) rest) = search rules in
+    let some : rest ≢ [] = λ e. false≢true (c.if-is_empty.ensures.1 e) in
+    let spelled : HasIds (map (spelled strict_id) rest) = (rw c.again.ensures at c.if-not-are_ids.ensures).0 refl in
     let list = AreIds-exist strict_id rest spelled in
     rw (p.1, p.2) (_, gives c.args.words c.next.new.self rest c.in-Some.key.now c.in-Some-next.group.now c.in-Some.key.now c.in-Some-next.group.now list.0 c.in-Some.ensures.some c.in-Some-next.ensures.some some list.1 refl refl)
 
@@ -51,18 +52,18 @@ pub returns-in_err-key : goal.returns-in_err-key
 returns-in_err-key c =
     let p = err_from_is_err_and c.from_residual-in_err-key.result c.from_residual-in_err-key.ensures.1 in
     let rest = c.next-2.new.self in
-    let some : rest ≢ [] = search rules in
+    let some : rest ≢ [] = λ e. false≢true (c.if-is_empty.ensures.1 e) in
     rw (p.1, p.2) (_, gives c.args.words c.next.new.self rest c.in-Some.key.now c.in-Some-next.group.now c.in-Some.key.now c.in-Some-next.group.now c.in_ok-ids.ids c.in-Some.ensures.some c.in-Some-next.ensures.some some c.in_ok-ids.ensures refl refl)
 
 pub returns-in_err-group : goal.returns-in_err-group
 returns-in_err-group c =
     let p = err_from_is_err_and c.from_residual-in_err-group.result c.from_residual-in_err-group.ensures.1 in
     let rest = c.next-2.new.self in
-    let some : rest ≢ [] = search rules in
+    let some : rest ≢ [] = λ e. false≢true (c.if-is_empty.ensures.1 e) in
     rw (p.1, p.2) (_, gives c.args.words c.next.new.self rest c.in-Some.key.now c.in-Some-next.group.now c.in_ok-key.key c.in-Some-next.group.now c.in_ok-ids.ids c.in-Some.ensures.some c.in-Some-next.ensures.some some c.in_ok-ids.ensures c.in_ok-key.ensures refl)
 
 pub returns : goal.returns
 returns c =
     let rest = c.next-2.new.self in
-    let some : rest ≢ [] = search rules in
+    let some : rest ≢ [] = λ e. false≢true (c.if-is_empty.ensures.1 e) in
     gives c.args.words c.next.new.self rest c.in-Some.key.now c.in-Some-next.group.now c.in_ok-key.key c.in_ok-group.group c.in_ok-ids.ids c.in-Some.ensures.some c.in-Some-next.ensures.some some c.in_ok-ids.ensures c.in_ok-key.ensures c.in_ok-group.ensures

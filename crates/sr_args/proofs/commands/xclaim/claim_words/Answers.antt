@@ -1,4 +1,4 @@
-use Rattle.std.proofs.Common.{◌≡◌, rules}
+use Rattle.std.proofs.Common.{◌≡◌, refl}
 use Rattle.sr_args.specs.Form.{AreNoneOf}
 use Rattle.sr_args.specs.commands.Xclaim.{unsupported}
 use Rattle.sr_args.proofs.ClaimLemmas.{IsClaimTail, claim-no_ids, claim-no_options, claim-word_left, claim-reads}
@@ -33,6 +33,6 @@ returns-clause-found c =
     let read = c.in_ok-judged.ensures.found in
     let rest = c.next.new.self in
     let tail : IsClaimTail rest c.skip_ids-ids.new.words c.skip_ids-ids.result = record { skipped = c.skip_ids-ids.ensures.found; count = c.skip_ids-ids.ensures.count; end = c.skip_ids-ids.ensures.end } in
-    let supported : AreNoneOf unsupported rest = search rules in
-    let some : c.skip_ids-ids.result ≡ 0 → ⊥ = search rules in
+    let supported : AreNoneOf unsupported rest = (rw c.again.ensures at c.if-not-are_supported.ensures).0 refl in
+    let some : c.skip_ids-ids.result ≡ 0 → ⊥ = c.if-ids-eq0.false in
     (read.0, read.2, rw c.again-from_ids.ensures (claim-reads c.args.words c.consumer_words.new.words rest c.skip_ids-ids.new.words c.read_options.new.words named.key.now named.group.now named.consumer.now c.in_ok-least_idle.least_idle.now c.skip_ids-ids.result read.0 c.in_ok-named.ensures.found c.in_ok-least_idle.ensures.some supported tail some read.1 c.in_default.ensures.none))

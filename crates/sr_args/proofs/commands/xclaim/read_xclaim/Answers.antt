@@ -1,5 +1,6 @@
-use Rattle.std.proofs.Common.{Ok, Err, map, take, refl, rules}
+use Rattle.std.proofs.Common.{Ok, Err, map, take, refl}
 use Rattle.std.proofs.lemmas.Result.{err_from_is_err_and}
+use Rattle.std.proofs.lemmas.Bool.{false≢true}
 use Rattle.sr_args.specs.Place.{HasIds, strict_id, spelled}
 use Rattle.sr_args.specs.steps.Claims.{claim_reading}
 use Rattle.sr_args.specs.steps.Options.{AreJudged}
@@ -26,7 +27,7 @@ returns-then-not-are_first_ids c =
     let read = c.in-Some.read in
     let found = c.in-Some.ensures.found in
     let judged : AreJudged found.0 (Ok c.in_ok-choice.choice) = rw c.in_ok-choice.was at found.1 in
-    let unspelled : HasIds (map (spelled strict_id) (take read.ids read.from_ids)) → ⊥ = search rules in
+    let unspelled : HasIds (map (spelled strict_id) (take read.ids read.from_ids)) → ⊥ = λ h. false≢true ((rw c.again.ensures at c.if-not-are_first_ids.ensures).1 h) in
     (claim_reading read.named.key.now read.named.group.now read.named.consumer.now read.least_idle.now (take read.ids read.from_ids) found.0, found.2, claim-numbers read.named.key.now read.named.group.now read.named.consumer.now read.least_idle.now (take read.ids read.from_ids) found.0 c.in-Some-read_int.least_idle c.in_ok-choice.choice c.in-Some-read_int.ensures.found judged, λ h. unspelled (claim-ids read.named.key.now read.named.group.now read.named.consumer.now read.least_idle.now (take read.ids read.from_ids) found.0 h))
 
 pub returns-in_err-ids : goal.returns-in_err-ids
@@ -35,7 +36,7 @@ returns-in_err-ids c =
     let read = c.in-Some.read in
     let found = c.in-Some.ensures.found in
     let judged : AreJudged found.0 (Ok c.in_ok-choice.choice) = rw c.in_ok-choice.was at found.1 in
-    let spelled : HasIds (map (spelled strict_id) (take read.ids read.from_ids)) = search rules in
+    let spelled : HasIds (map (spelled strict_id) (take read.ids read.from_ids)) = (rw c.again.ensures at c.if-not-are_first_ids.ensures).0 refl in
     let list = AreIds-exist strict_id (take read.ids read.from_ids) spelled in
     rw (p.1, p.2) (_, claim-gives c.args.words read.named.key.now read.named.group.now read.named.consumer.now read.least_idle.now (take read.ids read.from_ids) found.0 (record { key = read.named.key.now; group = read.named.group.now; consumer = read.named.consumer.now }) c.in-Some-read_int.least_idle list.0 c.in_ok-choice.choice found.2 refl refl refl c.in-Some-read_int.ensures.found list.1 judged)
 

@@ -1,6 +1,7 @@
-use Rattle.std.proofs.Common.{◌≡◌, ◌≢◌, List, [], ◌∷◌, map, refl, rules}
+use Rattle.std.proofs.Common.{◌≡◌, ◌≢◌, List, [], ◌∷◌, map, refl}
 use Rattle.std.proofs.lemmas.Result.{err_from_is_err_and}
 use Rattle.sr_ids.specs.declared.id.Id.{Id}
+use Rattle.std.proofs.lemmas.Bool.{false≢true}
 use Rattle.sr_args.specs.declared.call.Call.TheVariants.{Xdel}
 use Rattle.sr_args.specs.Place.{Word, HasIds, strict_id, spelled}
 use Rattle.sr_args.specs.Form.{Reading, Reads, AreIds}
@@ -22,15 +23,15 @@ no_ids key (other, word ∷ rest) r = r.fits.1
 
 pub returns-then-is_empty : goal.returns-then-is_empty
 returns-then-is_empty c =
-    let none : c.next.new.self ≡ [] = search rules in
+    let none : c.next.new.self ≡ [] = c.if-is_empty.ensures.0 refl in
     let all = rw none at c.in-Some.ensures.some in
     λ reading r. no_ids c.in-Some.key.now reading (rw all at r)
 
 pub returns-then-not-are_ids : goal.returns-then-not-are_ids
 returns-then-not-are_ids c =
     let rest = c.next.new.self in
-    let some : rest ≢ [] = search rules in
-    let unspelled : HasIds (map (spelled strict_id) rest) → ⊥ = search rules in
+    let some : rest ≢ [] = λ e. false≢true (c.if-is_empty.ensures.1 e) in
+    let unspelled : HasIds (map (spelled strict_id) rest) → ⊥ = λ h. false≢true ((rw c.again.ensures at c.if-not-are_ids.ensures).1 h) in
     ((c.in-Some.key.now, rest), reads c.args.words rest c.in-Some.key.now c.in-Some.ensures.some some, (tt, ids-numbers strict_id rest), λ h. unspelled h.1)
 
 pub returns-in_err-ids : goal.returns-in_err-ids
@@ -38,8 +39,8 @@ returns-in_err-ids c =
     let p = err_from_is_err_and c.from_residual.result c.from_residual.ensures.1 in
     let rest = c.next.new.self in
     let key = c.in-Some.key.now in
-    let some : rest ≢ [] = search rules in
-    let spelled : HasIds (map (spelled strict_id) rest) = search rules in
+    let some : rest ≢ [] = λ e. false≢true (c.if-is_empty.ensures.1 e) in
+    let spelled : HasIds (map (spelled strict_id) rest) = (rw c.again.ensures at c.if-not-are_ids.ensures).0 refl in
     let list = AreIds-exist strict_id rest spelled in
     rw (p.1, p.2) (Xdel key list.0, gives c.args.words rest key key list.0 c.in-Some.ensures.some some list.1 refl)
 
@@ -48,11 +49,11 @@ returns-in_err-key c =
     let p = err_from_is_err_and c.from_residual-in_err-key.result c.from_residual-in_err-key.ensures.1 in
     let rest = c.next.new.self in
     let key = c.in-Some.key.now in
-    let some : rest ≢ [] = search rules in
+    let some : rest ≢ [] = λ e. false≢true (c.if-is_empty.ensures.1 e) in
     rw (p.1, p.2) (Xdel key c.in_ok-ids.ids, gives c.args.words rest key key c.in_ok-ids.ids c.in-Some.ensures.some some c.in_ok-ids.ensures refl)
 
 pub returns : goal.returns
 returns c =
     let rest = c.next.new.self in
-    let some : rest ≢ [] = search rules in
+    let some : rest ≢ [] = λ e. false≢true (c.if-is_empty.ensures.1 e) in
     gives c.args.words rest c.in-Some.key.now c.in_ok-key.key c.in_ok-ids.ids c.in-Some.ensures.some some c.in_ok-ids.ensures c.in_ok-key.ensures

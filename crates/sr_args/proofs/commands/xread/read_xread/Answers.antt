@@ -1,6 +1,7 @@
-use Rattle.std.proofs.Common.{List, map, take, Ok, Err, refl, rules}
+use Rattle.std.proofs.Common.{List, map, take, Ok, Err, refl}
 use Rattle.std.specs.List.{zip}
 use Rattle.std.proofs.lemmas.Result.{err_from_is_err_and}
+use Rattle.std.proofs.lemmas.Bool.{false≢true}
 use Rattle.sr_args.specs.declared.call.Call.TheVariants.{Xread}
 use Rattle.sr_args.specs.declared.call.Position.{Position}
 use Rattle.sr_args.specs.declared.options.Choice.{Choice}
@@ -40,7 +41,7 @@ returns-then-not-are_positions c =
     let read = c.in-Some.read in
     let found = c.in-Some.ensures.found in
     let judged : AreJudged found.0 (Ok c.in_ok-choice.choice) = rw c.in_ok-choice.was at found.1 in
-    let unspelled : HasIds (map (spelled position) read.streams.ids) → ⊥ = search rules in
+    let unspelled : HasIds (map (spelled position) read.streams.ids) → ⊥ = λ h. false≢true ((rw c.again.ensures at c.if-not-are_positions.ensures).1 h) in
     (streams_reading sets.Xread position found.0 (take read.streams.keys read.streams.from_keys) read.streams.ids, found.2 position, read-numbers sets.Xread position found.0 (take read.streams.keys read.streams.from_keys) read.streams.ids c.in_ok-choice.choice judged, λ h. unspelled (read-ids sets.Xread position found.0 (take read.streams.keys read.streams.from_keys) read.streams.ids h))
 
 pub copy_streams-requires-clause-enough : goal.copy_streams-requires-clause-enough
@@ -54,7 +55,7 @@ returns-in_err-list c =
     let read = c.in-Some.read in
     let found = c.in-Some.ensures.found in
     let judged : AreJudged found.0 (Ok c.in_ok-choice.choice) = rw c.in_ok-choice.was at found.1 in
-    let all : HasIds (map (spelled position) read.streams.ids) = search rules in
+    let all : HasIds (map (spelled position) read.streams.ids) = (rw c.again.ensures at c.if-not-are_positions.ensures).0 refl in
     let from = AreIds-exist position read.streams.ids all in
     rw (p.1, p.2) (_, gives c.args.words found.0 (take read.streams.keys read.streams.from_keys) read.streams.ids from.0 c.in_ok-choice.choice (found.2 position) from.1 judged)
 

@@ -1,6 +1,7 @@
-use Rattle.std.proofs.Common.{◌≡◌, List, map, take, Some, Ok, Err, refl, rules}
+use Rattle.std.proofs.Common.{◌≡◌, List, map, take, Some, Ok, Err, refl}
 use Rattle.std.specs.List.{zip}
 use Rattle.std.proofs.lemmas.Result.{err_from_is_err_and}
+use Rattle.std.proofs.lemmas.Bool.{false≢true}
 use Rattle.sr_args.specs.declared.call.Call.{Call}
 use Rattle.sr_args.specs.declared.call.Call.TheVariants.{Xreadgroup}
 use Rattle.sr_args.specs.declared.options.Choice.{Choice}
@@ -47,7 +48,7 @@ returns-then-not-are_asked c =
     let read = c.in-Some.read in
     let found = c.in-Some.ensures.found in
     let judged : AreJudged found.0 (Ok c.in_ok-choice.choice) = rw c.in_ok-choice.was at found.1 in
-    let unspelled : HasIds (map (spelled read_id) read.streams.ids) → ⊥ = search rules in
+    let unspelled : HasIds (map (spelled read_id) read.streams.ids) → ⊥ = λ h. false≢true ((rw c.again.ensures at c.if-not-are_asked.ensures).1 h) in
     (grouped_reading sets.Xreadgroup read_id found.0 (take read.streams.keys read.streams.from_keys) read.streams.ids, found.3 read_id, read-numbers sets.Xreadgroup read_id found.0 (take read.streams.keys read.streams.from_keys) read.streams.ids c.in_ok-choice.choice judged, λ h. unspelled (read-ids sets.Xreadgroup read_id found.0 (take read.streams.keys read.streams.from_keys) read.streams.ids h))
 
 pub copy_streams-requires-clause-enough : goal.copy_streams-requires-clause-enough
@@ -61,7 +62,7 @@ returns-in_err-list c =
     let read = c.in-Some.read in
     let found = c.in-Some.ensures.found in
     let judged : AreJudged found.0 (Ok c.in_ok-choice.choice) = rw c.in_ok-choice.was at found.1 in
-    let all : HasIds (map (spelled read_id) read.streams.ids) = search rules in
+    let all : HasIds (map (spelled read_id) read.streams.ids) = (rw c.again.ensures at c.if-not-are_asked.ensures).0 refl in
     rw (p.1, p.2) (some c.args.words found.0 (take read.streams.keys read.streams.from_keys) read.streams.ids read.group.group.now read.group.consumer.now c.in_ok-choice.choice (found.3 read_id) found.2 all judged)
 
 pub returns-in_err-group : goal.returns-in_err-group
@@ -70,7 +71,7 @@ returns-in_err-group c =
     let read = c.in-Some.read in
     let found = c.in-Some.ensures.found in
     let judged : AreJudged found.0 (Ok c.in_ok-choice.choice) = rw c.in_ok-choice.was at found.1 in
-    let all : HasIds (map (spelled read_id) read.streams.ids) = search rules in
+    let all : HasIds (map (spelled read_id) read.streams.ids) = (rw c.again.ensures at c.if-not-are_asked.ensures).0 refl in
     rw (p.1, p.2) (some c.args.words found.0 (take read.streams.keys read.streams.from_keys) read.streams.ids read.group.group.now read.group.consumer.now c.in_ok-choice.choice (found.3 read_id) found.2 all judged)
 
 pub returns-in_err-consumer : goal.returns-in_err-consumer
@@ -79,7 +80,7 @@ returns-in_err-consumer c =
     let read = c.in-Some.read in
     let found = c.in-Some.ensures.found in
     let judged : AreJudged found.0 (Ok c.in_ok-choice.choice) = rw c.in_ok-choice.was at found.1 in
-    let all : HasIds (map (spelled read_id) read.streams.ids) = search rules in
+    let all : HasIds (map (spelled read_id) read.streams.ids) = (rw c.again.ensures at c.if-not-are_asked.ensures).0 refl in
     rw (p.1, p.2) (some c.args.words found.0 (take read.streams.keys read.streams.from_keys) read.streams.ids read.group.group.now read.group.consumer.now c.in_ok-choice.choice (found.3 read_id) found.2 all judged)
 
 pub new-requires : goal.new-requires

@@ -1,8 +1,31 @@
-use Rattle.std.proofs.Common.{◌≡◌, ◌<◌, map, sym, ap, ◌∙◌, arith}
+use Rattle.std.proofs.Common.{◌≡◌, ℕ, ◌+◌, ◌<◌, ◌≤◌, map, min, refl, sym, ap, ◌∙◌, arith}
 use Rattle.std.specs.VecDeque.{deque_items}
 use Rattle.sr_pending.specs.steps.Blocks.{Laid}
-use Rattle.sr_pending.proofs.Running.{runs-apart, runs-none, runs-same}
+use Rattle.sr_pending.proofs.Running.{blocks-fit, place-fits, runs-apart, runs-none, runs-same}
 use Rattle.sr_pending.proofs.blocks.Blocks.run.Goals as goal
+
+next : {a b : ℕ} → (a ≡ b → ⊥) → a ≤ b → a + 1 ≤ b
+next apart le = omega arith
+
+least : (a b m : ℕ) → m ≡ min a b → m ≤ b
+least a b m is = omega arith
+
+pub range-requires : goal.range-requires
+range-requires g c =
+    record { start_le_end = least c.args.from.at c.args.past.at c.min.result c.min.ensures; in_bounds = place-fits c.args.self.now c.args.past c.args.from.block c.block.result.now c.requires.past c.if-from-past.true c.block.ensures; not_exhausted = tt }
+
+pub range-requires-2 : goal.range-requires-2
+range-requires-2 g c =
+    record { start_le_end = place-fits c.args.self.now c.args.from c.args.from.block c.block-2.result.now c.requires.from refl c.block-2.ensures; in_bounds = omega arith; not_exhausted = tt }
+
+pub range-requires-3 : goal.range-requires-3
+range-requires-3 g c =
+    let shown = ap (λ (l : Laid g.row.T.Denot). l.closed) c.self.view_is in
+    record { start_le_end = next c.if-from-past.false c.if-past-from.false; in_bounds = blocks-fit c.args.self.now c.self.inside.closed c.args.past.block shown c.requires.past.within; not_exhausted = tt }
+
+pub range-requires-4 : goal.range-requires-4
+range-requires-4 g c =
+    record { start_le_end = omega arith; in_bounds = place-fits c.args.self.now c.args.past c.args.past.block c.block-3.result.now c.requires.past refl c.block-3.ensures; not_exhausted = tt }
 
 pub returns-then-from-past : goal.returns-then-from-past
 returns-then-from-past g c =

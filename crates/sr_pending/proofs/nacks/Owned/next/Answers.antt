@@ -1,5 +1,6 @@
 use Rattle.std.proofs.Common.{◌≡◌, ◌∷◌, true, ap, sym, ◌∙◌}
 use Rattle.std.proofs.lemmas.List.Elements.{All-rest}
+use Rattle.std.proofs.lemmas.Option.{slice_get_within}
 use Rattle.sr_ids.specs.declared.id.Id.{Id}
 use Rattle.sr_pending.specs.steps.Blocks.{at_of, items_of}
 use Rattle.sr_pending.specs.declared.nack.Nack.{Nack}
@@ -9,6 +10,12 @@ use Rattle.sr_pending.specs.steps.Search.{IsPlace}
 use Rattle.sr_pending.proofs.ListingLemmas.{looked_up-first}
 use Rattle.sr_pending.proofs.SearchLemmas.{nack_with-place}
 use Rattle.sr_pending.proofs.nacks.Owned.next.Goals as goal
+
+pub at-requires : goal.at-requires
+at-requires c =
+    let found = c.pending_place.ensures in
+    let nacks = c.self.inside.nacks.now in
+    record { place = found.within; some = slice_get_within (items_of nacks) (at_of c.pending_place.result nacks) found.at.nack found.at.here }
 
 pub invariant_of-self-2 : goal.invariant_of-self-2
 invariant_of-self-2 c =

@@ -1,4 +1,5 @@
 use Rattle.std.proofs.Common.{◌≤◌, not, refl, arith}
+use Rattle.std.proofs.lemmas.Option.{slice_get_within}
 use Rattle.sr_pending.specs.steps.Blocks.{at_of, items_of}
 use Rattle.sr_pending.specs.declared.nack.Nack.{Nack}
 use Rattle.sr_pending.specs.Pending.{is_same_id, without}
@@ -9,6 +10,11 @@ use Rattle.sr_pending.proofs.NackLemmas.{AreRising-filter}
 use Rattle.sr_pending.proofs.SpareLemmas.{HasSpare-given, HasSpare-used}
 use Rattle.sr_pending.proofs.SoundLemmas.{IsSound-changed}
 use Rattle.sr_pending.proofs.pending.Pending.move_to.Goals as goal
+
+pub at-requires : goal.at-requires
+at-requires c =
+    let found = c.pending_place-place.ensures in
+    record { place = found.within; some = slice_get_within (items_of c.self.inside.nacks) (at_of c.pending_place-place.result c.self.inside.nacks) found.at.nack found.at.here }
 
 pub take_id-requires-clause-rising : goal.take_id-requires-clause-rising
 take_id-requires-clause-rising c =

@@ -1,5 +1,6 @@
-use Rattle.std.proofs.Common.{◌≡◌, Bool, true, false, ◌&&◌, List, ◌∷◌, Result, Ok, Err, OnErr, ◌++◌, refl, ap, sym, subst, ◌∙◌, true≢false, rules}
-use Rattle.sr_args.specs.Different.{AreDifferent}
+use Rattle.std.proofs.Common.{◌≡◌, ◌≢◌, Bool, true, false, ◌&&◌, List, ◌∷◌, Result, Ok, Err, OnErr, ◌++◌, [], length, append-nil, inl, arith, refl, ap, sym, subst, ◌∙◌, true≢false, rules}
+use Rattle.std.proofs.lemmas.Result.{IfOk-from_err, MatchResult-from_err}
+use Rattle.sr_args.specs.Different.{AreDifferent, IsAmong}
 use Rattle.sr_args.specs.declared.reads.ReadAsked.{ReadAsked}
 use Rattle.sr_space.specs.Keys.{Key, Keys, shown_keys}
 use Rattle.sr_space.specs.steps.Reading.{StayBesideAll, keys_after, listed_by, named_by}
@@ -16,6 +17,14 @@ first_of false b both = both
 second_of : (a b : Bool) → a && b ≡ true → b ≡ true
 second_of true b both = both
 second_of false b both = absurd (true≢false (sym both))
+
+-- a key that is not among those that are named is not the first of them
+apart_first : (other first : Key) (rest all : List Key) → all ≡ first ∷ rest → (IsAmong other all → ⊥) → other ≢ first
+apart_first other first rest all named apart is = apart (rw (named, is) (inl refl))
+
+none_named : (streams : List (Key × ReadAsked)) → length streams ≡ 0 → streams ≡ []
+none_named [] none = refl
+none_named (stream ∷ streams) none = absurd (omega arith)
 
 pub prepare_at-requires : goal.prepare_at-requires
 prepare_at-requires t c =
@@ -90,3 +99,34 @@ kept (Err e) p = p
 
 pub returns-in_err-read_all-clause-err : goal.returns-in_err-read_all-clause-err
 returns-in_err-read_all-clause-err t c = kept c.from_residual-in_err-read_all.result (c.in_err-read_all.ensures.err ∙ c.prepare_at.ensures.keys)
+
+pub returns-in_err-keep : goal.returns-in_err-keep
+returns-in_err-keep t c =
+    let failed = c.from_residual.ensures.0 in
+    record { keys = IfOk-from_err _ _ failed; send = IfOk-from_err _ _ failed; keep = IfOk-from_err _ _ failed; err = MatchResult-from_err _ _ _ failed (λ _. refl); others = λ _ _. refl }
+
+pub returns-in_default : goal.returns-in_default
+returns-in_default t c =
+    let r = c.args.read.now in
+    let keys = shown_keys c.args.keys.now.entries in
+    let none = sym (none_named c.args.streams.now c.in_default.ensures.cases) in
+    record {
+      keys = ap (keys_after r keys) none;
+      send = λ items is. c.null_if_empty.ensures items is ∙ ap listed_or_null (sym (append-nil items)) ∙ ap (λ (l : List (Key × ReadAsked)). listed_or_null (items ++ listed_by r keys l)) none;
+      keep = c.in_ok-keep.ensures;
+      err = tt;
+      others = λ _ _. refl;
+    }
+
+pub returns-in_err-shown : goal.returns-in_err-shown
+returns-in_err-shown t c =
+    let failed = c.from_residual-in_err-shown.ensures.0 in
+    let first = c.in-Some.first.now.0 in
+    let streams = ap named_by c.in-Some.ensures.cases.0 in
+    record {
+      keys = IfOk-from_err _ _ failed;
+      send = IfOk-from_err _ _ failed;
+      keep = IfOk-from_err _ _ failed;
+      err = MatchResult-from_err _ _ _ failed (λ _. c.prepare_at.ensures.keys);
+      others = λ other apart. c.prepare_at.ensures.others other (apart_first other first _ _ streams apart);
+    }

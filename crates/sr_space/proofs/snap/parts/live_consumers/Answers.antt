@@ -1,4 +1,6 @@
-use Rattle.std.proofs.Common.{◌≡◌, ℕ, suc, ◌+◌, ◌<◌, Bool, true, false, cond, not, List, ◌∷◌, ◌++◌, length, drop, get_or, add-one, drop-cons, append_assoc, ap, sym, ◌∙◌}
+use Rattle.std.proofs.Common.{◌≡◌, ℕ, suc, ◌+◌, ◌<◌, Bool, true, false, cond, not, List, ◌∷◌, ◌++◌, length, drop, get_or, add-one, drop-cons, append_assoc, refl, ap, sym, ◌∙◌}
+use Rattle.std.proofs.lemmas.List.{drop_all}
+use Rattle.std.proofs.lemmas.Result.{IfOk-from_err}
 use Rattle.sr_pending.specs.declared.nack.Nack.{Nack}
 use Rattle.sr_pending.specs.Pending.{owned_by}
 use Rattle.sr_policy.specs.declared.live.Live.{Live}
@@ -6,6 +8,7 @@ use Rattle.sr_policy.specs.Rules.{Rules, Text, live_of}
 use Rattle.sr_policy.specs.Snapshot.{is_among}
 use Rattle.sr_space.specs.Snap.{listed}
 use Rattle.sr_space.specs.steps.Snapping.{live_among}
+use Rattle.sr_space.proofs.LoopLemmas.{left-ended}
 use Rattle.sr_space.proofs.snap.parts.live_consumers.Goals.{then-not-is_among+in_ok-push_live, else-not-is_among}
 use Rattle.sr_space.proofs.snap.parts.live_consumers.Goals as goal
 
@@ -22,6 +25,16 @@ module _ (rules : Rules) (dead : List Text) (nacks : List Nack) where
       ap (λ (l : List Live). l ++ live_among rules dead nacks rest) push
       ∙ append_assoc list (listed (live_of rules name (length (owned_by name nacks)))) (live_among rules dead nacks rest)
       ∙ (rw is at before)
+
+pub returns-in_err-push_live : goal.returns-in_err-push_live
+returns-in_err-push_live c = IfOk-from_err _ _ c.from_residual.ensures.0
+
+pub returns : goal.returns
+returns c =
+    let live = live_among c.args.policy.now c.args.dead.now c.args.group.now.shown.nacks in
+    let names = c.consumers-name-items.result.now in
+    let i = c.loop-name.name-index in
+    left-ended live (drop i names) c.loop-name.list.items (live names) (drop_all i names c.loop-name-test.false) refl c.loop-name.invariant ∙ ap live c.consumers-name-items.ensures.value
 
 pub loop-name-preserved : goal.loop-name-preserved
 loop-name-preserved c =

@@ -1,4 +1,4 @@
-use Rattle.std.proofs.Common.{◌≡◌, Some, None, nat_eq, refl, ap, ◌∙◌}
+use Rattle.std.proofs.Common.{◌≡◌, Some, None, nat_eq, refl, ap, sym, ◌∙◌}
 use Rattle.std.proofs.lemmas.Result.{on_ok_weaker, on_err_weaker}
 use Rattle.std.specs.Cmp.Lexicographic.{pointwise}
 use Rattle.std.specs.Map.{lookup, set_value}
@@ -24,7 +24,7 @@ returns-in-Some-clause-ok c =
     let key = c.key.result.now in
     let kept = c.in-Some.stream.now in
     let written = c.claim_in.new.stream in
-    let found : lookup (pointwise nat_eq key) stored ≡ Some kept = cc (c.in-Some.ensures.value) in
+    let found : lookup (pointwise nat_eq key) stored ≡ Some kept = sym c.in-Some.ensures.value in
     let put : (c.get_mut.follows.lender written).entries ≡ set_value (pointwise nat_eq key) stored written = (c.get_mut.follows.holds written).0 in
     let are : c.as_slice.result.now ≡ claim_calls verdict.snapshot verdict.answer = c.as_slice.ensures.value ∙ c.in_ok-calls.ensures in
     let key_is : key ≡ verdict.snapshot.key = c.key.ensures ∙ ap (λ (s : Shown). s.key) c.snapshot-snapshot.ensures in
@@ -40,7 +40,7 @@ returns-in-Some-clause-err c =
     let key = c.key.result.now in
     let kept = c.in-Some.stream.now in
     let written = c.claim_in.new.stream in
-    let found : lookup (pointwise nat_eq key) stored ≡ Some kept = cc (c.in-Some.ensures.value) in
+    let found : lookup (pointwise nat_eq key) stored ≡ Some kept = sym c.in-Some.ensures.value in
     let put : (c.get_mut.follows.lender written).entries ≡ set_value (pointwise nat_eq key) stored written = (c.get_mut.follows.holds written).0 in
     on_err_weaker c.claim_in.result (λ same. ap shown_keys put ∙ shown-set_value_same stored key kept written found same ∙ c.self.view_is) c.claim_in.ensures.err
 
@@ -49,7 +49,7 @@ returns-clause-ok c =
     let stored : Stored = c.self.inside.keys.entries in
     let verdict = c.args.verdict.now in
     let key = c.key.result.now in
-    let none : lookup (pointwise nat_eq key) stored ≡ None = cc (c.in-None.ensures.value) in
+    let none : lookup (pointwise nat_eq key) stored ≡ None = sym c.in-None.ensures.value in
     let missing : stream_at (shown_keys stored) key ≡ None = stream_at-shown stored key ∙ ap shown_of none in
     let key_is : key ≡ verdict.snapshot.key = c.key.ensures ∙ ap (λ (s : Shown). s.key) c.snapshot-snapshot.ensures in
     ap (λ m. shown_keys m.entries) c.get_mut.follows.holds-at-none

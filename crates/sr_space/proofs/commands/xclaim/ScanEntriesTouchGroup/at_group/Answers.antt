@@ -1,4 +1,5 @@
 use Rattle.std.proofs.Common.{◌≡◌, ℕ, Bool, List, [], ◌∷◌, ap, ◌∙◌}
+use Rattle.std.proofs.lemmas.Result.{IfOk-from_err, MatchResult-from_err}
 use Rattle.sr_entries.specs.declared.entry.Entry.{Entry}
 use Rattle.sr_group.specs.declared.claim.Claim.{Claim}
 use Rattle.sr_group.specs.declared.shown.Listed.{Listed}
@@ -40,3 +41,28 @@ returns-clause-outcome c =
     scan-replied _ _ _ _ _ _ _ _ _ _ _ c.in_ok-outcome.ensures c.in_ok-reply.ensures c.id_reply.ensures c.in_ok-claimed.ensures c.in_ok-deleted.ensures c.in_ok-scan.ensures.listed c.in_ok-scan.ensures.next
     ∙ ap (λ (moment : ℕ). led moment c.claim_as-claim.result) c.in_63_bits-moment.ensures.value
     ∙ ap (led (in_63_bits scan.moment)) c.claim_as-claim.ensures.value
+
+pub returns-in_err-scan : goal.returns-in_err-scan
+returns-in_err-scan c =
+    let failed = c.from_residual.ensures.0 in
+    record { group = IfOk-from_err _ _ failed; outcome = IfOk-from_err _ _ failed; err = MatchResult-from_err _ _ _ failed (λ _. c.autoclaim.ensures.shown) }
+
+pub returns-in_err-claimed : goal.returns-in_err-claimed
+returns-in_err-claimed c =
+    let failed = c.from_residual-in_err-claimed.ensures.0 in
+    record { group = IfOk-from_err _ _ failed; outcome = IfOk-from_err _ _ failed; err = MatchResult-from_err _ _ _ failed (λ _. c.autoclaim.ensures.shown) }
+
+pub returns-in_err-deleted : goal.returns-in_err-deleted
+returns-in_err-deleted c =
+    let failed = c.from_residual-in_err-deleted.ensures.0 in
+    record { group = IfOk-from_err _ _ failed; outcome = IfOk-from_err _ _ failed; err = MatchResult-from_err _ _ _ failed (λ _. c.autoclaim.ensures.shown) }
+
+pub returns-in_err-reply : goal.returns-in_err-reply
+returns-in_err-reply c =
+    let failed = c.from_residual-in_err-reply.ensures.0 in
+    record { group = IfOk-from_err _ _ failed; outcome = IfOk-from_err _ _ failed; err = MatchResult-from_err _ _ _ failed (λ _. c.autoclaim.ensures.shown) }
+
+pub returns-in_err-outcome : goal.returns-in_err-outcome
+returns-in_err-outcome c =
+    let failed = c.from_residual-in_err-outcome.ensures.0 in
+    record { group = IfOk-from_err _ _ failed; outcome = IfOk-from_err _ _ failed; err = MatchResult-from_err _ _ _ failed (λ _. c.autoclaim.ensures.shown) }
