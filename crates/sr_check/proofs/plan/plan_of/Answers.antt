@@ -1,5 +1,7 @@
-use Rattle.std.proofs.Common.{◌≡◌, ℕ, true, List, [], sym, subst}
+use Rattle.std.proofs.Common.{◌≡◌, ℕ, true, List, [], sym, subst, ◌∙◌, true≢false}
 use Rattle.std.proofs.lemmas.Result.{IfOk-from_err}
+use Rattle.sr_policy.specs.declared.live.Live.{Live}
+use Rattle.sr_policy.specs.Snapshot.{AreInOrder, ComesBefore}
 use Rattle.sr_resp.proofs.DecodingLemmas.{empty-true, true-empty}
 use Rattle.sr_check.specs.steps.Read.{Begins, gone_ids}
 use Rattle.sr_check.proofs.BeginsLemmas.{Begins-one}
@@ -74,10 +76,11 @@ returns-then-not-is_empty-clause-none c = λ assign prices total plan.
     let left = c.in-Some-after_ids.left.now in
     let ended : left ≡ [] = Begins-one gone left [] (gone_ids c.gone.result.now) c.in-Some-after_ids.ensures.found last in
     let yes : c.is_empty.result ≡ true = true-empty left c.is_empty.result c.is_empty.ensures ended in
-    absurd (cc (yes, c.if-not-is_empty.true))
+    true≢false (sym yes ∙ c.if-not-is_empty.true)
 
 pub moves_of-requires : goal.moves_of-requires
-moves_of-requires c = rw c.live.ensures c.sound.ensures.names.live
+moves_of-requires c =
+    subst (λ (live : List Live). AreInOrder (λ a b. ComesBefore a.name b.name) live) (sym c.live.ensures) c.sound.ensures.names.live
 
 pub returns-in_default-clause-found : goal.returns-in_default-clause-found
 returns-in_default-clause-found c = tt

@@ -1,5 +1,7 @@
-use Rattle.std.proofs.Common.{rules, ◌≡◌, ◌∙◌, ℕ, pos, true, [], List, length, sym, ap, subst, arith}
+use Rattle.std.proofs.Common.{◌≡◌, ◌∙◌, ℕ, pos, true, [], List, All, ◌<◌, length, sym, ap, subst, true≢false, arith}
 use Rattle.std.proofs.lemmas.Result.{IfOk-from_err}
+use Rattle.sr_ids.specs.Id.{IsBelow}
+use Rattle.sr_policy.specs.Snapshot.{AreInOrder}
 use Rattle.sr_policy.specs.declared.stranded.Stranded.{Stranded}
 use Rattle.sr_resp.specs.Reply.{integer}
 use Rattle.sr_resp.proofs.DecodingLemmas.{empty-true, true-empty}
@@ -22,8 +24,7 @@ returns-then-len-entries-clause-none c = λ set shows is.
     has) in
     let known = shortage-known shown p c.args.bytes.now ids read rooms set c.in-Some.entries c.requires c.in-Some.ensures.found
     chosen shows is in
-    let len : c.len.result ≡ length read = search rules in
-    absurd (omega (arith, len, known.counted, ap length known.same, c.if-len-entries.true))
+    absurd (omega (arith, c.len.ensures, known.counted, ap length known.same, c.if-len-entries.true))
 
 pub returns-in_default-after_rooms-clause-none : goal.returns-in_default-after_rooms-clause-none
 returns-in_default-after_rooms-clause-none c = λ set shows is.
@@ -87,7 +88,7 @@ returns-then-not-is_empty-clause-none c = λ set shows is.
     let ended : left ≡ [] = Begins-one places left [] (integer (pos c.places_of.result)) c.in-Some-after_integer.ensures.found
     last in
     let yes : c.is_empty.result ≡ true = true-empty left c.is_empty.result c.is_empty.ensures ended in
-    absurd (cc (yes, c.if-not-is_empty.true))
+    true≢false (sym yes ∙ c.if-not-is_empty.true)
 
 pub returns-clause-same : goal.returns-clause-same
 returns-clause-same c = λ set shows is.
@@ -104,7 +105,8 @@ returns-clause-same c = λ set shows is.
     known.same
 
 pub chosen-requires : goal.chosen-requires
-chosen-requires c = rw c.stranded.ensures c.sound.ensures.ids.stranded
+chosen-requires c =
+    subst (λ (s : List Stranded). AreInOrder (λ a b. IsBelow a.id b.id) s) (sym c.stranded.ensures) c.sound.ensures.ids.stranded
 
 pub returns-in_default-clause-found : goal.returns-in_default-clause-found
 returns-in_default-clause-found c = tt
@@ -144,7 +146,8 @@ after_rooms-requires-clause-problem c = c.requires
 
 pub after_rooms-requires-clause-entries : goal.after_rooms-requires-clause-entries
 after_rooms-requires-clause-entries c =
-    rw c.as_slice.ensures.value (within-entries c.args.snapshot.now c.args.problem.now c.stranded.result.now
+    subst (λ (set : List ℕ). All (λ i. i < c.args.problem.now.entries) set) (sym c.as_slice.ensures.value)
+    (within-entries c.args.snapshot.now c.args.problem.now c.stranded.result.now
     c.in_ok-set.set.items c.requires c.stranded.ensures c.in_ok-set.ensures.within)
 
 pub returns-in_default-after_rooms-clause-found : goal.returns-in_default-after_rooms-clause-found
@@ -158,7 +161,8 @@ returns-in_default-after_rooms-clause-within c = tt
 
 pub places_of-requires : goal.places_of-requires
 places_of-requires c =
-    rw c.as_slice-2.ensures.value (within-entries c.args.snapshot.now c.args.problem.now c.stranded.result.now
+    subst (λ (set : List ℕ). All (λ i. i < c.args.problem.now.entries) set) (sym c.as_slice-2.ensures.value)
+    (within-entries c.args.snapshot.now c.args.problem.now c.stranded.result.now
     c.in_ok-set.set.items c.requires c.stranded.ensures c.in_ok-set.ensures.within)
 
 pub after_integer-requires : goal.after_integer-requires
