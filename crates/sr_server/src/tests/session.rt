@@ -17,8 +17,10 @@ mod desks;
 mod recovery;
 
 /// `PING`, `XADD s 1-1 a b`, `XLEN s` and `XRANGE s - +`
-pub(crate) const RUN: &[u8; 116] =
-    b"*1\r\n$4\r\nPING\r\n*5\r\n$4\r\nXADD\r\n$1\r\ns\r\n$3\r\n1-1\r\n$1\r\na\r\n$1\r\nb\r\n*2\r\n$4\r\nXLEN\r\n$1\r\ns\r\n*4\r\n$6\r\nXRANGE\r\n$1\r\ns\r\n$1\r\n-\r\n$1\r\n+\r\n";
+pub(crate) const RUN: &[u8; 116] = b"*1\r\n$4\r\nPING\r\n\
+    *5\r\n$4\r\nXADD\r\n$1\r\ns\r\n$3\r\n1-1\r\n$1\r\na\r\n$1\r\nb\r\n\
+    *2\r\n$4\r\nXLEN\r\n$1\r\ns\r\n\
+    *4\r\n$6\r\nXRANGE\r\n$1\r\ns\r\n$1\r\n-\r\n$1\r\n+\r\n";
 
 /// The replies to them.
 pub(crate) const REPLIES: &[u8; 55] =
