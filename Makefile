@@ -163,7 +163,7 @@ bench-solver:
 	    $(CXX) -O3 -o crates/bench_solver/out/lemon bench/lemon.cpp \
 	        && python3 bench/turns.py crates/bench_solver/out/bench_solver crates/bench_solver/out/lemon 5; \
 	else echo 'LEMON is not installed (Debian: liblemon-dev)'; \
-	    python3 bench/families.py | crates/bench_solver/out/bench_solver run; fi
+	    python3 bench/families.py | crates/bench_solver/out/bench_solver; fi
 
 # Compares the solver's answers to 10,000 random small problems with those of scipy (Debian: python3-scipy).
 check-solver:

@@ -3,8 +3,8 @@
 usage: families.py [small]
 
 With no argument these are the families of docs/BENCH.md, of 4,096 entries and 64 consumers; with `small` they are 10,000 random
-problems of all shapes, of at most 16 entries. A problem is a line with its name, a line with the number of its entries, a line
-with the room of each consumer, and a line for each entry with its cost at each consumer, `-` where it is not allowed.
+problems of all shapes, of at most 16 entries. A problem is a line: its name and a colon, how often it is to be timed, how many
+entries and consumers it has, the room of each consumer, and for each entry its cost at each consumer, `-` where it is not allowed.
 """
 
 import functools
@@ -29,6 +29,9 @@ FACTORS = 1 << 20
 PERIOD = 8
 
 SMALL_PROBLEMS = 10_000
+
+# How often the solver is timed on each family; the least time counts.
+TIMES = 3
 
 MULTIPLIER = 6364136223846793005
 MASK_32 = (1 << 32) - 1
@@ -276,18 +279,18 @@ def small_problems():
         yield f"small {number}", rooms, rows
 
 
-def text(name, rooms, rows):
-    """A problem as it is printed."""
-    lines = [name, str(len(rows)), " ".join(map(str, rooms))]
-    lines += [" ".join("-" if cost is None else str(cost) for cost in row) for row in rows]
-    return "\n".join(lines) + "\n"
+def text(name, rooms, rows, times=0):
+    """A problem as it is printed, to be timed so often."""
+    costs = ("-" if cost is None else cost for row in rows for cost in row)
+    return f"{name}: " + " ".join(map(str, [times, len(rows), len(rooms), *rooms, *costs])) + "\n"
 
 
 def main():
-    made = {(): families, ("small",): small_problems}.get(tuple(sys.argv[1:]))
+    made = {(): (families, TIMES), ("small",): (small_problems, 0)}.get(tuple(sys.argv[1:]))
     if made is None:
         sys.exit("usage: families.py [small]")
-    sys.stdout.writelines(text(*problem) for problem in made())
+    problems, times = made
+    sys.stdout.writelines(text(*problem, times) for problem in problems())
 
 
 if __name__ == "__main__":

@@ -1,5 +1,5 @@
 // Times LEMON's network simplex on problems that bench/families.py prints, which this reads from its standard input, and prints a
-// line for each as `bench_solver run` does. It needs the library's headers alone (Debian: liblemon-dev).
+// line for each as `bench_solver` does. It needs the library's headers alone (Debian: liblemon-dev).
 //
 // Two times are printed, each the least of some runs: from the costs to the answer, as our solver is timed too, which takes the
 // allowed pairs out of the costs and makes the graph that LEMON works on; and of that the run of its simplex alone.
@@ -12,7 +12,6 @@
 #include <cstdint>
 #include <cstdio>
 #include <iostream>
-#include <sstream>
 #include <string>
 #include <vector>
 
@@ -36,24 +35,23 @@ struct Problem {
   std::vector<std::int64_t> costs;
 };
 
-// The numbers of the next line, -1 for a `-`.
-std::vector<std::int64_t> read_numbers() {
-  std::string line;
-  std::getline(std::cin, line);
-  std::istringstream words(line);
-  std::vector<std::int64_t> numbers;
-  for (std::string word; words >> word;) numbers.push_back(word == "-" ? -1 : std::stoll(word));
-  return numbers;
+// A number of the problem, -1 for a `-`.
+std::int64_t read_number() {
+  std::string word;
+  std::cin >> word;
+  return word == "-" ? -1 : std::stoll(word);
 }
 
+// The numbers of a problem, without the first one, which says how often our solver is timed.
 Problem read_problem() {
   Problem problem;
-  problem.entries = static_cast<int>(read_numbers().at(0));
-  problem.rooms = read_numbers();
-  for (int entry = 0; entry < problem.entries; ++entry) {
-    const std::vector<std::int64_t> costs = read_numbers();
-    problem.costs.insert(problem.costs.end(), costs.begin(), costs.end());
-  }
+  read_number();
+  problem.entries = static_cast<int>(read_number());
+  problem.rooms.resize(read_number());
+  for (std::int64_t& room : problem.rooms) room = read_number();
+  problem.costs.resize(problem.entries * problem.rooms.size());
+  for (std::int64_t& cost : problem.costs) cost = read_number();
+  std::cin.ignore();
   return problem;
 }
 
@@ -117,5 +115,5 @@ void measure(const std::string& family, const Problem& problem) {
 }  // namespace
 
 int main() {
-  for (std::string family; std::getline(std::cin, family);) measure(family, read_problem());
+  for (std::string family; std::getline(std::cin, family, ':');) measure(family, read_problem());
 }

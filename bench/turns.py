@@ -33,10 +33,10 @@ def main():
     rounds = int(sys.argv[3]) if len(sys.argv) > 3 else 3
     problems = os.path.join(os.path.dirname(lemon), "problems")
     with open(problems, "w") as out:
-        out.writelines(families.text(*problem) for problem in families.families())
+        out.writelines(families.text(*problem, families.TIMES) for problem in families.families())
     ours, whole, alone, answers = {}, {}, {}, {}
     for _ in range(rounds):
-        for family, found in lines([solver, "run"], problems).items():
+        for family, found in lines([solver], problems).items():
             ours.setdefault(family, []).append(float(found["whole"]))
             answers[family] = found["answer"]
         for family, found in lines([lemon], problems).items():

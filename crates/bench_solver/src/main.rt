@@ -1,67 +1,52 @@
-//! Solves the transportation problems that it reads from standard input, and prints a line for each: its name and the answer.
+//! Solves the transportation problems that it reads from standard input, one a line, and prints a line for each: its name and the
+//! answer, and before that the least of the times that it took, if the problem says how often it is to be timed.
 //!
-//! `bench_solver run` also solves each three times more, and prints the least of the times that this took. It ends with status
-//! 0 at the end of the input, with 1 if a problem cannot be read or anything else fails, and with 2 for any other word.
+//! It ends with status 0 at the end of the input, and with 1 if a problem cannot be read or anything else fails.
 #![tactic(auto)]
 
-mod measure;
-mod source;
+mod problem;
 
-use crate::measure::print_line;
-use crate::source::Source;
-use std::env;
-use std::io::{self, BufRead, BufReader};
-use std::process::ExitCode;
-use std::rt::{Clock, Env};
+use crate::problem::{next_number, read_problem};
+use sr_solver::solve;
+use sr_transport::{Problem, Solved};
+use std::io;
+use std::rt::Clock;
+use std::time::Instant;
 
-/// The status if the command line is not understood.
-const REFUSED: u8 = 2;
-
-fn main(rt: HostRuntime) -> io::Result<ExitCode> {
-    let Some(is_timed) = asks_for_times(&rt)? else {
-        eprintln!(rt; "usage: bench_solver [run] < PROBLEMS")?;
-        return Ok(ExitCode::from(REFUSED));
-    };
-    let input = BufReader::new(rt.alloc(), rt.reader())?;
-    answer(&rt, is_timed, &mut Source::new(rt.alloc(), input))
-}
-
-/// Whether the command line asks for times, or `None` where it is not understood.
-fn asks_for_times(rt: &(impl Env + AllocGlobal)) -> io::Result<Option<bool>> {
-    let words: Vec<String> = env::args(rt)?.collect(rt.alloc())?;
-    match words.as_slice() {
-        [] | [_] => Ok(Some(false)),
-        [_, word] if word.as_str() == "run" => Ok(Some(true)),
-        _ => Ok(None),
-    }
-}
-
-/// Solves all problems. An error is printed with the number of the line that was read last.
-fn answer<R: AllocGlobal + Clock + Print + Eprint, B: BufRead>(
-    rt: &R,
-    is_timed: bool,
-    source: &mut Source<B>,
-) -> io::Result<ExitCode> {
-    match answer_all(rt, is_timed, source) {
-        Ok(()) => Ok(ExitCode::SUCCESS),
-        Err(error) => {
-            eprintln!(rt; "line {}: {error}", source.line_number)?;
-            Ok(ExitCode::FAILURE)
-        }
-    }
-}
-
-/// Solves all problems.
-fn answer_all<R: AllocGlobal + Clock + Print, B: BufRead>(
-    rt: &R,
-    is_timed: bool,
-    source: &mut Source<B>,
-) -> io::Result<()> {
-    for _ in 0..u64::MAX {
-        let Some(problem) = source.next_problem(rt.alloc())? else {
-            break;
-        };
-        print_line(rt, is_timed, source.name.as_str(), &problem)?;
+fn main(rt: HostRuntime) -> io::Result<()> {
+    for line in rt.lines(rt.alloc()) {
+        print_answer(&rt, line?.as_str())?;
     }
     Ok(())
+}
+
+/// Prints the name of the problem on a line, the time that it takes if this is asked for, and the answer: the least total, or that
+/// there are too few places.
+fn print_answer<R: AllocGlobal + Clock + Print>(rt: &R, line: &str) -> io::Result<()> {
+    let Some((name, numbers)) = line.split_once(": ") else {
+        return Err(io::Error::other("a name, a colon and numbers are expected"));
+    };
+    let mut words = numbers.split_whitespace();
+    let times = next_number(&mut words)?;
+    let problem = read_problem(rt.alloc(), words)?;
+    print!(rt; "{name}: ")?;
+    if times > 0 {
+        let micros = least_micros(rt, times, &problem)?;
+        print!(rt; "{}.{:02} ms, ", micros / 1000, micros % 1000 / 10)?;
+    }
+    match solve(rt.alloc(), &problem)? {
+        Solved::Best { total, .. } => println!(rt; "best, total {total}"),
+        Solved::Short { set } => println!(rt; "short, {} entries", set.len()),
+    }
+}
+
+/// How many microseconds it takes to solve a problem: the least of so many times.
+fn least_micros<R: AllocGlobal + Clock>(rt: &R, times: u64, problem: &Problem) -> io::Result<u128> {
+    let mut least = u128::MAX;
+    for _ in 0..times {
+        let start = Instant::now(rt)?;
+        let _solved = solve(rt.alloc(), problem)?;
+        least = least.min(start.elapsed(rt)?.as_micros());
+    }
+    Ok(least)
 }
