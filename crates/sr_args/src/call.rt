@@ -5,7 +5,7 @@ use sr_ids::{Id, Ids, Spec};
 /// What a trim leaves in a stream.
 ///
 /// Source: Redis documentation, command XTRIM.
-#[derive(Clone, Copy, Debug, PartialEq, Eq)]
+#[derive(Clone, Copy, PartialEq, Eq)]
 pub enum TrimBy {
     /// MAXLEN: that many of the newest entries.
     MaxLen(u64),
@@ -16,7 +16,7 @@ pub enum TrimBy {
 /// A trim of a stream from its oldest entry on.
 ///
 /// Source: Redis documentation, command XTRIM.
-#[derive(Clone, Copy, Debug, PartialEq, Eq)]
+#[derive(Clone, Copy, PartialEq, Eq)]
 pub struct Trim {
     /// What it leaves.
     pub by: TrimBy,
@@ -27,7 +27,7 @@ pub struct Trim {
 /// From where a stream is read.
 ///
 /// Source: Redis documentation, commands XGROUP CREATE and XREAD.
-#[derive(Clone, Copy, Debug, PartialEq, Eq)]
+#[derive(Clone, Copy, PartialEq, Eq)]
 pub enum Position {
     /// `$`: after the last id that the stream gave.
     Last,
@@ -38,7 +38,7 @@ pub enum Position {
 /// When a claimed entry counts as delivered.
 ///
 /// Source: Redis documentation, command XCLAIM.
-#[derive(Clone, Copy, Debug, PartialEq, Eq)]
+#[derive(Clone, Copy, PartialEq, Eq)]
 pub enum TimeAsked {
     /// Now.
     Now,

@@ -9,7 +9,7 @@ use std::marker::Model;
 /// Which entries of a stream a consumer of a group reads.
 ///
 /// Source: Redis documentation, command XREADGROUP.
-#[derive(Clone, Copy, Debug, PartialEq, Eq)]
+#[derive(Clone, Copy, PartialEq, Eq)]
 pub enum ReadAsked {
     /// `>`: those that the group has not delivered yet.
     New,

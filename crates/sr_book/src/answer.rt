@@ -33,7 +33,7 @@ pub struct Letter {
 }
 
 /// How a session stands.
-#[derive(Clone, Copy, Debug, PartialEq, Eq)]
+#[derive(Clone, Copy)]
 pub enum Status {
     /// It is not open.
     Closed,

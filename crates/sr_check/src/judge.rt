@@ -13,7 +13,7 @@ use sr_transport::{Solved, check, check_shortage};
 use std::alloc::{AllocError, Global};
 
 /// What is wrong with a reply. The first that is found is told.
-#[derive(Clone, Copy, Debug, PartialEq, Eq)]
+#[derive(Clone, Copy, PartialEq, Eq)]
 pub enum Reason {
     /// It is not of the form of a plan or of a shortage.
     Form,
@@ -28,7 +28,7 @@ pub enum Reason {
 }
 
 /// What a reply is found to be.
-#[derive(Clone, Copy, Debug, PartialEq, Eq)]
+#[derive(Clone, Copy, PartialEq, Eq)]
 pub enum Verified {
     /// A plan with prices that show that no assignment costs less, and what it costs. `done` where it was carried out.
     Cheapest { done: bool, total: u64 },

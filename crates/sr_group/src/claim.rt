@@ -21,7 +21,7 @@ use std::alloc::{AllocError, Global};
 /// When a claimed entry counts as delivered.
 ///
 /// Source: Redis documentation, command XCLAIM, "IDLE" and "TIME".
-#[derive(Clone, Copy, Debug, PartialEq, Eq)]
+#[derive(Clone, Copy)]
 pub enum ClaimTime {
     /// At the moment of the claim.
     Now,
@@ -34,7 +34,7 @@ pub enum ClaimTime {
 /// How entries are claimed.
 ///
 /// Source: Redis documentation, commands XCLAIM and XAUTOCLAIM.
-#[derive(Clone, Copy, Debug, PartialEq, Eq)]
+#[derive(Clone, Copy)]
 pub struct Claim {
     /// For how many milliseconds an entry was not delivered, if it is to be claimed.
     pub least_idle: u64,

@@ -7,7 +7,7 @@ use sr_pending::Nack;
 use std::marker::Model;
 
 /// An entry that a call shows.
-#[derive(Clone, Copy, Debug, PartialEq, Eq)]
+#[derive(Clone, Copy)]
 pub struct Listed {
     pub id: Id,
     /// Whether the stream has it.

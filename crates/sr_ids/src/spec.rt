@@ -3,7 +3,7 @@ use crate::Id;
 /// Which id is asked for when an entry is added.
 ///
 /// Source: Redis documentation, command XADD, "Specifying a Stream ID as an argument".
-#[derive(Clone, Copy, Debug, PartialEq, Eq)]
+#[derive(Clone, Copy, PartialEq, Eq)]
 pub enum Spec {
     /// `*`: an id that the server chooses by its clock.
     Auto,

@@ -4,7 +4,7 @@ ghost use Rattle.sr_resp.specs.Code.{error_text, word_text};
 /// The simple strings that commands reply.
 ///
 /// Source: RESP2 protocol specification, "Simple strings"; Redis documentation, commands PING and XGROUP CREATE.
-#[derive(Clone, Copy, Debug, PartialEq, Eq)]
+#[derive(Clone, Copy, PartialEq, Eq)]
 pub enum Word {
     Ok,
     Pong,
@@ -25,7 +25,7 @@ impl Word {
 /// Why a request is refused.
 ///
 /// Source: RESP2 protocol specification, "Simple errors"; Redis documentation, the pages of the X* commands.
-#[derive(Clone, Copy, Debug, PartialEq, Eq)]
+#[derive(Clone, Copy, PartialEq, Eq)]
 pub enum ErrCode {
     /// No command has this name.
     Unknown,
