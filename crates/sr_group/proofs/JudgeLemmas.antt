@@ -1,5 +1,5 @@
 -- What it does to the pending entries that one more id is judged.
-use Rattle.std.proofs.Common.{◌≡◌, ℕ, suc, ◌+◌, ◌<◌, ◌^◌, Bool, true, false, cond, not, nat_lt, List, [], ◌∷◌, ◌++◌, length, get_or, slice_index_or, drop, Option, Some, None, refl, ap, sym, ◌∙◌, append-nil, append_assoc, arith}
+use Rattle.std.proofs.Common.{◌≡◌, ℕ, suc, ◌+◌, ◌-◌, ◌<◌, ◌≤◌, ◌^◌, Bool, true, false, cond, not, nat_lt, List, [], ◌∷◌, ◌++◌, length, get_or, slice_index_or, drop, Option, Some, None, refl, ap, sym, ◌∙◌, append-nil, append_assoc, arith}
 use Rattle.std.specs.Option.{option_map}
 use Rattle.std.specs.List.{All}
 use Rattle.std.proofs.Math.Seq.{drop-cons}
@@ -73,6 +73,20 @@ module _ (claim : Claim) (claimer : List ℕ) (moment : ℕ) (entries : List Ent
   fate_with-known id xs delivery is =
       let known = IsKnown-found id xs delivery is in
       ap (fate_of_any claim claimer moment entries) known.here ∙ fate_of-same known.nack id delivery (nack_with-id id xs known.nack known.here) known.same
+
+  -- what is done to an entry that the stream has: nothing, or it is given over
+  pub stays-early : (id : Id) (delivery : Delivery) (idle : ℕ) → has_id id entries ≡ true → idle ≡ moment - delivery.time → idle < claim.least_idle
+      → None ≡ act_with (fate_of claim claimer moment entries (delivered id delivery)) id
+  stays-early id delivery idle there is early =
+      let test : nat_lt (moment - delivery.time) claim.least_idle ≡ true = grind (arith, nat_tests) in
+      rw (there, test) refl
+
+  pub moves-late : (id : Id) (delivery : Delivery) (idle time count : ℕ) → has_id id entries ≡ true → idle ≡ moment - delivery.time → claim.least_idle ≤ idle
+      → time ≡ time_given moment claim.time → count ≡ count_given claim.count claim.just_ids delivery.count
+      → Some (Give (record { id = id; owner = claimer; time = time; count = count })) ≡ act_with (fate_of claim claimer moment entries (delivered id delivery)) id
+  moves-late id delivery idle time count there is late timed counted =
+      let test : nat_lt (moment - delivery.time) claim.least_idle ≡ false = grind (arith, nat_tests) in
+      rw (there, test, timed, counted) refl
 
   -- what is given over keeps its id
   given_id : (nack other : Nack) → fate_of claim claimer moment entries nack ≡ GivenOver other → other.id ≡ nack.id

@@ -14,6 +14,7 @@ use Rattle.sr_pending.proofs.ChangeLemmas.{All-with_nack, changed_at, map-none}
 use Rattle.sr_group.specs.declared.consumer.Consumer.{Consumer}
 use Rattle.sr_group.specs.declared.shown.Act.{Act}
 use Rattle.sr_group.specs.declared.shown.Act.TheVariants.{Give, Touch, Forget, Only}
+use Rattle.sr_group.specs.declared.shown.Listed.{Listed}
 use Rattle.sr_group.specs.Group.{IsOwned, has_consumer}
 use Rattle.sr_group.specs.Shown.{after_acts, gifts, listed_of}
 use Rattle.sr_group.specs.steps.Showing.{HaveRoom, IsActOf, is_gift}
@@ -164,6 +165,11 @@ listed_of-more (Give nack) acts = refl
 listed_of-more (Touch id time count) acts = refl
 listed_of-more (Forget id) acts = refl
 listed_of-more (Only listed) acts = refl
+
+-- the first act lists the first entry
+pub listed_of-first : (act : Act) (acts rest : List Act) (listed : Listed) (all : List Listed) → acts ≡ act ∷ rest → listed_of (act ∷ []) ≡ listed ∷ [] → listed_of acts ≡ all → all ≡ listed ∷ listed_of rest
+listed_of-first act acts rest listed all is one seen =
+    sym seen ∙ ap listed_of is ∙ listed_of-more act rest ∙ ap (λ (l : List Listed). l ++ listed_of rest) one
 
 pub after_acts-more : (act : Act) (acts : List Act) (nacks : List Nack) → after_acts (act ∷ acts) nacks ≡ after_acts acts (after_acts (act ∷ []) nacks)
 after_acts-more (Give nack) acts nacks = refl

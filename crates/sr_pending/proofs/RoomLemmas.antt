@@ -1,11 +1,11 @@
 -- Rooms of owners: what a loop has counted, and what using one or adding to one leaves.
-use Rattle.std.proofs.Common.{◌≡◌, ℕ, ◌+◌, ◌≤◌, ◌≢◌, Bool, true, false, cond, List, ◌∷◌, [], ◌++◌, get_or, set, slice_get, Some, refl, sym, ◌∙◌, subst, arith}
+use Rattle.std.proofs.Common.{◌≡◌, ℕ, ◌+◌, ◌<◌, ◌≤◌, ◌≢◌, Bool, true, false, cond, List, ◌∷◌, [], ◌++◌, length, get_or, take, set, slice_get, Some, refl, ap, sym, ◌∙◌, subst, arith}
 use Rattle.std.specs.List.{sum_by, remove}
-use Rattle.std.proofs.lemmas.List.Sums.{sum_by-set, sum_by-remove, sum_by_push, get_or-le-sum_by}
+use Rattle.std.proofs.lemmas.List.Sums.{sum_by-set, sum_by-remove, sum_by_push, sum_by_more, get_or-le-sum_by}
 use Rattle.std.proofs.lemmas.Option.{slice_get_within, get_or_from_slice_get}
 use Rattle.std.specs.Cmp.Lexicographic.{bytes_decides}
 use Rattle.sr_pending.specs.declared.room.Room.{Room}
-use Rattle.sr_pending.specs.Pending.{UsesRoom, is_same_name}
+use Rattle.sr_pending.specs.Pending.{UsesRoom, is_same_name, room_of}
 use Rattle.sr_pending.specs.steps.Room.{AddsRoom, rooms_in_all}
 
 -- what a room counts for this owner
@@ -25,12 +25,21 @@ part-le owner room = by (is_same_name room.owner owner)
 part-same : (owner : List ℕ) (room : Room) → is_same_name room.owner owner ≡ true → part owner room ≡ room.left
 part-same owner room same = rw same
 
+part-none : (owner : List ℕ) (room : Room) → is_same_name room.owner owner ≡ false → part owner room ≡ 0
+part-none owner room apart = rw apart refl
+
 part-other : (owner other : List ℕ) (room : Room) → is_same_name room.owner owner ≡ true → other ≢ owner → part other room ≡ 0
 part-other owner other room same apart = by (is_same_name room.owner other) refl
   where
     by : (test : Bool) → is_same_name room.owner other ≡ test → cond test room.left 0 ≡ 0
     by true e = absurd (apart (sym ((bytes_decides room.owner other).0 e) ∙ (bytes_decides room.owner owner).0 same))
     by false e = refl
+
+-- what one more room adds to this owner's
+pub room_of-more : (owner : List ℕ) (rooms : List Room) (i : ℕ) (room : Room) → i < length rooms → room ≡ get_or rooms i room → (had all : ℕ) (test : Bool) → had ≡ room_of owner (take i rooms) → test ≡ is_same_name room.owner owner → (test ≡ true → all ≡ had + room.left → all ≡ room_of owner (take (i + 1) rooms)) × (test ≡ false → all ≡ had → all ≡ room_of owner (take (i + 1) rooms))
+room_of-more owner rooms i room within read had all test counted tests =
+    let more : room_of owner (take (i + 1) rooms) ≡ room_of owner (take i rooms) + part owner room = sum_by_more (part owner) rooms i room within ∙ ap (λ (r : Room). room_of owner (take i rooms) + part owner r) (sym read) in
+    ((λ yes is. omega (arith, more, part-same owner room (sym tests ∙ yes), counted, is)), (λ no is. omega (arith, more, part-none owner room (sym tests ∙ no), counted, is)))
 
 -- one room changes, goes or comes
 changed : (f : Room → ℕ) (old new : List Room) (i : ℕ) (room then : Room) → slice_get old i ≡ Some room → new ≡ set old i then → sum_by f new + f room ≡ sum_by f old + f then

@@ -7,5 +7,6 @@ pub mod LetterLaws
 pub mod LetterLemmas
 pub mod RoundLemmas
 pub mod RunLemmas
+pub mod TakenLemmas
 pub mod ToldLemmas
 pub mod UnderwayLemmas

@@ -1,5 +1,5 @@
 -- What a plan's calls of XCLAIM leave of the keys, carried out one after another: one change of the group that they name.
-use Rattle.std.proofs.Common.{◌≡◌, ℕ, ℤ, ◌+◌, ◌<◌, Bool, true, false, cond, List, [], ◌∷◌, ◌++◌, Option, Some, None, nat_eq, length, get_or, take, filter, refl, ap, sym, ◌∙◌, append-nil}
+use Rattle.std.proofs.Common.{◌≡◌, ℕ, ℤ, ◌+◌, ◌^◌, ◌<◌, Bool, true, false, cond, List, [], ◌∷◌, ◌++◌, Option, Some, None, nat_eq, length, get_or, take, IfSome, filter, refl, ap, sym, ◌∙◌, append-nil}
 use Rattle.std.specs.Cmp.Lexicographic.{pointwise, bytes_decides}
 use Rattle.std.specs.List.{All}
 use Rattle.std.proofs.lemmas.List.Elements.{All-append, All-cons, All-head, All-nil, All-tail, All-weaker, filter-append}
@@ -9,7 +9,8 @@ use Rattle.sr_args.specs.declared.call.Call.TheVariants.{Xclaim}
 use Rattle.sr_args.specs.declared.call.TimeAsked.{TimeAsked}
 use Rattle.sr_bytes.specs.Order.{comes_before}
 use Rattle.sr_entries.specs.declared.entry.Entry.{Entry}
-use Rattle.sr_group.specs.Claim.{HasCount, MoveState, after_moves}
+use Rattle.sr_group.specs.declared.claim.Claim.{Claim}
+use Rattle.sr_group.specs.Claim.{HasCount, MoveState, after_moves, group_after_claim}
 use Rattle.sr_group.specs.Group.{GroupState}
 use Rattle.sr_group.proofs.NameLemmas.{comes_before-itself, comes_before-one_way}
 use Rattle.sr_ids.specs.declared.id.Id.{Id}
@@ -216,6 +217,12 @@ module _ (moment : ℕ) (calls : List Call) (name : List ℕ) (stream : StreamSt
   stream_after-missing missing = rw (group_with-none name stream.groups missing) refl
 
 -- ---- calls as moves
+
+-- a call of XCLAIM and the move with the same parts
+pub claim-move : (key : Key) (name consumer : List ℕ) (least_idle : ℤ) (ids : List Id) (time : TimeAsked) (count : Option ℕ) (just_ids : Bool) (call : Call) (claim : Claim) (move : MoveState)
+    → call ≡ Xclaim key name consumer least_idle ids time count just_ids → claim ≡ claim_of least_idle time count just_ids → IfSome claim.count (λ n. n < 2 ^ 63) → move ≡ record { claimer = consumer; claim = claim; ids = ids } → IsMoveOf call move
+claim-move key name consumer least_idle ids time count just_ids call claim move is asked counts made =
+    rw (is, made) (record { same = λ moment entries group. ap (λ (c : Claim). group_after_claim c consumer (in_63_bits moment) entries ids group) asked; count = counts })
 
 AreMovesOf-push : (calls : List Call) (moves : List MoveState) (call : Call) (move : MoveState) → AreMovesOf calls moves → IsMoveOf call move → AreMovesOf (calls ++ call ∷ []) (moves ++ move ∷ [])
 AreMovesOf-push [] [] call move are is = (is, tt)

@@ -1,5 +1,5 @@
 -- What is gathered for a snapshot is one, if not too many entries are stranded.
-use Rattle.std.proofs.Common.{◌≡◌, ℕ, zero, suc, ◌+◌, ◌<◌, ◌≤◌, ◌^◌, Bool, true, false, cond, not, ◌&&◌, ◌||◌, List, [], ◌∷◌, ◌++◌, length, map, filter, Option, Some, None, is_some, option_map, option_and_then, min, max, IfSome, All, refl, ap, subst, sym, ◌∙◌, nat_eq, nat_lt, Result, Ok, Err, arith, length-append}
+use Rattle.std.proofs.Common.{◌≡◌, ℕ, zero, suc, ◌+◌, ◌<◌, ◌≤◌, ◌^◌, Bool, true, false, cond, not, ◌&&◌, ◌||◌, List, [], ◌∷◌, ◌++◌, length, map, filter, Option, Some, None, is_some, option_map, option_and_then, min, max, IfSome, All, refl, ap, subst, sym, ◌∙◌, nat_eq, nat_lt, Result, Ok, Err, arith, append-nil, length-append}
 use Rattle.std.specs.Cmp.Lexicographic.{pointwise}
 use Rattle.std.specs.List.{flat_map, list_any}
 use Rattle.std.proofs.lemmas.List.{length-map}
@@ -329,3 +329,18 @@ gathered rules key group dead entries nacks k g d stranded gone live rates is_ke
     let all_rates : rates ≡ rates_in rules (live_in rules (in_order dead) nacks) (stranded_in rules (in_order dead) entries nacks) =
     is_rates ∙ ap (λ (l : List Live). rates_in rules l stranded) all_live ∙ ap (λ (s : List Stranded). rates_in rules (live_in rules (in_order dead) nacks) s) all_stranded in
     cc
+
+-- ---- one pending entry of the dead
+
+module _ (rules : Rules) (nack : Nack) (found : Option Entry) (old : List Stranded) where
+  -- the stream has it: it is added with the weight and the class of its fields
+  pub stranded-there : (entry : Entry) (fields : List (Text × Text)) (now : List Stranded) (made : Stranded) → Some entry ≡ found → fields ≡ entry.fields
+      → made ≡ record { id = nack.id; owner = nack.owner; weight = weight_of fields; class = class_of rules fields } → now ≡ old ++ made ∷ [] → now ≡ old ++ stranded_as rules nack found
+  stranded-there entry fields now made there read is pushed =
+      pushed ∙ ap (λ (s : Stranded). old ++ s ∷ []) is
+      ∙ ap (λ (pairs : List (Text × Text)). old ++ record { id = nack.id; owner = nack.owner; weight = weight_of pairs; class = class_of rules pairs } ∷ []) read
+      ∙ ap (λ (o : Option Entry). old ++ stranded_as rules nack o) there
+
+  -- nothing is added for one that the stream has no longer
+  pub stranded-gone : None ≡ found → old ≡ old ++ stranded_as rules nack found
+  stranded-gone none = sym (append-nil old) ∙ ap (λ (o : Option Entry). old ++ stranded_as rules nack o) none

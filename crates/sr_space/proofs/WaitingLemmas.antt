@@ -5,11 +5,13 @@ use Rattle.sr_args.specs.Different.{AreDifferent}
 use Rattle.sr_args.specs.declared.call.Call.{Call}
 use Rattle.sr_args.specs.declared.call.Call.TheVariants as calls
 use Rattle.sr_args.specs.declared.call.Position.{Position}
+use Rattle.sr_args.specs.declared.call.Position.TheVariants.{At}
 use Rattle.sr_args.specs.declared.reads.ReadAsked.{ReadAsked}
 use Rattle.sr_args.specs.declared.reads.ReadAsked.TheVariants as asked
 use Rattle.sr_entries.specs.declared.entry.Entry.{Entry}
 use Rattle.sr_entries.specs.Entries.{entries_above, first_of}
 use Rattle.sr_group.specs.Group.{GroupState}
+use Rattle.sr_ids.specs.declared.id.Id.{Id}
 use Rattle.sr_resp.specs.Reply.{Answer}
 use Rattle.sr_stream.specs.Groups.{group_with}
 use Rattle.sr_stream.specs.Stream.{StreamState}
@@ -86,6 +88,10 @@ module _ (moment : ℕ) (name consumer : List ℕ) (count : Option ℤ) (no_ack 
       let there = xreadgroup.have_group name keys streams in
       not-both there (is_nothing (listed keys streams)) ∙ ap (λ (b : Bool). not there || b) (lists_any-read keys streams)
 
+-- a group that is there is listed after an id
+pub lists-pending : (read : ReadAsked) (id : Id) (entries : List Entry) (group : GroupState) (found : Option GroupState) → read ≡ asked.PendingAfter id → Some group ≡ found → true ≡ lists_found read entries found
+lists-pending read id entries group found is there = rw (is, sym there) refl
+
 -- if the group is there, the read has an answer if something is listed
 pub answers : (name : List ℕ) (keys : Keys) (streams : List (Key × ReadAsked)) (lists : Bool) → xreadgroup.have_group name keys streams ≡ true → lists ≡ lists_any name keys streams → lists ≡ has_answer name keys streams
 answers name keys streams lists there is = rw there is
@@ -97,6 +103,10 @@ fixed-keys keys (stream ∷ streams) = ap (λ (l : List Key). stream.0 ∷ l) (f
 
 pub fixed-different : (keys : Keys) (streams list : List (Key × Position)) → AreDifferent (map (λ stream. stream.0) streams) → list ≡ map (fixed_position keys) streams → AreDifferent (map (λ stream. stream.0) list)
 fixed-different keys streams list different is = rw (is, sym (fixed-keys keys streams)) different
+
+-- the item that waits for an item of the call
+pub waits-at : (keys : Keys) (item : Key × Position) (key : Key) (id : Id) → key ≡ item.0 → id ≡ read_from item.1 (stream_at keys item.0) → (key, At id) ≡ fixed_position keys item
+waits-at keys (key, from) now id same is = ap (λ (k : Key). (k, At id)) same ∙ ap (λ (i : Id). (key, At i)) is
 
 -- another call than XREAD waits as it does without BLOCK
 pub without-waits : (keys : Keys) (call : Call) → ((count : Option ℤ) (block : Option ℕ) (streams : List (Key × Position)) → call ≡ calls.Xread count block streams → ⊥) → without_block call ≡ waiting_as keys call

@@ -1,4 +1,4 @@
-use Rattle.std.proofs.Common.{rules, ◌≡◌, suc, ◌∷◌, List, length, ap, subst, ◌∙◌, arith}
+use Rattle.std.proofs.Common.{◌≡◌, suc, ◌∷◌, List, length, ap, subst, ◌∙◌, arith}
 use Rattle.std.specs.List.{All}
 use Rattle.std.proofs.lemmas.List.Elements.{All-tail}
 use Rattle.std.specs.Vec.Iter.{into_iter_items}
@@ -20,5 +20,5 @@ loop-one-preserved c =
       omega (arith, len, so_far.2, c.take.ensures.rooms.own),
       omega (arith, len, so_far.3, c.take.ensures.rooms.own),
       (λ other apart. c.take.ensures.rooms.others other apart ∙ so_far.4 other apart),
-      search rules,
+      omega (arith, len, so_far.5, c.in-Some.ensures.steps.1),
     )

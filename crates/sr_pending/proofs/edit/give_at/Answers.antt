@@ -14,3 +14,6 @@ returns-clause-items c =
     let change : Nack → Nack = λ n. record { id = n.id; owner = nack.owner; time = nack.time; count = nack.count } in
     let given : nack ≡ change at.nack = ap (λ (id : Id). let n : Nack = record { id = id; owner = nack.owner; time = nack.time; count = nack.count } in n) (sym at.same) in
     c.set.ensures.items ∙ ap (λ (n : Nack). set items place n) given ∙ set-place nack.id change items place at.nack c.requires.rising at.here at.same
+
+pub returns-clause-set : goal.returns-clause-set
+returns-clause-set c = cc

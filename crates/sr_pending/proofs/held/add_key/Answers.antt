@@ -1,16 +1,23 @@
-use Rattle.std.proofs.Common.{rules, ◌≡◌, Some, arith}
-use Rattle.std.specs.HashMap.{Updates}
-use Rattle.sr_pending.specs.steps.Blocks.{items_of}
+use Rattle.std.proofs.Common.{◌≡◌, ℕ, false, List, [], Option, Some, None, refl, subst, sym, ◌∙◌, arith}
+use Rattle.std.specs.HashMap.{Updates, get}
+use Rattle.std.specs.Option.{is_some}
+use Rattle.sr_ids.specs.declared.id.Id.{Id}
+use Rattle.sr_pending.specs.steps.Blocks.{Laid}
 use Rattle.sr_pending.specs.Pending.{is_same_name}
-use Rattle.sr_pending.specs.steps.Held.{ids_by, spare_by}
+use Rattle.sr_pending.specs.steps.Held.{ids_in, spare_in}
 use Rattle.sr_pending.proofs.HeldLemmas.{KeepsIds-update}
 use Rattle.sr_pending.proofs.held.add_key.Goals as goal
+
+-- an owner without a key has no ids, and no memory for them
+no_key : (ids : Option (Laid Id)) → is_some ids ≡ false → ([] ≡ ids_in ids) × (spare_in ids ≡ 0)
+no_key None none = (refl, refl)
+no_key (Some ids) none = absurd (cc)
 
 pub returns-in_ok-insert-clause-keeps : goal.returns-in_ok-insert-clause-keeps
 returns-in_ok-insert-clause-keeps c =
     let owner = c.args.owner.now in
     let held = c.args.held.now in
-    let updates : Updates is_same_name held c.insert.new.self owner (Some c.new.result) = search rules in
-    let none : items_of c.new.result ≡ ids_by held owner = search rules in
-    let no_spare : spare_by held owner ≡ 0 = search rules in
-    KeepsIds-update owner held c.insert.new.self c.new.result updates none (omega arith)
+    let now = c.insert.new.self in
+    let updates : Updates is_same_name held now owner (Some c.new.result) = subst (λ (o : List ℕ). Updates is_same_name held now o (Some c.new.result)) c.in_ok-copy.ensures c.in_ok-insert.ensures.updates in
+    let none = no_key (get is_same_name held owner) (sym c.contains_key.ensures ∙ c.if-not-contains_key.true) in
+    KeepsIds-update owner held now c.new.result updates (c.new.ensures.items ∙ none.0) (omega (arith, none.1))

@@ -1,5 +1,5 @@
-use Rattle.std.proofs.Common.{rules}
+use Rattle.std.proofs.Common.{refl}
 use Rattle.sr_run.proofs.desk.desk_fault.Goals as goal
 
 pub returns-in-Full : goal.returns-in-Full
-returns-in-Full c = search rules
+returns-in-Full c = rw c.in-Full.is refl

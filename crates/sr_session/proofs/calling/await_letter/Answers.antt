@@ -1,4 +1,3 @@
-use Rattle.std.proofs.Common.{rules}
 use Rattle.sr_session.proofs.DeskLemmas.{await-memory}
 use Rattle.sr_session.proofs.calling.await_letter.Goals as goal
 
@@ -6,4 +5,4 @@ pub returns-in-Err-Memory-clause-err : goal.returns-in-Err-Memory-clause-err
 returns-in-Err-Memory-clause-err g c = await-memory _ _ _ (rw c.in-Err-Memory.field-0-is at c.in-Err-Memory.ensures.letter)
 
 pub returns-in-Ok-clause-err : goal.returns-in-Ok-clause-err
-returns-in-Ok-clause-err g c = search rules
+returns-in-Ok-clause-err g c = tt

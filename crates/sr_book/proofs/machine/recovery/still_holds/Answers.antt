@@ -1,5 +1,4 @@
-use Rattle.std.proofs.Common.{rules}
 use Rattle.sr_book.proofs.machine.recovery.still_holds.Goals as goal
 
 pub returns : goal.returns
-returns c = search rules
+returns c = c.eq.ensures

@@ -1,4 +1,4 @@
-use Rattle.std.proofs.Common.{◌≡◌, ℕ, false, not, List, refl, sym, ap, ◌∙◌}
+use Rattle.std.proofs.Common.{◌≡◌, ℕ, false, not, List, inr, refl, sym, ap, ◌∙◌, arith}
 use Rattle.std.specs.Bool.{⊤}
 use Rattle.std.proofs.lemmas.Result.{IfOk-from_err, MatchResult-from_err}
 use Rattle.sr_ids.specs.declared.id.Id.{Id}
@@ -28,6 +28,9 @@ invariant_of-self-2 c =
     let name = c.in_ok-name.name in
     let seen : c.see.new.consumers.items ≡ seen_at name c.args.moment group.consumers.items = c.see.ensures.items ∙ ap (λ (l : List Consumer). seen_at name c.args.moment l) c.reserve.ensures.items in
     IsGroup-seen name c.args.moment group.last group.consumers.items c.see.new.consumers.items group.pending.nacks c.self.invariant c.requires seen
+
+pub see-requires-clause-room : goal.see-requires-clause-room
+see-requires-clause-room c = inr (let room = c.in_ok-reserve.ensures.ok in omega (arith, room))
 
 pub returns-in_err-reserve-clause-shown : goal.returns-in_err-reserve-clause-shown
 returns-in_err-reserve-clause-shown c = IfOk-from_err _ _ c.from_residual-in_err-reserve.ensures.0

@@ -1,4 +1,4 @@
-use Rattle.std.proofs.Common.{rules, ◌≡◌, suc, ◌∷◌, List, Result, Ok, Err, length, refl, ap, sym, subst, ◌∙◌, arith}
+use Rattle.std.proofs.Common.{◌≡◌, suc, ◌∷◌, List, Result, Ok, Err, length, refl, ap, sym, subst, ◌∙◌, arith}
 use Rattle.std.specs.List.{All}
 use Rattle.std.specs.Result.{OnErr}
 use Rattle.std.proofs.lemmas.List.{nil_from_length}
@@ -32,7 +32,7 @@ loop-ready-preserved c =
       HaveRooms-spent c.in-Some.ready left base now c.carry_out.new.self.rooms (subst (λ (l : List MoveState). HaveRooms l base now) items so_far.1) c.carry_out.ensures.rooms,
       omega (arith, len, so_far.2, c.carry_out.ensures.places),
       All-tail HasCount c.in-Some.ready left (subst (λ (l : List MoveState). All HasCount l) items so_far.3),
-      search rules,
+      omega (arith, len, so_far.4, c.in-Some.ensures.steps.1),
     )
 
 holds : {T E : Type 0} (result : Result T E) (P : Type 0) → P → OnErr result P

@@ -1,5 +1,6 @@
-use Rattle.std.proofs.Common.{◌≡◌, ◌∷◌, true, ap, sym, ◌∙◌}
-use Rattle.std.proofs.lemmas.List.Elements.{All-rest}
+use Rattle.std.proofs.Common.{◌≡◌, ◌∷◌, true, List, Option, Some, None, IfNone, ap, subst, sym, ◌∙◌}
+use Rattle.std.specs.List.{All}
+use Rattle.std.proofs.lemmas.List.Elements.{All-head, All-rest}
 use Rattle.std.proofs.lemmas.Option.{slice_get_within}
 use Rattle.sr_ids.specs.declared.id.Id.{Id}
 use Rattle.sr_pending.specs.steps.Blocks.{at_of, items_of}
@@ -10,6 +11,11 @@ use Rattle.sr_pending.specs.steps.Search.{IsPlace}
 use Rattle.sr_pending.proofs.ListingLemmas.{looked_up-first}
 use Rattle.sr_pending.proofs.SearchLemmas.{nack_with-place}
 use Rattle.sr_pending.proofs.nacks.Owned.next.Goals as goal
+
+-- what holds whatever the result is
+on_none : {V P : Type 0} (r : Option V) → P → IfNone r P
+on_none None p = p
+on_none (Some _) p = tt
 
 pub at-requires : goal.at-requires
 at-requires c =
@@ -33,3 +39,13 @@ returns-clause-some c =
     sym c.self.view_is
     ∙ looked_up-first nacks id at.nack c.self.inside.ids rest c.in_ok-id.ensures.some (nack_with-place id nacks place at.nack c.self.invariant.0 at.here at.same)
     ∙ ap (λ (x : Nack). x ∷ looked_up nacks rest) (sym read)
+
+pub returns-in_err-id-clause-none : goal.returns-in_err-id-clause-none
+returns-in_err-id-clause-none c =
+    on_none c.from_residual.result (sym c.self.view_is ∙ ap (λ (l : List Id). looked_up (items_of c.self.inside.nacks.now) l) c.in_err-id.ensures.none)
+
+pub pending_place-requires-clause-pending : goal.pending_place-requires-clause-pending
+pending_place-requires-clause-pending c =
+    let nacks = items_of c.self.inside.nacks.now in
+    let P : Id → Type 0 = λ id. has_id id nacks ≡ true in
+    All-head P c.in_ok-id.field-0.now c.next.new.self (subst (λ (l : List Id). All P l) c.in_ok-id.ensures.some c.self.invariant.1)
