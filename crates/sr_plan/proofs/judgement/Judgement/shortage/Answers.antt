@@ -1,5 +1,9 @@
-use Rattle.std.proofs.Common.{rules}
+use Rattle.std.proofs.Common.{sym, ap, ◌∙◌}
+use Rattle.sr_transport.specs.declared.solved.Solved.{Solved}
+use Rattle.sr_plan.specs.Verdict.{Judged, shortage_in}
+use Rattle.sr_plan.specs.steps.Judged.{answer_of}
 use Rattle.sr_plan.proofs.judgement.Judgement.shortage.Goals as goal
 
 pub returns-in-Best : goal.returns-in-Best
-returns-in-Best c = search rules
+returns-in-Best c =
+    ap (λ (s : Solved). shortage_in c.self.inside.snapshot (answer_of s)) (sym c.in-Best.is) ∙ ap (λ (j : Judged). shortage_in j.snapshot j.answer) c.self.view_is
