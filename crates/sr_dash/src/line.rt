@@ -43,7 +43,7 @@ pub(crate) fn write_line(
     ensures { OnOk result (out.new.items
         ≡ out.old.items ++ boards.line (boards.row_of group.now.shown moment policy.now name.now)) }
 {
-    let pending = group.count_of(name) as u64;
+    let pending = group.pending().count_of(name) as u64;
     let limit = policy.limit(name);
     let oldest = since(moment, group.oldest(name));
     let idle = since(moment, group.seen(name));

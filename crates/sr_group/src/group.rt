@@ -84,14 +84,6 @@ impl Group {
         self.consumers.as_slice()
     }
 
-    /// How many entries are pending.
-    pub fn pending_len(&self) -> usize
-        ensures value { result ≡ length self.now.shown.nacks }
-        ensures bound { result < 2 ^ 63 }
-    {
-        self.pending.len()
-    }
-
     /// Law: the consumers are in order, once each, and own what is pending. Calling this has no effect.
     pub fn sound(&self)
         ensures { IsGroup self.now.shown }

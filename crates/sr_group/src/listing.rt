@@ -192,18 +192,12 @@ impl Group {
         Idle::new(rest, least_idle, moment, count)
     }
 
-    /// The pending entries, by rising id. Takes no memory.
-    pub fn pending(&self) -> Nacks<'_>
-        ensures { result ≡ self.now.shown.nacks }
+    /// The pending entries, and those of each consumer.
+    pub fn pending(&self) -> &Pending
+        ensures nacks { result.now.nacks ≡ self.now.shown.nacks }
+        ensures rooms { result.now.rooms ≡ self.now.rooms }
     {
-        self.pending.all()
-    }
-
-    /// What is pending for a consumer, by rising id. Takes no memory.
-    pub fn pending_of<'a>(&'a self, consumer: &'a Name) -> Nacks<'a>
-        ensures { result ≡ owned_by consumer.now self.now.shown.nacks }
-    {
-        self.pending.of(consumer)
+        &self.pending
     }
 
     /// When the consumer's pending entry that was delivered longest ago was delivered. None if it has none.
@@ -211,13 +205,6 @@ impl Group {
         ensures { result ≡ oldest_of (owned_by consumer.now self.now.shown.nacks) }
     {
         least_time(self.pending.of(consumer))
-    }
-
-    /// How many entries are pending for the consumer.
-    pub fn count_of(&self, consumer: &Name) -> usize
-        ensures { result ≡ length (owned_by consumer.now self.now.shown.nacks) }
-    {
-        self.pending.count_of(consumer)
     }
 
     /// When the consumer was seen last, in milliseconds since 1970. None if the group doesn't have it.

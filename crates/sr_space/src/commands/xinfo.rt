@@ -61,10 +61,10 @@ fn stream_reply(alloc: Global, stream: &Stream) -> Result<Reply, AllocError>
     ensures { IfOk result (λ reply. reply ≡ stream_answer stream.now.shown) }
 {
     stream.sound();
-    let entries = stream.len() as u64;
+    let entries = stream.entries().len() as u64;
     let groups = group_count(stream) as u64;
-    let first = entry_or_null(alloc, stream.first())?;
-    let last = entry_or_null(alloc, stream.last())?;
+    let first = entry_or_null(alloc, stream.entries().first())?;
+    let last = entry_or_null(alloc, stream.entries().last())?;
     Reply::array(
         alloc,
         [
@@ -127,7 +127,7 @@ fn group_reply(alloc: Global, named: &NamedGroup) -> Result<Reply, AllocError>
             Reply::short(alloc, b"consumers"),
             number_reply(alloc, group.consumers().len() as u64),
             Reply::short(alloc, b"pending"),
-            number_reply(alloc, group.pending_len() as u64),
+            number_reply(alloc, group.pending().len() as u64),
             Reply::short(alloc, b"last-delivered-id"),
             id_reply(alloc, group.last_id()),
         ],
@@ -141,7 +141,7 @@ fn consumers_reply(alloc: Global, group: &Group, moment: u64) -> Result<Reply, A
 {
     let counts = group.summary(alloc)?.counts;
     // No consumer has more pending entries than the group, so each count fits a reply.
-    prove!(group.pending_len() <= i64::MAX as usize);
+    prove!(group.pending().len() <= i64::MAX as usize);
     let mut lines = Reply::empty_array(alloc);
     for (place, consumer) in group.consumers().iter().enumerate() {
         lines.push(consumer_reply(alloc, consumer, counts[place], moment)?)?;

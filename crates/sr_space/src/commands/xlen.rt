@@ -12,6 +12,9 @@ use std::alloc::Global;
 pub(crate) fn count_entries(alloc: Global, stream: Option<&Stream>) -> Answered
     ensures { result ≡ reply_of (xlen (shown_of (option_copied stream.entry))) }
 {
-    let entries = stream.map_or(0, Stream::len);
+    let entries = match stream {
+        Some(stream) => stream.entries().len(),
+        None => 0,
+    };
     numbered(alloc, entries as u64)
 }

@@ -62,7 +62,7 @@ fn summary_reply(alloc: Global, group: &Group) -> Result<Reply, AllocError>
     Reply::array(
         alloc,
         [
-            number_reply(alloc, group.pending_len() as u64),
+            number_reply(alloc, group.pending().len() as u64),
             id_or_null(alloc, least),
             id_or_null(alloc, greatest),
             shares,
@@ -85,7 +85,7 @@ fn shares_reply(alloc: Global, group: &Group, counts: &[u64]) -> Result<Reply, A
     requires { counts.now ≡ counts_of group.now.shown.consumers group.now.shown.nacks }
     ensures { IfOk result (λ reply. reply ≡ shares_of group.now.shown.consumers group.now.shown.nacks) }
 {
-    if group.pending_len() == 0 {
+    if group.pending().len() == 0 {
         return Ok(Reply::no_array(alloc));
     }
     let mut shares = Reply::empty_array(alloc);

@@ -82,7 +82,7 @@ fn lists_stream(stream: &Stream, name: &Name, asked: ReadAsked) -> bool
     match (stream.group(name), asked) {
         (None, _) => false,
         (Some(_), ReadAsked::PendingAfter(_)) => true,
-        (Some(group), ReadAsked::New) => stream.above(group.last_id()).len() > 0,
+        (Some(group), ReadAsked::New) => stream.entries().above(group.last_id()).len() > 0,
     }
 }
 

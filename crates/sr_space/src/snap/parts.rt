@@ -18,7 +18,7 @@ use std::alloc::{AllocError, Global};
 pub(super) fn is_there(stream: &Stream, id: Id) -> bool
     ensures { result ≡ has_id id stream.now.shown.entries }
 {
-    match stream.get(id) {
+    match stream.entries().get(id) {
         Some(_entry) => true,
         None => false,
     }
@@ -29,8 +29,8 @@ pub(super) fn pending_for<'a>(group: &'a Group, dead: &'a [Name]) -> Nacks<'a>
     ensures { of_dead dead.now result ≡ of_dead dead.now group.now.shown.nacks }
 {
     match dead {
-        [consumer] => group.pending_of(consumer),
-        _ => group.pending(),
+        [consumer] => group.pending().of(consumer),
+        _ => group.pending().all(),
     }
 }
 
@@ -66,7 +66,7 @@ fn push_stranded(
     ensures { OnOk result (list.new.items
         ≡ list.old.items ++ stranded_as policy.now nack.now (entry_with nack.now.id stream.now.shown.entries)) }
 {
-    if let Some(entry) = stream.get(nack.id) {
+    if let Some(entry) = stream.entries().get(nack.id) {
         list.push(stranded_entry(alloc, policy, nack, entry.fields())?)?;
     }
     Ok(())
@@ -142,7 +142,7 @@ fn push_live(
     ensures { OnOk result (list.new.items
         ≡ list.old.items ++ listed (live_of policy.now name.now (length (owned_by name.now group.now.shown.nacks)))) }
 {
-    if let Some(consumer) = policy.live(alloc, name, group.count_of(name) as u64)? {
+    if let Some(consumer) = policy.live(alloc, name, group.pending().count_of(name) as u64)? {
         list.push(consumer)?;
     }
     Ok(())

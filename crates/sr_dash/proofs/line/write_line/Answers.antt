@@ -1,4 +1,6 @@
-use Rattle.std.proofs.Common.{rules, ◌≡◌, ◌++◌, ◌∷◌, [], List, ℕ, decimal, option_map, ap, ◌∙◌}
+use Rattle.std.proofs.Common.{rules, ◌≡◌, ◌++◌, ◌∷◌, [], List, ℕ, decimal, length, option_map, ap, ◌∙◌}
+use Rattle.sr_pending.specs.declared.nack.Nack.{Nack}
+use Rattle.sr_pending.specs.Pending.{owned_by}
 use Rattle.sr_group.specs.Group.{consumer_with}
 use Rattle.sr_dash.specs.Board as boards
 use Rattle.sr_dash.specs.Board.{Row, on_the_left, on_the_right, cell, escaped, room_in, since}
@@ -18,6 +20,7 @@ returns c =
     let line_end : List ℕ = 0x0a ∷ [] in
     let found = consumer_with c.args.name.now c.args.group.now.shown.consumers in
     let seen : c.since-idle.result ≡ row.idle = c.since-idle.ensures ∙ ap (option_map (since c.args.moment)) c.seen.ensures ∙ since-seen c.args.moment found in
+    let counted = c.count_of-pending.ensures.value ∙ ap (λ (nacks : List Nack). length (owned_by c.args.name.now nacks)) c.pending.ensures.nacks in
     let is_name : c.write_name.new.out.items ≡ start ++ name = search rules in
     let is_pending : c.write_number.new.out.items ≡ c.write_name.new.out.items ++ pending = search rules in
     let is_limit : c.write_number-2.new.out.items ≡ c.write_number.new.out.items ++ limit = search rules in

@@ -27,8 +27,8 @@ fn deliver(stream: &mut Stream, alloc: Global, name: &Name) -> Result<(), AllocE
 /// How many entries a stream has, and how many are pending in a group.
 fn counts(stream: &Stream, name: &Name) -> (usize, usize) {
     match stream.group(name) {
-        Some(group) => (stream.len(), group.pending_len()),
-        None => (stream.len(), 0),
+        Some(group) => (stream.entries().len(), group.pending().len()),
+        None => (stream.entries().len(), 0),
     }
 }
 

@@ -2,6 +2,7 @@ use Rattle.std.proofs.Common.{ℕ, ◌^◌, ◌<◌, List, length, map, ap, ◌�
 use Rattle.std.proofs.lemmas.List.{take_all}
 use Rattle.std.proofs.lemmas.Result.{IfOk-from_err}
 use Rattle.sr_group.specs.declared.consumer.Consumer.{Consumer}
+use Rattle.sr_pending.specs.declared.nack.Nack.{Nack}
 use Rattle.sr_resp.specs.Reply.{array_of}
 use Rattle.sr_space.specs.commands.Xinfo.{consumer_answer, consumer_line}
 use Rattle.sr_space.proofs.InfoLemmas.{counts_of-few, counts_of-read}
@@ -11,7 +12,8 @@ use Rattle.sr_space.proofs.commands.xinfo.consumers_reply.Goals as goal
 pub consumer_reply-requires-clause-pending : goal.consumer_reply-requires-clause-pending
 consumer_reply-requires-clause-pending c =
     let group = c.args.group.now.shown in
-    let few : length group.nacks < 2 ^ 63 = rw c.pending_len.ensures.value at c.pending_len.ensures.bound in
+    let number = c.len.ensures.value ∙ ap (λ (nacks : List Nack). length nacks) c.pending.ensures.nacks in
+    let few : length group.nacks < 2 ^ 63 = rw number at c.len.ensures.bound in
     let within = rw c.consumers-consumer-items.ensures at c.loop-place-test.true in
     counts_of-few group.consumers group.nacks c.in_ok-counts.field-0.counts.items c.loop-place.place c.index.result.now (2 ^ 63) c.in_ok-counts.ensures.counts within c.index.ensures few
 
