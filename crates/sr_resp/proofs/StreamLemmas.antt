@@ -96,7 +96,7 @@ Sorts-advances old new piece working s = λ taken given st.
     let waiting : (given ++ old.waiting) ++ s.requests ≡ given ++ new.waiting = append_assoc given old.waiting s.requests ∙ ap (λ (ws : List Words). given ++ ws) (sym s.waiting) in
     record { rest = new.rest; stream = subst (λ (ws : List Words). Splits (taken ++ piece) ws new.rest) waiting whole; end = end_stands new.failed new.rest s.found.end }
 
-pub Stands-nothing : Stands [] [] (record { waiting = []; rest = []; failed = false })
+pub Stands-nothing : Stands [] [] (record { waiting = []; rest = []; failed = false; looked = 0 })
 unfolding item_at
 Stands-nothing = record { rest = []; stream = Splits-nothing []; end = (refl, partial_from_more [] refl) }
 

@@ -1,5 +1,5 @@
 -- A piece more: what is known of the bytes before it stays.
-use Rattle.std.proofs.Common.{◌≡◌, ℕ, suc, ◌-◌, ◌≤◌, Bool, false, List, [], ◌∷◌, ◌++◌, length, take, drop, refl, sym, ap, subst, ◌∙◌, arith}
+use Rattle.std.proofs.Common.{◌≡◌, ℕ, suc, ◌+◌, ◌-◌, ◌≤◌, Bool, false, List, [], ◌∷◌, ◌++◌, length, take, drop, refl, sym, ap, subst, ◌∙◌, arith}
 use Rattle.std.specs.Prelude.{All}
 use Rattle.std.specs.List.{slice_range}
 use Rattle.std.proofs.lemmas.Bool.{MatchBool-at_false}
@@ -63,15 +63,15 @@ reader_stands failed rest piece bytes places stage from at working whole count =
     let st : Standing rest places (length rest) stage = MatchBool-at_false (Unit {0}) (Standing rest places (length rest) stage) working at in
     subst (λ (b : List ℕ). Standing b places from stage) (sym whole) (subst (λ (n : ℕ). Standing (rest ++ piece) places n stage) (sym count) (Standing-piece rest piece places stage st))
 
-pub sorts_out : (old : Progress) (before after : List Words) (rest piece bytes left : List ℕ) (places : List Place) (failed : Bool) (reached : Reached)
-    → record { waiting = before; rest = rest; failed = failed } ≡ old → bytes ≡ rest ++ piece → SortsOut bytes places before after reached → left ≡ drop reached.start bytes
-    → Sorts (record old { rest = old.rest ++ piece }) (record { waiting = after; rest = left; failed = reached.fault })
-sorts_out old before after rest piece bytes left places failed reached is whole s tail =
-    let start : Progress = record { waiting = before; rest = rest; failed = failed } in
+pub sorts_out : (old : Progress) (before after : List Words) (rest piece bytes left : List ℕ) (places : List Place) (failed : Bool) (seen looked : ℕ) (reached : Reached)
+    → record { waiting = before; rest = rest; failed = failed; looked = seen } ≡ old → bytes ≡ rest ++ piece → SortsOut bytes places before after reached → left ≡ drop reached.start bytes
+    → Sorts (record old { rest = old.rest ++ piece }) (record { waiting = after; rest = left; failed = reached.fault; looked = looked })
+sorts_out old before after rest piece bytes left places failed seen looked reached is whole s tail =
+    let start : Progress = record { waiting = before; rest = rest; failed = failed; looked = seen } in
     let parses : Parses (rest ++ piece) s.requests left reached.fault =
     subst (λ (t : List ℕ). Parses (rest ++ piece) s.requests t reached.fault) (sym tail) (subst (λ (b : List ℕ). Parses b s.requests (drop reached.start bytes) reached.fault) whole s.parses) in
-    let sorted : Sorts (record start { rest = rest ++ piece }) (record { waiting = after; rest = left; failed = reached.fault }) = record { requests = s.requests; waiting = s.waiting; found = parses } in
-    subst (λ (o : Progress). Sorts (record o { rest = o.rest ++ piece }) (record { waiting = after; rest = left; failed = reached.fault })) is sorted
+    let sorted : Sorts (record start { rest = rest ++ piece }) (record { waiting = after; rest = left; failed = reached.fault; looked = looked }) = record { requests = s.requests; waiting = s.waiting; found = parses } in
+    subst (λ (o : Progress). Sorts (record o { rest = o.rest ++ piece }) (record { waiting = after; rest = left; failed = reached.fault; looked = looked })) is sorted
 
 pub reader_new : IsReaderAt false [] [] stages.Start
 reader_new = Standing-start [] [] refl
@@ -81,10 +81,20 @@ pub reader_still : (failed : Bool) (rest kept : List ℕ) (places left : List Pl
 reader_still failed rest kept places left stage same words at =
     subst (λ (ps : List Place). IsReaderAt failed kept ps stage) (sym words) (subst (λ (b : List ℕ). IsReaderAt failed b places stage) (sym same) at)
 
-pub view_still : (now : Progress) (waiting requests : List Words) (rest kept : List ℕ) (failed : Bool) → requests ≡ waiting → kept ≡ rest → record { waiting = waiting; rest = rest; failed = failed } ≡ now
-    → record { waiting = requests; rest = kept; failed = failed } ≡ now
-view_still now waiting requests rest kept failed same bytes is =
-    ap (λ (w : List Words). record { waiting = w; rest = kept; failed = failed }) same ∙ ap (λ (b : List ℕ). record { waiting = waiting; rest = b; failed = failed }) bytes ∙ is
+pub view_still : (now : Progress) (waiting requests : List Words) (rest kept : List ℕ) (failed : Bool) (seen looked : ℕ) → requests ≡ waiting → kept ≡ rest
+    → record { waiting = waiting; rest = rest; failed = failed; looked = seen } ≡ now → record { waiting = requests; rest = kept; failed = failed; looked = looked } ≡ record now { looked = looked }
+view_still now waiting requests rest kept failed seen looked same bytes is =
+    ap (λ (w : List Words). record { waiting = w; rest = kept; failed = failed; looked = looked }) same
+    ∙ ap (λ (b : List ℕ). record { waiting = waiting; rest = b; failed = failed; looked = looked }) bytes
+    ∙ ap (λ (p : Progress). record p { looked = looked }) is
+
+-- only the bytes of the piece were looked at
+pub looks_once : (now : Progress) (waiting : List Words) (rest piece bytes : List ℕ) (failed : Bool) (seen looked from : ℕ) → record { waiting = waiting; rest = rest; failed = failed; looked = seen } ≡ now
+    → bytes ≡ rest ++ piece → from ≡ length rest → (seen ≤ looked) × (looked ≤ seen + (length bytes - from)) → (now.looked ≤ looked) × (looked ≤ now.looked + length piece)
+looks_once now waiting rest piece bytes failed seen looked from is whole count bounds =
+    let old : seen ≡ now.looked = ap (λ (p : Progress). p.looked) is in
+    let len : length bytes ≡ length (rest ++ piece) = ap length whole in
+    (omega (arith, old, bounds.0), omega (arith, old, len, count, bounds.1, length-append rest piece))
 
 -- what was added is cut off again
 pub cut_back : {A : Type 0} (old new cut : List A) (count : ℕ) → cut ≡ take count new → count ≡ length old → take (length old) new ≡ old → cut ≡ old

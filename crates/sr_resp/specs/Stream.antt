@@ -1,7 +1,7 @@
 -- A stream of requests: the requests that its bytes spell, and where it goes wrong.
 -- Source: RESP2 protocol specification, "Sending commands to a Redis server" and "Multiple commands and pipelining".
 
-use Rattle.std.specs.Prelude.{◌≡◌, ◌≢◌, ℕ, List, [], ◌∷◌, ◌++◌, Option, Some, None, Bool, MatchBool}
+use Rattle.std.specs.Prelude.{◌≡◌, ◌≢◌, ◌+◌, ◌≤◌, ℕ, length, List, [], ◌∷◌, ◌++◌, Option, Some, None, Bool, MatchBool}
 use Rattle.sr_resp.specs.Request.{Words, Spells}
 
 -- the text is the spellings of these requests and empty commands, one after another
@@ -35,12 +35,17 @@ pub record IsPartial (rest : List ℕ) : Type 0 where
 abbrev pub IsFault : List ℕ → Type 0
 IsFault rest = (more text after : List ℕ) (item : Option Words) → Spells text item → rest ++ more ≡ text ++ after → ⊥
 
--- the state of a reader: the requests that wait to be handed out, what has come of the next one, and whether the stream
--- went wrong
+-- the state of a reader: the requests that wait to be handed out, what has come of the next one, whether the stream
+-- went wrong, and how many bytes were looked at
 pub record Progress : Type 0 where
   pub waiting : List Words
   pub rest : List ℕ
   pub failed : Bool
+  pub looked : ℕ
+
+-- at most as many bytes were looked at as the piece has, and none is counted back
+abbrev pub LooksOnce : Progress → Progress → List ℕ → Type 0
+LooksOnce old new piece = (old.looked ≤ new.looked) × (new.looked ≤ old.looked + length piece)
 
 -- the bytes taken so far are the requests handed out and those that wait, and then what has come of the next one, or
 -- a fault

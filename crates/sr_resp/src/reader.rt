@@ -1,7 +1,7 @@
 ghost use Rattle.std.specs.Prelude.{◌≡◌, ◌<◌, ◌≤◌, ◌⊎◌, ℕ, ◌∷◌, ◌++◌, [], List, Option, false, true, IfNone, IfOk, IfSome, IsErrOf, OnErr, OnOk, length, vec_len, drop};
 ghost use Rattle.sr_resp.specs.Reading.{Sorts};
 ghost use Rattle.sr_resp.specs.Request.{Words, Spells};
-ghost use Rattle.sr_resp.specs.Stream.{Stands, Advances, Splits, IsPartial, IsFault};
+ghost use Rattle.sr_resp.specs.Stream.{Stands, Advances, LooksOnce, Splits, IsPartial, IsFault};
 ghost use Rattle.sr_resp.specs.declared.reader.ReadFault.TheVariants.{Memory};
 
 use crate::request::Request;
@@ -15,7 +15,7 @@ use std::marker::Model;
 /// Why a piece was refused.
 #[derive(Clone, Copy, Debug, PartialEq, Eq)]
 pub enum ReadFault {
-    /// An allocation failed. The piece was not taken, and the reader is as it was before.
+    /// An allocation failed. The piece was not taken, and all of the reader but `looked` is as it was before.
     Memory,
     /// The stream went wrong. Every later piece is refused too. Requests that were complete before the fault are still
     /// handed out.
@@ -67,7 +67,7 @@ impl Model for Reader {
 
     ghost Value = { Progress };
 
-    ghost view = { λ r. record { waiting = r.waiting.items; rest = r.rest.items; failed = r.failed } };
+    ghost view = { λ r. record { waiting = r.waiting.items; rest = r.rest.items; failed = r.failed; looked = r.looked } };
 
     ghost use Rattle.sr_resp.specs.Scanning.{IsReaderAt};
 
@@ -78,7 +78,7 @@ impl Reader {
     /// A reader at the start of a stream. Takes no memory.
     pub fn new(alloc: Global) -> Reader
         ensures stands { Stands [] [] result }
-        ensures fresh { (result.waiting ≡ []) × (result.failed ≡ false) }
+        ensures fresh { (result.waiting ≡ []) × (result.failed ≡ false) × (result.looked ≡ 0) }
     {
         Reader {
             waiting: VecDeque::new(alloc),
@@ -96,7 +96,9 @@ impl Reader {
         ensures advances { OnOk result (Advances self.old self.new piece.now) }
         ensures protocol { IsErrOf result ReadFault.Protocol
             → (self.new.failed ≡ true) × Advances self.old self.new piece.now }
-        ensures memory { IsErrOf result ReadFault.Memory → self.new ≡ self.old }
+        ensures memory { IsErrOf result ReadFault.Memory → self.new ≡ record self.old { looked = self.new.looked } }
+        // taken or not, at most as many bytes were looked at as the piece has
+        ensures looked { LooksOnce self.old self.new piece.now }
         // after a fault every piece is refused, and the waiting requests stay
         ensures failed { self.old.failed ≡ true → (result ≡ Err ReadFault.Protocol) × (self.new ≡ self.old) }
     {
@@ -115,7 +117,8 @@ impl Reader {
     fn take_in(&mut self, alloc: Global, piece: &[u8]) -> Result<(), AllocError>
         requires { self.old.failed ≡ false }
         ensures ok { OnOk result (Sorts (record self.old { rest = self.old.rest ++ piece.now }) self.new) }
-        ensures err { OnErr result (self.new ≡ self.old) }
+        ensures err { OnErr result (self.new ≡ record self.old { looked = self.new.looked }) }
+        ensures looked { LooksOnce self.old self.new piece.now }
     {
         let (bytes, words, requests) = (self.rest.len(), self.places.len(), self.waiting.len());
         self.rest.extend_from_slice(piece)?;
@@ -144,8 +147,11 @@ impl Reader {
         }
     }
 
-    /// How many bytes were looked at so far, or the greatest number if there were more.
-    pub fn looked(&self) -> u64 {
+    /// How many bytes were looked at so far, or the greatest number if there were more. Those of a piece that was not taken
+    /// count as well.
+    pub fn looked(&self) -> u64
+        ensures { result ≡ self.now.looked }
+    {
         self.looked
     }
 

@@ -34,7 +34,7 @@ pub fn scan(
     requires sound { IsStageAt from entered }
     ensures ok { IfOk result (λ found. Scans item.now from entered places.old.items places.new.items found) }
     ensures kept { take (length places.old.items) places.new.items ≡ places.old.items }
-    ensures looked { looked.new ≤ looked.old + (length item.now - from) }
+    ensures looked { (looked.old ≤ looked.new) × (looked.new ≤ looked.old + (length item.now - from)) }
     ensures once { IfOk result (λ found.
         looked.new + unseen_in item.now found ≤ looked.old + (length item.now - from)) }
 {
@@ -87,7 +87,7 @@ pub fn sort_out(
         SortsOut bytes.now places.new.items waiting.old.items waiting.new.items reached) }
     ensures places { take (length places.old.items) places.new.items ≡ places.old.items }
     ensures waiting { take (length waiting.old.items) waiting.new.items ≡ waiting.old.items }
-    ensures looked { looked.new ≤ looked.old + (length bytes.now - from) }
+    ensures looked { (looked.old ≤ looked.new) × (looked.new ≤ looked.old + (length bytes.now - from)) }
 {
     let mut item = bytes;
     let mut at = from;

@@ -8,6 +8,7 @@ pub loop-found-init : goal.loop-found-init
 loop-found-init c = record {
   sorting = Sorting-nothing c.args.bytes.now c.args.from c.args.entered c.args.places.now.items c.args.waiting.now.items c.requires;
   kept = take_all (length c.args.places.now.items) c.args.places.now.items (omega arith);
+  rises = omega arith;
   looked = omega arith;
 }
 
@@ -48,6 +49,7 @@ loop-found-preserved-in-Request c =
     record {
       sorting = Sorting-request _ _ _ _ _ _ _ _ _ _ _ _ _ _ _ s examined c.in_ok-request-in-Request.ensures tail (omega (arith, c.len-first.ensures, c.scan.new.places.ok)) c.in_ok-push_back-in-Request.ensures.items;
       kept = kept_more _ _ _ scans.added c.loop-found.invariant.kept scans.whole;
+      rises = omega (arith, c.loop-found.invariant.rises, c.in_ok-found.ensures.looked.0);
       looked = looked_on _ _ _ _ _ _ _ tail once c.loop-found.invariant.looked;
     }
 
@@ -62,6 +64,7 @@ loop-found-preserved c =
     record {
       sorting = Sorting-empty _ _ _ _ _ _ _ _ _ _ _ _ _ s examined tail (omega (arith, c.len-first-in-Empty.ensures, c.scan.new.places.ok));
       kept = kept_more _ _ _ scans.added c.loop-found.invariant.kept scans.whole;
+      rises = omega (arith, c.loop-found.invariant.rises, c.in_ok-found.ensures.looked.0);
       looked = looked_on _ _ _ _ _ _ _ tail once c.loop-found.invariant.looked;
     }
 
@@ -111,19 +114,19 @@ pub returns-in_err-push_back-in-Request-clause-ok : goal.returns-in_err-push_bac
 returns-in_err-push_back-in-Request-clause-ok c = IfOk-from_err _ _ c.from_residual-in_err-push_back-in-Request.ensures.0
 
 pub returns-in_err-found-clause-looked : goal.returns-in_err-found-clause-looked
-returns-in_err-found-clause-looked c = omega (arith, c.in_err-found.ensures.looked, c.loop-found.invariant.looked)
+returns-in_err-found-clause-looked c = (omega (arith, c.loop-found.invariant.rises, c.in_err-found.ensures.looked.0), omega (arith, c.in_err-found.ensures.looked.1, c.loop-found.invariant.looked))
 
 pub returns-in_err-request-in-Request-clause-looked : goal.returns-in_err-request-in-Request-clause-looked
-returns-in_err-request-in-Request-clause-looked c = omega (arith, c.in_ok-found.ensures.looked, c.loop-found.invariant.looked)
+returns-in_err-request-in-Request-clause-looked c = (omega (arith, c.loop-found.invariant.rises, c.in_ok-found.ensures.looked.0), omega (arith, c.in_ok-found.ensures.looked.1, c.loop-found.invariant.looked))
 
 pub returns-in_err-push_back-in-Request-clause-looked : goal.returns-in_err-push_back-in-Request-clause-looked
-returns-in_err-push_back-in-Request-clause-looked c = omega (arith, c.in_ok-found.ensures.looked, c.loop-found.invariant.looked)
+returns-in_err-push_back-in-Request-clause-looked c = (omega (arith, c.loop-found.invariant.rises, c.in_ok-found.ensures.looked.0), omega (arith, c.in_ok-found.ensures.looked.1, c.loop-found.invariant.looked))
 
 pub returns-in-Part-clause-looked : goal.returns-in-Part-clause-looked
-returns-in-Part-clause-looked c = omega (arith, c.in_ok-found.ensures.looked, c.loop-found.invariant.looked)
+returns-in-Part-clause-looked c = (omega (arith, c.loop-found.invariant.rises, c.in_ok-found.ensures.looked.0), omega (arith, c.in_ok-found.ensures.looked.1, c.loop-found.invariant.looked))
 
 pub returns-in-Fault-clause-looked : goal.returns-in-Fault-clause-looked
-returns-in-Fault-clause-looked c = omega (arith, c.in_ok-found.ensures.looked, c.loop-found.invariant.looked)
+returns-in-Fault-clause-looked c = (omega (arith, c.loop-found.invariant.rises, c.in_ok-found.ensures.looked.0), omega (arith, c.in_ok-found.ensures.looked.1, c.loop-found.invariant.looked))
 
 pub slice_bounds-gather-count : goal.slice_bounds-gather-count
 slice_bounds-gather-count c =
