@@ -11,7 +11,7 @@ use Rattle.sr_session.specs.steps.Underway.{IsAnswering}
 
 -- the same stream with these requests waiting
 abbrev pub with_waiting : List Words → Progress → Progress
-with_waiting requests progress = record { waiting = requests; rest = progress.rest; failed = progress.failed }
+with_waiting requests progress = record { waiting = requests; rest = progress.rest; failed = progress.failed; looked = progress.looked }
 
 -- what was read of the words of one request
 pub IsAsked-read : (words : Words) (one : Result Command CallFault) → IfOk one (IsCommand words) → IfErr one (Refuses words) → IsAsked words one

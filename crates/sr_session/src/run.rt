@@ -363,7 +363,7 @@ fn answer_all<W: Sink, D: Desk, C: Clock, G: Gate>(
 fn feed(alloc: Global, requests: &mut Reader, piece: &[u8]) -> Result<bool, AllocError>
     ensures ok { IfOk result (λ broken. broken ≡ requests.new.failed) }
     ensures advances { OnOk result (Advances requests.old requests.new piece.now) }
-    ensures err { OnErr result (requests.new ≡ requests.old) }
+    ensures err { OnErr result (requests.new ≡ record requests.old { looked = requests.new.looked }) }
 {
     match requests.feed(alloc, piece) {
         Ok(()) => Ok(false),
