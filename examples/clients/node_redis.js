@@ -9,6 +9,7 @@ const { setTimeout: sleep } = require('timers/promises');
 const { createClient } = require('redis');
 
 const KINDS = ['image', 'video', 'image', 'image', 'video', 'image'];
+const OWN = { key: 'jobs', id: '0' };
 const NEW = { key: 'jobs', id: '>' };
 
 async function connect(port) {
@@ -24,14 +25,16 @@ async function produce(jobs, kinds) {
   }
 }
 
-// Reads jobs as they come, and acknowledges each. Ends when that many are done.
+// Does the jobs that are pending for it, recovered ones among them, then new ones. Ends when that many are done.
 async function work(jobs, name, wanted) {
   let done = 0;
+  let start = OWN;
   while (done < wanted) {
-    const streams = await jobs.xReadGroup('render', name, NEW, { COUNT: 2, BLOCK: 5000 });
-    for (const { messages } of streams ?? []) {
-      for (const { id } of messages) done += await jobs.xAck('jobs', 'render', id);
-    }
+    const streams = await jobs.xReadGroup('render', name, start, { COUNT: 2, BLOCK: 5000 });
+    const messages = streams?.[0].messages ?? [];
+    for (const { id } of messages) done += await jobs.xAck('jobs', 'render', id);
+    // its own pending entries until there are none, then new ones, and so on
+    start = start === OWN && messages.length === 0 ? NEW : OWN;
   }
   return done;
 }
@@ -95,6 +98,9 @@ async function main(port) {
   console.log('of 4 jobs of a worker that is gone, one was claimed');
   await inspect(jobs);
   console.log(`the other 3 were recovered, at a cost of ${await recover(jobs)}`);
+  assert.equal(await work(jobs, 'gpu', 3), 3);
+  assert.equal((await jobs.xPending('jobs', 'render')).pending, 0);
+  console.log('and finished by the worker that got them');
   console.log('refused:', await refused(jobs, 'XADD', 'jobs'));
   console.log('refused:', await refused(jobs, 'NOSUCH'));
   // Commands that are sent in the same turn go out together.

@@ -30,15 +30,18 @@ function produce(Redis $jobs, array $kinds): void
     }
 }
 
-/** Reads jobs as they come, and acknowledges each. Ends when that many are done. */
+/** Does the jobs that are pending for it, recovered ones among them, then new ones. Ends when that many are done. */
 function work(Redis $jobs, string $name, int $wanted): int
 {
     $done = 0;
+    $start = '0';
     while ($done < $wanted) {
-        $streams = $jobs->xReadGroup('render', $name, ['jobs' => '>'], 2, 5000);
-        foreach ($streams['jobs'] ?? [] as $id => $job) {
+        $entries = $jobs->xReadGroup('render', $name, ['jobs' => $start], 2, 5000)['jobs'] ?? [];
+        foreach ($entries as $id => $job) {
             $done += $jobs->xAck('jobs', 'render', [$id]);
         }
+        // its own pending entries until there are none, then new ones, and so on
+        $start = $start === '0' && !$entries ? '>' : '0';
     }
     return $done;
 }
@@ -102,6 +105,8 @@ function main(int $port): void
     echo "of 4 jobs of a worker that is gone, one was claimed\n";
     inspect($jobs);
     echo 'the other 3 were recovered, at a cost of ', recover($jobs), "\n";
+    expect([work($jobs, 'gpu', 3), $jobs->xPending('jobs', 'render')[0]], [3, 0]);
+    echo "and finished by the worker that got them\n";
     echo 'refused: ', refused($jobs, 'XADD', 'jobs'), "\n";
     echo 'refused: ', refused($jobs, 'NOSUCH'), "\n";
     $pipeline = $jobs->multi(Redis::PIPELINE);

@@ -26,16 +26,20 @@ produce() {
 
 # The ids among the lines that redis-cli prints of a reply.
 ids() {
-    grep -E '^[0-9]+-[0-9]+$'
+    grep -E '^[0-9]+-[0-9]+$' || true
 }
 
-# Reads jobs as they come, and acknowledges each. Ends when that many are done.
+# Does the jobs that are pending for it, recovered ones among them, then new ones. Ends when that many are done.
 work() { # NAME WANTED
     done=0
+    start=0
     while [ "$done" -lt "$2" ]; do
-        for id in $(jobs XREADGROUP GROUP render "$1" COUNT 2 BLOCK 5000 STREAMS jobs '>' | ids); do
+        entries=$(jobs XREADGROUP GROUP render "$1" COUNT 2 BLOCK 5000 STREAMS jobs "$start" | ids)
+        for id in $entries; do
             done=$((done + $(jobs XACK jobs render "$id")))
         done
+        # its own pending entries until there are none, then new ones, and so on
+        if [ "$start" = 0 ] && [ -z "$entries" ]; then start='>'; else start=0; fi
     done
     echo "$done"
 }
@@ -65,6 +69,9 @@ expect "$(sed -n 1p "$folder/run")" 'done'
 expect "$(jobs XPENDING jobs render - + 10 old)" ''
 echo "the other 3 were recovered, at a cost of $(sed -n 2p "$folder/run")"
 jobs RECOVER.BOARD jobs render
+expect "$(work gpu 3)" 3
+expect "$(jobs XPENDING jobs render | sed -n 1p)" 0
+echo 'and finished by the worker that got them'
 
 # One connection, four commands: two are refused, and the others are answered.
 printf 'XLEN jobs\nXADD jobs\nNOSUCH\nPING\n' | jobs > "$folder/refused"

@@ -25,11 +25,14 @@ def produce(port, kinds):
 
 
 def work(port, name, wanted):
-    """Reads jobs as they come, and acknowledges each. Ends when that many are done."""
-    jobs, done = connect(port), 0
+    """Does the jobs that are pending for it, recovered ones among them, then new ones. Ends when that many are done."""
+    jobs, done, start = connect(port), 0, "0"
     while done < wanted:
-        for _, entries in jobs.xreadgroup("render", name, {"jobs": ">"}, count=2, block=5000):
-            done += sum(jobs.xack("jobs", "render", entry) for entry, _ in entries)
+        reply = jobs.xreadgroup("render", name, {"jobs": start}, count=2, block=5000)
+        entries = reply[0][1] if reply else []
+        done += sum(jobs.xack("jobs", "render", entry) for entry, _ in entries)
+        # its own pending entries until there are none, then new ones, and so on
+        start = ">" if start == "0" and not entries else "0"
     return done
 
 
@@ -84,6 +87,8 @@ def main(port):
     print("of 4 jobs of a worker that is gone, one was claimed")
     inspect(jobs)
     print(f"the other 3 were recovered, at a cost of {recover(jobs)}")
+    assert work(port, "gpu", 3) == 3 and jobs.xpending("jobs", "render")["pending"] == 0
+    print("and finished by the worker that got them")
     print("refused:", refused(jobs, "XADD", "jobs"))
     print("refused:", refused(jobs, "NOSUCH"))
     with jobs.pipeline(transaction=False) as pipeline:

@@ -20,12 +20,15 @@ def produce(jobs, kinds)
   kinds.each_with_index { |kind, number| jobs.xadd('jobs', { kind: kind, file: "#{number}.raw" }) }
 end
 
-# Reads jobs as they come, and acknowledges each. Ends when that many are done.
+# Does the jobs that are pending for it, recovered ones among them, then new ones. Ends when that many are done.
 def work(jobs, name, wanted)
   done = 0
+  start = '0'
   while done < wanted
-    entries = jobs.xreadgroup('render', name, 'jobs', '>', count: 2, block: 5000).fetch('jobs', [])
+    entries = jobs.xreadgroup('render', name, 'jobs', start, count: 2, block: 5000).fetch('jobs', [])
     entries.each { |id, _| done += jobs.xack('jobs', 'render', id) }
+    # its own pending entries until there are none, then new ones, and so on
+    start = start == '0' && entries.empty? ? '>' : '0'
   end
   done
 end
@@ -81,6 +84,8 @@ def main(port)
   puts 'of 4 jobs of a worker that is gone, one was claimed'
   inspect_jobs(jobs)
   puts "the other 3 were recovered, at a cost of #{recover(jobs)}"
+  expect([work(jobs, 'gpu', 3), jobs.xpending('jobs', 'render')['size']], [3, 0])
+  puts 'and finished by the worker that got them'
   puts "refused: #{refused(jobs, 'XADD', 'jobs')}"
   puts "refused: #{refused(jobs, 'NOSUCH')}"
   jobs.pipelined { |pipe| 100.times { |number| pipe.xadd('jobs', { kind: 'image', file: "#{number}.raw" }) } }
