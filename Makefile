@@ -1,6 +1,7 @@
 # All that is needed is the Rattle toolchain, whose command is `rt`, and the python3 that it runs on.
 
-.PHONY: run try demo test replay histories plans check memory refusals compare clients soak bench bench-net bench-solver check-solver
+.PHONY: run help try demo install test replay histories plans check memory refusals compare clients soak
+.PHONY: bench bench-net bench-solver check-solver
 .PHONY: given given-server given-driver given-checker given-demo given-sessions given-requests given-groups given-moves given-streams
 .PHONY: given-room given-refused given-histories given-refusals given-plans
 
@@ -10,29 +11,51 @@ DRIVER = crates/book_driver/out/book_driver
 CHECKER = crates/plan_check/out/plan_check
 TWO = $(MAKE) --no-print-directory --output-sync -j2
 
+# Where `make install` puts the programs, the pages and the unit.
+PREFIX = /usr/local
+PAGES = $(DESTDIR)$(PREFIX)/share/doc/sr_server
+UNITS = $(DESTDIR)$(PREFIX)/lib/systemd/system
+
 # The histories of which each allocation is refused in turn.
 REFUSED = examples/histories/*.history tests/histories/runs.history tests/histories/waiting.history tests/histories/adding.history \
     tests/histories/commands.history tests/histories/carried-out.history
 
-# Builds the server and sends it the commands of examples/first.session as a client spells them.
+# Proves and builds the server, and sends it the commands of examples/first.session as a client spells them.
 run:
 	@cd crates/sr_server && rt run -- --stdio < stdin
 
-# A first look within a minute or two of the clone: builds the server as it is, before any proof, and serves until it is interrupted.
-# Nothing of it is kept, and only the proved program of the other rules counts: make try, or make try ADDR=127.0.0.1:7000
-try:
-	@cd crates/sr_server && rt try --seconds 86400 -- --listen $(or $(ADDR),127.0.0.1:6379) --policy $(CURDIR)/examples/policies/renderers.toml
+# Lists the rules, each with the first sentence of the comment above it.
+help:
+	@awk '/^# / { text = text substr($$0, 2); next } \
+	    /^[a-z-]+:/ && !/^given/ && text != "" { sub(/:.*/, ""); sub(/\. .*/, ".", text); printf "  make %-14s%s\n", $$0, text } { text = "" }' Makefile
 
-# Shows a recovery on one screen: a worker dies with twelve jobs, and others get them at the least cost.
+# Builds the server without any proof in a minute or two, and serves until it is interrupted. Nothing of it is kept, and only the proved
+# program of the other rules counts: make try, or make try ADDR=127.0.0.1:7000
+try:
+	@scripts/try $(ADDR)
+
+# Shows a recovery on one screen: a worker dies with twelve jobs, and others finish them at the least cost.
 demo:
 	@cd crates/sr_server && rt run -- --stdio < /dev/null
 	@cd crates/plan_check && rt run < stdin > /dev/null
 	@scripts/demo $(SERVER) $(CHECKER)
 
+# Installs the proved server, plan_check, the systemd unit, policies and pages. `make demo` builds the programs; then: make install, or
+# make install PREFIX=/opt/sr DESTDIR=/tmp/package
+install:
+	@for program in $(SERVER) $(CHECKER); do \
+	    test -x $$program || { echo "$$program is missing: make demo proves and builds it"; exit 1; }; done
+	install -D -t $(DESTDIR)$(PREFIX)/bin $(SERVER) $(CHECKER)
+	for page in README.md CHANGELOG.md docs/* crates/*/*.md examples/*.session examples/*/*; do \
+	    install -D -m 644 $$page $(PAGES)/$$page || exit 1; done
+	install -d $(UNITS)
+	sed 's|/usr/local/|$(PREFIX)/|' examples/operations/sr_server.service > $(UNITS)/sr_server.service
+
 # The whole gate: every proof from nothing, the must-fail edits, the tests and the program's stored run. Then the programs that
 # were proved are given the sessions, histories and plans of the README, of examples/ and of tests/, two runs at a time, and the
 # demo has to print what the README shows.
 test:
+	@scripts/links
 	rt ci
 	@$(TWO) given
 	@tests/listening.py $(SERVER)
@@ -108,38 +131,38 @@ plans:
 check:
 	cd crates/$(C) && rt check
 
-# Builds the tests of a crate once, and runs each with its first allocation refused, then its second and so on. Prints each test
-# that then fails for any other reason: make memory C=sr_server, or with at most 500 runs of each test make memory C=sr_server N=500
+# Runs the tests of a crate with each of their allocations refused in turn. Prints each test that then fails for any other reason:
+# make memory C=sr_server, or with at most 500 runs of each test make memory C=sr_server N=500
 memory:
 	@cd crates/$(C) && rt test
 	@scripts/memory crates/$(C)/out/$(C)_tests $(N)
 
-# Builds book_driver, and replays histories once for each of its allocations, which is refused: what it is refused to leaves the book, and
+# Replays histories once for each allocation of book_driver, which is refused. An event that is refused so leaves the book as it was, and
 # succeeds at the second try. It needs cc.
 refusals:
 	@cd crates/book_driver && rt run -- < /dev/null
 	@$(TWO) given-refusals
 
-# Builds the server, sends it and a Redis server (Debian: redis-server) the same random commands, also over sockets with readers that
-# block, and prints replies that differ.
+# Sends the server and a Redis server the same random commands, and prints replies that differ. Some go over sockets, with readers that
+# block (Debian: redis-server).
 compare:
 	@cd crates/sr_server && rt run -- --stdio < /dev/null
 	@python3 bench/compare.py $(SERVER)
 	@python3 bench/compare_net.py $(SERVER)
 
-# Builds the server and has real clients use it over a socket: redis-cli and libraries of Python, Node.js, Ruby and PHP, those that are
+# Has real clients use the server over a socket. They are redis-cli and libraries of Python, Node.js, Ruby and PHP, as far as they are
 # installed (docs/CLIENTS.md).
 clients:
 	@cd crates/sr_server && rt run -- --stdio < /dev/null
 	@scripts/clients $(SERVER)
 
-# Builds the server and uses it roughly over sockets for a minute, beside two honest workers who may lose nothing. By hand for longer,
-# or again with the seed that was printed: make soak SECONDS=3600 SEED=7
+# Misuses the server over sockets for a minute, beside two honest workers who may lose nothing. By hand for longer, or again with the seed
+# that was printed: make soak SECONDS=3600 SEED=7
 soak:
 	@cd crates/sr_server && rt run -- --stdio < /dev/null
 	@scripts/soak $(SERVER) $(or $(SECONDS),60) $(SEED)
 
-# Builds the server, times it on streams of requests over a pipe, and tells what memory a client can claim, as docs/BENCH.md describes.
+# Times the server on streams of requests over a pipe. It also tells what memory a client can claim, as docs/BENCH.md describes.
 bench:
 	@cd crates/sr_server && rt run -- --stdio < /dev/null
 	@python3 bench/streams.py $(SERVER)
@@ -150,13 +173,13 @@ bench:
 	@cd crates/book_driver && rt run -- < /dev/null
 	@python3 bench/recovery.py $(SERVER) $(DRIVER)
 
-# Builds the server and times it over sockets, by turns with a Redis server if that is installed (Debian: redis-server redis-tools).
+# Times the server over sockets, by turns with a Redis server. (Debian: redis-server redis-tools; alone if there is none.)
 bench-net:
 	@cd crates/sr_server && rt run -- --stdio < /dev/null
 	@python3 bench/net.py $(SERVER)
 
-# Times the solver on the families of problems of docs/BENCH.md, which bench/families.py makes, by turns with LEMON's network simplex
-# if its headers are installed (Debian: liblemon-dev), and alone if not.
+# Times the solver on the families of problems of docs/BENCH.md. It goes by turns with LEMON's network simplex if its headers are installed
+# (Debian: liblemon-dev), and alone if not.
 bench-solver:
 	@cd crates/bench_solver && rt run -- < stdin > /dev/null
 	@if echo "#include <lemon/network_simplex.h>" | $(CXX) -E -x c++ - > /dev/null 2>&1; then \
