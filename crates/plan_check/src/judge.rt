@@ -1,4 +1,4 @@
-//! An input, parted into a problem and a reply, and what the reply is worth.
+//! An input, split into a problem and a reply, and what the reply is worth.
 ghost use Rattle.std.specs.Prelude.{◌≡◌, ◌≢◌, ◌⊎◌, ◌++◌, ◌∷◌, [], All, IfOk};
 ghost use Rattle.plan_check.specs.Found.{IsFound};
 

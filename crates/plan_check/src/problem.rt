@@ -1,4 +1,4 @@
-//! A problem, read line by line, and the snapshot that it stands for.
+//! A problem, read line by line, and the snapshot that it describes.
 ghost use Rattle.std.specs.Prelude.{ℕ, ◌^◌, ◌<◌, ◌≤◌, IfOk, IsErrOf, IfErr, ◌≡◌};
 ghost use Rattle.sr_bytes.specs.Decimal.{IsDecimal};
 ghost use Rattle.sr_ids.specs.declared.id.Id as ids;

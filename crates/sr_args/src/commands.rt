@@ -1,7 +1,7 @@
 //! One module a command: its reader, which takes the words after the command's name.
 //!
-//! A reader judges the form first, then numbers, then ids, and copies at the end: this order is the order of faults,
-//! and no memory is taken before all is judged.
+//! A reader judges the form first, then numbers, then ids, and copies at the end. This is the order of refusals, and
+//! nothing is allocated before everything is judged.
 
 pub(crate) mod named;
 pub(crate) mod ping;

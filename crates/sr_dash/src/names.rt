@@ -1,4 +1,4 @@
-//! Of names in byte order, those that come before a name and those that come after it.
+//! The names in byte order that come before a name, and those that come after it.
 ghost use Rattle.std.specs.Prelude.{◌≡◌, filter};
 ghost use Rattle.sr_bytes.specs.Order.{comes_before};
 ghost use Rattle.sr_dash.specs.steps.Names.{AreRising};

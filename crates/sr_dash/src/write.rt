@@ -1,4 +1,4 @@
-//! The columns of a line: a name, and texts on the right of theirs.
+//! The columns of a line: a name on the left of its column, and texts on the right of theirs.
 ghost use Rattle.std.specs.Prelude.{◌≡◌, ◌++◌, ◌∷◌, ◌<◌, OnOk, replicate};
 ghost use Rattle.sr_dash.specs.Board as boards;
 

@@ -1,4 +1,4 @@
-//! What is done to the closed blocks of a list and to the open one behind them.
+//! Changes to the closed blocks of a list and to the open one after them.
 ghost use Rattle.std.specs.Prelude.{◌≡◌, ◌+◌, ◌-◌, ◌<◌, ◌≤◌, [], ◌∷◌, ◌++◌, length, take, drop, get_or, max, slice_set};
 ghost use Rattle.std.specs.Prelude.{List, OnOk, option_to_list};
 ghost use Rattle.std.specs.List.{insert, remove};

@@ -1,4 +1,4 @@
-//! How far the item under way has come: an automaton that passes over each byte once.
+//! How much of the current item has been read: an automaton that scans each byte once.
 ghost use Rattle.std.specs.Prelude.{◌≡◌, ◌<◌, ◌≤◌, if◌then◌else◌, ◌==◌, ◌-◌, length, min, IsTrue, IfSome};
 ghost use Rattle.sr_resp.specs.Numbers.{NumberGoesOn, CountGoesOn, LengthGoesOn};
 ghost use Rattle.sr_resp.specs.Stages.{IsStageAt, StepsTo, HasShortHeader, HasLineEnd};

@@ -1,5 +1,5 @@
-//! The system's files, of which a policy is one. Whatever decides that a file cannot be read, that it is missing, is a folder, may not be
-//! opened or is not UTF-8, is one fault; a failed allocation is another one.
+//! The system's files, such as a policy. Any reason why a file cannot be read (it is missing, a folder, not permitted
+//! or not UTF-8) is one fault; a failed allocation is another.
 ghost use Rattle.sr_start.specs.Policy.{any_text};
 
 use sr_start::{TextFault, TextFiles};

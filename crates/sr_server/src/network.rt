@@ -1,5 +1,5 @@
-//! The system's network: TCP, at an IP address and a port. Whatever decides that an address cannot be bound is one fault; a failed
-//! allocation is another one.
+//! The system's network: TCP, at an IP address and a port. Any reason why an address cannot be bound is one fault; a
+//! failed allocation is another.
 ghost use Rattle.std.specs.Prelude.{◌≤◌, ℕ, IsTrue};
 ghost use Rattle.sr_start.specs.Listening.{any_end, any_refusal};
 

@@ -1,4 +1,4 @@
-//! Which consumer an entry wants at given prices. No clause says so much: the order of placement follows it, and nothing else.
+//! Which consumer an entry wants at given prices. No clause mentions it: only the order of placement depends on it.
 ghost use Rattle.std.specs.Prelude.{◌≡◌, ◌<◌, length, IfOk};
 ghost use Rattle.sr_transport.specs.Problem.{consumers};
 
