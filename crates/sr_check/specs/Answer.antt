@@ -1,7 +1,7 @@
 -- An answer to the problem of a snapshot: a cheapest plan with the prices that show it, or a shortage that shows that there is none.
 -- Source: docs/RECOVERY.md.
 
-use Rattle.std.specs.Prelude.{ℕ, List, [], map, slice_index_or}
+use Rattle.std.specs.Prelude.{ℕ, ◌<◌, ◌^◌, List, [], All, map, slice_index_or}
 use Rattle.std.specs.List.{zip}
 use Rattle.sr_ids.specs.declared.id.Id.{Id}
 use Rattle.sr_policy.specs.declared.live.Live.{Live}
@@ -19,9 +19,13 @@ pub data Answer : Type 0 where
   best : (assign prices : List ℕ) (total : ℕ) → Answer
   short : (set : List ℕ) → Answer
 
+-- a reply can tell these prices: an integer of the protocol is below 2 ^ 63
+abbrev pub AreTold : List ℕ → Type 0
+AreTold prices = All (λ price. price < 2 ^ 63) prices
+
 -- the answer shows that it is right: the prices that no assignment costs less, or the entries that there is none
 abbrev pub IsShown : Transport → Answer → Type 0
-IsShown p (best assign prices total) = IsBest p assign prices total
+IsShown p (best assign prices total) = IsBest p assign prices total × AreTold prices
 IsShown p (short set) = IsShortage p set
 
 -- what the answer is worth: no assignment costs less, or none exists

@@ -1,11 +1,12 @@
 -- A verdict on a snapshot: a cheapest plan with the prices that show it, or a shortage that shows that there is none.
 -- Source: docs/RECOVERY.md.
 
-use Rattle.std.specs.Prelude.{ℕ, List, map, Option, Some, None}
+use Rattle.std.specs.Prelude.{⊤, ℕ, ◌≤◌, List, All, map, Option, Some, None}
 use Rattle.sr_ids.specs.declared.id.Id.{Id}
 use Rattle.sr_policy.specs.Problem.{problem_of}
 use Rattle.sr_policy.specs.Rules.{Text}
 use Rattle.sr_policy.specs.Snapshot.{Shown, IsSnapshot}
+use Rattle.sr_transport.specs.Limits.{greatest_price}
 pub use Rattle.sr_check.specs.Answer.{Answer, best, short, IsShown, IsWorth, name_at, id_at, moves_of}
 
 -- a snapshot, and an answer to its problem
@@ -13,10 +14,16 @@ pub record Judged : Type 0 where
   pub snapshot : Shown
   pub answer : Answer
 
--- the snapshot is one, and the answer shows that it is right
+-- no price of a plan is above the greatest that a solution needs
+abbrev pub HasSmallPrices : Answer → Type 0
+HasSmallPrices (best assign prices total) = All (λ price. price ≤ greatest_price) prices
+HasSmallPrices (short set) = ⊤
+
+-- the snapshot is one, and the answer shows that it is right, with small prices
 pub record IsVerdict (judged : Judged) : Type 0 where
   pub snapshot : IsSnapshot judged.snapshot
   pub shown : IsShown (problem_of judged.snapshot) judged.answer
+  pub small : HasSmallPrices judged.answer
 
 -- what a verdict says: a plan has moves, a total and prices, and a shortage has its entries' ids
 abbrev pub moves_in : Shown → Answer → Option (List (Id × Text))

@@ -303,5 +303,4 @@ renamed_solution p q order ys zs first orders assigns xs prices total is re_firs
       shown = renamed_shows p q order ys zs prices is re every renamed best.assignment best.shown;
       sum = best.sum ∙ renamed_total p q order ys zs is re every renamed best.assignment;
       small_total = best.small_total;
-      small_prices = best.small_prices;
     })

@@ -25,7 +25,7 @@ placed_shows p xs prices placed = record {
 }
 
 -- none of which is too great
-placed_prices : (p : Transport) (xs prices : List ℕ) → IsPlaced p p.entries xs prices → All (λ price. price ≤ greatest_price) prices
+pub placed_prices : (p : Transport) (xs prices : List ℕ) → IsPlaced p p.entries xs prices → All (λ price. price ≤ greatest_price) prices
 placed_prices p xs prices placed =
     All-from_get_or (λ price. price ≤ greatest_price) prices 0
     (λ c lt. omega (arith, placed.low c (omega (arith, lt, placed.one_each)), placed.limits.few_entries))
@@ -38,5 +38,4 @@ placed_best p xs prices total placed same small = record {
   shown = placed_shows p xs prices placed;
   sum = same;
   small_total = small;
-  small_prices = placed_prices p xs prices placed;
 }

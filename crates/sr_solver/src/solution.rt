@@ -3,7 +3,7 @@ ghost use Rattle.sr_transport.specs.Sum.{sum_below};
 ghost use Rattle.sr_transport.specs.Limits.{greatest_total};
 ghost use Rattle.sr_transport.specs.Problem.{consumers, room_of};
 ghost use Rattle.sr_transport.specs.Assignment.{IsAssignment, total_of};
-ghost use Rattle.sr_transport.specs.Solved.{IsSolution, IsOptimal};
+ghost use Rattle.sr_transport.specs.Solved.{IsSolution, IsOptimal, HasSmallPrices};
 ghost use Rattle.sr_solver.specs.Placed.{IsPlaced, IsStanding};
 
 use crate::label::Label;
@@ -26,6 +26,7 @@ use std::alloc::{AllocError, Global};
 pub fn solve(alloc: Global, problem: &Problem) -> Result<Solved, AllocError>
     ensures solution { IfOk result (IsSolution problem.now) }
     ensures optimal { IfOk result (IsOptimal problem.now) }
+    ensures prices { IfOk result HasSmallPrices }
 {
     if places(problem) < problem.entries() as u64 {
         return all_short(alloc, problem);
@@ -41,6 +42,7 @@ fn all_short(alloc: Global, problem: &Problem) -> Result<Solved, AllocError>
     requires { sum_below (room_of problem.now) (consumers problem.now) < problem.now.entries }
     ensures solution { IfOk result (IsSolution problem.now) }
     ensures optimal { IfOk result (IsOptimal problem.now) }
+    ensures prices { IfOk result HasSmallPrices }
 {
     let set = numbers(alloc, problem.entries())?;
     Ok(Solved::Short { set })
@@ -50,6 +52,7 @@ fn all_short(alloc: Global, problem: &Problem) -> Result<Solved, AllocError>
 fn solve_reordered(alloc: Global, problem: &Problem) -> Result<Solved, AllocError>
     ensures solution { IfOk result (IsSolution problem.now) }
     ensures optimal { IfOk result (IsOptimal problem.now) }
+    ensures prices { IfOk result HasSmallPrices }
 {
     let order = placing_order(alloc, problem)?;
     let other = reordered(alloc, problem, &order)?;
@@ -78,6 +81,7 @@ fn solve_reordered(alloc: Global, problem: &Problem) -> Result<Solved, AllocErro
 pub(crate) fn solve_in_order(alloc: Global, problem: &Problem) -> Result<Solved, AllocError>
     ensures solution { IfOk result (IsSolution problem.now) }
     ensures optimal { IfOk result (IsOptimal problem.now) }
+    ensures prices { IfOk result HasSmallPrices }
 {
     let found = answer(alloc, problem, true)?;
     Ok(found.unwrap())
@@ -88,6 +92,7 @@ pub(crate) fn solve_in_order(alloc: Global, problem: &Problem) -> Result<Solved,
 fn answer(alloc: Global, problem: &Problem, is_patient: bool) -> Result<Option<Solved>, AllocError>
     ensures solution { IfOk result (λ found. IfSome found (IsSolution problem.now)) }
     ensures optimal { IfOk result (λ found. IfSome found (IsOptimal problem.now)) }
+    ensures prices { IfOk result (λ found. IfSome found HasSmallPrices) }
     ensures patient { is_patient ≡ true → IfOk result (λ found. IsSome found) }
 {
     let mut placement = nowhere(alloc, problem)?;
@@ -113,6 +118,7 @@ fn finish(
     requires standing { IsStanding problem.now first placement }
     ensures solution { IfOk result (λ found. IfSome found (IsSolution problem.now)) }
     ensures optimal { IfOk result (λ found. IfSome found (IsOptimal problem.now)) }
+    ensures prices { IfOk result (λ found. IfSome found HasSmallPrices) }
     ensures patient { is_patient ≡ true → IfOk result (λ found. IsSome found) }
 {
     let consumers = problem.consumers();
@@ -142,6 +148,7 @@ fn best(problem: &Problem, assign: Vec<usize>, prices: Vec<u64>) -> Solved
     requires { IsPlaced problem.now problem.now.entries assign.items prices.items }
     ensures solution { IsSolution problem.now result }
     ensures optimal { IsOptimal problem.now result }
+    ensures prices { HasSmallPrices result }
 {
     let total = sum_of_costs(problem, &assign);
     Solved::Best {

@@ -4,10 +4,7 @@ ghost use Rattle.sr_transport.specs.Assignment.{IsAssignment, total_of};
 ghost use Rattle.sr_transport.specs.Solved.{IsBest, IsSolution, IsOptimal};
 
 use crate::certificate::{check_prices, check_shortage, is_assignment};
-use crate::problem::{MAX_CONSUMERS, MAX_COST, MAX_ENTRIES, Problem};
-
-/// The greatest price in a solution: `greatest_price` of `specs/Limits.antt`.
-pub const MAX_PRICE: u64 = MAX_ENTRIES as u64 * MAX_CONSUMERS as u64 * MAX_COST;
+use crate::problem::Problem;
 
 /// An answer to a problem, with what shows it right.
 #[derive(Drop)]
@@ -52,13 +49,11 @@ pub fn total(problem: &Problem, assign: &[usize]) -> Option<u64>
     Some(sum_of_costs(problem, assign))
 }
 
-/// Whether an assignment is one, with this total, and prices that are not too great show it a cheapest one.
+/// Whether an assignment is one, with this total, and prices show it a cheapest one.
 fn is_best(problem: &Problem, assign: &[usize], prices: &[u64], claimed: u64) -> bool
     ensures { IsTrue result ↔ IsBest problem.now assign.now prices.now claimed }
 {
-    check_prices(problem, assign, prices)
-        && total(problem, assign) == Some(claimed)
-        && prices.iter().all(|price| *price <= MAX_PRICE)
+    check_prices(problem, assign, prices) && total(problem, assign) == Some(claimed)
 }
 
 /// The sum of the costs of an assignment.

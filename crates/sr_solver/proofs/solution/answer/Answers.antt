@@ -1,5 +1,4 @@
-use Rattle.std.proofs.Common.{sym, ◌∙◌, arith}
-use Rattle.std.proofs.lemmas.Bool.{false≢true}
+use Rattle.std.proofs.Common.{◌∙◌, arith}
 use Rattle.std.proofs.lemmas.Result.{IfOk-from_err}
 use Rattle.sr_solver.proofs.solution.answer.Goals as goal
 
@@ -8,6 +7,9 @@ returns-in_err-placement-clause-solution c = IfOk-from_err _ _ c.from_residual.e
 
 pub returns-in_err-placement-clause-optimal : goal.returns-in_err-placement-clause-optimal
 returns-in_err-placement-clause-optimal c = IfOk-from_err _ _ c.from_residual.ensures.0
+
+pub returns-in_err-placement-clause-prices : goal.returns-in_err-placement-clause-prices
+returns-in_err-placement-clause-prices c = IfOk-from_err _ _ c.from_residual.ensures.0
 
 pub returns-in_err-placement-clause-patient : goal.returns-in_err-placement-clause-patient
 returns-in_err-placement-clause-patient c = λ yes. IfOk-from_err _ _ c.from_residual.ensures.0
@@ -21,6 +23,9 @@ returns-then-taken-entries-clause-solution c = c.best.ensures.solution
 pub returns-then-taken-entries-clause-optimal : goal.returns-then-taken-entries-clause-optimal
 returns-then-taken-entries-clause-optimal c = c.best.ensures.optimal
 
+pub returns-then-taken-entries-clause-prices : goal.returns-then-taken-entries-clause-prices
+returns-then-taken-entries-clause-prices c = c.best.ensures.prices
+
 pub finish-requires-clause-first : goal.finish-requires-clause-first
 finish-requires-clause-first c = omega arith
 
@@ -32,6 +37,9 @@ returns-clause-solution c = c.finish.ensures.solution
 
 pub returns-clause-optimal : goal.returns-clause-optimal
 returns-clause-optimal c = c.finish.ensures.optimal
+
+pub returns-clause-prices : goal.returns-clause-prices
+returns-clause-prices c = c.finish.ensures.prices
 
 pub returns-clause-patient : goal.returns-clause-patient
 returns-clause-patient c = c.finish.ensures.patient

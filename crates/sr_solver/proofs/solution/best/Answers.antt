@@ -1,5 +1,5 @@
 use Rattle.sr_transport.proofs.CallerLemmas.{prices_show_cheapest}
-use Rattle.sr_solver.proofs.SolvedLemmas.{placed_assignment, placed_best}
+use Rattle.sr_solver.proofs.SolvedLemmas.{placed_assignment, placed_best, placed_prices}
 use Rattle.sr_solver.proofs.solution.best.Goals as goal
 
 pub sum_of_costs-total-requires : goal.sum_of_costs-total-requires
@@ -15,3 +15,6 @@ pub returns-clause-optimal : goal.returns-clause-optimal
 returns-clause-optimal c =
     let best = returns-clause-solution c in
     (best.assignment, prices_show_cheapest c.args.problem.now c.args.assign.items c.args.prices.items best.assignment best.shown)
+
+pub returns-clause-prices : goal.returns-clause-prices
+returns-clause-prices c = placed_prices c.args.problem.now c.args.assign.items c.args.prices.items c.requires

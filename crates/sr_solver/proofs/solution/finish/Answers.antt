@@ -47,6 +47,9 @@ returns-in_err-table-clause-solution c = IfOk-from_err _ _ c.from_residual.ensur
 pub returns-in_err-table-clause-optimal : goal.returns-in_err-table-clause-optimal
 returns-in_err-table-clause-optimal c = IfOk-from_err _ _ c.from_residual.ensures.0
 
+pub returns-in_err-table-clause-prices : goal.returns-in_err-table-clause-prices
+returns-in_err-table-clause-prices c = IfOk-from_err _ _ c.from_residual.ensures.0
+
 pub returns-in_err-table-clause-patient : goal.returns-in_err-table-clause-patient
 returns-in_err-table-clause-patient c = λ yes. IfOk-from_err _ _ c.from_residual.ensures.0
 
@@ -55,6 +58,9 @@ returns-in_err-labels-clause-solution c = IfOk-from_err _ _ c.from_residual-in_e
 
 pub returns-in_err-labels-clause-optimal : goal.returns-in_err-labels-clause-optimal
 returns-in_err-labels-clause-optimal c = IfOk-from_err _ _ c.from_residual-in_err-labels.ensures.0
+
+pub returns-in_err-labels-clause-prices : goal.returns-in_err-labels-clause-prices
+returns-in_err-labels-clause-prices c = IfOk-from_err _ _ c.from_residual-in_err-labels.ensures.0
 
 pub returns-in_err-labels-clause-patient : goal.returns-in_err-labels-clause-patient
 returns-in_err-labels-clause-patient c = λ yes. IfOk-from_err _ _ c.from_residual-in_err-labels.ensures.0
@@ -80,6 +86,9 @@ returns-in_err-set-in-Stuck-clause-solution c = IfOk-from_err _ _ c.from_residua
 pub returns-in_err-set-in-Stuck-clause-optimal : goal.returns-in_err-set-in-Stuck-clause-optimal
 returns-in_err-set-in-Stuck-clause-optimal c = IfOk-from_err _ _ c.from_residual-in_err-set-in-Stuck.ensures.0
 
+pub returns-in_err-set-in-Stuck-clause-prices : goal.returns-in_err-set-in-Stuck-clause-prices
+returns-in_err-set-in-Stuck-clause-prices c = IfOk-from_err _ _ c.from_residual-in_err-set-in-Stuck.ensures.0
+
 pub returns-in_err-set-in-Stuck-clause-patient : goal.returns-in_err-set-in-Stuck-clause-patient
 returns-in_err-set-in-Stuck-clause-patient c = λ yes. IfOk-from_err _ _ c.from_residual-in_err-set-in-Stuck.ensures.0
 
@@ -88,6 +97,9 @@ returns-in-Placed-clause-solution c = c.best.ensures.solution
 
 pub returns-in-Placed-clause-optimal : goal.returns-in-Placed-clause-optimal
 returns-in-Placed-clause-optimal c = c.best.ensures.optimal
+
+pub returns-in-Placed-clause-prices : goal.returns-in-Placed-clause-prices
+returns-in-Placed-clause-prices c = c.best.ensures.prices
 
 pub returns-in-Slow-clause-patient : goal.returns-in-Slow-clause-patient
 returns-in-Slow-clause-patient c = λ yes. absurd (false≢true (sym c.in-Slow.ensures ∙ yes))

@@ -20,6 +20,9 @@ returns-in-Best-clause-optimal c =
     let s = returns-in-Best-clause-solution c in
     (s.assignment, prices_show_cheapest c.args.problem.now _ c.in-Best.prices.items s.assignment s.shown)
 
+pub returns-in-Best-clause-prices : goal.returns-in-Best-clause-prices
+returns-in-Best-clause-prices c = rw c.in-Best.is at c.in_ok-assign.ensures.prices
+
 pub entries_at-requires : goal.entries_at-requires
 entries_at-requires c =
     let short = rw c.in-Short.is at c.in_ok-assign.ensures.solution in
@@ -44,11 +47,17 @@ returns-in_err-order-clause-solution c = IfOk-from_err _ _ c.from_residual.ensur
 pub returns-in_err-order-clause-optimal : goal.returns-in_err-order-clause-optimal
 returns-in_err-order-clause-optimal c = IfOk-from_err _ _ c.from_residual.ensures.0
 
+pub returns-in_err-order-clause-prices : goal.returns-in_err-order-clause-prices
+returns-in_err-order-clause-prices c = IfOk-from_err _ _ c.from_residual.ensures.0
+
 pub returns-in_err-other-clause-solution : goal.returns-in_err-other-clause-solution
 returns-in_err-other-clause-solution c = IfOk-from_err _ _ c.from_residual-in_err-other.ensures.0
 
 pub returns-in_err-other-clause-optimal : goal.returns-in_err-other-clause-optimal
 returns-in_err-other-clause-optimal c = IfOk-from_err _ _ c.from_residual-in_err-other.ensures.0
+
+pub returns-in_err-other-clause-prices : goal.returns-in_err-other-clause-prices
+returns-in_err-other-clause-prices c = IfOk-from_err _ _ c.from_residual-in_err-other.ensures.0
 
 pub returns-in_err-renamed-clause-solution : goal.returns-in_err-renamed-clause-solution
 returns-in_err-renamed-clause-solution c = IfOk-from_err _ _ c.from_residual-in_err-renamed.ensures.0
@@ -56,17 +65,26 @@ returns-in_err-renamed-clause-solution c = IfOk-from_err _ _ c.from_residual-in_
 pub returns-in_err-renamed-clause-optimal : goal.returns-in_err-renamed-clause-optimal
 returns-in_err-renamed-clause-optimal c = IfOk-from_err _ _ c.from_residual-in_err-renamed.ensures.0
 
+pub returns-in_err-renamed-clause-prices : goal.returns-in_err-renamed-clause-prices
+returns-in_err-renamed-clause-prices c = IfOk-from_err _ _ c.from_residual-in_err-renamed.ensures.0
+
 pub returns-in_err-assign-clause-solution : goal.returns-in_err-assign-clause-solution
 returns-in_err-assign-clause-solution c = IfOk-from_err _ _ c.from_residual-in_err-assign.ensures.0
 
 pub returns-in_err-assign-clause-optimal : goal.returns-in_err-assign-clause-optimal
 returns-in_err-assign-clause-optimal c = IfOk-from_err _ _ c.from_residual-in_err-assign.ensures.0
 
+pub returns-in_err-assign-clause-prices : goal.returns-in_err-assign-clause-prices
+returns-in_err-assign-clause-prices c = IfOk-from_err _ _ c.from_residual-in_err-assign.ensures.0
+
 pub returns-in_err-set-in-Short-clause-solution : goal.returns-in_err-set-in-Short-clause-solution
 returns-in_err-set-in-Short-clause-solution c = IfOk-from_err _ _ c.from_residual-in_err-set-in-Short.ensures.0
 
 pub returns-in_err-set-in-Short-clause-optimal : goal.returns-in_err-set-in-Short-clause-optimal
 returns-in_err-set-in-Short-clause-optimal c = IfOk-from_err _ _ c.from_residual-in_err-set-in-Short.ensures.0
+
+pub returns-in_err-set-in-Short-clause-prices : goal.returns-in_err-set-in-Short-clause-prices
+returns-in_err-set-in-Short-clause-prices c = IfOk-from_err _ _ c.from_residual-in_err-set-in-Short.ensures.0
 
 pub reordered-requires : goal.reordered-requires
 reordered-requires c = rw c.deref.ensures.value c.in_ok-order.ensures
