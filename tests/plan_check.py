@@ -68,6 +68,9 @@ MOST = "".join(f"consumer C{number} 1\n" for number in range(64))
 CROWDED = MOST + "consumer C64 1\n"
 MOST_ENTRIES = "".join(f"entry {number}-1 x 1\n" for number in range(1, 4097))
 
+# There is one entry, and A, which it costs 1, is full with it: A's price may be anything.
+FULL = "entry 1-1 x 1\nconsumer A 1\nrate x A 1\n"
+
 CHEAPEST = "cheapest, total 6"
 
 FORM = "wrong: the reply is neither a plan nor a shortage"
@@ -110,6 +113,10 @@ SENT = [
     # A price where a place is left over.
     (ONE, "*5 $4 plan :2 *1 *2 $3 1-1 $1 A *2 *2 $1 A :0 *2 $1 B :0 *0", "cheapest, total 2"),
     (ONE, "*5 $4 plan :2 *1 *2 $3 1-1 $1 A *2 *2 $1 A :1 *2 $1 B :0 *0", PRICES),
+    # A price above each of the server's, 2^59; the greatest integer of the protocol; and one more, which is not read.
+    (FULL, "*5 $4 plan :1 *1 *2 $3 1-1 $1 A *1 *2 $1 A :576460752303423488 *0", "cheapest, total 1"),
+    (FULL, "*5 $4 plan :1 *1 *2 $3 1-1 $1 A *1 *2 $1 A :9223372036854775807 *0", "cheapest, total 1"),
+    (FULL, "*5 $4 plan :1 *1 *2 $3 1-1 $1 A *1 *2 $1 A :9223372036854775808 *0", NAMES),
     # The total is one too low, and one too high.
     (TWO, "*5 $4 plan :5 *2 *2 $3 1-1 $1 B *2 $3 2-1 $1 A *2 *2 $1 A :2 *2 $1 B :0 *0", PRICES),
     (TWO, "*5 $4 plan :7 *2 *2 $3 1-1 $1 B *2 $3 2-1 $1 A *2 *2 $1 A :2 *2 $1 B :0 *0", PRICES),

@@ -15,7 +15,7 @@ use Rattle.sr_policy.specs.Rules.{Text}
 use Rattle.sr_policy.specs.Snapshot.{Shown, AreInOrder, ComesBefore}
 use Rattle.sr_resp.specs.Reply.{Answer as Parts, Int, Bulk, Array, array_header, array_of, bulk_string, integer, reply_text}
 use Rattle.sr_resp.specs.steps.Decoding.{HasPart}
-use Rattle.sr_check.specs.Answer.{Answer, IsShown, best, short, name_at, moves_of}
+use Rattle.sr_check.specs.Answer.{Answer, AreTold, IsShown, best, short, name_at, moves_of}
 use Rattle.sr_check.specs.PlanReply.{move_answer, share_answer, plan_word, verdict_answer}
 use Rattle.sr_check.specs.steps.Read.{AreRead, Begins, HasArray, HasMove, HasShare, IsPlanText, gone_ids, ids_of, rooms_answer}
 use Rattle.sr_check.proofs.ReadLemmas.{HasPart-one}
@@ -221,9 +221,9 @@ consumers-live shown assign assignment =
 
 -- and a right answer's reply is read
 best-read : (shown : Shown) (text assign prices : List ℕ) (total : ℕ) → length text < 2 ^ 64
-    → IsBest (problem_of shown) assign prices total → Begins text (after_plan_word shown assign prices total) []
-    → IsPlanText shown text assign prices total
-best-read shown text assign prices total small shows is =
+    → IsBest (problem_of shown) assign prices total → AreTold prices
+    → Begins text (after_plan_word shown assign prices total) [] → IsPlanText shown text assign prices total
+best-read shown text assign prices total small shows told is =
     let moved = map move_answer (moves_of shown assign) in
     let priced = map share_answer (shares_at shown.live prices) in
     let gone = gone_ids shown.gone ++ [] in
@@ -251,7 +251,7 @@ best-read shown text assign prices total small shows is =
       shares = record {
         items = f.0;
         header = subst (λ n. Begins b.0 (array_header n) f.0) (sym (shares-count shown.live prices many)) f.1;
-        read = shares-read shown.live f.0 prices d.0 many (λ k x lt. omega (arith, shows.small_prices k x lt)) f.2;
+        read = shares-read shown.live f.0 prices d.0 many told f.2;
       };
       gone = Begins-last d.0 (gone_ids shown.gone) d.2;
     }
@@ -306,9 +306,8 @@ plan-claimed shown reply text done (best assign prices total) applied word small
       assign = assign;
       prices = prices;
       total = total;
-      shows = shows;
-      read = best-read shown text assign prices total
-          small shows rest;
+      shows = shows.0;
+      read = best-read shown text assign prices total small shows.0 shows.1 rest;
     }
 plan-claimed shown reply text done (short set) applied word small shows e =
     let whole : Begins reply ((array_header 4 ++ bulk_string (codes "none")) ++ after_none shown set) [] = Begins-whole reply
