@@ -4,6 +4,7 @@ ghost use Rattle.sr_transport.specs.Certificate.{IsShortage};
 ghost use Rattle.sr_transport.specs.Solved.{IsBest};
 ghost use Rattle.sr_policy.specs.Problem.{problem_of};
 ghost use Rattle.sr_resp.specs.Reply.{array_of, integer};
+ghost use Rattle.sr_check.specs.Answer.{AreTold};
 ghost use Rattle.sr_plan.specs.Verdict.{best, short};
 ghost use Rattle.sr_check.specs.PlanReply.{id_answer, move_answer, share_answer};
 ghost use Rattle.sr_check.specs.PlanReply.{plan_word, reached_from, verdict_answer};
@@ -26,7 +27,8 @@ pub(crate) fn plan_reply(
     total: u64,
     applied: bool,
 ) -> Result<Reply, AllocError>
-    requires { IsBest (problem_of snapshot.now) assign.now prices.now total }
+    requires best { IsBest (problem_of snapshot.now) assign.now prices.now total }
+    requires told { AreTold prices.now }
     ensures { IfOk result (λ reply. reply ≡ verdict_answer snapshot.now (best assign.now prices.now total) applied) }
 {
     let live = snapshot.live();
@@ -110,7 +112,7 @@ fn gone_reply(alloc: Global, gone: &[(Id, Name)]) -> Result<Reply, AllocError>
 /// The prices of the live consumers as an array, each of them an array of a name and a number.
 fn prices_reply(alloc: Global, live: &[Live], prices: &[u64]) -> Result<Reply, AllocError>
     requires each { length prices.now ≡ length live.now }
-    requires small { All (λ price. price < 2 ^ 63) prices.now }
+    requires told { AreTold prices.now }
     ensures { IfOk result (λ reply. reply
         ≡ array_of (map share_answer (zip (map (λ consumer. consumer.name) live.now) prices.now))) }
 {

@@ -16,14 +16,14 @@ use Rattle.sr_plan.proofs.reply.plan_reply.Goals as goal
 
 pub new-moves-requires : goal.new-moves-requires
 new-moves-requires c =
-    let moves = AreMoves-best c.args.snapshot.now c.args.assign.now c.args.assign.now c.args.prices.now c.args.total c.stranded.result.now c.live-live.result.now c.requires refl c.stranded.ensures c.live-live.ensures in
+    let moves = AreMoves-best c.args.snapshot.now c.args.assign.now c.args.assign.now c.args.prices.now c.args.total c.stranded.result.now c.live-live.result.now c.requires.best refl c.stranded.ensures c.live-live.ensures in
     record { each = moves.each; consumers = moves.consumers }
 
 pub number_reply-cost-requires : goal.number_reply-cost-requires
-number_reply-cost-requires c = omega (arith, c.requires.small_total)
+number_reply-cost-requires c = omega (arith, c.requires.best.small_total)
 
 pub prices_reply-requires : goal.prices_reply-requires
-prices_reply-requires c = record { each = c.requires.shown.one_each ∙ length-map c.args.snapshot.now.live room_at ∙ sym (ap length c.live-live.ensures); small = λ k d within. omega (arith, c.requires.small_prices k d within) }
+prices_reply-requires c = record { each = c.requires.best.shown.one_each ∙ length-map c.args.snapshot.now.live room_at ∙ sym (ap length c.live-live.ensures); told = c.requires.told }
 
 pub returns-in_err-moves : goal.returns-in_err-moves
 returns-in_err-moves c = IfOk-from_err _ _ c.from_residual.ensures.0
