@@ -26,6 +26,6 @@ greatest_total = most_entries * greatest_cost
 abbrev pub greatest_rise : ℕ
 greatest_rise = most_consumers * greatest_cost
 
--- the price of a consumer in a solution: the greatest rise for each entry, 2 ^ 58
+-- the price of a consumer in an answer of the solver: the greatest rise for each entry, 2 ^ 58
 abbrev pub greatest_price : ℕ
 greatest_price = most_entries * greatest_rise
