@@ -1,4 +1,4 @@
-# All that is needed is the Rattle toolchain, whose command is `rt`, and the python3 that it runs on.
+# All that is needed is the Rattle toolchain, whose command is `rt`, and the python3 that it runs on; for the whole gate also a C compiler, `cc`.
 
 .PHONY: run help try demo install test replay histories plans check memory refusals compare clients soak
 .PHONY: bench bench-net bench-solver check-solver
@@ -15,6 +15,9 @@ TWO = $(MAKE) --no-print-directory --output-sync -j2
 PREFIX = /usr/local
 PAGES = $(DESTDIR)$(PREFIX)/share/doc/sr_server
 UNITS = $(DESTDIR)$(PREFIX)/lib/systemd/system
+
+# The sessions of the commands whose names begin with T, in either case.
+NAMED = $(wildcard tests/commands/$(shell echo '$(T)' | tr A-Z a-z)*.session)
 
 # The histories of which each allocation is refused in turn.
 REFUSED = examples/histories/*.history tests/histories/runs.history tests/histories/waiting.history tests/histories/adding.history \
@@ -56,6 +59,7 @@ install:
 # demo has to print what the README shows.
 test:
 	@scripts/links
+	@command -v cc > /dev/null || { echo 'test: FAILED, since there is no C compiler, cc, with which memory is refused'; exit 1; }
 	rt ci
 	@$(TWO) given
 	@tests/listening.py $(SERVER)
@@ -67,7 +71,7 @@ given-driver: given-refusals given-histories
 given-checker: given-plans
 
 given-sessions:
-	@scripts/replay $(SERVER) README.md examples/*.session tests/sessions/*.session
+	@scripts/replay $(SERVER) $(DRIVER) README.md examples/*.session tests/commands/*.session
 	@scripts/policies $(SERVER) examples/policies/*.toml
 	@tests/policies.py $(SERVER)
 	@tests/program.py $(SERVER)
@@ -92,17 +96,14 @@ given-room:
 	@tests/room.py $(SERVER)
 
 given-refused:
-	@if command -v cc > /dev/null; then tests/refused_memory.py $(SERVER); \
-	    else echo 'refused_memory: left out, since there is no cc'; fi
+	@tests/refused_memory.py $(SERVER)
 
 given-histories:
 	@scripts/histories $(DRIVER) examples/histories/*.history tests/histories/*.history
-	@scripts/replay_at $(DRIVER) tests/moments/*.session
 	@tests/heavy_entry.py $(DRIVER)
 
 given-refusals:
-	@if command -v cc > /dev/null; then scripts/refusals $(DRIVER) $(REFUSED); \
-	    else echo 'refusals: left out, since there is no cc'; fi
+	@scripts/refusals $(DRIVER) $(REFUSED)
 
 given-plans:
 	@scripts/plans $(CHECKER) examples/plans/*.plan
@@ -111,11 +112,13 @@ given-plans:
 given-demo:
 	@scripts/demo $(SERVER) $(CHECKER) README.md
 
-# The sessions alone, and all else that the server is given.
+# The sessions, and all else that the server is given. By name the sessions of a command alone, as of XCLAIM: make replay T=xclaim
 replay:
+	@$(if $(T),$(if $(NAMED),,echo 'replay: there is no tests/commands/$(T)*.session'; exit 2))
 	@cd crates/sr_server && rt run -- --stdio < /dev/null
-	@$(TWO) given-server
-	@tests/listening.py $(SERVER)
+	@cd crates/book_driver && rt run -- < /dev/null
+	@$(if $(T),scripts/replay $(SERVER) $(DRIVER) $(NAMED),$(TWO) given-server)
+	@$(if $(T),,tests/listening.py $(SERVER))
 
 # The histories alone: events handed to a book, with their answers.
 histories:

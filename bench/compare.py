@@ -19,6 +19,9 @@ import sys
 import tempfile
 import time
 
+sys.path.insert(0, os.path.join(os.path.dirname(os.path.realpath(__file__)), "..", "tests"))
+from lib.resp import spelled_all  # noqa: E402
+
 LAST = 2**64 - 1
 BAD_IDS = ["", "-", "+", "x", "1-", "-1", "1-1-1", f"{LAST + 1}", f"1-{LAST + 1}", "(", "(1", "((1-1", "*", "1-*", "*-1", "$", ">",
            "1 ", "0-0", "0", "(-", "(+", "(0-0", f"({LAST}-{LAST}"]
@@ -27,12 +30,6 @@ COUNTS = ["0", "1", "2", "5", "100", "x", ""]
 LONG = 100_000  # milliseconds: longer than a round takes, and less than the time since a delivery at TIME 0 to 100
 IDLES = ["0", "0", "0", f"{LONG}", "-1", "x", ""]
 COMMANDS_A_ROUND = 40
-
-
-def spelled(words):
-    """A request in RESP2."""
-    parts = [f"*{len(words)}\r\n"] + [f"${len(word)}\r\n{word}\r\n" for word in words]
-    return "".join(parts).encode()
 
 
 def replies(text):
@@ -65,14 +62,14 @@ def without_idle(words, reply):
 
 
 def replies_of_ours(program, commands):
-    run = subprocess.run([program, "--stdio"], input=b"".join(map(spelled, commands)), capture_output=True, check=False)
+    run = subprocess.run([program, "--stdio"], input=spelled_all(commands), capture_output=True, check=False)
     return replies(run.stdout)
 
 
 def replies_of_redis(path, commands):
     with socket.socket(socket.AF_UNIX) as connection:
         connection.connect(path)
-        connection.sendall(b"".join(map(spelled, [["FLUSHALL"], *commands, ["QUIT"]])))
+        connection.sendall(spelled_all([["FLUSHALL"], *commands, ["QUIT"]]))
         text = b"".join(iter(lambda: connection.recv(1 << 16), b""))
     return replies(text.removeprefix(b"+OK\r\n"))
 

@@ -16,8 +16,8 @@ import select
 import sys
 import time
 
-sys.path.insert(0, os.path.join(os.path.dirname(os.path.abspath(__file__)), "..", "scripts"))
-import listening  # noqa: E402
+sys.path.insert(0, os.path.join(os.path.dirname(os.path.realpath(__file__)), "..", "tests"))
+from lib import resp, servers  # noqa: E402
 
 READERS = 4
 STEPS = 30
@@ -58,7 +58,7 @@ class Side:
 
 def comparable(reply):
     """A reply without the text of an error."""
-    if isinstance(reply, listening.ErrorReply):
+    if isinstance(reply, resp.ErrorReply):
         return "error"
     return [comparable(part) for part in reply] if isinstance(reply, list) else reply
 
@@ -154,11 +154,11 @@ def compare(servers, seed):
 def main():
     if len(sys.argv) < 2:
         sys.exit(__doc__)
-    if not listening.Redis.installed():
+    if not servers.Redis.installed():
         sys.exit("redis-server is not installed (Debian: redis-server)")
     rounds, first = (int(word) for word in (sys.argv[2:] + ["50", "0"][len(sys.argv) - 2:])[:2])
-    listening.stop_when_ended()
-    with listening.Server(sys.argv[1]) as ours, listening.Redis() as theirs:
+    servers.stop_when_ended()
+    with servers.Server(sys.argv[1]) as ours, servers.Redis() as theirs:
         counts = [compare([ours, theirs], seed) for seed in range(first, first + rounds)]
     compared, same = (sum(column) for column in zip(*counts))
     print(f"{same:,} of {compared:,} replies over sockets are the same, blocked readers among them")

@@ -27,8 +27,8 @@ import subprocess
 import sys
 import time
 
-sys.path.insert(0, os.path.join(os.path.dirname(os.path.abspath(__file__)), "..", "scripts"))
-import listening  # noqa: E402
+sys.path.insert(0, os.path.join(os.path.dirname(os.path.realpath(__file__)), "..", "tests"))
+from lib import resp, servers  # noqa: E402
 
 ENTRIES = 1_000  # of the stream that XLEN and XRANGE look at
 # the words of a request, and the lines of its reply
@@ -56,7 +56,7 @@ class Load:
         self.piece, self.lines = request * depth, lines * depth
         self.selector, self.missing = selectors.DefaultSelector(), {}
         for _ in range(connections):
-            connection = listening.Connection(port, SECONDS).socket
+            connection = servers.Connection(port, SECONDS).socket
             self.selector.register(connection, selectors.EVENT_READ)
             self.missing[connection] = 0
 
@@ -128,7 +128,7 @@ def pipeline(connection, requests, most=500):
     """Sends requests many at a time, and reads their replies."""
     unread = []
     for words in requests:
-        unread.append(listening.spelled(*words))
+        unread.append(resp.spelled(*words))
         if len(unread) == most:
             flush(connection, unread)
             unread = []
@@ -157,7 +157,7 @@ def by_this_program(server, words, lines, connections, depth, number):
     pieces = number // depth // processes
 
     def work():
-        load = Load(server.port, listening.spelled(*words), lines, connections // processes, depth)
+        load = Load(server.port, resp.spelled(*words), lines, connections // processes, depth)
         return lambda: load.run(pieces)
 
     return pieces * depth * processes / in_processes(processes, work)
@@ -179,13 +179,13 @@ class Workers:
     """Connections that read ten entries each time and acknowledge them."""
 
     def __init__(self, port, names):
-        self.connections = [(name, listening.Connection(port, SECONDS)) for name in names]
+        self.connections = [(name, servers.Connection(port, SECONDS)) for name in names]
         self.done = 0
 
     def run(self):
         selector = selectors.DefaultSelector()
         for name, connection in self.connections:
-            read = listening.spelled("XREADGROUP", "GROUP", "g", name, "COUNT", 10, "STREAMS", "s", ">")
+            read = resp.spelled("XREADGROUP", "GROUP", "g", name, "COUNT", 10, "STREAMS", "s", ">")
             selector.register(connection.socket, selectors.EVENT_READ, [read, b"", 0])
             connection.socket.sendall(read)
         while selector.get_map():
@@ -206,7 +206,7 @@ class Workers:
                 raise Wrong(repr(text[:60]))
             self.done += 10
             state[1:] = b"", 1
-            connection.sendall(listening.spelled("XACK", "s", "g", *ids) + read)
+            connection.sendall(resp.spelled("XACK", "s", "g", *ids) + read)
 
 
 def workers(server):
@@ -275,7 +275,7 @@ class Table:
     """Runs a measure on all servers by turns, and prints a row."""
 
     def __init__(self, program, runs):
-        self.makers = [lambda: listening.Server(program)] + ([listening.Redis] if listening.Redis.installed() else [])
+        self.makers = [lambda: servers.Server(program)] + ([servers.Redis] if servers.Redis.installed() else [])
         self.runs, self.failed = runs, False
 
     def measured(self, name, measure):
@@ -332,7 +332,7 @@ def time_wake_ups(table):
 
 
 def main(program, runs=3):
-    listening.stop_when_ended()
+    servers.stop_when_ended()
     print_load()
     table = Table(program, int(runs))
     time_requests(table)

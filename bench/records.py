@@ -11,14 +11,12 @@ import sys
 import threading
 import time
 
+sys.path.insert(0, os.path.join(os.path.dirname(os.path.realpath(__file__)), "..", "tests"))
+from lib.resp import spelled  # noqa: E402
+
 MANY = 1_000_000
 RUNS = 3
 TICK = os.sysconf("SC_CLK_TCK")
-
-
-def request(*words):
-    """The request of these words in RESP2."""
-    return b"*%d\r\n" % len(words) + b"".join(b"$%d\r\n%s\r\n" % (len(word), word) for word in words)
 
 
 def resident(process):
@@ -50,10 +48,10 @@ def drained(stream, lines):
 def measured(program, command, lines):
     """What many of a command take: bytes and microseconds each. Each is answered by so many lines."""
     with subprocess.Popen([program, "--stdio"], stdin=subprocess.PIPE, stdout=subprocess.PIPE, bufsize=0) as process:
-        process.stdin.write(request(b"PING"))
+        process.stdin.write(spelled(b"PING"))
         drained(process.stdout, 1)
         before, began = resident(process), processor(process)
-        piece = request(*command) * 1000
+        piece = spelled(*command) * 1000
         reader = threading.Thread(target=drained, args=(process.stdout, lines * MANY))
         reader.start()
         for _ in range(MANY // 1000):

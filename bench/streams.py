@@ -13,6 +13,9 @@ import sys
 import threading
 import time
 
+sys.path.insert(0, os.path.join(os.path.dirname(os.path.realpath(__file__)), "..", "tests"))
+from lib.resp import spelled as request  # noqa: E402
+
 MANY, FEW = 1_000_000, 1_000  # entries
 RANGES, COUNT = 50_000, 10
 WIDE, NARROW = 1 << 20, 4096  # bytes that a pipe holds
@@ -22,11 +25,6 @@ RUNS = 3
 
 class Wrong(Exception):
     """A reply that is not what it must be."""
-
-
-def request(*words):
-    """The request of these words in RESP2."""
-    return b"*%d\r\n" % len(words) + b"".join(b"$%d\r\n%s\r\n" % (len(word), word) for word in words)
 
 
 def adds(count):

@@ -13,9 +13,9 @@ import random
 import sys
 import tempfile
 
-import piped
-from model import Model, text_of
-from piped import LONG
+from lib import piped
+from lib.model import Model, text_of
+from lib.piped import LONG
 
 # A has room for two entries. B has room for three, since one of four is taken by 6-1.
 SMALL_POLICY = """

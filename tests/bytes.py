@@ -9,17 +9,9 @@ Prints what differs; the status is 1 if anything does.
 import subprocess
 import sys
 
+from lib.resp import lines
+
 SECONDS = 60
-
-
-def spelled(*commands):
-    """Commands as a client sends them."""
-    text = ""
-    for command in commands:
-        words = command.split(" ")
-        text += f"*{len(words)}\r\n" + "".join(f"${len(word)}\r\n{word}\r\n" for word in words)
-    return text
-
 
 SEVEN = [f"XADD s {number}-1 a b" for number in range(1, 8)]
 
@@ -27,10 +19,10 @@ ADDED = "".join(f"$3\r\n{number}-1\r\n" for number in range(1, 8))
 
 # What is sent, what is replied, and the line on standard error, which comes with status 1.
 ROWS = [
-    (spelled(*SEVEN, "PING", "XLEN s"), ADDED + "+PONG\r\n:7\r\n", ""),
-    ("", "", ""),
-    ("$1\r\n", "-ERR Protocol error\r\n", "session: protocol error\n"),
-    (spelled("PING") + "$1\r\n", "+PONG\r\n-ERR Protocol error\r\n", "session: protocol error\n"),
+    (lines(*SEVEN, "PING", "XLEN s"), ADDED + "+PONG\r\n:7\r\n", ""),
+    (b"", "", ""),
+    (b"$1\r\n", "-ERR Protocol error\r\n", "session: protocol error\n"),
+    (lines("PING") + b"$1\r\n", "+PONG\r\n-ERR Protocol error\r\n", "session: protocol error\n"),
 ]
 
 
@@ -39,7 +31,7 @@ def main():
         sys.exit(__doc__.split("\n\n")[1])
     wrong = 0
     for sent, replied, line in ROWS:
-        ran = subprocess.run([sys.argv[1], "--stdio"], input=sent.encode(), capture_output=True, timeout=SECONDS)
+        ran = subprocess.run([sys.argv[1], "--stdio"], input=sent, capture_output=True, timeout=SECONDS)
         wanted = (int(line != ""), replied.encode(), line.encode())
         found = (ran.returncode, ran.stdout, ran.stderr)
         if found != wanted:

@@ -9,15 +9,12 @@ Prints what differs; the status is 1 if anything does.
 import subprocess
 import sys
 
+from lib.driver import spelled
+
 SECONDS = 60
 HEAVIEST = 1048576
 
 POLICY = '[limits]\nA = 1\n[rates."*"]\nA = 1\n'
-
-
-def spelled(words):
-    """Words as book_driver takes them."""
-    return " ".join(word.encode().hex() for word in words)
 
 
 # At the rate 1 an entry costs its weight.

@@ -19,8 +19,7 @@ import sys
 import tempfile
 import time
 
-sys.path.insert(0, os.path.join(os.path.dirname(os.path.abspath(__file__)), "..", "scripts"))
-import listening  # noqa: E402  (the one of scripts/)
+from lib import resp, servers
 
 SECONDS = 30  # for all of it
 PATIENCE = 8  # seconds for one answer
@@ -172,7 +171,7 @@ def started(number, port):
     for _ in range(number):
         connection = socket.socket()
         connection.setblocking(False)
-        connection.connect_ex((listening.HOST, port))
+        connection.connect_ex((servers.HOST, port))
         connections.append(connection)
     return connections
 
@@ -210,22 +209,22 @@ def play(part, tally, server, *numbers):
         try:
             part(tally, server, *numbers)
             tally.compare(f"{part.__name__}: the server runs", True, server.alive())
-        except (OSError, listening.ErrorReply, listening.Fault) as fault:
+        except (OSError, resp.ErrorReply, resp.Fault) as fault:
             tally.wrong(f"{part.__name__}: {type(fault).__name__}: {fault}")
 
 
 def run(program, tally):
     if os.path.basename(program) == "redis-server":
-        play(answered, tally, listening.Redis())
+        play(answered, tally, servers.Redis())
         return
-    play(answered, tally, listening.Server(program, workers=WORKERS))
-    play(more_than_workers, tally, listening.Server(program, workers=FEW))
+    play(answered, tally, servers.Server(program, workers=WORKERS))
+    play(more_than_workers, tally, servers.Server(program, workers=FEW))
     with tempfile.NamedTemporaryFile("w", suffix=".toml") as policy:
         policy.write(POLICY)
         policy.flush()
-        play(recovered, tally, listening.Server(program, policy=policy.name, workers=FEW))
+        play(recovered, tally, servers.Server(program, policy=policy.name, workers=FEW))
     number = min(MANY, raised_limit() - OWN)
-    play(many, tally, listening.Server(program, workers=FEW, descriptors=DESCRIPTORS), number)
+    play(many, tally, servers.Server(program, workers=FEW, descriptors=DESCRIPTORS), number)
 
 
 def end(*_):
@@ -235,7 +234,7 @@ def end(*_):
 def main():
     if len(sys.argv) != 2:
         sys.exit(__doc__.split("\n\n")[1])
-    listening.stop_when_ended()
+    servers.stop_when_ended()
     signal.signal(signal.SIGALRM, end)
     signal.alarm(SECONDS)
     tally = Tally()
@@ -243,7 +242,7 @@ def main():
         run(sys.argv[1], tally)
     except Late:
         tally.wrong(f"not done after {SECONDS} seconds")
-    except (OSError, listening.Fault) as fault:
+    except (OSError, resp.Fault) as fault:
         tally.wrong(f"the server did not begin: {fault}")
     print(f"listening: {tally.answers} answers, {tally.differing} differ")
     return 1 if tally.differing else 0

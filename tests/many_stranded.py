@@ -10,7 +10,7 @@ Prints how many replies differ, and the first that does; the status is 1 if any 
 import sys
 import tempfile
 
-import piped
+from lib import piped
 
 MOST = 4096
 GREATEST_PRICE = 2**58

@@ -12,8 +12,10 @@ import subprocess
 import sys
 import tempfile
 
+from lib.resp import spelled
+
 SECONDS = 60
-PING, PONG = b"*1\r\n$4\r\nPING\r\n", b"+PONG\r\n"
+PING, PONG = spelled("PING"), b"+PONG\r\n"
 
 NOT_TOML = [
     "[limits",

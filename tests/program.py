@@ -13,12 +13,12 @@ import socket
 import subprocess
 import sys
 
-sys.path.insert(0, os.path.join(os.path.dirname(os.path.abspath(__file__)), "..", "scripts"))
-from listening import HOST, free_port  # noqa: E402  (that of scripts/)
+from lib.resp import spelled
+from lib.servers import HOST, free_port
 
 SECONDS = 60
 WARNING = b"warning: there is no access control: any client that reaches this address can read, add and delete every entry\n"
-PING, XLEN = b"*1\r\n$4\r\nPING\r\n", b"*2\r\n$4\r\nXLEN\r\n$1\r\ns\r\n"
+PING, XLEN = spelled("PING"), spelled("XLEN", "s")
 
 REFUSED = [
     "sr_server",

@@ -16,9 +16,9 @@ import os
 import random
 import sys
 
-import piped
+from lib import piped
 from model import Model, text_of
-from piped import LONG
+from lib.piped import LONG
 
 NUMBER, SEED = 100_000, 1
 CONSUMERS = "ABCDE"

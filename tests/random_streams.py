@@ -16,7 +16,7 @@ import os
 import random
 import sys
 
-import piped
+from lib import piped
 from model import Model, text_of
 
 NUMBER, SEED = 100_000, 1

@@ -14,7 +14,7 @@ that says so, and has written the first of the right replies.
 
 And once the random bytes that the program needs are refused: it says so, though its policy file is missing too, and replies nothing.
 
-Prints the runs in which anything else happens; then the status is 1. It needs cc and glibc (scripts/refuse.c).
+Prints the runs in which anything else happens; then the status is 1. It needs cc and glibc (tests/lib/refuse.c).
 """
 
 import io
@@ -26,13 +26,12 @@ import tempfile
 from concurrent.futures import ThreadPoolExecutor
 
 import bulk_move
-import piped
-from model import Model
-from piped import LONG, listening
+from lib import piped, refusing, resp
+from lib.model import Model
+from lib.piped import LONG
 
 SECONDS = 60
 BATCH = 64  # runs that are begun before the first of them is looked at
-SOURCE = os.path.join(os.path.dirname(os.path.abspath(__file__)), "..", "scripts", "refuse.c")
 
 REFUSED = "OOM out of memory"
 LINES = ["start: out of memory", "session: out of memory"]
@@ -141,13 +140,9 @@ class Run:
         self.ended, self.line = is_refused, told[0] if is_refused else None
 
 
-def environment(library, number):
-    return {"LD_PRELOAD": library, "REFUSE": str(number)}
-
-
 def judge(run, commands, output):
     """Compares the replies to commands with those of a model that is given all but the refused ones."""
-    replies, model = listening.Replies(output), Pinged()
+    replies, model = resp.Replies(output), Pinged()
     for words in commands:
         if not output.peek(1):
             run.ended = True
@@ -168,7 +163,7 @@ def sent_at_once(program, library, commands, path, number):
     """A run that gets these commands from a file."""
     run = Run()
     with open(path, "rb") as file:
-        ran = subprocess.run([program, "--stdio"], stdin=file, capture_output=True, env=environment(library, number), timeout=SECONDS)
+        ran = subprocess.run([program, "--stdio"], stdin=file, capture_output=True, env=refusing.environment(library, number), timeout=SECONDS)
     judge(run, commands, io.BufferedReader(io.BytesIO(ran.stdout)))
     run.end(ran.returncode, ran.stderr, LINES)
     return run
@@ -177,11 +172,11 @@ def sent_at_once(program, library, commands, path, number):
 def recovered(program, library, policy, number):
     """A run that gets the commands of the small recovery one after the other, and a refused one again."""
     run, pipes = Run(), {"stdin": subprocess.PIPE, "stdout": subprocess.PIPE, "stderr": subprocess.PIPE}
-    process = subprocess.Popen([program, "--stdio", "--policy", policy], env=environment(library, number), **pipes)
-    replies = listening.Replies(process.stdout)
+    process = subprocess.Popen([program, "--stdio", "--policy", policy], env=refusing.environment(library, number), **pipes)
+    replies = resp.Replies(process.stdout)
 
     def ask(words):
-        process.stdin.write(listening.spelled(*words))
+        process.stdin.write(resp.spelled(*words))
         process.stdin.flush()
         [reply] = piped.told(replies, 1)
         return bulk_move.without_prices(words, piped.without_clock(words, reply))
@@ -210,7 +205,7 @@ def recovered(program, library, policy, number):
 
 def without_random(program, library):
     """Whether a run that gets no random bytes does anything but say so."""
-    pipes = {"input": listening.spelled("PING"), "capture_output": True, "env": {"LD_PRELOAD": library, "REFUSE_RANDOM": "1"}}
+    pipes = {"input": resp.spelled("PING"), "capture_output": True, "env": {"LD_PRELOAD": library, "REFUSE_RANDOM": "1"}}
     ran = subprocess.run([program, "--stdio", "--policy", "missing.toml"], timeout=SECONDS, check=False, **pipes)
     found, wanted = (ran.returncode, ran.stdout, ran.stderr), (1, b"", b"start: no random source\n")
     print(f"refused_memory, no random bytes: {'as expected' if found == wanted else found}", flush=True)
@@ -259,13 +254,13 @@ def main():
         sys.exit(__doc__.split("\n\n")[1])
     program, failed = os.path.abspath(sys.argv[1]), []
     with tempfile.TemporaryDirectory() as folder:
-        library, path, policy = (os.path.join(folder, name) for name in ("refuse.so", "commands", "policy.toml"))
-        subprocess.run(["cc", "-O2", "-shared", "-fPIC", "-o", library, SOURCE], check=True)
+        path, policy = (os.path.join(folder, name) for name in ("commands", "policy.toml"))
+        library = refusing.library_in(folder)
 
         def given(lines):
             commands = [line.split() for line in lines]
             with open(path, "wb") as file:
-                file.write(piped.spelled(commands))
+                file.write(resp.spelled_all(commands))
             return lambda number: sent_at_once(program, library, commands, path, number)
 
         failed.append(walk("four commands", given(RUN), "XADD"))

@@ -13,6 +13,8 @@ import sys
 import termios
 import time
 
+from lib.resp import lines, spelled
+
 SECONDS = 60
 
 PONG = b"+PONG\r\n"
@@ -46,18 +48,8 @@ ROWS = [
 ]
 
 
-def words(texts):
-    """An array of texts, as requests and replies have it."""
-    return b"*%d\r\n" % len(texts) + b"".join(b"$%d\r\n%s\r\n" % (len(text), text) for text in texts)
-
-
-def spelled(*commands):
-    """Commands as a client sends them."""
-    return b"".join(words(command.encode().split()) for command in commands)
-
-
 # Four requests, the replies to them, and how many bytes of both end with each of them.
-RUN = spelled("PING", "XADD s 1-1 a b", "XLEN s", "XRANGE s - +")
+RUN = lines("PING", "XADD s 1-1 a b", "XLEN s", "XRANGE s - +")
 
 REPLIES = PONG + b"$3\r\n1-1\r\n:1\r\n*1\r\n*2\r\n$3\r\n1-1\r\n*2\r\n$1\r\na\r\n$1\r\nb\r\n"
 
@@ -69,8 +61,8 @@ CUT = [
     (b"*0\r\n*-1\r\n*1\r\n$4\r\nping\r\n*2\r\n$3\r\nGET\r\n$2\r\n\r\n\r\n", PONG + UNKNOWN),
     (b"*0\r\n*-1\r\n*1\r\n$4\r\nping\r\n*2\r\n$4\r\nPING\r\n$2\r\n\r\n\r\n", PONG + b"$2\r\n\r\n\r\n"),
     (RUN, REPLIES),
-    (spelled("XLEN s", "XLEN s"), b":0\r\n:0\r\n"),
-    (spelled("XGROUP CREATE s g 0 MKSTREAM", "XPENDING s g"), b"+OK\r\n*4\r\n:0\r\n$-1\r\n$-1\r\n*-1\r\n"),
+    (lines("XLEN s", "XLEN s"), b":0\r\n:0\r\n"),
+    (lines("XGROUP CREATE s g 0 MKSTREAM", "XPENDING s g"), b"+OK\r\n*4\r\n:0\r\n$-1\r\n$-1\r\n*-1\r\n"),
 ]
 
 # 16 words of the greatest length, which are as many bytes as the words of a request may have, and the beginning of one more.
@@ -130,8 +122,8 @@ def cases():
     yield [LONG + b"0"], (b"", 0)
     yield [LONG + b"1"], (PROTOCOL, 1)
     for texts in ENTRIES:
-        asked = words([b"XADD", b"s", b"1-1", *texts]) + words([b"XRANGE", b"s", b"-", b"+"])
-        yield [asked], (b"$3\r\n1-1\r\n*1\r\n*2\r\n$3\r\n1-1\r\n" + words(texts), 0)
+        asked = spelled("XADD", "s", "1-1", *texts) + spelled("XRANGE", "s", "-", "+")
+        yield [asked], (b"$3\r\n1-1\r\n*1\r\n*2\r\n$3\r\n1-1\r\n" + spelled(*texts), 0)
 
 
 def main():

@@ -11,7 +11,7 @@ import subprocess
 import sys
 import threading
 
-from piped import listening
+from lib import resp
 
 MANY = 200_000
 AT_ONCE = 1_000
@@ -26,8 +26,8 @@ def resident(process):
 def grown(program, commands):
     """By how many bytes the memory of a server grew when it had answered these commands."""
     with subprocess.Popen([program, "--stdio"], stdin=subprocess.PIPE, stdout=subprocess.PIPE) as server:
-        replies = listening.Replies(server.stdout)
-        server.stdin.write(listening.spelled("PING"))
+        replies = resp.Replies(server.stdout)
+        server.stdin.write(resp.spelled("PING"))
         server.stdin.flush()
         replies.reply()
         before = resident(server)
@@ -42,7 +42,7 @@ def grown(program, commands):
 
 
 def send(stream, commands):
-    stream.write(b"".join(listening.spelled(*words) for words in commands))
+    stream.write(resp.spelled_all(commands))
     stream.flush()
 
 

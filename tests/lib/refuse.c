@@ -1,7 +1,7 @@
 // Refuses one allocation of a program, as a full memory would: that call of malloc or realloc returns null. And tells at the end of the
 // process whether each block was given back, which no contract says of a drop.
 //
-// scripts/memory builds it as a library and loads it with LD_PRELOAD. REFUSE=1 refuses the first call of the process, REFUSE=2 the
+// refusing.py builds it as a library, and it is loaded with LD_PRELOAD. REFUSE=1 refuses the first call of the process, REFUSE=2 the
 // second, and REFUSE=0 none. When it refuses one, it writes the line `refused` to standard error; where blocks are left at the end, the line
 // `blocks left`. With REFUSE_RANDOM no random bytes are given. It needs glibc.
 #define _GNU_SOURCE

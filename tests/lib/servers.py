@@ -1,6 +1,6 @@
 """Starts a server on a free port of the loopback interface, waits until it listens, and stops it; and talks RESP2 to it.
 
-    with listening.Server("crates/sr_server/out/sr_server", workers=8) as server, server.connect() as connection:
+    with servers.Server("crates/sr_server/out/sr_server", workers=8) as server, server.connect() as connection:
         connection.call("PING")
 """
 
@@ -15,17 +15,11 @@ import subprocess
 import tempfile
 import time
 
+from .resp import ErrorReply, Fault, Replies, spelled
+
 HOST = "127.0.0.1"
 SECONDS = 20  # that a server has to begin or to end
 TRIES = 3  # another program may take the free port first
-
-
-class Fault(Exception):
-    """A server that did not begin, or that said what no server says."""
-
-
-class ErrorReply(Exception):
-    """A reply that is an error."""
 
 
 def stop_when_ended():
@@ -37,45 +31,6 @@ def free_port():
     with socket.socket() as probe:
         probe.bind((HOST, 0))
         return probe.getsockname()[1]
-
-
-def spelled(*words):
-    """The request of these words in RESP2. A word is bytes, a text or a number."""
-    parts = [word if isinstance(word, bytes) else str(word).encode() for word in words]
-    return b"*%d\r\n" % len(parts) + b"".join(b"$%d\r\n%s\r\n" % (len(part), part) for part in parts)
-
-
-class Replies:
-    """The replies in RESP2 that a file holds."""
-
-    def __init__(self, file):
-        self.file = file
-
-    def reply(self):
-        """The next reply: bytes, a number, None, a list, or an ErrorReply."""
-        line = self.file.readline()
-        if not line.endswith(b"\r\n"):
-            raise ConnectionError("the server ended the connection")
-        kind, rest = line[:1], line[1:-2]
-        if kind == b"+":
-            return rest
-        if kind == b"-":
-            return ErrorReply(rest.decode(errors="replace"))
-        if kind == b":":
-            return int(rest)
-        if kind == b"$":
-            return self.bulk(int(rest))
-        if kind == b"*":
-            return None if rest == b"-1" else [self.reply() for _ in range(int(rest))]
-        raise Fault(f"no reply begins with {line[:40]!r}")
-
-    def bulk(self, length):
-        if length < 0:
-            return None
-        text = self.file.read(length + 2)
-        if len(text) < length + 2:
-            raise ConnectionError("the server ended the connection")
-        return text[:-2]
 
 
 class Connection(Replies):

@@ -1,37 +1,31 @@
-"""Sends commands to a server and reads its replies, for the tests of this folder.
+"""Sends commands to a server and reads its replies.
 
 A command is a list of words. A reply is bytes, a number, None or a list, and an error is its text.
 """
 
 import io
-import os
 import subprocess
-import sys
 import threading
 
-sys.path.insert(0, os.path.join(os.path.dirname(os.path.abspath(__file__)), "..", "scripts"))
-import listening  # noqa: E402
+from . import servers
+from .resp import ErrorReply, Replies, spelled_all
 
 SECONDS = 600  # an unproved program is slow
 LONG = 10_000_000  # milliseconds: longer than a run takes
 
 
-def spelled(commands):
-    return b"".join(listening.spelled(*words) for words in commands)
-
-
 def told(replies, number):
     """The next replies, this many."""
     found = (replies.reply() for _ in range(number))
-    return [str(reply) if isinstance(reply, listening.ErrorReply) else reply for reply in found]
+    return [str(reply) if isinstance(reply, ErrorReply) else reply for reply in found]
 
 
 def replies_of(program, commands, *options):
     """The replies of `sr_server --stdio`, which gets all commands before the first of them is read."""
-    sent = spelled(commands)
+    sent = spelled_all(commands)
     ran = subprocess.run([program, "--stdio", *options], input=sent, stdout=subprocess.PIPE, timeout=SECONDS, check=True)
     output = io.BytesIO(ran.stdout)
-    replies = told(listening.Replies(output), len(commands))
+    replies = told(Replies(output), len(commands))
     if output.read(1):
         raise SystemExit(f"{program} replies more than {len(commands):,} times")
     return replies
@@ -39,8 +33,8 @@ def replies_of(program, commands, *options):
 
 def replies_of_redis(commands):
     """The replies of a Redis server (Debian: redis-server)."""
-    with listening.Redis() as server, server.connect() as connection:
-        sender = threading.Thread(target=connection.socket.sendall, args=(spelled(commands),), daemon=True)
+    with servers.Redis() as server, server.connect() as connection:
+        sender = threading.Thread(target=connection.socket.sendall, args=(spelled_all(commands),), daemon=True)
         sender.start()
         return told(connection, len(commands))
 
