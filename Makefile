@@ -21,7 +21,7 @@ NAMED = $(wildcard tests/commands/$(shell echo '$(T)' | tr A-Z a-z)*.session)
 
 # The histories of which each allocation is refused in turn.
 REFUSED = examples/histories/*.history tests/histories/runs.history tests/histories/waiting.history tests/histories/adding.history \
-    tests/histories/commands.history tests/histories/carried-out.history
+    tests/histories/commands.history tests/histories/carried-out.history tests/histories/refused-serving.history
 
 # Proves and builds the server, and sends it the commands of examples/first.session as a client spells them.
 run:
@@ -105,6 +105,7 @@ given-histories:
 
 given-refusals:
 	@scripts/refusals $(DRIVER) $(REFUSED)
+	@tests/refused_serving.py $(DRIVER)
 
 given-plans:
 	@scripts/plans $(CHECKER) examples/plans/*.plan

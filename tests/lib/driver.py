@@ -32,9 +32,9 @@ class Driver:
 
     def last_moment(self):
         """The moment of the last record and of any event since: an event at 0 has it. The book goes on with one more session."""
-        joined = self.ask("join 0")
-        records = (self.ask("records") or "").split(";")
-        return records[-1].split()[-2] if joined and joined.startswith("ok") and len(records[-1].split()) > 1 else None
+        index = (self.ask("join 0") or "").split(" ")[1:2]
+        records = (self.ask("records") or "").removeprefix("records ").split(";")
+        return next((record.split(" ")[1] for record in records if record.split(" ")[:1] == index), None)
 
     def end(self):
         """The status, whether an allocation was refused, and whether blocks of memory were left."""
