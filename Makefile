@@ -79,6 +79,7 @@ given-sessions:
 given-requests:
 	@tests/requests.py $(SERVER)
 	@tests/fuzz.py $(SERVER)
+	@tests/long_reply.py $(SERVER)
 	@tests/many_stranded.py $(SERVER)
 	@tests/bytes.py $(SERVER)
 
