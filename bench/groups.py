@@ -17,7 +17,9 @@ import tempfile
 import threading
 import time
 
-from streams import Server, Wrong, adds, request
+from streams import Server, Wrong, adds, request  # (which makes lib known)
+
+from lib.resp import bulk
 
 MANY, ENTRIES, PENDING = 1_000_000, 250_000, (1_000, 10_000, 200_000)
 MORE = 50_000  # entries of a longer stream than ENTRIES that are not pending
@@ -51,7 +53,7 @@ class Connection:
             rest = rest[os.write(self.to, rest[: 1 << 20]) :]
 
     def receive(self):
-        replies, end = bytearray(), b"$%d\r\n%s\r\n" % (len(END), END)
+        replies, end = bytearray(), bulk(END)
         while not replies.endswith(end):
             piece = os.read(self.back, 1 << 20)
             if not piece:

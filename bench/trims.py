@@ -12,7 +12,9 @@ import statistics
 import sys
 
 from groups import Ours, Redis
-from streams import Wrong, adds, request
+from streams import Wrong, adds, request  # (which makes lib known)
+
+from lib.resp import bulk
 
 MANY, FEW = 1_000_000, 1_000  # entries
 RUNS = 5
@@ -21,7 +23,7 @@ RUNS = 5
 def capped(entries, times):
     """XADD that keeps so many entries, of a stream that has as many."""
     words = (request(b"XADD", b"s", b"MAXLEN", b"%d" % entries, b"2-%d" % n, b"f", b"v") for n in range(1, times + 1))
-    return b"".join(words), b"".join(b"$%d\r\n2-%d\r\n" % (len(f"2-{n}"), n) for n in range(1, times + 1)), entries
+    return b"".join(words), b"".join(bulk(b"2-%d" % n) for n in range(1, times + 1)), entries
 
 
 def trimmed(entries, going, times, words):

@@ -19,7 +19,7 @@ import subprocess
 import sys
 from concurrent.futures import ThreadPoolExecutor
 
-from lib.resp import bulk, spelled
+from lib.resp import array, bulk, spelled
 
 SECONDS = 60  # that one input may take
 NUMBER = 1_000
@@ -245,9 +245,9 @@ class Inputs:
 def long_inputs():
     """Requests about as long as they may be: very many short words, or words of the greatest length, and perhaps one too many of either."""
     for count, word in [(4095, b""), (4096, b""), (4096, b"x"), (4097, b"")]:
-        yield b"*%d\r\n" % count + bulk(word) * count
+        yield array([bulk(word)] * count)
     for count, last in itertools.product([1, 15, 16, 17], [bulk(b""), bulk(b"x"), b""]):
-        yield b"*%d\r\n" % (count + bool(last)) + bulk(b"v" * WORD) * count + last
+        yield array([bulk(b"v" * WORD)] * count + ([last] if last else []))
 
 
 def tried(program, sent):

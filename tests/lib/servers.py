@@ -117,8 +117,8 @@ class Server(Process):
 
     name = "sr_server"
 
-    def __init__(self, program, policy=None, workers=None, descriptors=None):
-        """`descriptors` is how many files and sockets it may have open."""
+    def __init__(self, program, policy=None, workers=None, descriptors=None, env=None, errors=None):
+        """`descriptors` is how many files and sockets it may have open; `errors` is the file that its standard error goes to."""
         limit = descriptors and functools.partial(resource.setrlimit, resource.RLIMIT_NOFILE, (descriptors, descriptors))
         options = [] if policy is None else ["--policy", str(policy)]
         options += [] if workers is None else ["--workers", str(workers)]
@@ -126,7 +126,7 @@ class Server(Process):
             self.port = free_port()
             address = f"{HOST}:{self.port}"
             words = [program, "--listen", address, *options]
-            self.process = subprocess.Popen(words, stdin=subprocess.DEVNULL, stdout=subprocess.PIPE, preexec_fn=limit)
+            self.process = subprocess.Popen(words, stdin=subprocess.DEVNULL, stdout=subprocess.PIPE, stderr=errors, env=env, preexec_fn=limit)
             line = self.first_line()
             if line == f"listening on {address}\n".encode():
                 return
