@@ -99,6 +99,7 @@ given-room:
 
 given-refused:
 	@tests/refused_memory.py $(SERVER)
+	@tests/refused_tick.py $(SERVER)
 
 given-histories:
 	@scripts/histories $(DRIVER) examples/histories/*.history tests/histories/*.history
