@@ -17,7 +17,7 @@ import random
 import sys
 
 from lib import piped
-from model import Model, text_of
+from lib.model import Model, text_of
 from lib.piped import LONG
 
 NUMBER, SEED = 100_000, 1

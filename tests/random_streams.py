@@ -17,7 +17,7 @@ import random
 import sys
 
 from lib import piped
-from model import Model, text_of
+from lib.model import Model, text_of
 
 NUMBER, SEED = 100_000, 1
 FAR = 2**32  # how far apart parts of ids may lie in one block
