@@ -170,17 +170,28 @@ def fault_of(sent, status, output, errors):
 class Inputs:
     """Random inputs, each by a seed of its own."""
 
-    HEADERS = [b"*0\r\n", b"*-1\r\n", b"*1\r\n", b"*00000000002\r\n", b"*0000000001\r\n", b"*4096\r\n", b"*4097\r\n", b"$0\r\n\r\n", b"$-1\r\n", b"$1048576\r\n",
-               b"$1048577\r\n", b"*-2\r\n", b"\r\n", b"\n", b"\r", b"*", b"$", b"-", b"PING\r\n", b"+OK\r\n", b":1\r\n", b"\0"]
+    HEADERS = [
+        b"*0\r\n", b"*-1\r\n", b"*1\r\n", b"*00000000002\r\n", b"*0000000001\r\n", b"*4096\r\n", b"*4097\r\n", b"*-2\r\n", b"*",
+        b"$0\r\n\r\n", b"$-1\r\n", b"$1048576\r\n", b"$1048577\r\n", b"$", b"\r\n", b"\n", b"\r", b"-", b"PING\r\n", b"+OK\r\n", b":1\r\n",
+        b"\0",
+    ]
     NAMES = ["s", "t", "g", "h", "A", "B", "", "\xff"]
-    VALUES = ["0", "1", "5", "-1", "5-1", "5-*", "*", "$", ">", "-", "+", "(5", "x", "", f"{2**63 - 1}", f"{2**63}", f"{2**64 - 1}-{2**64 - 1}", "007", "-0"]
-    OPTIONS = ["COUNT", "BLOCK", "NOACK", "STREAMS", "GROUP", "MAXLEN", "MINID", "~", "=", "LIMIT", "NOMKSTREAM", "MKSTREAM", "IDLE", "TIME", "RETRYCOUNT",
-               "JUSTID", "FORCE", "LASTID", "DEAD", "TRIES"]
-    GOOD = ["PING", "XADD s * a b", "XADD s 5-* a b", "XADD t MAXLEN ~ 3 LIMIT 1 * a b", "XGROUP CREATE s g 0 MKSTREAM", "XREADGROUP GROUP g A COUNT 2 STREAMS s >",
-            "XREADGROUP GROUP g A STREAMS s 0", "XREAD COUNT 1 STREAMS s t 0 0", "XRANGE s - + COUNT 2", "XREVRANGE s + -", "XPENDING s g - + 5", "XPENDING s g",
-            "XCLAIM s g B 0 5-1 JUSTID", "XAUTOCLAIM s g B 0 0 COUNT 1", "XACK s g 5-1", "XDEL s 5-0", "XTRIM s MINID 5", "XLEN s", "XINFO STREAM s",
-            "XINFO GROUPS s", "XINFO CONSUMERS s g", "XGROUP SETID s g $", "XGROUP DELCONSUMER s g A", "RECOVER.PLAN s g DEAD A", "RECOVER.RUN s g TRIES 2 DEAD A B",
-            "RECOVER.BOARD s g"]
+    VALUES = [
+        "0", "1", "5", "-1", "5-1", "5-*", "*", "$", ">", "-", "+", "(5", "x", "", f"{2**63 - 1}", f"{2**63}", f"{2**64 - 1}-{2**64 - 1}",
+        "007", "-0",
+    ]
+    OPTIONS = [
+        "COUNT", "BLOCK", "NOACK", "STREAMS", "GROUP", "MAXLEN", "MINID", "~", "=", "LIMIT", "NOMKSTREAM", "MKSTREAM", "IDLE", "TIME",
+        "RETRYCOUNT", "JUSTID", "FORCE", "LASTID", "DEAD", "TRIES",
+    ]
+    GOOD = [
+        "PING", "XADD s * a b", "XADD s 5-* a b", "XADD t MAXLEN ~ 3 LIMIT 1 * a b", "XGROUP CREATE s g 0 MKSTREAM",
+        "XREADGROUP GROUP g A COUNT 2 STREAMS s >", "XREADGROUP GROUP g A STREAMS s 0", "XREAD COUNT 1 STREAMS s t 0 0",
+        "XRANGE s - + COUNT 2", "XREVRANGE s + -", "XPENDING s g - + 5", "XPENDING s g", "XCLAIM s g B 0 5-1 JUSTID",
+        "XAUTOCLAIM s g B 0 0 COUNT 1", "XACK s g 5-1", "XDEL s 5-0", "XTRIM s MINID 5", "XLEN s", "XINFO STREAM s", "XINFO GROUPS s",
+        "XINFO CONSUMERS s g", "XGROUP SETID s g $", "XGROUP DELCONSUMER s g A", "RECOVER.PLAN s g DEAD A",
+        "RECOVER.RUN s g TRIES 2 DEAD A B", "RECOVER.BOARD s g",
+    ]
 
     def __init__(self, seed):
         self.random = random.Random(seed)
@@ -228,7 +239,8 @@ class Inputs:
             return text[:place]
         if kind == 4:
             return text[:place] + self.random.choice(self.HEADERS) + text[end:]
-        return text[:place] + bytes(byte ^ 1 << self.random.randrange(8) for byte in text[place:end][:2]) + text[place + len(text[place:end][:2]):]
+        turned = bytes(byte ^ 1 << self.random.randrange(8) for byte in text[place:min(end, place + 2)])
+        return text[:place] + turned + text[place + len(turned):]
 
     def input(self):
         kind = self.random.random()
