@@ -81,6 +81,7 @@ given-requests:
 	@tests/fuzz.py $(SERVER)
 	@tests/long_reply.py $(SERVER)
 	@tests/many_stranded.py $(SERVER)
+	@tests/many_entries.py $(SERVER)
 	@tests/bytes.py $(SERVER)
 
 given-groups:
