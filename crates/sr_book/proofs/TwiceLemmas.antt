@@ -110,7 +110,7 @@ twice-destroy group (Some stream) = refl
 pub at_once-twice : (keys : Keys) (moment : ℕ) (call : Call) → IsTwice (at_once keys moment call).outcome
 at_once-twice keys moment (Ping message) = refl
 at_once-twice keys moment (Xadd key make trim spec fields) =
-    twice-cond (is_zero spec) _ _ refl (twice-added_at moment make trim spec fields (stream_at keys key))
+    twice-cond (is_zero spec) _ _ refl (twice-added_at (in_63_bits moment) make trim spec fields (stream_at keys key))
 at_once-twice keys moment (Xtrim key trim) = twice-counts (trimmed trim) (trim_count trim) (stream_at keys key)
 at_once-twice keys moment (Xdel key ids) = twice-counts (without_ids ids) (deleted_count ids) (stream_at keys key)
 at_once-twice keys moment (Xlen key) = refl
