@@ -87,10 +87,10 @@ fn make_rounds<D: Desk, C: Clock, G: Gate>(
         return Err(DeskFault::Idle);
     }
     desk.pause();
+    gate.between(session);
     let Ok(verdict) = Verdict::make(alloc, snapshot) else {
         return Err(DeskFault::Memory);
     };
-    gate.between(session);
     let event = Event::Conclude {
         session,
         verdict,

@@ -3,6 +3,7 @@ mod decoding;
 mod plan;
 mod reading;
 mod replies;
+mod solving;
 mod stream;
 mod transport;
 mod waiters;

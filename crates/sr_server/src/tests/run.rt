@@ -27,6 +27,9 @@ A = 1
 B = 100
 ";
 
+/// How often a flag is looked at that another thread should set. Then it is given up.
+pub(crate) const LOOKS: u32 = 16_777_216;
+
 /// The command that a line is.
 fn command(alloc: Global, line: &str) -> Result<Command, Fail> {
     let mut words = Words::new(alloc);

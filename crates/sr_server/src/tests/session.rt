@@ -6,7 +6,7 @@ use sr_book::Book;
 use sr_policy::Policy;
 use sr_resp::{Sink, WriteFailed, WriteTo};
 use sr_session::{Clock, End, NoGate, PlainDesk, ReadFailed, ReadFrom, Source, run_session};
-use std::alloc::Global;
+use std::alloc::{AllocError, Global};
 use std::hash::RandomState;
 use std::io;
 use std::io::{Error, ErrorKind, Read};
@@ -39,7 +39,7 @@ impl Clock for Stopped {
 
 /// Gives at most `size` bytes at each read. After its bytes it ends, or fails.
 #[derive(Drop)]
-struct Pieces<'a> {
+pub(crate) struct Pieces<'a> {
     bytes: &'a [u8],
     size: usize,
     fails: bool,
@@ -61,7 +61,7 @@ impl<'a> Pieces<'a> {
     }
 
     /// All bytes at one read, and then the end.
-    fn whole(bytes: &'a [u8]) -> Pieces<'a>
+    pub(crate) fn whole(bytes: &'a [u8]) -> Pieces<'a>
         ensures { (result.ended ≡ false) × (result.failed ≡ false) }
     {
         Pieces::new(bytes, 4096, false)
@@ -95,14 +95,14 @@ impl Source for Pieces<'_> {
 
 /// Keeps what it gets. It fails once, after `room` bytes, and would keep what is written after that too.
 #[derive(Drop)]
-struct Kept {
-    bytes: Vec<u8>,
+pub(crate) struct Kept {
+    pub(crate) bytes: Vec<u8>,
     room: usize,
-    failed: bool,
+    pub(crate) failed: bool,
 }
 
 impl Kept {
-    fn with_room(alloc: Global, room: usize) -> Result<Kept, Fail>
+    pub(crate) fn with_room(alloc: Global, room: usize) -> Result<Kept, AllocError>
         ensures { IfOk result (λ kept. kept.failed ≡ false) }
     {
         let bytes = Vec::with_capacity(alloc, 512)?;
@@ -196,6 +196,26 @@ fn ends(
     let hasher = RandomState::new(rt)?;
     let writer = Kept::with_room(rt.alloc(), talk.room)?;
     Ok(ends_over(rt.alloc(), hasher, writer, talk, end, text))
+}
+
+/// What a session writes that has these requests answered at a book.
+pub(crate) fn said_at(
+    alloc: Global,
+    book: &mut Book,
+    requests: &[u8],
+) -> Result<Vec<u8>, AllocError> {
+    let mut writer = Kept::with_room(alloc, 512)?;
+    let _ended = run_session(
+        alloc,
+        &mut Pieces::whole(requests),
+        &mut writer,
+        &mut PlainDesk::new(book),
+        &Stopped,
+        &NoGate,
+        false,
+        9,
+    );
+    Ok(writer.bytes)
 }
 
 /// How many bytes answer so many bytes of the run.

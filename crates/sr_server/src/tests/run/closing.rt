@@ -1,10 +1,10 @@
 // Rows over a book behind a lock, and how their runs end. Each call of it is one of a held book, whose contract tells what comes of it.
 ghost use Rattle.std.specs.Prelude.{◌≡◌};
 
-use super::records::are_driven;
-use super::rows::{DEADLINE, READERS, RECOVERY, Row, SCRIPTS, TWO_SEATS, Told, play};
+use super::records::{are_driven, driven};
+use super::rows::{DEADLINE, OPENED, READERS, RECOVERY, Row, SCRIPTS, TWO_SEATS, Told, play};
 use super::{TWO, book_under};
-use sr_book::Out;
+use sr_book::{Book, Out};
 use sr_resp::Reply;
 use sr_run::{CloseFault, Closed, Seat, Shared, Unclosed, open};
 use std::alloc::Global;
@@ -128,13 +128,18 @@ fn play_shared<L: Ledger, R: AllocGlobal + Abort + Wait>(
     }
 }
 
+/// The book of a row before it is opened.
+fn book_before(rt: &(impl AllocGlobal + RandomSource), row: Row) -> Result<Book, Fail> {
+    driven(rt.alloc(), book_under(rt, TWO)?, row.before)
+}
+
 /// Whether a run that was closed has the events and the records of its row.
 fn is_of_row(
     rt: &(impl AllocGlobal + RandomSource),
     closed: &Closed,
     row: Row,
 ) -> Result<bool, Fail> {
-    let book = book_under(rt, TWO)?;
+    let book = book_before(rt, row)?;
     let same = are_driven(rt.alloc(), book, row.lines, closed.book.records())?;
     Ok(same && closed.acts == row.acts)
 }
@@ -151,7 +156,7 @@ fn closes_by<L: Ledger, R: AllocGlobal + Abort + RandomSource + Wait>(
     requires whole { blank.parts ≡ L.parts }
     requires parts { blank.parts ≡ 2 }
 {
-    let (shared, seats) = open::<L>(rt.alloc(), book_under(rt, TWO)?, 2, blank)?;
+    let (shared, seats) = open::<L>(rt.alloc(), book_before(rt, row)?, 2, blank)?;
     let mut told = Told::new(rt.alloc());
     let (fault, closed) = play_shared(rt, shared, seats, &mut told, row, altered)?;
     let is_right = is_of_row(rt, &closed, row)?;
@@ -186,6 +191,11 @@ fn a_recovery_takes_the_cheapest_plan_of_two(rt: HostRuntime) -> Result<(), Fail
 #[test]
 fn an_entry_of_one_session_is_read_by_another_at_its_own_seat(rt: HostRuntime) -> Result<(), Fail> {
     closes(&rt, TWO_SEATS, Altered::Nothing, None)
+}
+
+#[test]
+fn acts_are_those_of_the_seats_alone(rt: HostRuntime) -> Result<(), Fail> {
+    closes(&rt, OPENED, Altered::Nothing, None)
 }
 
 /// A run, what is altered of what was told in it, and what the close says then.

@@ -126,6 +126,15 @@ pub(crate) fn snapshot_of(
     }
 }
 
+/// The book after the events of lines.
+pub(super) fn driven(alloc: Global, book: Book, lines: &[Line]) -> Result<Book, Fail> {
+    let mut book = book;
+    match drive_all(alloc, &mut book, lines, &mut None) {
+        Ok(()) => Ok(book),
+        Err(fail) => Err(fail),
+    }
+}
+
 /// Whether these are the records of a book that is driven by the events of lines. The book is dropped here alone.
 pub(super) fn are_driven(
     alloc: Global,

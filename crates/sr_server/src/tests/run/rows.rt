@@ -16,9 +16,10 @@ use std::test::Fail;
 /// A moment, a session, its call or what else happens, and what is said of it.
 pub(crate) type Line = (u64, u64, &'static str, &'static str);
 
-/// A run, and how many events it has.
+/// A run: the events of the book before it is opened, what happens then, and how many events of seats there are.
 #[derive(Clone, Copy, Drop)]
 pub(super) struct Row {
+    pub(super) before: &'static [Line],
     pub(super) lines: &'static [Line],
     pub(super) acts: u64,
 }
@@ -46,6 +47,7 @@ const MOVED: &str = "*2\r\n*4\r\n$3\r\n1-1\r\n$1\r\nB\r\n:0\r\n:1\r\n\
 
 /// Two readers of a group wait. Record 8 serves the first and record 11 the second.
 pub(super) const READERS: Row = Row {
+    before: &[],
     lines: &[
         (10, 0, "join", "joined 1"),
         (10, 0, "join", "joined 2"),
@@ -67,6 +69,7 @@ pub(super) const READERS: Row = Row {
 
 /// A read waits until its deadline, since what is added is trimmed at once.
 pub(super) const DEADLINE: Row = Row {
+    before: &[],
     lines: &[
         (10, 0, "join", "joined 1"),
         (10, 0, "join", "joined 2"),
@@ -82,6 +85,7 @@ pub(super) const DEADLINE: Row = Row {
 
 /// D dies with an entry of each class, of weight 2. B takes the first at 4 and A the second at 2; the other way round it were 2 and 200.
 pub(super) const RECOVERY: Row = Row {
+    before: &[],
     lines: &[
         (10, 0, "join", "joined 1"),
         (10, 1, "XGROUP CREATE s g $ MKSTREAM", "+OK\r\n"),
@@ -95,19 +99,41 @@ pub(super) const RECOVERY: Row = Row {
     acts: 8,
 };
 
-/// Session 1 adds an entry, and session 2, at the other seat, reads it later: a call's moment is that which it is told.
+/// Session 1 adds an entry, and session 2, at the other seat, reads it later: a call's moment is that which it is told. Then session 1
+/// waits, and leaves meanwhile.
 pub(super) const TWO_SEATS: Row = Row {
+    before: &[],
     lines: &[
         (10, 0, "join", "joined 1"),
         (10, 0, "join", "joined 2"),
         (10, 1, "XADD s 1-1 a b", "$3\r\n1-1\r\n"),
         (12, 2, "XRANGE s - +", ENTRY),
+        (12, 1, "XREAD BLOCK 0 STREAMS s $", "blocked"),
+        (12, 1, "leave", "left"),
+        (12, 1, "letter", "no session"),
+    ],
+    acts: 6,
+};
+
+/// The book has three events before its seats make four.
+pub(super) const OPENED: Row = Row {
+    before: &[
+        (10, 0, "join", "joined 1"),
+        (10, 0, "join", "joined 2"),
+        (10, 1, "XADD s 1-1 a b", "$3\r\n1-1\r\n"),
+    ],
+    lines: &[
+        (10, 1, "XLEN s", ":1\r\n"),
+        (11, 2, "XADD s 2-1 a b", "$3\r\n2-1\r\n"),
+        (11, 1, "XLEN s", ":2\r\n"),
+        (12, 2, "leave", "left"),
     ],
     acts: 4,
 };
 
 /// What two scripts do that workers run, one after the other.
 pub(super) const SCRIPTS: Row = Row {
+    before: &[],
     lines: &[
         (10, 0, "join", "joined 1"),
         (10, 0, "join", "joined 2"),

@@ -5,7 +5,7 @@ use super::{Pieces, Stopped, spelled};
 use sr_book::{Answer, Book, Event, Letter, Out};
 use sr_policy::Policy;
 use sr_resp::{Reply, Sink, WriteFailed};
-use sr_session::{Clock, Desk, DeskFault, End, Ended, NoGate, PlainDesk, run_session};
+use sr_session::{Clock, Desk, DeskFault, End, Ended, Gate, NoGate, PlainDesk, run_session};
 use std::alloc::Global;
 use std::cell::Cell;
 use std::hash::RandomState;
@@ -314,14 +314,29 @@ impl Clock for Counting {
 }
 
 /// A desk over a book, which notes what it is asked: `s` for a step at the moment that the clock told last, `m` for one at another moment, `a` for
-/// a letter and `p` for a pause. Before each it notes `w` if something was written meanwhile.
+/// a letter and `p` for a pause. Before each it notes `w` if something was written meanwhile, and `g` if the gate was passed between two rounds.
 #[derive(Drop)]
 struct Watched<'a> {
     book: &'a mut Book,
     clock: &'a Counting,
     count: &'a Cell<usize>,
     seen: usize,
+    passed: &'a Cell<bool>,
     noted: Vec<u8>,
+}
+
+/// Tells others that it was passed between two rounds.
+#[derive(Drop)]
+struct Passed<'a> {
+    passed: &'a Cell<bool>,
+}
+
+impl Gate for Passed<'_> {
+    fn before_call(&self, _: u64) {}
+
+    fn between(&self, _: u64) {
+        self.passed.set(true);
+    }
 }
 
 impl Watched<'_> {
@@ -331,6 +346,9 @@ impl Watched<'_> {
             return;
         }
         self.seen = count;
+        if self.passed.replace(false) && self.noted.push(b'g').is_err() {
+            return;
+        }
         let _noted = self.noted.push(letter);
     }
 }
@@ -378,11 +396,13 @@ fn notes(alloc: Global, hasher: RandomState, bytes: &[u8], want: &str) -> bool {
     let clock = Counting {
         asked: Cell::new(0),
     };
+    let passed = Cell::new(false);
     let mut desk = Watched {
         book: &mut book,
         clock: &clock,
         count: &count,
         seen: 0,
+        passed: &passed,
         noted: Vec::new(alloc),
     };
     let _ended = run_session(
@@ -391,7 +411,7 @@ fn notes(alloc: Global, hasher: RandomState, bytes: &[u8], want: &str) -> bool {
         &mut Told::new(alloc, &count),
         &mut desk,
         &clock,
-        &NoGate,
+        &Passed { passed: &passed },
         true,
         9,
     );
@@ -409,12 +429,12 @@ const PAUSES: &[(&str, &str)] = &[
     ("PING\nXREAD BLOCK 0 STREAMS s $\nPING", "sspwsas"),
     (
         "XGROUP CREATE s g $ MKSTREAM\nRECOVER.PLAN s g DEAD D\nPING",
-        "ssspsspws",
+        "ssspgsspws",
     ),
 ];
 
 /// No pause comes between the requests of one read. One comes after them all, before their replies are written; one
-/// before the replies that go out before a call that may wait; and one before a plan is made. The clock is asked once for each step, and so
+/// before the replies that go out before a call that may wait; and one before a plan is made, after which the gate is passed. The clock is asked once for each step, and so
 /// not for words that are not a command, which have none.
 #[test]
 fn a_pause_comes_before_a_write_and_before_a_plan(rt: HostRuntime) -> Result<(), Fail> {

@@ -8,7 +8,7 @@ use sr_book::{Answer, Book, Event, Letter};
 use sr_policy::Policy;
 use sr_session::{Desk, DeskFault, End, Gate, NoGate, PlainDesk, run_session};
 use std::alloc::{AllocError, Global};
-use std::cell::Cell;
+use std::cell::{Cell, RefCell};
 use std::hash::RandomState;
 use std::random::RandomSource;
 use std::test::Fail;
@@ -20,23 +20,17 @@ XREADGROUP GROUP g D STREAMS s >
 XADD s 3-1 c x
 XREADGROUP GROUP g A STREAMS s >";
 
+/// The same with two for A.
+const FULLER: &str = "XADD s 1-1 c x
+XGROUP CREATE s g 0
+XREADGROUP GROUP g D STREAMS s >
+XADD s 3-1 c x
+XADD s 4-1 c x
+XREADGROUP GROUP g A STREAMS s >";
+
 /// Notes what happens in a recovery: 1 for a snapshot, 2 between, and 3 for a verdict.
 fn note(steps: &Cell<u64>, step: u64) {
     steps.set(steps.get().saturating_mul(10).saturating_add(step));
-}
-
-/// Notes when it is asked.
-#[derive(Drop)]
-struct Noted<'a> {
-    steps: &'a Cell<u64>,
-}
-
-impl Gate for Noted<'_> {
-    fn before_call(&self, _: u64) {}
-
-    fn between(&self, _: u64) {
-        note(self.steps, 2);
-    }
 }
 
 /// A session has these requests answered at this book.
@@ -54,47 +48,77 @@ fn meddle(alloc: Global, book: &mut Book, requests: &[u8]) {
     );
 }
 
-/// Just before the first verdict is concluded, another session has its requests answered, or the history is full.
+/// Between a snapshot and its verdict other sessions have their requests answered at the same book: in the first round the first
+/// requests, and so on.
 #[derive(Drop)]
 struct Meddling<'a> {
-    book: &'a mut Book,
-    others: &'a [u8],
-    is_full: bool,
-    meddled: bool,
+    alloc: Global,
+    book: &'a RefCell<Book>,
+    others: &'a [Vec<u8>],
+    /// The session that asked for the recovery.
+    session: u64,
+    round: Cell<usize>,
     steps: &'a Cell<u64>,
 }
 
-impl Meddling<'_> {
-    /// What comes before a verdict. Answers whether the history is full.
-    fn before_verdict(&mut self, alloc: Global) -> bool {
-        note(self.steps, 3);
-        if self.meddled {
-            return false;
-        }
-        self.meddled = true;
-        if !self.is_full {
-            meddle(alloc, self.book, self.others);
-        }
-        self.is_full
-    }
+impl Gate for Meddling<'_> {
+    fn before_call(&self, _: u64) {}
 
+    fn between(&self, session: u64) {
+        note(self.steps, if session == self.session { 2 } else { 9 });
+        let round = self.round.get();
+        self.round.set(round.saturating_add(1));
+        let Some(requests) = self.others.get(round) else {
+            return;
+        };
+        if let Ok(mut book) = self.book.try_borrow_mut() {
+            meddle(self.alloc, &mut book, requests.as_slice());
+        }
+    }
+}
+
+/// A desk over a book that others use too. Its history may be full when a verdict is concluded.
+#[derive(Drop)]
+struct Lent<'a> {
+    book: &'a RefCell<Book>,
+    is_full: bool,
+    steps: &'a Cell<u64>,
+}
+
+impl Lent<'_> {
     /// Notes an event. Answers whether the history is full.
-    fn is_stopped(&mut self, alloc: Global, event: &Event) -> bool {
+    fn is_stopped(&self, event: &Event) -> bool {
         match event {
             Event::Snapshot { .. } => {
                 note(self.steps, 1);
                 false
             }
-            Event::Conclude { .. } => self.before_verdict(alloc),
+            Event::Conclude { .. } => {
+                note(self.steps, 3);
+                self.is_full
+            }
             _ => false,
         }
+    }
+}
+
+/// What a book answers to an event.
+fn step_in(
+    book: &RefCell<Book>,
+    alloc: Global,
+    moment: u64,
+    event: Event,
+) -> Result<Answer, DeskFault> {
+    match book.try_borrow_mut() {
+        Ok(mut book) => PlainDesk::new(&mut book).step(alloc, moment, event),
+        Err(_) => Err(DeskFault::Busy),
     }
 }
 
 /// What a book answers to an event, unless the history is full.
 fn step_unless(
     is_full: bool,
-    book: &mut Book,
+    book: &RefCell<Book>,
     alloc: Global,
     moment: u64,
     event: Event,
@@ -103,17 +127,17 @@ fn step_unless(
         drop(event);
         Err(DeskFault::Full)
     } else {
-        PlainDesk::new(book).step(alloc, moment, event)
+        step_in(book, alloc, moment, event)
     }
 }
 
-impl Desk for Meddling<'_> {
+impl Desk for Lent<'_> {
     ghost shows = { λ _. None };
 
     ghost borrows = { λ _. 0 };
 
     fn step(&mut self, alloc: Global, moment: u64, event: Event) -> Result<Answer, DeskFault> {
-        let is_full = self.is_stopped(alloc, &event);
+        let is_full = self.is_stopped(&event);
         step_unless(is_full, self.book, alloc, moment, event)
     }
 
@@ -121,16 +145,15 @@ impl Desk for Meddling<'_> {
         Err(DeskFault::Idle)
     }
 
-    fn pause(&mut self) {
-        PlainDesk::new(self.book).pause();
-    }
+    fn pause(&mut self) {}
 }
 
-/// What another session does meanwhile, the commands, how their replies begin, what comes after the price of A, which is from 0
+/// What was answered before, what other sessions do meanwhile in each round, the commands, how their replies begin, what comes after the price of A, which is from 0
 /// to 2 then (nothing, if that is not compared), and what was noted of them.
 #[derive(Clone, Copy, Drop)]
 struct Meanwhile<'a> {
-    others: &'a str,
+    before: &'a str,
+    others: &'a [&'a str],
     is_full: bool,
     commands: &'a str,
     replies: &'a str,
@@ -138,10 +161,11 @@ struct Meanwhile<'a> {
     steps: u64,
 }
 
-/// Entries 1-1 of class x, to be taken by A at a cost of 2 or by B at one of 4.
+/// Entry 1-1 of class x is to be taken by A at a cost of 2 or by B at one of 4.
 const ROWS: &[Meanwhile<'_>] = &[
     Meanwhile {
-        others: "XACK s g 3-1",
+        before: FULL,
+        others: &["XACK s g 3-1"],
         is_full: false,
         commands: "RECOVER.RUN s g DEAD D",
         replies: "*5\r\n$4\r\ndone\r\n:2\r\n*1\r\n*2\r\n$3\r\n1-1\r\n$1\r\nA\r\n*2\r\n*2\r\n$1\r\nA\r\n:",
@@ -149,7 +173,8 @@ const ROWS: &[Meanwhile<'_>] = &[
         steps: 12_323,
     },
     Meanwhile {
-        others: "XADD s 9-1 c x",
+        before: FULL,
+        others: &["XADD s 9-1 c x"],
         is_full: false,
         commands: "RECOVER.RUN s g DEAD D",
         replies: "*5\r\n$4\r\ndone\r\n:4\r\n*1\r\n*2\r\n$3\r\n1-1\r\n$1\r\nB\r\n*2\r\n*2\r\n$1\r\nA\r\n:",
@@ -157,7 +182,8 @@ const ROWS: &[Meanwhile<'_>] = &[
         steps: 123,
     },
     Meanwhile {
-        others: "XREADGROUP GROUP g D STREAMS s 0",
+        before: FULL,
+        others: &["XREADGROUP GROUP g D STREAMS s 0"],
         is_full: false,
         commands: "RECOVER.RUN s g DEAD D",
         replies: "*5\r\n$4\r\ndone\r\n:4\r\n*1\r\n*2\r\n$3\r\n1-1\r\n$1\r\nB\r\n*2\r\n*2\r\n$1\r\nA\r\n:",
@@ -165,7 +191,8 @@ const ROWS: &[Meanwhile<'_>] = &[
         steps: 123,
     },
     Meanwhile {
-        others: "XACK s g 3-1",
+        before: FULL,
+        others: &["XACK s g 3-1"],
         is_full: false,
         commands: "RECOVER.RUN s g TRIES 1 DEAD D\nPING",
         replies: "-STALE the group changed while the plan was made\r\n+PONG\r\n",
@@ -173,7 +200,8 @@ const ROWS: &[Meanwhile<'_>] = &[
         steps: 123,
     },
     Meanwhile {
-        others: "XGROUP DESTROY s g",
+        before: FULL,
+        others: &["XGROUP DESTROY s g"],
         is_full: false,
         commands: "RECOVER.RUN s g DEAD D",
         replies: "-NOGROUP no such key or consumer group\r\n",
@@ -181,7 +209,8 @@ const ROWS: &[Meanwhile<'_>] = &[
         steps: 123,
     },
     Meanwhile {
-        others: "PING",
+        before: FULL,
+        others: &["PING"],
         is_full: false,
         commands: "RECOVER.PLAN s g DEAD D",
         replies: "*5\r\n$4\r\nplan\r\n:4\r\n*1\r\n*2\r\n$3\r\n1-1\r\n$1\r\nB\r\n*2\r\n*2\r\n$1\r\nA\r\n:",
@@ -189,12 +218,32 @@ const ROWS: &[Meanwhile<'_>] = &[
         steps: 123,
     },
     Meanwhile {
-        others: "PING",
+        before: FULL,
+        others: &["PING"],
         is_full: true,
         commands: "RECOVER.RUN s g DEAD D\nPING",
         replies: "-OOM history is full\r\n+PONG\r\n",
         ends: "",
         steps: 123,
+    },
+    Meanwhile {
+        before: FULLER,
+        others: &["XACK s g 3-1", "XACK s g 4-1"],
+        is_full: false,
+        commands: "RECOVER.RUN s g TRIES 2 DEAD D\nXPENDING s g",
+        replies: "-STALE the group changed while the plan was made\r\n\
+            *4\r\n:1\r\n$3\r\n1-1\r\n$3\r\n1-1\r\n*1\r\n*2\r\n$1\r\nD\r\n$1\r\n1\r\n",
+        ends: "",
+        steps: 12_323,
+    },
+    Meanwhile {
+        before: FULLER,
+        others: &["XACK s g 3-1", "XACK s g 4-1"],
+        is_full: false,
+        commands: "RECOVER.RUN s g TRIES 3 DEAD D",
+        replies: "*5\r\n$4\r\ndone\r\n:2\r\n*1\r\n*2\r\n$3\r\n1-1\r\n$1\r\nA\r\n*2\r\n*2\r\n$1\r\nA\r\n:",
+        ends: "\r\n*2\r\n$1\r\nB\r\n:0\r\n*0\r\n",
+        steps: 1_232_323,
     },
 ];
 
@@ -223,7 +272,7 @@ fn is_met(row: &Meanwhile<'_>, end: End, written: &[u8], steps: u64) -> bool {
 #[derive(Clone, Copy, Drop)]
 struct Sent<'a> {
     before: &'a [u8],
-    others: &'a [u8],
+    others: &'a [Vec<u8>],
     commands: &'a [u8],
 }
 
@@ -237,12 +286,20 @@ fn is_answered(
 ) -> bool {
     let mut book = Book::new(alloc, policy, hasher);
     meddle(alloc, &mut book, sent.before);
+    let session = book.records().len().saturating_add(1) as u64;
+    let book = RefCell::new(book);
     let steps = Cell::new(0);
-    let mut desk = Meddling {
-        book: &mut book,
-        others: sent.others,
+    let mut desk = Lent {
+        book: &book,
         is_full: row.is_full,
-        meddled: false,
+        steps: &steps,
+    };
+    let others = Meddling {
+        alloc,
+        book: &book,
+        others: sent.others,
+        session,
+        round: Cell::new(0),
         steps: &steps,
     };
     let count = Cell::new(0);
@@ -253,7 +310,7 @@ fn is_answered(
         &mut writer,
         &mut desk,
         &Stopped,
-        &Noted { steps: &steps },
+        &others,
         false,
         9,
     );
@@ -263,8 +320,11 @@ fn is_answered(
 /// The same, at a new book under the policy.
 fn goes_on(rt: &(impl AllocGlobal + RandomSource), row: &Meanwhile<'_>) -> Result<bool, Fail> {
     let alloc = rt.alloc();
-    let before = spelled(alloc, FULL)?;
-    let others = spelled(alloc, row.others)?;
+    let before = spelled(alloc, row.before)?;
+    let mut others = Vec::new(alloc);
+    for lines in row.others {
+        others.push(spelled(alloc, lines)?)?;
+    }
     let commands = spelled(alloc, row.commands)?;
     let hasher = RandomState::new(rt)?;
     let sent = Sent {
@@ -280,7 +340,7 @@ fn goes_on(rt: &(impl AllocGlobal + RandomSource), row: &Meanwhile<'_>) -> Resul
 #[test]
 fn others_go_on_meanwhile(rt: HostRuntime) -> Result<(), Fail> {
     for row in ROWS {
-        assert!(rt; goes_on(&rt, row)?, "{}, then {}", row.others, row.commands);
+        assert!(rt; goes_on(&rt, row)?, "{}: {:?}", row.commands, row.others);
     }
     Ok(())
 }
