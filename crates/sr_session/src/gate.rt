@@ -3,7 +3,7 @@ pub trait Gate {
     /// Before a call of the session.
     fn before_call(&self, session: u64);
 
-    /// Between two rounds of a recovery that the session asked for.
+    /// In each round of a recovery that the session asked for, once the desk has paused and before the plan is made.
     fn between(&self, session: u64);
 }
 

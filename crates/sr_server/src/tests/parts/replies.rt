@@ -1,5 +1,5 @@
 // What no clause says and no program shows: the bytes that a failing writer was given. How replies are spelled is in
-// tests/histories/replies.history and tests/sessions.
+// tests/histories/replies.history and tests/commands.
 use sr_resp::{SendFault, WriteTo, send_all};
 use std::alloc::{AllocError, Global};
 use std::io::{self, ErrorKind, Write};

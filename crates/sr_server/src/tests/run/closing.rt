@@ -193,24 +193,36 @@ fn an_entry_of_one_session_is_read_by_another_at_its_own_seat(rt: HostRuntime) -
     closes(&rt, TWO_SEATS, Altered::Nothing, None)
 }
 
-#[test]
-fn acts_are_those_of_the_seats_alone(rt: HostRuntime) -> Result<(), Fail> {
-    closes(&rt, OPENED, Altered::Nothing, None)
-}
-
-/// A run, what is altered of what was told in it, and what the close says then.
-const CLOSINGS: &[(Row, Altered, CloseFault)] = &[
-    (READERS, Altered::Seat, CloseFault::Short),
-    (READERS, Altered::Outcome(1), CloseFault::Mismatch { at: 1 }),
-    (READERS, Altered::Addressee, CloseFault::Stray { at: 0 }),
-    (SCRIPTS, Altered::Outcome(3), CloseFault::Mismatch { at: 3 }),
-    (SCRIPTS, Altered::Index(2), CloseFault::Strange { at: 2 }),
+/// A run, what is altered of what was told in it, and what the close says then, if it is refused.
+const CLOSINGS: &[(Row, Altered, Option<CloseFault>)] = &[
+    (OPENED, Altered::Nothing, None),
+    (READERS, Altered::Seat, Some(CloseFault::Short)),
+    (
+        READERS,
+        Altered::Outcome(1),
+        Some(CloseFault::Mismatch { at: 1 }),
+    ),
+    (
+        READERS,
+        Altered::Addressee,
+        Some(CloseFault::Stray { at: 0 }),
+    ),
+    (
+        SCRIPTS,
+        Altered::Outcome(3),
+        Some(CloseFault::Mismatch { at: 3 }),
+    ),
+    (
+        SCRIPTS,
+        Altered::Index(2),
+        Some(CloseFault::Strange { at: 2 }),
+    ),
 ];
 
 #[test]
 fn a_run_is_closed_with_what_was_told_and_nothing_else(rt: HostRuntime) -> Result<(), Fail> {
     for (row, altered, fault) in CLOSINGS {
-        closes(&rt, *row, *altered, Some(*fault))?;
+        closes(&rt, *row, *altered, *fault)?;
     }
     Ok(())
 }

@@ -1,4 +1,4 @@
-// Recoveries while another session goes on. What they reply otherwise is in tests/moments.
+// Recoveries while another session goes on. What they reply otherwise is in tests/commands.
 ghost use Rattle.std.specs.Prelude.{None};
 
 use super::desks::Told;
