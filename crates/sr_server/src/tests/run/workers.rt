@@ -1,5 +1,5 @@
 // Scripts that workers run, each in a thread of its own.
-ghost use Rattle.std.specs.Prelude.{true, false};
+ghost use Rattle.std.specs.Prelude.{true};
 
 use super::{LOOKS, TWO, call};
 use crate::tests::session::{said_at, spelled};
@@ -19,14 +19,19 @@ use std::test::Fail;
 use std::thread;
 use std::thread::Threads;
 
-/// It is one second past 1970.
-struct Second;
+/// Tells one second past 1970, and one more whenever it is asked.
+#[derive(Drop)]
+struct Seconds {
+    told: AtomicU64,
+}
 
-impl Clock for Second {
+impl Clock for Seconds {
     ghost may_tell = { λ _ _. true };
 
     fn now(&self) -> u64 {
-        1000
+        self.told
+            .fetch_add(1000, Ordering::SeqCst)
+            .wrapping_add(1000)
     }
 }
 
@@ -117,7 +122,7 @@ fn is_memory(fault: RunFault) -> bool {
     }
 }
 
-/// Runs scripts past a gate, at one second past 1970. It fails for memory if that was refused.
+/// Runs scripts past a gate, each event a second later. It fails for memory if that was refused.
 fn run_past<G: Gate + Sync, R: AllocGlobal + RandomSource + Threads + Wait + Sync>(
     rt: &R,
     scripts: Vec<Vec<Call>>,
@@ -126,7 +131,10 @@ fn run_past<G: Gate + Sync, R: AllocGlobal + RandomSource + Threads + Wait + Syn
     let alloc = rt.alloc();
     let hasher = RandomState::new(rt)?;
     let policy = Policy::read(alloc, TWO)?;
-    match run_workers(rt, alloc, scripts, policy, &Second, gate, hasher) {
+    let clock = Seconds {
+        told: AtomicU64::new(0),
+    };
+    match run_workers(rt, alloc, scripts, policy, &clock, gate, hasher) {
         Err(fault) if is_memory(fault) => Err(Fail::from(AllocError)),
         ran => Ok(ran),
     }
@@ -264,12 +272,12 @@ const STRANDED: &[&[&str]] = &[&[
 ]];
 
 /// How the plan for it begins.
-const PLAN: &str = "*5\r\n$4\r\nplan\r\n:2\r\n*1\r\n*2\r\n$6\r\n1000-0\r\n$1\r\nA\r\n";
+const PLAN: &str = "*5\r\n$4\r\nplan\r\n:2\r\n*1\r\n*2\r\n$6\r\n3000-0\r\n$1\r\nA\r\n";
 
-/// Whether each record of a book has the moment that the clock told.
-fn are_of_moment(book: &Book) -> bool {
+/// Whether each record of a book has the moment that the clock told for it.
+fn are_of_clock(book: &Book) -> bool {
     for record in book.records() {
-        if record.moment != 1000 {
+        if record.moment != record.index.wrapping_mul(1000) {
             return false;
         }
     }
@@ -279,7 +287,7 @@ fn are_of_moment(book: &Book) -> bool {
 /// Whether the book of a run has the moments of its clock, and plans by its policy.
 fn is_under_policy(alloc: Global, ran: Ran) -> Result<bool, Fail> {
     let mut ran = ran;
-    let told = are_of_moment(&ran.closed.book);
+    let told = are_of_clock(&ran.closed.book);
     let asked = spelled(alloc, "RECOVER.PLAN s g DEAD D")?;
     let said = said_at(alloc, &mut ran.closed.book, asked.as_slice())?;
     Ok(told && said.starts_with(PLAN.as_bytes()))
