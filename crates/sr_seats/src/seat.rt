@@ -1,5 +1,5 @@
 ghost use Rattle.std.specs.Prelude.{◌≡◌, ◌+◌};
-ghost use Rattle.sr_seats.specs.Held.{new_seat, seen_by};
+ghost use Rattle.sr_seats.specs.Held.{seen_by};
 
 use std::marker::Model;
 use std::sync::ledger;
@@ -9,30 +9,34 @@ use std::sync::ledger::{Ledger, Share};
 #[derive(Drop)]
 pub struct Seat<L: Ledger> {
     number: u64,
+    /// How many events it stands for that were there before.
+    before: u64,
+    /// Its part of the ledger: those, and what it made.
     share: Share<L>,
     front: u64,
 }
 
 impl<L: Ledger> Model for Seat<L> {
-    ghost use Rattle.std.specs.Prelude.{◌≡◌};
+    ghost use Rattle.std.specs.Prelude.{◌≡◌, ◌-◌, ◌≤◌};
     ghost use Rattle.sr_seats.specs.Held.{SeatState};
 
     ghost Value = { SeatState };
 
-    ghost view = { λ s. record { number = s.number; share = s.share.amount; front = s.front } };
+    ghost view = { λ s. record { number = s.number; before = s.before; share = s.share.amount - s.before; front = s.front } };
 
-    ghost invariant = { λ s. s.share.parts ≡ 1 };
+    ghost invariant = { λ s. (s.share.parts ≡ 1) × (s.before ≤ s.share.amount) };
 }
 
 impl<L: Ledger> Seat<L> {
     /// A seat that has made and seen nothing, with its part of the ledger.
-    pub(crate) fn new(number: u64, share: Share<L>) -> Seat<L>
+    pub(crate) fn new(number: u64, before: u64, share: Share<L>) -> Seat<L>
         requires part { share.parts ≡ 1 }
-        requires unused { share.amount ≡ 0 }
-        ensures { result ≡ new_seat number }
+        requires unused { share.amount ≡ before }
+        ensures { result ≡ record { number = number; before = before; share = 0; front = 0 } }
     {
         Seat {
             number,
+            before,
             share,
             front: 0,
         }
@@ -43,6 +47,13 @@ impl<L: Ledger> Seat<L> {
         ensures { result ≡ self.now.number }
     {
         self.number
+    }
+
+    /// How many events it stands for that were there before.
+    pub(crate) fn before(&self) -> u64
+        ensures { result ≡ self.now.before }
+    {
+        self.before
     }
 
     /// The greatest index that it has seen.
@@ -61,7 +72,12 @@ impl<L: Ledger> Seat<L> {
 
     /// Counts an event that it made, and has seen its record, which has this index.
     pub(crate) fn count(&mut self, made: &mut ledger::Book<L>, index: u64)
-        ensures seat { self.new ≡ record { number = self.old.number; share = self.old.share + 1; front = index } }
+        ensures seat { self.new ≡ record {
+          number = self.old.number;
+          before = self.old.before;
+          share = self.old.share + 1;
+          front = index;
+        } }
         ensures total { made.new.total ≡ made.old.total + 1 }
     {
         made.add(&mut self.share, 1);
@@ -71,10 +87,11 @@ impl<L: Ledger> Seat<L> {
     /// Its part of the ledger.
     pub(crate) fn into_share(self) -> Share<L>
         ensures part { result.parts ≡ 1 }
-        ensures amount { result.amount ≡ self.share }
+        ensures amount { result.amount ≡ self.before + self.share }
     {
         let Seat {
             number: _,
+            before: _,
             share,
             front: _,
         } = self;
