@@ -3,7 +3,7 @@ use Rattle.std.proofs.Common.{◌≡◌, ℕ, zero, suc, take, drop, get_or, ◌
 use Rattle.std.specs.Prelude.{All, ◌≢◌, MatchResult, sum, sum_by}
 use Rattle.std.specs.List.{flat_map}
 use Rattle.std.proofs.lemmas.Grind.{flat_map-append}
-use Rattle.std.proofs.lemmas.List.{length-drop, length-map, length-take-le, map-append, map_more, map_push, take-append-drop, take_more}
+use Rattle.std.proofs.lemmas.List.{length-drop, length-map, length-take-le, map-append, map_more, map_push, take-append-drop, take-append-le, take_more}
 use Rattle.std.proofs.lemmas.List.Concat.{flat_map-cons, length-flat_map}
 use Rattle.std.proofs.lemmas.List.Elements.{All-push}
 use Rattle.std.proofs.lemmas.List.Folds.{flat_map-map}
@@ -13,12 +13,13 @@ use Rattle.sr_args.specs.declared.call.Call.{Call}
 use Rattle.sr_book.specs.Records.{BookState}
 use Rattle.sr_run.specs.Closed.{IsClosed}
 use Rattle.sr_run.specs.Crews.{AreHalves, AreTogether, CrewState, HasNotWorked, HasWorked, IsCrew, first_of, joined, seats_from}
-use Rattle.sr_seats.specs.Held.{SeatState, new_seat, new_seats}
-use Rattle.sr_run.specs.Shared.{HasMade}
-use Rattle.sr_run.specs.Worked.{AreWorked, HasNotRun, HasRun, IsWorked, count_calls, joined_up}
+use Rattle.sr_seats.specs.Held.{SeatState, count_before, count_made, new_seat, new_seats}
+use Rattle.sr_run.specs.Shared.{HasMade, RefusesEvent}
+use Rattle.sr_run.specs.Worked.{AreWorked, HasNotRun, HasRun, IsFirstStopped, IsWorked, count_calls, joined_up}
 use Rattle.sr_run.specs.declared.fault.RunFault.{RunFault}
 use Rattle.sr_run.specs.declared.fault.RunFault.TheVariants as faults
 use Rattle.sr_seats.specs.declared.fault.CloseFault.{CloseFault}
+use Rattle.sr_seats.specs.declared.fault.SeatFault.{SeatFault}
 use Rattle.sr_seats.specs.declared.receipt.Receipt.{Receipt}
 
 -- ---- seats that count on
@@ -26,7 +27,7 @@ use Rattle.sr_seats.specs.declared.receipt.Receipt.{Receipt}
 front_seats : (first n k : ℕ) → k ≤ n → take k (seats_from first n) ≡ seats_from first k
 front_seats first n zero few = refl
 front_seats first zero (suc k) few = absurd (omega (arith, few))
-front_seats first (suc n) (suc k) few = ap (λ xs. new_seat first ∷ xs) (front_seats (first + 1) n k (omega (arith, few)))
+front_seats first (suc n) (suc k) few = ap (λ xs. new_seat 0 first ∷ xs) (front_seats (first + 1) n k (omega (arith, few)))
 
 back_seats : (first n k m : ℕ) → k + m ≡ n → drop k (seats_from first n) ≡ seats_from (first + k) m
 back_seats first n zero m all =
@@ -38,20 +39,33 @@ back_seats first (suc n) (suc k) m all =
     let here : first + 1 + k ≡ first + suc k = omega arith in
     back_seats (first + 1) n k m (omega (arith, all)) ∙ ap (λ f. seats_from f m) here
 
-seats_from-more : (first n : ℕ) → seats_from first (suc n) ≡ seats_from first n ++ new_seat (first + n) ∷ []
+seats_from-more : (first n : ℕ) → seats_from first (suc n) ≡ seats_from first n ++ new_seat 0 (first + n) ∷ []
 seats_from-more first zero =
     let here : first ≡ first + 0 = omega arith in
-    ap (λ f. new_seat f ∷ []) here
+    ap (λ f. new_seat 0 f ∷ []) here
 seats_from-more first (suc n) =
     let here : first + 1 + n ≡ first + suc n = omega arith in
-    ap (λ xs. new_seat first ∷ xs) (seats_from-more (first + 1) n ∙ ap (λ f. seats_from (first + 1) n ++ new_seat f ∷ []) here)
+    ap (λ xs. new_seat 0 first ∷ xs) (seats_from-more (first + 1) n ∙ ap (λ f. seats_from (first + 1) n ++ new_seat 0 f ∷ []) here)
 
 -- seats that are numbered from 0 count on from 0
-pub new_seats_count_on : (n : ℕ) → new_seats n ≡ seats_from 0 n
+pub new_seats_count_on : (n : ℕ) → new_seats 0 n ≡ seats_from 0 n
 new_seats_count_on zero = refl
 new_seats_count_on (suc n) =
     let here : n ≡ 0 + n = omega arith in
-    ap (λ xs. xs ++ new_seat n ∷ []) (new_seats_count_on n) ∙ ap (λ f. seats_from 0 n ++ new_seat f ∷ []) here ∙ sym (seats_from-more 0 n)
+    ap (λ xs. xs ++ new_seat 0 n ∷ []) (new_seats_count_on n) ∙ ap (λ f. seats_from 0 n ++ new_seat 0 f ∷ []) here ∙ sym (seats_from-more 0 n)
+
+-- a seat that has done and seen nothing, and stands for no event
+new_seat-number : (n : ℕ) → (new_seat 0 n).number ≡ n
+new_seat-number zero = refl
+new_seat-number (suc n) = refl
+
+new_seat-share : (n : ℕ) → (new_seat 0 n).share ≡ 0
+new_seat-share zero = refl
+new_seat-share (suc n) = refl
+
+new_seat-before : (n : ℕ) → (new_seat 0 n).before ≡ 0
+new_seat-before zero = refl
+new_seat-before (suc n) = refl
 
 length-seats_from : (first n : ℕ) → length (seats_from first n) ≡ n
 length-seats_from first zero = refl
@@ -60,7 +74,7 @@ length-seats_from first (suc n) = ap suc (length-seats_from (first + 1) n)
 -- ---- the halves of a crew
 
 -- seats that have done and seen nothing are a crew
-pub new_crew : {V : Type 0} (f : V → List Call) (n : ℕ) (seats : List SeatState) (xs : List V) → seats ≡ new_seats n → length xs ≡ n → n ≤ 64 → IsCrew 0 seats (map f xs)
+pub new_crew : {V : Type 0} (f : V → List Call) (n : ℕ) (seats : List SeatState) (xs : List V) → seats ≡ new_seats 0 n → length xs ≡ n → n ≤ 64 → IsCrew 0 seats (map f xs)
 new_crew f n seats xs new many few =
     let size : length (map f xs) ≡ n = length-map xs f ∙ many in
     record { new = new ∙ new_seats_count_on n ∙ ap (λ m. seats_from 0 m) (sym size); few = omega (arith, size, few) }
@@ -145,6 +159,7 @@ halves_have_worked front back seats others receipts more halves one two =
     let P : ℕ → Type 0 = λ n. AreWorked n back.scripts two.groups in
     let later : AreWorked (front.first + length front.scripts) back.scripts two.groups = subst P halves.next two.worked in
     let share : SeatState → ℕ = λ seat. seat.share in
+    let stands : SeatState → ℕ = λ seat. seat.before in
     let size : List Call → ℕ = λ script. length script in
     let many : length (front.scripts ++ back.scripts) ≡ length front.scripts + length back.scripts = length-append front.scripts back.scripts in
     record {
@@ -153,43 +168,47 @@ halves_have_worked front back seats others receipts more halves one two =
       worked = AreWorked-append front.first front.scripts back.scripts one.groups two.groups one.worked later;
       all = omega (arith, length-append seats others, many, one.all, two.all);
       shares = omega (arith, sum_by-append share seats others, sum_by-append size front.scripts back.scripts, many, one.shares, two.shares);
+      fresh = omega (arith, sum_by-append stands seats others, one.fresh, two.fresh);
     }
 
 one_last : {X : Type 0} (others : List X) (x : X) → length (others ++ x ∷ []) ≡ 1 → others ++ x ∷ [] ≡ x ∷ []
 one_last [] x one = refl
 one_last (y ∷ ys) x one = absurd (omega (arith, one, length-append ys (x ∷ [])))
 
-one_script : (first : ℕ) (script : List Call) (seat : SeatState) (receipts : List Receipt) → IsWorked first script receipts → seat.share ≡ length script + 2
+one_script : (first : ℕ) (script : List Call) (seat : SeatState) (receipts : List Receipt) → IsWorked first script receipts → seat.share ≡ length script + 2 → seat.before ≡ 0
     → HasWorked (record { first = first; scripts = script ∷ [] }) (seat ∷ []) receipts
-one_script first script seat receipts worked share =
+one_script first script seat receipts worked share fresh =
     let size : List Call → ℕ = λ s. length s in
     let shares : SeatState → ℕ = λ s. s.share in
+    let stands : SeatState → ℕ = λ s. s.before in
     record {
       groups = receipts ∷ [];
       whole = sym (append-nil receipts) ∙ sym (flat_map-cons (λ (list : List Receipt). list) receipts []);
       worked = (worked, tt);
       all = refl;
       shares = sum_by-cons shares seat [] ∙ omega (arith, share, sum_by-cons size script []);
+      fresh = sum_by-cons stands seat [] ∙ omega (arith, fresh);
     }
 
 -- so has a crew of one whose worker has: its seat and its script are the last
 pub one_has_worked : {V : Type 0} (f : V → List Call) (first : ℕ) (seats rest left : List SeatState) (xs others : List V) (seat seat_after : SeatState) (script : V) (asked : List Call) (receipts : List Receipt)
     → IsCrew first seats (map f xs) → length (map f xs) ≡ 1 → seats ≡ rest ++ seat ∷ [] → xs ≡ others ++ script ∷ [] → left ≡ rest ++ seat_after ∷ [] → asked ≡ f script
-    → IsWorked seat.number asked receipts → seat_after.share ≡ seat.share + length asked + 2 → HasWorked (record { first = first; scripts = map f xs }) left receipts
-one_has_worked f first seats rest left xs others seat seat_after script asked receipts crew one seats_are xs_are left_is same worked share =
+    → IsWorked seat.number asked receipts → seat_after.share ≡ seat.share + length asked + 2 → seat_after.before ≡ seat.before → HasWorked (record { first = first; scripts = map f xs }) left receipts
+one_has_worked f first seats rest left xs others seat seat_after script asked receipts crew one seats_are xs_are left_is same worked share stands =
     let many : length xs ≡ 1 = sym (length-map xs f) ∙ one in
     let alone : xs ≡ script ∷ [] = xs_are ∙ one_last others script (ap length (sym xs_are) ∙ many) in
-    let by_new : seats ≡ new_seat first ∷ [] = crew.new ∙ ap (λ n. seats_from first n) one in
+    let by_new : seats ≡ new_seat 0 first ∷ [] = crew.new ∙ ap (λ n. seats_from first n) one in
     let by_last : seats ≡ seat ∷ [] = seats_are ∙ one_last rest seat (ap length (sym seats_are) ∙ ap length by_new) in
-    let is_new : seat ≡ new_seat first = let both : seat ∷ [] ≡ new_seat first ∷ [] = sym by_last ∙ by_new in cc in
+    let is_new : seat ≡ new_seat 0 first = let both : seat ∷ [] ≡ new_seat 0 first ∷ [] = sym by_last ∙ by_new in cc in
     let front : length (rest ++ seat_after ∷ []) ≡ 1 = length-append rest (seat_after ∷ []) ∙ sym (length-append rest (seat ∷ [])) ∙ ap length (sym seats_are) ∙ ap length by_new in
     let left_alone : left ≡ seat_after ∷ [] = left_is ∙ one_last rest seat_after front in
-    let number : seat.number ≡ first = ap (λ (s : SeatState). s.number) is_new in
-    let unused : seat.share ≡ 0 = ap (λ (s : SeatState). s.share) is_new in
+    let number : seat.number ≡ first = ap (λ (s : SeatState). s.number) is_new ∙ new_seat-number first in
+    let unused : seat.share ≡ 0 = ap (λ (s : SeatState). s.share) is_new ∙ new_seat-share first in
+    let fresh : seat_after.before ≡ 0 = stands ∙ ap (λ (s : SeatState). s.before) is_new ∙ new_seat-before first in
     let size : length asked ≡ length (f script) = ap length same in
     let W : ℕ → Type 0 = λ n. IsWorked n asked receipts in
     let C : List Call → Type 0 = λ calls. IsWorked first calls receipts in
-    let done = one_script first (f script) seat_after receipts (subst C same (subst W number worked)) (omega (arith, share, unused, size)) in
+    let done = one_script first (f script) seat_after receipts (subst C same (subst W number worked)) (omega (arith, share, unused, size)) fresh in
     let P : List (List Call) → Type 0 = λ scripts. HasWorked (record { first = first; scripts = scripts }) (seat_after ∷ []) receipts in
     let Q : List SeatState → Type 0 = λ ss. HasWorked (record { first = first; scripts = map f xs }) ss receipts in
     subst Q (sym left_alone) (subst P (sym (ap (λ ys. map f ys) alone)) done)
@@ -198,9 +217,11 @@ one_has_worked f first seats rest left xs others seat seat_after script asked re
 pub room_again : (len cap old_len old_cap : ℕ) → len + 1 ≡ old_len → old_len ≤ old_cap → cap ≡ old_cap → len < cap
 room_again len cap old_len old_cap one within same = omega (arith, one, within, same)
 
--- its first worker is one of it
-pub alone_is_at : (crew : CrewState) (first : ℕ) → first ≡ crew.first → length crew.scripts ≡ 1 → (crew.first ≤ first) × (first < crew.first + length crew.scripts)
-alone_is_at crew first same one = (omega (arith, same), omega (arith, same, one))
+-- if it has not, its worker is the first that was stopped
+pub alone_is_stopped : (crew : CrewState) (first : ℕ) (fault : SeatFault) → first ≡ crew.first → length crew.scripts ≡ 1 → RefusesEvent fault → HasNotWorked crew (faults.Worker first fault)
+alone_is_stopped crew first fault same one told =
+    let here : first ≡ crew.first + 0 = omega (arith, same) in
+    (0, here, record { within = omega (arith, one); receipts = []; worked = tt }, told)
 
 -- a crew that has worked has a receipt for each call
 pub worked_count : (crew : CrewState) (seats : List SeatState) (receipts : List Receipt) → HasWorked crew seats receipts → length receipts ≡ sum (map length crew.scripts)
@@ -273,23 +294,58 @@ made_number index old new made = ap (λ s. s.number) made.counted
 pub made_share : (index : ℕ) (old new : SeatState) → HasMade index old new → new.share ≡ old.share + 1
 made_share index old new made = ap (λ s. s.share) made.counted
 
+pub made_before : (index : ℕ) (old new : SeatState) → HasMade index old new → new.before ≡ old.before
+made_before index old new made = ap (λ s. s.before) made.counted
+
 -- ---- what came of halves
 
--- a fault of one half is one of the whole
+take-append-more : {X : Type 0} (xs ys : List X) (k : ℕ) → take (length xs + k) (xs ++ ys) ≡ xs ++ take k ys
+take-append-more [] ys k =
+    let none : 0 + k ≡ k = omega arith in
+    ap (λ n. take n ys) none
+take-append-more (x ∷ xs) ys k =
+    let one : length (x ∷ xs) + k ≡ suc (length xs + k) = omega arith in
+    ap (λ n. take n (x ∷ (xs ++ ys))) one ∙ ap (λ zs. x ∷ zs) (take-append-more xs ys k)
+
+-- the first that was stopped of the first half is that of both
+front_is_stopped : (front back : CrewState) (place : ℕ) → IsFirstStopped front.first front.scripts place → IsFirstStopped front.first (front.scripts ++ back.scripts) place
+front_is_stopped front back place stopped =
+    let same : take place (front.scripts ++ back.scripts) ≡ take place front.scripts = take-append-le place front.scripts back.scripts (omega (arith, stopped.within)) in
+    let P : List (List Call) → Type 0 = λ ss. AreWorked front.first ss stopped.receipts in
+    record { within = omega (arith, stopped.within, length-append front.scripts back.scripts); receipts = stopped.receipts; worked = subst P (sym same) stopped.worked }
+
+-- so is that of the second half, if the first has worked
+back_is_stopped : (front back : CrewState) (place : ℕ) (seats : List SeatState) (receipts : List Receipt) → AreHalves front back → HasWorked front seats receipts → IsFirstStopped back.first back.scripts place
+    → IsFirstStopped front.first (front.scripts ++ back.scripts) (length front.scripts + place)
+back_is_stopped front back place seats receipts halves worked stopped =
+    let parts : take (length front.scripts + place) (front.scripts ++ back.scripts) ≡ front.scripts ++ take place back.scripts = take-append-more front.scripts back.scripts place in
+    let P : ℕ → Type 0 = λ n. AreWorked n (take place back.scripts) stopped.receipts in
+    let later : AreWorked (front.first + length front.scripts) (take place back.scripts) stopped.receipts = subst P halves.next stopped.worked in
+    let Q : List (List Call) → Type 0 = λ ss. AreWorked front.first ss (worked.groups ++ stopped.receipts) in
+    record {
+      within = omega (arith, stopped.within, length-append front.scripts back.scripts);
+      receipts = worked.groups ++ stopped.receipts;
+      worked = subst Q (sym parts) (AreWorked-append front.first front.scripts (take place back.scripts) worked.groups stopped.receipts worked.worked later);
+    }
+
+-- a fault of the first half is one of the whole
 front_has_not_worked : (front back : CrewState) (fault : RunFault) → AreHalves front back → HasNotWorked front fault → HasNotWorked (joined front back) fault
 front_has_not_worked front back faults.Count halves refused = refused
 front_has_not_worked front back faults.Memory halves refused = tt
-front_has_not_worked front back (faults.Worker at why) halves refused = (refused.0, omega (arith, refused.1, length-append front.scripts back.scripts))
+front_has_not_worked front back (faults.Worker at why) halves refused = (refused.0, refused.1, front_is_stopped front back refused.0 refused.2, refused.3)
 front_has_not_worked front back (faults.Close why) halves refused = refused
 front_has_not_worked front back faults.Thread halves refused = tt
 
-back_has_not_worked : (front back : CrewState) (fault : RunFault) → AreHalves front back → HasNotWorked back fault → HasNotWorked (joined front back) fault
-back_has_not_worked front back faults.Count halves refused = refused
-back_has_not_worked front back faults.Memory halves refused = tt
-back_has_not_worked front back (faults.Worker at why) halves refused =
-    (omega (arith, refused.0, halves.next), omega (arith, refused.1, halves.next, length-append front.scripts back.scripts))
-back_has_not_worked front back (faults.Close why) halves refused = refused
-back_has_not_worked front back faults.Thread halves refused = tt
+-- a fault of the second half is one of the whole if the first half has worked
+back_has_not_worked : (front back : CrewState) (seats : List SeatState) (receipts : List Receipt) (fault : RunFault) → AreHalves front back → HasWorked front seats receipts → HasNotWorked back fault
+    → HasNotWorked (joined front back) fault
+back_has_not_worked front back seats receipts faults.Count halves worked refused = refused
+back_has_not_worked front back seats receipts faults.Memory halves worked refused = tt
+back_has_not_worked front back seats receipts (faults.Worker at why) halves worked refused =
+    let here : at ≡ front.first + (length front.scripts + refused.0) = omega (arith, refused.1, halves.next) in
+    (length front.scripts + refused.0, here, back_is_stopped front back refused.0 seats receipts halves worked refused.2, refused.3)
+back_has_not_worked front back seats receipts (faults.Close why) halves worked refused = refused
+back_has_not_worked front back seats receipts faults.Thread halves worked refused = tt
 
 first_of_both : (front back : CrewState) (one other : RunFault) → AreHalves front back → HasNotWorked front one → HasNotWorked back other → HasNotWorked (joined front back) (first_of one other)
 first_of_both front back one faults.Count halves refused nor = front_has_not_worked front back one halves refused
@@ -312,7 +368,7 @@ halves_together seats receipts front back (Ok one) (Ok two) (Err fault) halves p
 halves_together seats receipts front back (Ok one) (Err other) (Ok all) halves p q is = absurd is
 halves_together seats receipts front back (Ok one) (Err other) (Err fault) halves p q is =
     let P : RunFault → Type 0 = λ e. HasNotWorked (joined front back) e in
-    subst P (sym is) (back_has_not_worked front back other halves q)
+    subst P (sym is) (back_has_not_worked front back (seats one) (receipts one) other halves p q)
 halves_together seats receipts front back (Err other) (Ok two) (Ok all) halves p q is = absurd is
 halves_together seats receipts front back (Err other) (Ok two) (Err fault) halves p q is =
     let P : RunFault → Type 0 = λ e. HasNotWorked (joined front back) e in
@@ -346,26 +402,32 @@ pub crew_of_scripts : {V : Type 0} (f : V → List Call) (crew : CrewState) (scr
 crew_of_scripts f crew scripts n are many = ap length are ∙ length-map scripts f ∙ many
 
 -- a crew that has not worked has not run
-pub crew_has_not_run : (count : ℕ) (crew : CrewState) (fault : RunFault) → crew.first ≡ 0 → length crew.scripts ≡ count → HasNotWorked crew fault → HasNotRun count fault × (fault ≢ faults.Count)
-crew_has_not_run count crew faults.Count first many refused = absurd refused
-crew_has_not_run count crew faults.Memory first many refused = (tt, λ is. let it = is in cc)
-crew_has_not_run count crew (faults.Worker at why) first many refused = (omega (arith, first, many, refused.1), λ is. let it = is in cc)
-crew_has_not_run count crew (faults.Close why) first many refused = absurd refused
-crew_has_not_run count crew faults.Thread first many refused = (tt, λ is. let it = is in cc)
+pub crew_has_not_run : (scripts : List (List Call)) (crew : CrewState) (fault : RunFault) → crew.first ≡ 0 → crew.scripts ≡ scripts → HasNotWorked crew fault → HasNotRun scripts fault × (fault ≢ faults.Count)
+crew_has_not_run scripts crew faults.Count first told refused = absurd refused
+crew_has_not_run scripts crew faults.Memory first told refused = (tt, λ is. let it = is in cc)
+crew_has_not_run scripts crew (faults.Worker at why) first told refused =
+    let here : refused.0 ≡ at = omega (arith, refused.1, first) in
+    let P : ℕ → Type 0 = λ n. IsFirstStopped n crew.scripts refused.0 in
+    let Q : List (List Call) → Type 0 = λ ss. IsFirstStopped 0 ss refused.0 in
+    let R : ℕ → Type 0 = λ n. IsFirstStopped 0 scripts n in
+    ((subst R here (subst Q told (subst P first refused.2)), refused.3), λ is. let it = is in cc)
+crew_has_not_run scripts crew (faults.Close why) first told refused = absurd refused
+crew_has_not_run scripts crew faults.Thread first told refused = (tt, λ is. let it = is in cc)
 
 -- a closed run of a crew that has worked, with its receipts script by script
 pub whole_run : {V W : Type 0} (f : V → List Call) (h : W → List Receipt) (crew : CrewState) (scripts : List V) (sizes : List ℕ) (groups : List W) (seats : List SeatState) (receipts handed_in : List Receipt)
     (book : BookState) (acts : ℕ) → HasWorked crew seats receipts → crew.first ≡ 0 → crew.scripts ≡ map f scripts → sizes ≡ map (λ s. length (f s)) scripts → map (λ g. length (h g)) groups ≡ sizes
-    → flat_map (λ g. h g) groups ≡ receipts → handed_in ≡ receipts → IsClosed handed_in [] book acts → acts ≡ sum_by (λ seat. seat.share) seats → HasRun (map f scripts) (map h groups) book acts
+    → flat_map (λ g. h g) groups ≡ receipts → handed_in ≡ receipts → IsClosed (count_before seats) handed_in [] book acts → acts ≡ count_made seats → HasRun (map f scripts) (map h groups) book acts
 whole_run f h crew scripts sizes groups seats receipts handed_in book acts worked first told sizes_are grouped same handed closed total =
     let lengths : map length (map h groups) ≡ map length crew.scripts = sizes_of_all h groups ∙ grouped ∙ sizes_are ∙ sym (sizes_of_all f scripts) ∙ ap (λ (ss : List (List Call)). map length ss) (sym told) in
     let flat : joined_up (map h groups) ≡ receipts = flat_map-map (λ (list : List Receipt). list) h groups ∙ same in
-    let P : List Receipt → Type 0 = λ rs. IsClosed rs [] book acts in
+    let P : List Receipt → Type 0 = λ rs. IsClosed 0 rs [] book acts in
+    let N : ℕ → Type 0 = λ n. IsClosed n handed_in [] book acts in
     let Q : ℕ → Type 0 = λ n. AreWorked n crew.scripts (map h groups) in
     let R : List (List Call) → Type 0 = λ ss. AreWorked 0 ss (map h groups) in
     let many : count_calls crew.scripts + 2 * length crew.scripts ≡ count_calls (map f scripts) + 2 * length (map f scripts) = ap (λ (ss : List (List Call)). count_calls ss + 2 * length ss) told in
     record {
       worked = subst R told (subst Q first (worked_by_script crew seats receipts (map h groups) worked lengths flat));
       counted = total ∙ worked.shares ∙ many;
-      closed = subst P (handed ∙ sym flat) closed;
+      closed = subst P (handed ∙ sym flat) (subst N worked.fresh closed);
     }

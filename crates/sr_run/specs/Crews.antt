@@ -1,8 +1,9 @@
 -- Workers that are told apart by halves. No public clause cites this.
-use Rattle.std.specs.Prelude.{⊤, ◌≡◌, ◌<◌, ◌≤◌, ◌+◌, ◌*◌, ℕ, zero, suc, List, [], ◌∷◌, ◌++◌, length, sum_by, Result, Ok, Err}
+use Rattle.std.specs.Prelude.{⊤, ◌≡◌, ◌<◌, ◌≤◌, ◌+◌, ◌*◌, ℕ, zero, suc, List, [], ◌∷◌, ◌++◌, length, Result, Ok, Err}
 use Rattle.sr_args.specs.declared.call.Call.{Call}
-use Rattle.sr_seats.specs.Held.{SeatState, new_seat}
-use Rattle.sr_run.specs.Worked.{AreWorked, count_calls, joined_up}
+use Rattle.sr_seats.specs.Held.{SeatState, count_before, count_made, new_seat}
+use Rattle.sr_run.specs.Shared.{RefusesEvent}
+use Rattle.sr_run.specs.Worked.{AreWorked, IsFirstStopped, count_calls, joined_up}
 use Rattle.sr_run.specs.declared.fault.RunFault.{RunFault}
 use Rattle.sr_run.specs.declared.fault.RunFault.TheVariants as faults
 use Rattle.sr_seats.specs.declared.receipt.Receipt.{Receipt}
@@ -15,7 +16,7 @@ pub record CrewState : Type 0 where
 -- this many seats that have done and seen nothing, numbered on from this number
 abbrev pub seats_from : ℕ → ℕ → List SeatState
 seats_from first zero = []
-seats_from first (suc n) = new_seat first ∷ seats_from (first + 1) n
+seats_from first (suc n) = new_seat 0 first ∷ seats_from (first + 1) n
 
 -- the seats of a crew have done and seen nothing
 pub record IsCrew (first : ℕ) (seats : List SeatState) (scripts : List (List Call)) : Type 0 where
@@ -38,13 +39,15 @@ pub record HasWorked (crew : CrewState) (seats : List SeatState) (receipts : Lis
   pub whole : receipts ≡ joined_up groups
   pub worked : AreWorked crew.first crew.scripts groups
   pub all : length seats ≡ length crew.scripts
-  pub shares : sum_by (λ seat. seat.share) seats ≡ count_calls crew.scripts + 2 * length crew.scripts
+  pub shares : count_made seats ≡ count_calls crew.scripts + 2 * length crew.scripts
+  pub fresh : count_before seats ≡ 0
 
--- why a crew has not worked: an event was refused to one of it
+-- why a crew has not worked: an event was refused to one of it, and those before that one have worked
 abbrev pub HasNotWorked : CrewState → RunFault → Type 0
 HasNotWorked crew faults.Count = ⊥
 HasNotWorked crew faults.Memory = ⊤
-HasNotWorked crew (faults.Worker at fault) = (crew.first ≤ at) × (at < crew.first + length crew.scripts)
+HasNotWorked crew (faults.Worker at fault) =
+    (place : ℕ) × (at ≡ crew.first + place) × IsFirstStopped crew.first crew.scripts place × RefusesEvent fault
 HasNotWorked crew (faults.Close fault) = ⊥
 HasNotWorked crew faults.Thread = ⊤
 

@@ -12,7 +12,7 @@ use Rattle.sr_seats.specs.declared.receipt.Receipt.{Receipt}
 -- the seat made one event, in a record after all that it had seen
 pub record HasMade (index : ℕ) (old new : SeatState) : Type 0 where
   pub later : old.front < index
-  pub counted : new ≡ record { number = old.number; share = old.share + 1; front = index }
+  pub counted : new ≡ record { number = old.number; before = old.before; share = old.share + 1; front = index }
 
 -- a book that is behind what the seat has seen has an index below that
 abbrev pub TellsBehind : SeatFault → SeatState → Type 0
@@ -22,6 +22,33 @@ TellsBehind faults.Busy seat = ⊤
 TellsBehind faults.Full seat = ⊤
 TellsBehind faults.Memory seat = ⊤
 TellsBehind faults.Idle seat = ⊤
+
+-- what may be told of an event: that a session has no letter is not
+abbrev pub RefusesEvent : SeatFault → Type 0
+RefusesEvent (faults.Regress index) = ⊤
+RefusesEvent faults.NoSession = ⊤
+RefusesEvent faults.Busy = ⊤
+RefusesEvent faults.Full = ⊤
+RefusesEvent faults.Memory = ⊤
+RefusesEvent faults.Idle = ⊥
+
+-- what may be told of a tick, which asks for no session
+abbrev pub RefusesTick : SeatFault → Type 0
+RefusesTick (faults.Regress index) = ⊤
+RefusesTick faults.NoSession = ⊥
+RefusesTick faults.Busy = ⊥
+RefusesTick faults.Full = ⊤
+RefusesTick faults.Memory = ⊤
+RefusesTick faults.Idle = ⊥
+
+-- what may be told of a letter, for which no record is made
+abbrev pub RefusesLetter : SeatFault → Type 0
+RefusesLetter (faults.Regress index) = ⊤
+RefusesLetter faults.NoSession = ⊤
+RefusesLetter faults.Busy = ⊥
+RefusesLetter faults.Full = ⊥
+RefusesLetter faults.Memory = ⊤
+RefusesLetter faults.Idle = ⊤
 
 -- the seat made nothing, and is as it was
 pub record HasNotMade (fault : SeatFault) (old new : SeatState) : Type 0 where

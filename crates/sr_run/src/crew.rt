@@ -47,7 +47,7 @@ pub(crate) struct Finished<L: Ledger> {
 impl<L: Ledger> Crew<L> {
     /// The workers with these seats, which have done and seen nothing, and these scripts.
     pub(crate) fn new(seats: Vec<Seat<L>>, scripts: Vec<Vec<Call>>) -> Crew<L>
-        requires seats { seats.items ≡ new_seats (vec_len scripts) }
+        requires seats { seats.items ≡ new_seats 0 (vec_len scripts) }
         requires few { vec_len scripts ≤ 64 }
         ensures first { result.first ≡ 0 }
         ensures scripts { result.scripts ≡ map (λ script. script.items) scripts.items }

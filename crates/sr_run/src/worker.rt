@@ -1,5 +1,5 @@
-ghost use Rattle.std.specs.Prelude.{◌≡◌, ◌+◌, ◌≤◌, [], IfOk, OnOk, length, vec_capacity, vec_len};
-ghost use Rattle.sr_run.specs.Shared.{HasMade};
+ghost use Rattle.std.specs.Prelude.{◌≡◌, ◌+◌, ◌≤◌, [], IfErr, IfOk, OnOk, length, vec_capacity, vec_len};
+ghost use Rattle.sr_run.specs.Shared.{HasMade, RefusesEvent};
 ghost use Rattle.sr_run.specs.Worked.{IsWorked};
 
 use crate::Shared;
@@ -27,6 +27,8 @@ pub(crate) fn work<L: Ledger, C: Clock, G: Gate, R: Wait>(
     requires room { length script.now ≤ vec_capacity receipts.old }
     ensures receipts { OnOk result (IsWorked seat.old.number script.now receipts.new.items) }
     ensures share { OnOk result (seat.new.share ≡ seat.old.share + length script.now + 2) }
+    ensures before { OnOk result (seat.new.before ≡ seat.old.before) }
+    ensures told { IfErr result RefusesEvent }
 {
     // A session has the number of the record in which it joined.
     let session = make(rt, alloc, shared, seat, clock.now(), Event::Join)?;
@@ -50,6 +52,7 @@ fn make<L: Ledger, R: Wait>(
     event: Event,
 ) -> Result<u64, SeatFault>
     ensures ok { IfOk result (λ index. HasMade index seat.old seat.new) }
+    ensures told { IfErr result RefusesEvent }
 {
     match shared.act(rt, alloc, seat, told, event) {
         Ok(answer) => Ok(answer.index),
@@ -74,6 +77,8 @@ fn call_all<L: Ledger, C: Clock, G: Gate, R: Wait>(
     requires room { length script.now ≤ vec_capacity receipts.old }
     ensures receipts { OnOk result (IsWorked seat.old.number script.now receipts.new.items) }
     ensures share { OnOk result (seat.new.share ≡ seat.old.share + length script.now) }
+    ensures before { OnOk result (seat.new.before ≡ seat.old.before) }
+    ensures told { IfErr result RefusesEvent }
 {
     for call in script {
         gate.before_call(session);

@@ -3,13 +3,13 @@ use Rattle.std.proofs.Common.{◌≡◌, ◌+◌, ◌-◌, ◌<◌, ◌≤◌, �
 use Rattle.std.proofs.lemmas.List.{length-append}
 use Rattle.sr_seats.specs.Held.{new_seat, new_seats}
 
-pub length-new_seats : (n : ℕ) → length (new_seats n) ≡ n
-length-new_seats zero = refl
-length-new_seats (suc n) =
-    let fewer : length (new_seats n) ≡ n = length-new_seats n in
-    let one : length (new_seat n ∷ []) ≡ 1 = refl in
-    let all : length (new_seats n ++ new_seat n ∷ []) ≡ length (new_seats n) + length (new_seat n ∷ []) =
-    length-append (new_seats n) (new_seat n ∷ []) in
+pub length-new_seats : (before n : ℕ) → length (new_seats before n) ≡ n
+length-new_seats before zero = refl
+length-new_seats before (suc n) =
+    let fewer : length (new_seats before n) ≡ n = length-new_seats before n in
+    let one : length (new_seat before n ∷ []) ≡ 1 = refl in
+    let all : length (new_seats before n ++ new_seat before n ∷ []) ≡ length (new_seats before n) + length (new_seat before n ∷ []) =
+    length-append (new_seats before n) (new_seat before n ∷ []) in
     omega arith
 
 -- ---- connections come, and one more may

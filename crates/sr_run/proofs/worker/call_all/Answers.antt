@@ -1,6 +1,6 @@
 use Rattle.std.proofs.Common.{◌≡◌, ◌∙◌, arith}
 use Rattle.std.proofs.lemmas.List.{take_all}
-use Rattle.sr_run.proofs.WorkedLemmas.{made_number, made_share, one_more_has, one_more_pushed}
+use Rattle.sr_run.proofs.WorkedLemmas.{made_before, made_number, made_share, one_more_has, one_more_pushed}
 use Rattle.sr_run.proofs.worker.call_all.Goals as goal
 
 pub returns-clause-receipts : goal.returns-clause-receipts
@@ -23,6 +23,7 @@ loop-call-preserved g c =
       sessions = one_more_has (λ receipt. receipt.session ≡ c.args.session) old new receipt pushed here.sessions of.session;
       number = made_number receipt.index c.loop-call.seat c.exchange.new.seat made ∙ here.number;
       share = omega (arith, made_share receipt.index c.loop-call.seat c.exchange.new.seat made, here.share);
+      before = made_before receipt.index c.loop-call.seat c.exchange.new.seat made ∙ here.before;
       many = omega (arith, c.push_reserved.ensures.len, here.many);
       room = omega (arith, c.push_reserved.ensures.capacity, here.room);
     }

@@ -8,6 +8,7 @@ invariant-loop-call g l = record {
   sessions : All (λ receipt. receipt.session ≡ l.session) l.receipts.items;
   number : l.seat.number ≡ l.initial.seat.number;
   share : l.seat.share ≡ l.initial.seat.share + l.call-index;
+  before : l.seat.before ≡ l.initial.seat.before;
   many : vec_len l.receipts ≡ l.call-index;
   room : vec_capacity l.receipts ≡ vec_capacity l.initial.receipts;
 }

@@ -6,9 +6,7 @@ use Rattle.sr_run.proofs.workers.run_over.Goals as goal
 pub returns-in_err-seats-clause-err : goal.returns-in_err-seats-clause-err
 returns-in_err-seats-clause-err g c =
     let p = err_from_is_err_and c.from_residual.result c.from_residual.ensures.1 in
-    let scripts = c.args.scripts in
-    let many = crew_of_scripts (λ script. script.items) c.new.result scripts.items scripts.len c.new.ensures.scripts (omega (arith, scripts.ok.0)) in
-    rw (p.1, p.2) (crew_has_not_run scripts.len c.new.result c.in_err-seats.field-0.0 c.new.ensures.first many c.in_err-seats.ensures).0
+    rw (p.1, p.2) (crew_has_not_run (map (λ script. script.items) c.args.scripts.items) c.new.result c.in_err-seats.field-0.0 c.new.ensures.first c.new.ensures.scripts c.in_err-seats.ensures).0
 
 pub returns-in_default : goal.returns-in_default
 returns-in_default g c = record { ok = tt; err = tt; counted = Memory≢Count }
@@ -42,9 +40,7 @@ returns-in_err-seats-clause-ok g c = IfOk-from_err _ _ c.from_residual.ensures.0
 pub returns-in_err-seats-clause-counted : goal.returns-in_err-seats-clause-counted
 returns-in_err-seats-clause-counted g c =
     let p = err_from_is_err_and c.from_residual.result c.from_residual.ensures.1 in
-    let scripts = c.args.scripts in
-    let many = crew_of_scripts (λ script. script.items) c.new.result scripts.items scripts.len c.new.ensures.scripts (omega (arith, scripts.ok.0)) in
-    rw (p.1, p.2) (crew_has_not_run scripts.len c.new.result c.in_err-seats.field-0.0 c.new.ensures.first many c.in_err-seats.ensures).1
+    rw (p.1, p.2) (crew_has_not_run (map (λ script. script.items) c.args.scripts.items) c.new.result c.in_err-seats.field-0.0 c.new.ensures.first c.new.ensures.scripts c.in_err-seats.ensures).1
 
 pub returns-in-Err-clause-err : goal.returns-in-Err-clause-err
 returns-in-Err-clause-err g c = λ e.

@@ -99,11 +99,7 @@ fn close_again<L: Ledger>(
     seat: Option<Seat<L>>,
     told: &Told,
 ) -> Result<Closed, Fail> {
-    let Unclosed {
-        fault: _,
-        shared,
-        mut seats,
-    } = unclosed;
+    let (shared, mut seats) = unclosed.reopened();
     if let Some(seat) = seat {
         seats.push(seat)?;
     }
