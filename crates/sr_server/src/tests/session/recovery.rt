@@ -48,41 +48,47 @@ fn meddle(alloc: Global, book: &mut Book, requests: &[u8]) {
     );
 }
 
-/// Between a snapshot and its verdict other sessions have their requests answered at the same book: in the first round the first
-/// requests, and so on.
+/// A book at which others act too while a recovery goes on.
 #[derive(Drop)]
-struct Meddling<'a> {
-    alloc: Global,
-    book: &'a RefCell<Book>,
-    others: &'a [Vec<u8>],
+struct Scene {
+    book: RefCell<Book>,
     /// The session that asked for the recovery.
     session: u64,
-    round: Cell<usize>,
-    steps: &'a Cell<u64>,
+    /// How many rounds there were.
+    rounds: Cell<usize>,
+    steps: Cell<u64>,
 }
 
-impl Gate for Meddling<'_> {
+/// Between a snapshot and its verdict other sessions have their requests answered: in the first round the first requests, and so on.
+#[derive(Drop)]
+struct Meddling<'a, 'b> {
+    alloc: Global,
+    scene: &'a Scene,
+    others: &'b [Vec<u8>],
+}
+
+impl Gate for Meddling<'_, '_> {
     fn before_call(&self, _: u64) {}
 
     fn between(&self, session: u64) {
-        note(self.steps, if session == self.session { 2 } else { 9 });
-        let round = self.round.get();
-        self.round.set(round.saturating_add(1));
+        let is_told = session == self.scene.session;
+        note(&self.scene.steps, if is_told { 2 } else { 9 });
+        let round = self.scene.rounds.get();
+        self.scene.rounds.set(round.saturating_add(1));
         let Some(requests) = self.others.get(round) else {
             return;
         };
-        if let Ok(mut book) = self.book.try_borrow_mut() {
+        if let Ok(mut book) = self.scene.book.try_borrow_mut() {
             meddle(self.alloc, &mut book, requests.as_slice());
         }
     }
 }
 
-/// A desk over a book that others use too. Its history may be full when a verdict is concluded.
+/// A desk over its book, whose history may be full when a verdict is concluded.
 #[derive(Drop)]
 struct Lent<'a> {
-    book: &'a RefCell<Book>,
+    scene: &'a Scene,
     is_full: bool,
-    steps: &'a Cell<u64>,
 }
 
 impl Lent<'_> {
@@ -90,11 +96,11 @@ impl Lent<'_> {
     fn is_stopped(&self, event: &Event) -> bool {
         match event {
             Event::Snapshot { .. } => {
-                note(self.steps, 1);
+                note(&self.scene.steps, 1);
                 false
             }
             Event::Conclude { .. } => {
-                note(self.steps, 3);
+                note(&self.scene.steps, 3);
                 self.is_full
             }
             _ => false,
@@ -138,7 +144,7 @@ impl Desk for Lent<'_> {
 
     fn step(&mut self, alloc: Global, moment: u64, event: Event) -> Result<Answer, DeskFault> {
         let is_full = self.is_stopped(&event);
-        step_unless(is_full, self.book, alloc, moment, event)
+        step_unless(is_full, &self.scene.book, alloc, moment, event)
     }
 
     fn await_reply(&mut self, _: Global, _: u64) -> Result<Letter, DeskFault> {
@@ -287,20 +293,20 @@ fn is_answered(
     let mut book = Book::new(alloc, policy, hasher);
     meddle(alloc, &mut book, sent.before);
     let session = book.records().len().saturating_add(1) as u64;
-    let book = RefCell::new(book);
-    let steps = Cell::new(0);
-    let mut desk = Lent {
-        book: &book,
-        is_full: row.is_full,
-        steps: &steps,
+    let scene = Scene {
+        book: RefCell::new(book),
+        session,
+        rounds: Cell::new(0),
+        steps: Cell::new(0),
     };
     let others = Meddling {
         alloc,
-        book: &book,
+        scene: &scene,
         others: sent.others,
-        session,
-        round: Cell::new(0),
-        steps: &steps,
+    };
+    let mut desk = Lent {
+        scene: &scene,
+        is_full: row.is_full,
     };
     let count = Cell::new(0);
     let mut writer = Told::new(alloc, &count);
@@ -314,7 +320,7 @@ fn is_answered(
         false,
         9,
     );
-    is_met(row, ended.end, writer.bytes.as_slice(), steps.get())
+    is_met(row, ended.end, writer.bytes.as_slice(), scene.steps.get())
 }
 
 /// The same, at a new book under the policy.
