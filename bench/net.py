@@ -9,7 +9,8 @@ by redis-benchmark   requests a second, as it tells them (Debian: redis-tools)
 by this program      the same, from two processes (one for one connection) that count every reply and refuse an error. Python takes a
                      part of the time, so that a ratio near 1 says little where `redis-benchmark` shows more requests.
 workers              entries a second that ten connections read by XREADGROUP COUNT 10 and acknowledge
-wake-up              milliseconds from an XADD until the last of the blocked readers has it: half of the rounds, and 99 of 100
+wake-up              milliseconds from an XADD until the last of the readers that are blocked in XREAD has it, and until the one that is served of
+                     those blocked in XREADGROUP has it: half of the rounds, and 99 of 100
 memory               bytes that the server grows by for an entry of one field, and for a request that changes nothing (its record)
 
 The status is 1 if a reply was wrong: the row then says so and has no number.
@@ -40,7 +41,7 @@ COMMANDS = [
 ]
 SHAPES = [(1, 1, 20_000), (50, 1, 100_000), (1, 16, 100_000), (50, 16, 400_000)]  # connections, depth, requests
 WORKERS, JOBS = 10, 200_000
-READERS, ROUNDS, PAUSE = (1, 30), 200, 0.01
+READERS, ROUNDS, PAUSE = (1, 10, 50), 200, 0.01
 MANY = 200_000  # entries and requests of which the memory is taken
 SECONDS = 60
 
@@ -227,6 +228,16 @@ def workers(server):
 
 def wake_up(readers):
     """Milliseconds until all readers have an entry, in rising order."""
+    return waking(readers, woken)
+
+
+def wake_up_in_group(readers):
+    """Milliseconds until the one reader of a group that is served has its entry, in rising order."""
+    return waking(readers, woken_in_group)
+
+
+def waking(readers, round_of):
+    """Milliseconds that rounds take, in rising order."""
     def run(server):
         fill(server, 1)
         selector, writer = selectors.DefaultSelector(), server.connect(SECONDS)
@@ -235,7 +246,7 @@ def wake_up(readers):
             selector.register(connection.socket, selectors.EVENT_READ)
         last, times = b"1-1", []
         for _ in range(ROUNDS):
-            last, took = woken(selector, held, writer, last)
+            last, took = round_of(selector, held, writer, last)
             times.append(took)
         for connection in [writer, *held]:
             connection.close()
@@ -257,6 +268,27 @@ def woken(selector, held, writer, last):
         for key, _ in ready:
             waiting -= key.fileobj.recv(1 << 12).count(b"\r\nv\r\n")
     took = time.monotonic() - began
+    return writer.reply(), took * 1000
+
+
+def woken_in_group(selector, held, writer, last):
+    """The same for readers of a group, of whom one is served, and waits again in the next round."""
+    is_first = last == b"1-1"
+    if is_first:
+        writer.call("XGROUP", "SETID", "s", "g", "$")
+    for connection in held if is_first else held[-1:]:
+        connection.send("XREADGROUP", "GROUP", "g", "A", "BLOCK", 0, "NOACK", "STREAMS", "s", ">")
+        time.sleep(PAUSE)
+    began = time.monotonic()
+    writer.send("XADD", "s", "*", "f", "v")
+    ready = [key.fileobj for key, _ in selector.select(SECONDS)]
+    took = time.monotonic() - began
+    if len(ready) != 1:
+        raise Wrong(f"{len(ready)} readers were served")
+    served = next(connection for connection in held if connection.socket is ready[0])
+    served.reply()
+    held.remove(served)
+    held.append(served)
     return writer.reply(), took * 1000
 
 
@@ -322,13 +354,13 @@ def time_requests(table):
 
 
 def time_wake_ups(table):
-    table.head("milliseconds until all blocked readers have it")
-    for readers in READERS:
-        found = table.measured(f"{readers:2} readers", wake_up(readers))
-        if found:
-            name = f"{readers:2} reader{'s' if readers > 1 else ''}"
-            for part, place in (("half of the rounds", ROUNDS // 2), ("99 of 100", ROUNDS * 99 // 100)):
-                table.show(f"{name}, {part}", [min(run[place] for run in runs) for runs in found], "12.3f")
+    table.head("milliseconds until blocked readers have it")
+    for command, measure in (("XREAD, all", wake_up), ("XREADGROUP, one", wake_up_in_group)):
+        for readers in READERS:
+            found = table.measured(f"{command} of {readers}", measure(readers))
+            if found:
+                for part, place in (("half of the rounds", ROUNDS // 2), ("99 of 100", ROUNDS * 99 // 100)):
+                    table.show(f"{command} of {readers}, {part}", [min(run[place] for run in runs) for runs in found], "12.3f")
 
 
 def main(program, runs=3):
