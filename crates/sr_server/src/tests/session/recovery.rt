@@ -48,10 +48,13 @@ fn meddle(alloc: Global, book: &mut Book, requests: &[u8]) {
     );
 }
 
-/// A book at which others act too while a recovery goes on.
+/// A book at which others act too while a recovery goes on: between a snapshot and its verdict they have their requests answered, in the
+/// first round the first requests, and so on.
 #[derive(Drop)]
 struct Scene {
+    alloc: Global,
     book: RefCell<Book>,
+    others: Vec<Vec<u8>>,
     /// The session that asked for the recovery.
     session: u64,
     /// How many rounds there were.
@@ -59,26 +62,17 @@ struct Scene {
     steps: Cell<u64>,
 }
 
-/// Between a snapshot and its verdict other sessions have their requests answered: in the first round the first requests, and so on.
-#[derive(Drop)]
-struct Meddling<'a, 'b> {
-    alloc: Global,
-    scene: &'a Scene,
-    others: &'b [Vec<u8>],
-}
-
-impl Gate for Meddling<'_, '_> {
+impl Gate for Scene {
     fn before_call(&self, _: u64) {}
 
     fn between(&self, session: u64) {
-        let is_told = session == self.scene.session;
-        note(&self.scene.steps, if is_told { 2 } else { 9 });
-        let round = self.scene.rounds.get();
-        self.scene.rounds.set(round.saturating_add(1));
+        note(&self.steps, if session == self.session { 2 } else { 9 });
+        let round = self.rounds.get();
+        self.rounds.set(round.saturating_add(1));
         let Some(requests) = self.others.get(round) else {
             return;
         };
-        if let Ok(mut book) = self.scene.book.try_borrow_mut() {
+        if let Ok(mut book) = self.book.try_borrow_mut() {
             meddle(self.alloc, &mut book, requests.as_slice());
         }
     }
@@ -274,11 +268,10 @@ fn is_met(row: &Meanwhile<'_>, end: End, written: &[u8], steps: u64) -> bool {
     end == End::Closed && is_wanted(row, written) && steps == row.steps
 }
 
-/// Requests as a client sends them: those before, those of another session, and the commands of a row.
+/// Requests as a client sends them: those before, and the commands of a row.
 #[derive(Clone, Copy, Drop)]
 struct Sent<'a> {
     before: &'a [u8],
-    others: &'a [Vec<u8>],
     commands: &'a [u8],
 }
 
@@ -288,21 +281,19 @@ fn is_answered(
     hasher: RandomState,
     policy: Policy,
     sent: Sent<'_>,
+    others: Vec<Vec<u8>>,
     row: &Meanwhile<'_>,
 ) -> bool {
     let mut book = Book::new(alloc, policy, hasher);
     meddle(alloc, &mut book, sent.before);
     let session = book.records().len().saturating_add(1) as u64;
     let scene = Scene {
+        alloc,
         book: RefCell::new(book),
+        others,
         session,
         rounds: Cell::new(0),
         steps: Cell::new(0),
-    };
-    let others = Meddling {
-        alloc,
-        scene: &scene,
-        others: sent.others,
     };
     let mut desk = Lent {
         scene: &scene,
@@ -316,7 +307,7 @@ fn is_answered(
         &mut writer,
         &mut desk,
         &Stopped,
-        &others,
+        &scene,
         false,
         9,
     );
@@ -335,11 +326,10 @@ fn goes_on(rt: &(impl AllocGlobal + RandomSource), row: &Meanwhile<'_>) -> Resul
     let hasher = RandomState::new(rt)?;
     let sent = Sent {
         before: before.as_slice(),
-        others: others.as_slice(),
         commands: commands.as_slice(),
     };
     let policy = Policy::read(alloc, TWO).or(Err(AllocError))?;
-    Ok(is_answered(alloc, hasher, policy, sent, row))
+    Ok(is_answered(alloc, hasher, policy, sent, others, row))
 }
 
 /// A plan is made anew exactly when what it rests on has changed.
