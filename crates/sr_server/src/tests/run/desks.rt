@@ -12,12 +12,14 @@ use std::alloc::{AllocError, Global};
 use std::marker::{Brand, Send, Sync};
 use std::process::Abort;
 use std::random::RandomSource;
+use std::rt::Clock;
 use std::sync::Wait;
 use std::sync::atomic::{AtomicBool, AtomicU64, Ordering};
 use std::sync::ledger::{Blank, Ledger};
 use std::test::Fail;
 use std::thread;
 use std::thread::Threads;
+use std::time::Duration;
 
 /// What happens at a seat.
 #[derive(Clone, Copy)]
@@ -229,28 +231,31 @@ impl<D: Desk> Desk for Telling<'_, D> {
     }
 }
 
-/// Makes a call of session 1 once the other seat's session has begun. If it is refused the other leaves, since it could wait for good.
-fn call_meanwhile<L: Ledger, R: AllocGlobal + Wait>(
+/// Makes a call of session 1 once the other seat's session has begun, and a little later, so that one that waits sleeps by then and has
+/// to be woken. If it is refused the other leaves, since it could wait for good.
+fn call_meanwhile<L: Ledger, R: AllocGlobal + Clock + Wait>(
     rt: &R,
     shared: &Shared<L>,
     seat: &mut Seat<L>,
     meeting: &Meeting,
-    call: Call,
+    call: &Call,
     other: u64,
-) -> Result<(), DeskFault> {
+) -> Result<(), SeatFault> {
     let begun = comes(&meeting.begun);
-    let mut desk = SeatDesk::new(rt, shared, seat);
-    let made = step(rt.alloc(), &mut desk, Event::Call { session: 1, call });
+    thread::sleep(rt, Duration::from_millis(20));
+    let made = shared.exchange(rt, rt.alloc(), seat, 10, 1, call);
     if made.is_err() || !begun {
-        let _left = step(rt.alloc(), &mut desk, Event::Leave { session: other });
+        let _left = shared.act(rt, rt.alloc(), seat, 10, Event::Leave { session: other });
     }
-    desk.pause();
     meeting.made.store(true, Ordering::SeqCst);
-    made
+    match made {
+        Ok(_receipt) => Ok(()),
+        Err(fault) => Err(fault),
+    }
 }
 
 /// A session at a seat has its requests answered. How it ended, and what was written.
-fn talk<L: Ledger, R: AllocGlobal + Wait>(
+fn talk<L: Ledger, R: AllocGlobal + Clock + Wait>(
     rt: &R,
     shared: &Shared<L>,
     seat: &mut Seat<L>,
@@ -277,7 +282,7 @@ fn talk<L: Ledger, R: AllocGlobal + Wait>(
 }
 
 /// The same, and then tells that it has ended.
-fn talk_and_end<L: Ledger, R: AllocGlobal + Wait>(
+fn talk_and_end<L: Ledger, R: AllocGlobal + Clock + Wait>(
     rt: &R,
     shared: &Shared<L>,
     seat: &mut Seat<L>,
@@ -327,7 +332,7 @@ fn unless_refused(ended: Ended, written: &[u8]) -> Result<(), AllocError> {
 }
 
 /// What two seats do at once goes as it is told.
-fn both_at_once<L: Ledger + Send + Sync, R: AllocGlobal + Abort + Threads + Wait + Sync>(
+fn both_at_once<L: Ledger + Send + Sync, R: AllocGlobal + Abort + Clock + Threads + Wait + Sync>(
     rt: &R,
     shared: &Shared<L>,
     seat: &mut Seat<L>,
@@ -342,7 +347,7 @@ fn both_at_once<L: Ledger + Send + Sync, R: AllocGlobal + Abort + Threads + Wait
     let meeting = Meeting::new();
     let (made, talked) = thread::join(
         rt,
-        || call_meanwhile(rt, shared, seat, &meeting, meanwhile, both.session),
+        || call_meanwhile(rt, shared, seat, &meeting, &meanwhile, both.session),
         || talk_and_end(rt, shared, other, &meeting, request.as_slice(), both.room),
     );
     made?;
@@ -361,7 +366,7 @@ fn both_at_once<L: Ledger + Send + Sync, R: AllocGlobal + Abort + Threads + Wait
 /// Has something happen at the two seats of a shared book.
 fn at_a_seat<
     L: Ledger + Send + Sync,
-    R: AllocGlobal + Abort + RandomSource + Threads + Wait + Sync,
+    R: AllocGlobal + Abort + Clock + RandomSource + Threads + Wait + Sync,
 >(rt: &R, blank: Blank, scene: Scene) -> Result<(), Fail>
     requires name { blank.name ≡ L.name }
     requires whole { blank.parts ≡ L.parts }
@@ -376,7 +381,7 @@ fn at_a_seat<
     }
 }
 
-fn plays<R: AllocGlobal + Abort + RandomSource + Threads + Wait + Sync>(
+fn plays<R: AllocGlobal + Abort + Clock + RandomSource + Threads + Wait + Sync>(
     rt: &R,
     scene: Scene,
 ) -> Result<(), Fail> {

@@ -2,8 +2,9 @@
 use super::rows::{Line, event_of};
 use sr_args::Call;
 use sr_book::{Act, Answer, Book, BookFault, Event, Out, Record};
-use sr_policy::Snapshot;
+use sr_policy::{Policy, Snapshot};
 use std::alloc::{AllocError, Global};
+use std::hash::RandomState;
 use std::mem;
 use std::test::Fail;
 
@@ -148,4 +149,39 @@ pub(super) fn are_driven(
     drop(book);
     driven?;
     Ok(same)
+}
+
+/// Whether each of these events has a record then. Refused memory for the list, the book is to have none.
+fn is_driven_whole(
+    alloc: Global,
+    book: &mut Book,
+    events: Vec<(u64, Event)>,
+) -> Result<bool, AllocError> {
+    let count = events.len();
+    let Ok(answers) = book.drive(alloc, events) else {
+        return if book.records().is_empty() {
+            Err(AllocError)
+        } else {
+            Ok(false)
+        };
+    };
+    for answer in answers {
+        if let Err(BookFault::Memory) = answer {
+            return Err(AllocError);
+        }
+    }
+    Ok(book.records().len() == count)
+}
+
+#[test]
+fn a_list_is_driven_whole_or_not_at_all(rt: HostRuntime) -> Result<(), Fail> {
+    let alloc = rt.alloc();
+    let mut events = Vec::new(alloc);
+    events.push((10, Event::Join))?;
+    events.push((10, Event::Leave { session: 1 }))?;
+    let mut book = Book::new(alloc, Policy::empty(alloc), RandomState::new(&rt)?);
+    let whole = is_driven_whole(alloc, &mut book, events);
+    drop(book);
+    assert!(rt; whole?);
+    Ok(())
 }
