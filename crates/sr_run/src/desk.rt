@@ -1,6 +1,6 @@
 ghost use Rattle.std.specs.Prelude.{◌≡◌, None, IfOk, IfErr};
 ghost use Rattle.sr_run.specs.Desk.{HasRefused, desk_fault_of};
-ghost use Rattle.sr_run.specs.Shared.{HasMade, HasSeen};
+ghost use Rattle.sr_run.specs.Shared.{HasMade, HasNotMade, HasSeen};
 
 use crate::Shared;
 use crate::shared::Turn;
@@ -8,6 +8,8 @@ use sr_book::{Answer, Event, Letter};
 use sr_seats::{Seat, SeatFault};
 use sr_session::{Desk, DeskFault};
 use std::alloc::Global;
+use std::net::TcpStream;
+use std::rt;
 use std::sync::Wait;
 use std::sync::ledger::Ledger;
 
@@ -21,9 +23,11 @@ pub struct SeatDesk<'a, L: Ledger, R: Wait> {
     shared: &'a Shared<L>,
     seat: &'a mut Seat<L>,
     turn: Option<Turn<'a, L>>,
+    /// The client's end, if that is looked at during a wait.
+    peer: Option<&'a TcpStream>,
 }
 
-impl<'a, L: Ledger, R: Wait> SeatDesk<'a, L, R> {
+impl<'a, L: Ledger, R: Wait + rt::Clock> SeatDesk<'a, L, R> {
     /// A desk at this seat.
     pub fn new(rt: &'a R, shared: &'a Shared<L>, seat: &'a mut Seat<L>) -> SeatDesk<'a, L, R>
         ensures seat { result.seat.now ≡ seat.old }
@@ -35,11 +39,32 @@ impl<'a, L: Ledger, R: Wait> SeatDesk<'a, L, R> {
             shared,
             seat,
             turn: None,
+            peer: None,
+        }
+    }
+
+    /// A desk at this seat, for the client at the other end of a connection. A wait ends once that is gone.
+    pub fn beside(
+        rt: &'a R,
+        shared: &'a Shared<L>,
+        seat: &'a mut Seat<L>,
+        peer: &'a TcpStream,
+    ) -> SeatDesk<'a, L, R>
+        ensures seat { result.seat.now ≡ seat.old }
+        ensures shows { ⟦<SeatDesk<'a, L, R> as Desk>⟧.shows result ≡ None }
+        ensures borrows { ⟦<SeatDesk<'a, L, R> as Desk>⟧.borrows result ≡ seat.entry.ghost_name }
+    {
+        SeatDesk {
+            rt,
+            shared,
+            seat,
+            turn: None,
+            peer: Some(peer),
         }
     }
 }
 
-impl<'a, L: Ledger, R: Wait> Desk for SeatDesk<'a, L, R> {
+impl<'a, L: Ledger, R: Wait + rt::Clock> Desk for SeatDesk<'a, L, R> {
     ghost shows = { λ _. None };
 
     ghost borrows = { λ d. d.seat.ghost_name };
@@ -54,7 +79,7 @@ impl<'a, L: Ledger, R: Wait> Desk for SeatDesk<'a, L, R> {
             Some(turn) => turn,
             None => self.shared.turn(self.rt),
         };
-        let result = act_in(&mut turn, self.seat, alloc, moment, event);
+        let result = act_in(self.rt, &mut turn, self.seat, alloc, moment, event);
         self.turn = kept(turn, goes_on);
         result
     }
@@ -65,7 +90,7 @@ impl<'a, L: Ledger, R: Wait> Desk for SeatDesk<'a, L, R> {
         ensures same { self.new.seat.ghost_name ≡ self.old.seat.ghost_name }
     {
         self.pause();
-        await_at(self.rt, self.shared, self.seat, alloc, session)
+        await_at(self.rt, self.shared, self.seat, self.peer, alloc, session)
     }
 
     fn pause(&mut self)
@@ -100,7 +125,8 @@ fn kept<L: Ledger>(turn: Turn<'_, L>, goes_on: bool) -> Option<Turn<'_, L>> {
 }
 
 /// Carries out an event of a seat, and drops it if it was not.
-fn act_in<L: Ledger>(
+fn act_in<L: Ledger, R: Wait>(
+    rt: &R,
     turn: &mut Turn<'_, L>,
     seat: &mut Seat<L>,
     alloc: Global,
@@ -110,26 +136,45 @@ fn act_in<L: Ledger>(
     ensures ok { IfOk result (λ answer. HasMade answer.index seat.old seat.new) }
     ensures err { IfErr result (λ fault. HasRefused fault seat.old seat.new) }
 {
-    match turn.act(alloc, seat, told, event) {
+    match turn.act(rt, alloc, seat, told, event) {
         Ok(answer) => Ok(answer),
         Err(refused) => Err(desk_fault(refused.fault)),
     }
 }
 
 /// The letter of a session, which the seat has seen then.
-fn await_at<L: Ledger, R: Wait>(
+fn await_at<L: Ledger, R: Wait + rt::Clock>(
     rt: &R,
     shared: &Shared<L>,
     seat: &mut Seat<L>,
+    peer: Option<&TcpStream>,
     alloc: Global,
     session: u64,
 ) -> Result<Letter, DeskFault>
     ensures ok { IfOk result (λ letter. HasSeen session letter seat.old seat.new) }
     ensures err { IfErr result (λ fault. HasRefused fault seat.old seat.new) }
 {
-    match shared.await_reply(rt, alloc, seat, session) {
+    match awaited(rt, shared, seat, peer, alloc, session) {
         Ok(letter) => Ok(letter),
         Err(fault) => Err(desk_fault(fault)),
+    }
+}
+
+/// The same with the reason of the seat: the wait looks at the client, if there is one to look at.
+fn awaited<L: Ledger, R: Wait + rt::Clock>(
+    rt: &R,
+    shared: &Shared<L>,
+    seat: &mut Seat<L>,
+    peer: Option<&TcpStream>,
+    alloc: Global,
+    session: u64,
+) -> Result<Letter, SeatFault>
+    ensures ok { IfOk result (λ letter. HasSeen session letter seat.old seat.new) }
+    ensures err { IfErr result (λ fault. HasNotMade fault seat.old seat.new) }
+{
+    match peer {
+        Some(peer) => shared.await_reply_to(rt, alloc, seat, session, peer),
+        None => shared.await_reply(rt, alloc, seat, session),
     }
 }
 

@@ -4,7 +4,9 @@
 mod crew;
 mod desk;
 mod fault;
+mod peer;
 mod shared;
+mod waiting;
 mod worker;
 mod workers;
 
