@@ -12,10 +12,10 @@ use Rattle.std.proofs.Math.Seq.{take-append_seam, drop-append_seam}
 use Rattle.sr_args.specs.declared.call.Call.{Call}
 use Rattle.sr_book.specs.Records.{BookState}
 use Rattle.sr_run.specs.Closed.{IsClosed}
-use Rattle.sr_run.specs.Crews.{AreHalves, AreTogether, CrewState, HasNotWorked, HasWorked, IsCrew, first_of, joined, seats_from}
+use Rattle.sr_run.specs.Crews.{AreHalves, AreTogether, CrewState, HasNotWorked, HasWorked, IsCrew, IsStopped, first_of, joined, seats_from}
 use Rattle.sr_seats.specs.Held.{SeatState, count_before, count_made, new_seat, new_seats}
 use Rattle.sr_run.specs.Shared.{HasMade, RefusesEvent}
-use Rattle.sr_run.specs.Worked.{AreWorked, HasNotRun, HasRun, IsFirstStopped, IsWorked, count_calls, joined_up}
+use Rattle.sr_run.specs.Worked.{AreWorked, HasNotRun, HasRun, IsWorked, count_calls, joined_up}
 use Rattle.sr_run.specs.declared.fault.RunFault.{RunFault}
 use Rattle.sr_run.specs.declared.fault.RunFault.TheVariants as faults
 use Rattle.sr_seats.specs.declared.fault.CloseFault.{CloseFault}
@@ -308,15 +308,15 @@ take-append-more (x ∷ xs) ys k =
     ap (λ n. take n (x ∷ (xs ++ ys))) one ∙ ap (λ zs. x ∷ zs) (take-append-more xs ys k)
 
 -- the first that was stopped of the first half is that of both
-front_is_stopped : (front back : CrewState) (place : ℕ) → IsFirstStopped front.first front.scripts place → IsFirstStopped front.first (front.scripts ++ back.scripts) place
+front_is_stopped : (front back : CrewState) (place : ℕ) → IsStopped front.first front.scripts place → IsStopped front.first (front.scripts ++ back.scripts) place
 front_is_stopped front back place stopped =
     let same : take place (front.scripts ++ back.scripts) ≡ take place front.scripts = take-append-le place front.scripts back.scripts (omega (arith, stopped.within)) in
     let P : List (List Call) → Type 0 = λ ss. AreWorked front.first ss stopped.receipts in
     record { within = omega (arith, stopped.within, length-append front.scripts back.scripts); receipts = stopped.receipts; worked = subst P (sym same) stopped.worked }
 
 -- so is that of the second half, if the first has worked
-back_is_stopped : (front back : CrewState) (place : ℕ) (seats : List SeatState) (receipts : List Receipt) → AreHalves front back → HasWorked front seats receipts → IsFirstStopped back.first back.scripts place
-    → IsFirstStopped front.first (front.scripts ++ back.scripts) (length front.scripts + place)
+back_is_stopped : (front back : CrewState) (place : ℕ) (seats : List SeatState) (receipts : List Receipt) → AreHalves front back → HasWorked front seats receipts → IsStopped back.first back.scripts place
+    → IsStopped front.first (front.scripts ++ back.scripts) (length front.scripts + place)
 back_is_stopped front back place seats receipts halves worked stopped =
     let parts : take (length front.scripts + place) (front.scripts ++ back.scripts) ≡ front.scripts ++ take place back.scripts = take-append-more front.scripts back.scripts place in
     let P : ℕ → Type 0 = λ n. AreWorked n (take place back.scripts) stopped.receipts in
@@ -407,9 +407,9 @@ crew_has_not_run scripts crew faults.Count first told refused = absurd refused
 crew_has_not_run scripts crew faults.Memory first told refused = (tt, λ is. let it = is in cc)
 crew_has_not_run scripts crew (faults.Worker at why) first told refused =
     let here : refused.0 ≡ at = omega (arith, refused.1, first) in
-    let P : ℕ → Type 0 = λ n. IsFirstStopped n crew.scripts refused.0 in
-    let Q : List (List Call) → Type 0 = λ ss. IsFirstStopped 0 ss refused.0 in
-    let R : ℕ → Type 0 = λ n. IsFirstStopped 0 scripts n in
+    let P : ℕ → Type 0 = λ n. IsStopped n crew.scripts refused.0 in
+    let Q : List (List Call) → Type 0 = λ ss. IsStopped 0 ss refused.0 in
+    let R : ℕ → Type 0 = λ n. IsStopped 0 scripts n in
     ((subst R here (subst Q told (subst P first refused.2)), refused.3), λ is. let it = is in cc)
 crew_has_not_run scripts crew (faults.Close why) first told refused = absurd refused
 crew_has_not_run scripts crew faults.Thread first told refused = (tt, λ is. let it = is in cc)

@@ -1,9 +1,9 @@
 -- Workers that are told apart by halves. No public clause cites this.
-use Rattle.std.specs.Prelude.{⊤, ◌≡◌, ◌<◌, ◌≤◌, ◌+◌, ◌*◌, ℕ, zero, suc, List, [], ◌∷◌, ◌++◌, length, Result, Ok, Err}
+use Rattle.std.specs.Prelude.{⊤, ◌≡◌, ◌<◌, ◌≤◌, ◌+◌, ◌*◌, ℕ, zero, suc, List, [], ◌∷◌, ◌++◌, length, take, Result, Ok, Err}
 use Rattle.sr_args.specs.declared.call.Call.{Call}
 use Rattle.sr_seats.specs.Held.{SeatState, count_before, count_made, new_seat}
 use Rattle.sr_run.specs.Shared.{RefusesEvent}
-use Rattle.sr_run.specs.Worked.{AreWorked, IsFirstStopped, count_calls, joined_up}
+use Rattle.sr_run.specs.Worked.{AreWorked, count_calls, joined_up}
 use Rattle.sr_run.specs.declared.fault.RunFault.{RunFault}
 use Rattle.sr_run.specs.declared.fault.RunFault.TheVariants as faults
 use Rattle.sr_seats.specs.declared.receipt.Receipt.{Receipt}
@@ -42,12 +42,18 @@ pub record HasWorked (crew : CrewState) (seats : List SeatState) (receipts : Lis
   pub shares : count_made seats ≡ count_calls crew.scripts + 2 * length crew.scripts
   pub fresh : count_before seats ≡ 0
 
--- why a crew has not worked: an event was refused to one of it, and those before that one have worked
+-- of these scripts, whose seats count on from this number, the one at this place was stopped, and those before it have receipts
+pub record IsStopped (number : ℕ) (scripts : List (List Call)) (at : ℕ) : Type 0 where
+  pub within : at < length scripts
+  pub receipts : List (List Receipt)
+  pub worked : AreWorked number (take at scripts) receipts
+
+-- why a crew has not worked: an event was refused to one of it
 abbrev pub HasNotWorked : CrewState → RunFault → Type 0
 HasNotWorked crew faults.Count = ⊥
 HasNotWorked crew faults.Memory = ⊤
 HasNotWorked crew (faults.Worker at fault) =
-    (place : ℕ) × (at ≡ crew.first + place) × IsFirstStopped crew.first crew.scripts place × RefusesEvent fault
+    (place : ℕ) × (at ≡ crew.first + place) × IsStopped crew.first crew.scripts place × RefusesEvent fault
 HasNotWorked crew (faults.Close fault) = ⊥
 HasNotWorked crew faults.Thread = ⊤
 

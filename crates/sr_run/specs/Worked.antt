@@ -1,7 +1,7 @@
 -- What workers did with their scripts, if each of their events was carried out.
 -- Source: docs/DEFINITIONS.md, "The one-thread server".
 
-use Rattle.std.specs.Prelude.{⊤, ◌≡◌, ◌≢◌, ◌<◌, ◌+◌, ◌*◌, ℕ, List, [], ◌∷◌, All, length, map, sum_by, take}
+use Rattle.std.specs.Prelude.{⊤, ◌≡◌, ◌≢◌, ◌<◌, ◌+◌, ◌*◌, ℕ, List, [], ◌∷◌, All, length, map, sum_by}
 use Rattle.std.specs.List.{flat_map}
 use Rattle.sr_args.specs.declared.call.Call.{Call}
 use Rattle.sr_book.specs.Records.{BookState}
@@ -40,18 +40,10 @@ pub record HasRun (scripts : List (List Call)) (receipts : List (List Receipt)) 
   pub counted : acts ≡ count_calls scripts + 2 * length scripts
   pub closed : IsClosed 0 (joined_up receipts) [] book acts
 
--- of these scripts, whose seats count on from this number, the one at this place is the first of which an event was refused:
--- those before it have all their receipts
-pub record IsFirstStopped (number : ℕ) (scripts : List (List Call)) (at : ℕ) : Type 0 where
-  pub within : at < length scripts
-  pub receipts : List (List Receipt)
-  pub worked : AreWorked number (take at scripts) receipts
-
--- why scripts have not run: an event was refused to one of them, the first that is told; or the run, whose seats are all there,
--- is not closed
+-- why scripts have not run: an event was refused to one of them; or the run, whose seats are all there, is not closed
 abbrev pub HasNotRun : List (List Call) → RunFault → Type 0
 HasNotRun scripts faults.Count = ⊤
 HasNotRun scripts faults.Memory = ⊤
-HasNotRun scripts (faults.Worker at fault) = IsFirstStopped 0 scripts at × RefusesEvent fault
+HasNotRun scripts (faults.Worker at fault) = (at < length scripts) × RefusesEvent fault
 HasNotRun scripts (faults.Close fault) = fault ≢ closing.Short
 HasNotRun scripts faults.Thread = ⊤
