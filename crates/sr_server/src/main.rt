@@ -22,20 +22,22 @@ mod tests;
 
 use crate::command_line::{refuse_words, words};
 use crate::files::SystemFiles;
-use crate::network::{SystemNetwork, serve_all_that_come};
+use crate::network::{SystemNetwork, begin_serving};
 use sr_resp::WriteTo;
 use sr_session::ReadFrom;
 use sr_start::{ServeFault, start};
 use std::process::ExitCode;
+use std::thread::JoinHandle;
 
 /// Hands `start` the system's files, network, standard input and output.
 fn main(rt: HostRuntime) -> ExitCode {
     let mut files = SystemFiles::new(&rt);
     let mut network = SystemNetwork::new(
         &rt,
-        |rt, listener, book, workers| -> ServeFault
+        |rt, listener, book, workers| -> Result<JoinHandle<ServeFault>, ServeFault>
             requires { (1 ≤ workers) × (workers ≤ 64) }
-        { serve_all_that_come(rt, rt.alloc(), &listener, book, workers) },
+        { begin_serving(rt, rt.alloc(), listener, book, workers) },
+        |rt, server| -> ServeFault { server.join(rt) },
     );
     let mut reader = ReadFrom::new(rt.stdin());
     let mut writer = WriteTo::new(rt.stdout());

@@ -1,45 +1,71 @@
 //! The system's network: TCP, at an IP address and a port. Any reason why an address cannot be bound is one fault; a
 //! failed allocation is another.
-ghost use Rattle.std.specs.Prelude.{◌≤◌, ℕ, IsTrue};
+ghost use Rattle.std.specs.Prelude.{◌≡◌, ◌≤◌, ℕ, IfOk, IfErr, IsTrue};
 ghost use Rattle.sr_start.specs.Listening.{any_end, any_refusal};
 
+use crossbeam_channel::{Sender, bounded};
 use sr_book::Book;
-use sr_start::{Bound, ListenFault, Network, ServeFault, serve};
+use sr_start::{Begun, Bound, ListenFault, Network, ServeFault, serve_begun};
 use std::alloc::Global;
 use std::io::ErrorKind;
 use std::net::{SocketAddr, TcpListener};
-use std::rt;
+use std::snapshot::Snapshot;
 use std::sync::Wait;
-use std::thread::Threads;
+use std::thread::{JoinHandle, Threads};
+use std::{rt, thread};
 
-/// Serves the connections of a listener, over this book and with this many workers. It answers why that ended.
+/// Begins to serve the connections of a listener, over this book and with this many workers, in a thread of its own.
 ///
 /// A pointer, since a method of a trait cannot hand its runtime to threads: `main` makes it, and has that runtime itself.
-pub(crate) type Serving = fn(&HostRuntime, TcpListener, Book, usize) -> ServeFault;
+pub(crate) type Beginning = fn(
+    &HostRuntime,
+    TcpListener,
+    Book,
+    usize,
+) -> Result<JoinHandle<ServeFault>, ServeFault>;
+
+/// Waits until serving has ended, and answers why.
+pub(crate) type Ending = fn(&HostRuntime, JoinHandle<ServeFault>) -> ServeFault;
 
 /// The system's network, which may refuse any address and end in any way.
 #[derive(Drop)]
 pub(crate) struct SystemNetwork<'a> {
     rt: &'a HostRuntime,
-    serving: Serving,
-    ghost serves: { (rt : _) (listener : _) (book : _) (workers : ℕ) → (1 ≤ workers) × (workers ≤ 64)
-        → pre serving rt listener book workers },
+    beginning: Beginning,
+    ending: Ending,
+    ghost begins: { (rt : _) (listener : _) (book : _) (workers : ℕ) → (1 ≤ workers) × (workers ≤ 64)
+        → pre beginning rt listener book workers },
+    ghost ends: { (rt : _) (server : _) → pre ending rt server },
 }
 
 impl<'a> SystemNetwork<'a> {
-    /// The system's network. `serving` serves the connections of a listener, with 1 to 64 workers.
-    pub(crate) fn new(rt: &'a HostRuntime, serving: Serving) -> SystemNetwork<'a>
-        requires { (rt : _) (listener : _) (book : _) (workers : ℕ) → (1 ≤ workers) × (workers ≤ 64)
-            → pre serving rt listener book workers }
+    /// The system's network. `beginning` begins to serve the connections of a listener, with 1 to 64 workers, and `ending` waits
+    /// until that has ended.
+    pub(crate) fn new(
+        rt: &'a HostRuntime,
+        beginning: Beginning,
+        ending: Ending,
+    ) -> SystemNetwork<'a>
+        requires begins { (rt : _) (listener : _) (book : _) (workers : ℕ) → (1 ≤ workers) × (workers ≤ 64)
+            → pre beginning rt listener book workers }
+        requires ends { (rt : _) (server : _) → pre ending rt server }
     {
-        SystemNetwork { rt, serving }
+        SystemNetwork {
+            rt,
+            beginning,
+            ending,
+        }
     }
 }
 
 impl<'a> Network for SystemNetwork<'a> {
     type Listener = TcpListener;
 
+    type Server = JoinHandle<ServeFault>;
+
     ghost may_refuse = { any_refusal };
+
+    ghost may_not_begin = { any_end };
 
     ghost may_end = { any_end };
 
@@ -51,25 +77,74 @@ impl<'a> Network for SystemNetwork<'a> {
         }
     }
 
-    fn serve(&mut self, bound: Bound<TcpListener>, book: Book, workers: usize) -> ServeFault
-        requires workers { (1 ≤ workers) × (workers ≤ 64) }
-        ensures { IsTrue (any_end bound.address workers book result) }
-    {
-        (self.serving)(self.rt, bound.listener, book, workers)
+    fn begin(
+        &mut self,
+        bound: Bound<TcpListener>,
+        book: Book,
+        workers: usize,
+    ) -> Result<Begun<JoinHandle<ServeFault>>, ServeFault> {
+        let Bound { listener, address } = bound;
+        let noted = Snapshot::of(&book);
+        let server = (self.beginning)(self.rt, listener, book, workers)?;
+        Ok(Begun {
+            server,
+            address,
+            workers,
+            book: noted,
+        })
+    }
+
+    fn end(&mut self, begun: Begun<JoinHandle<ServeFault>>) -> ServeFault {
+        let Begun {
+            server,
+            address: _,
+            workers: _,
+            book: _,
+        } = begun;
+        (self.ending)(self.rt, server)
+    }
+}
+
+/// Begins to serve the connections of a listener in a thread of its own, and answers once all threads stand, or why they do not.
+pub(crate) fn begin_serving<R: Copy + Threads + Wait + rt::Clock + Send + Sync + Drop + 'static>(
+    rt: &R,
+    alloc: Global,
+    listener: TcpListener,
+    book: Book,
+    workers: usize,
+) -> Result<JoinHandle<ServeFault>, ServeFault>
+    requires workers { (1 ≤ workers) × (workers ≤ 64) }
+{
+    let Ok((stands, stood)) = bounded(alloc, 1) else {
+        return Err(ServeFault::Memory);
+    };
+    let host = *rt;
+    let Ok(server) = thread::spawn(
+        rt,
+        move || -> ServeFault
+            requires { (1 ≤ workers) × (workers ≤ 64) }
+        { serve_all_that_come(&host, alloc, &listener, book, workers, stands) },
+    ) else {
+        return Err(ServeFault::Thread);
+    };
+    match stood.recv(rt) {
+        Ok(()) => Ok(server),
+        Err(_) => Err(server.join(rt)),
     }
 }
 
 /// Serves the connections of a listener until no further one can be accepted, and answers why that ended.
-pub(crate) fn serve_all_that_come<R: Threads + Wait + rt::Clock + Sync>(
+fn serve_all_that_come<R: Threads + Wait + rt::Clock + Sync>(
     rt: &R,
     alloc: Global,
     listener: &TcpListener,
     book: Book,
     workers: usize,
+    stands: Sender<()>,
 ) -> ServeFault
     requires workers { (1 ≤ workers) × (workers ≤ 64) }
 {
-    match serve(rt, alloc, listener, book, workers, u64::MAX) {
+    match serve_begun(rt, alloc, listener, book, workers, u64::MAX, Some(stands)) {
         Ok(_) => ServeFault::Accept,
         Err(fault) => fault,
     }

@@ -15,7 +15,7 @@ use std::random::RandomSource;
 
 /// Serves the connections that come to an address, and answers why that ended.
 ///
-/// Once it listens, it says so to `writer`. If clients of other machines may come, it warns of that at `err`.
+/// Once its threads stand, it says so to `writer`. If clients of other machines may come, it warns of that at `err`.
 pub(crate) fn listen<R, F, N, O, E>(
     rt: &R,
     files: &mut F,
@@ -34,19 +34,22 @@ where
     requires unwritten { O.failed writer.old ≡ false }
     ensures listened { (written : List ℕ)
         × Appends (O.contents writer.old) (O.contents writer.new) written
-        × Listens (F.may_hold files.old) N.may_refuse N.may_end (option_map (λ path. path.now) policy.entry) asked.now.text.now
-        asked.now.address asked.now.workers written (O.failed writer.new) result }
+        × Listens (F.may_hold files.old) N.may_refuse N.may_not_begin N.may_end (option_map (λ path. path.now) policy.entry)
+        asked.now.text.now asked.now.address asked.now.workers written (O.failed writer.new) result }
 {
     let book = match open_book(rt, files, policy) {
         Ok(book) => book,
         Err(fault) => return fault,
     };
     match network.listen(asked.address) {
-        Ok(bound) => {
-            warn(err, asked.address);
-            let _ = announce(writer, asked.text);
-            serving_fault(network.serve(bound, book, asked.workers))
-        }
+        Ok(bound) => match network.begin(bound, book, asked.workers) {
+            Ok(begun) => {
+                warn(err, asked.address);
+                let _ = announce(writer, asked.text);
+                serving_fault(network.end(begun))
+            }
+            Err(fault) => serving_fault(fault),
+        },
         Err(fault) => listening_fault(fault),
     }
 }

@@ -7,6 +7,7 @@ ghost use Rattle.sr_start.specs.declared.serving.ServeFault.{ServeFault};
 use crate::serving::ServeFault;
 use sr_book::Book;
 use std::net::SocketAddr;
+use std::snapshot::Snapshot;
 
 /// Why there is nothing that listens.
 #[derive(Clone, Copy, Debug, PartialEq, Eq)]
@@ -15,6 +16,19 @@ pub enum ListenFault {
     Bind,
     /// A failed allocation.
     Memory,
+}
+
+/// What serves connections, whose threads stand, and what it was begun with.
+#[derive(Drop)]
+pub struct Begun<S: Drop> {
+    /// Serves connections.
+    pub server: S,
+    /// The address that it listens at.
+    pub address: SocketAddr,
+    /// How many connections it serves at a time.
+    pub workers: usize,
+    /// The book that it was begun with.
+    pub book: Snapshot<Book>,
 }
 
 /// What listens, and the address that it listens at.
@@ -31,10 +45,16 @@ pub trait Network {
     /// Accepts connections.
     type Listener: Drop;
 
+    /// Serves connections.
+    type Server: Drop;
+
     /// Whether listening at an address may be refused for this cause.
     ghost may_refuse: { SocketAddr → ListenFault → Bool };
 
-    /// Whether serving at an address, with so many connections at a time and from this book on, may end in this way.
+    /// Whether serving at an address, with so many connections at a time and from this book on, may not begin for this cause.
+    ghost may_not_begin: { SocketAddr → ℕ → BookState → ServeFault → Bool };
+
+    /// Whether serving that has begun so may end in this way.
     ghost may_end: { SocketAddr → ℕ → BookState → ServeFault → Bool };
 
     /// Listens at an address.
@@ -42,8 +62,20 @@ pub trait Network {
         ensures ok { IfOk result (λ bound. bound.address ≡ address) }
         ensures err { IfErr result (λ fault. IsTrue (may_refuse address fault)) };
 
-    /// Serves the connections that come, at most `workers` at a time, over one book, until no further one can be accepted.
-    fn serve(&mut self, bound: Bound<Self::Listener>, book: Book, workers: usize) -> ServeFault
+    /// Begins to serve the connections that come, at most `workers` at a time, over one book. When it answers, the threads stand.
+    fn begin(
+        &mut self,
+        bound: Bound<Self::Listener>,
+        book: Book,
+        workers: usize,
+    ) -> Result<Begun<Self::Server>, ServeFault>
         requires workers { (1 ≤ workers) × (workers ≤ 64) }
-        ensures { IsTrue (may_end bound.address workers book result) };
+        ensures address { IfOk result (λ begun. begun.address ≡ bound.address) }
+        ensures workers { IfOk result (λ begun. begun.workers ≡ workers) }
+        ensures book { IfOk result (λ begun. begun.book.value ≡ book) }
+        ensures err { IfErr result (λ fault. IsTrue (may_not_begin bound.address workers book fault)) };
+
+    /// Serves until no further connection can be accepted, and answers why that ended.
+    fn end(&mut self, begun: Begun<Self::Server>) -> ServeFault
+        ensures { IsTrue (may_end begun.address begun.workers begun.book.value result) };
 }

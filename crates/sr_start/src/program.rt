@@ -74,8 +74,8 @@ where
         × (written : List ℕ)
         × Appends (O.contents writer.old) (O.contents writer.new) written
         × (fault : Fault)
-        × Listens (F.may_hold files.old) N.may_refuse N.may_end (asked_by flags).policy text address workers written
-        (O.failed writer.new) fault
+        × Listens (F.may_hold files.old) N.may_refuse N.may_not_begin N.may_end (asked_by flags).policy text address workers
+        written (O.failed writer.new) fault
         × (result ≡ 1)
         × (reader.new ≡ reader.old) }
 

@@ -6,12 +6,12 @@ use sr_book::Book;
 use sr_resp::WriteTo;
 use sr_run::{HoldFault, Seat, SeatDesk, Shared, open};
 use sr_session::{Clock, Ended, NoGate, ReadFrom, run_session};
-use std::alloc::Global;
-use std::io::ErrorKind;
+use std::alloc::{AllocError, Global};
+use std::io::{Error, ErrorKind};
 use std::marker::Brand;
-use std::net::{TcpListener, TcpStream};
+use std::net::{Shutdown, TcpListener, TcpStream};
 use std::sync::ledger::{Blank, Ledger};
-use std::sync::{Mutex, Wait};
+use std::sync::{Arc, Mutex, Wait};
 use std::thread::Threads;
 use std::time::Duration;
 use std::{rt, thread};
@@ -29,6 +29,35 @@ const QUEUE: usize = 1;
 /// Whether a read may wait: what other connections add may answer it.
 const BLOCKING: bool = true;
 
+/// How long the accepting thread sleeps after a failed accept that is the moment's, in milliseconds.
+const RETRY: u64 = 10;
+
+/// The faults that are a listener's own, after which no accept succeeds: no descriptor or not one of a socket that listens, a bad
+/// address in memory, or an operation that it does not have. Their numbers are Linux's (accept(2)).
+const LISTENERS_OWN: &[i32] = &[
+    9, // EBADF
+    14, // EFAULT
+    22, // EINVAL
+    88, // ENOTSOCK
+    95, // EOPNOTSUPP
+];
+
+/// The connections that are served now, so that all of them can be shut down.
+#[derive(Drop)]
+struct Served {
+    /// No further one is served.
+    closing: bool,
+    /// That of each worker, if it serves one.
+    open: Vec<Option<Arc<TcpStream, Global>>>,
+}
+
+/// What the threads of a server share beside its book.
+#[derive(Drop)]
+struct Common<'a, R> {
+    clock: SystemClock<'a, R>,
+    served: Mutex<Served>,
+}
+
 /// Why a server stopped before all its connections were accepted.
 #[derive(Clone, Copy, Debug, PartialEq, Eq)]
 pub enum ServeFault {
@@ -43,8 +72,9 @@ pub enum ServeFault {
 /// Serves the connections of a listener until this many were accepted, and answers their number once all of them have ended.
 ///
 /// Each of the `workers` threads, 1 to 64, serves one connection at a time, and further ones wait for a free worker. A
-/// timer thread answers the reads whose deadline is reached. A session that ends closes its own connection alone. After a
-/// fault no connection is accepted, and those that were are served to their end.
+/// timer thread answers the reads whose deadline is reached. A session that ends closes its own connection alone. A failed
+/// accept is tried again, unless it is the listener's own fault: then no connection is accepted any more, and those that are
+/// served are shut down.
 pub fn serve<R: Threads + Wait + rt::Clock + Sync>(
     rt: &R,
     alloc: Global,
@@ -56,25 +86,53 @@ pub fn serve<R: Threads + Wait + rt::Clock + Sync>(
     requires workers { (1 ≤ workers) × (workers ≤ 64) }
     ensures ok { IfOk result (λ count. count ≡ accepts) }
 {
-    let blank = Blank::new(workers as u64 + 1);
-    serve_seats::<Brand, R>(rt, alloc, listener, book, workers, accepts, blank)
+    serve_begun(rt, alloc, listener, book, workers, accepts, None)
 }
 
-/// Holds the book for the workers and the timer, and serves.
-fn serve_seats<L: Ledger + Send + Sync, R: Threads + Wait + rt::Clock + Sync>(
+/// The same, and says when the threads stand, right before the first connection is accepted.
+pub fn serve_begun<R: Threads + Wait + rt::Clock + Sync>(
     rt: &R,
     alloc: Global,
     listener: &TcpListener,
     book: Book,
     workers: usize,
     accepts: u64,
+    stands: Option<Sender<()>>,
+) -> Result<u64, ServeFault>
+    requires workers { (1 ≤ workers) × (workers ≤ 64) }
+    ensures ok { IfOk result (λ count. count ≡ accepts) }
+{
+    let blank = Blank::new(workers as u64 + 1);
+    let accepting = Accepting {
+        listener,
+        accepts,
+        stands,
+    };
+    serve_seats::<Brand, R>(rt, alloc, accepting, book, workers, blank)
+}
+
+/// What the first thread does: it says that the threads stand, and accepts this many connections.
+#[derive(Drop)]
+struct Accepting<'a> {
+    listener: &'a TcpListener,
+    accepts: u64,
+    stands: Option<Sender<()>>,
+}
+
+/// Holds the book for the workers and the timer, and serves.
+fn serve_seats<L: Ledger + Send + Sync, R: Threads + Wait + rt::Clock + Sync>(
+    rt: &R,
+    alloc: Global,
+    accepting: Accepting<'_>,
+    book: Book,
+    workers: usize,
     blank: Blank,
 ) -> Result<u64, ServeFault>
     requires workers { (1 ≤ workers) × (workers ≤ 64) }
     requires name { blank.name ≡ L.name }
     requires whole { blank.parts ≡ L.parts }
     requires parts { blank.parts ≡ workers + 1 }
-    ensures ok { IfOk result (λ count. count ≡ accepts) }
+    ensures ok { IfOk result (λ count. count ≡ accepting.entry.accepts) }
 {
     let (shared, mut seats) = match open::<L>(alloc, book, workers + 1, blank) {
         Ok(opened) => opened,
@@ -84,22 +142,29 @@ fn serve_seats<L: Ledger + Send + Sync, R: Threads + Wait + rt::Clock + Sync>(
     let Some(timer) = seats.pop() else {
         unreachable!()
     };
-    serve_timed(rt, alloc, listener, &shared, seats, timer, accepts)
+    serve_timed(rt, alloc, accepting, &shared, seats, timer)
 }
 
 /// Serves with a worker at each of the seats, and a timer at one more, which is told to stop whatever the outcome.
 fn serve_timed<L: Ledger + Send + Sync, R: Threads + Wait + rt::Clock + Sync>(
     rt: &R,
     alloc: Global,
-    listener: &TcpListener,
+    accepting: Accepting<'_>,
     shared: &Shared<L>,
     seats: Vec<Seat<L>>,
     timer: Seat<L>,
-    accepts: u64,
 ) -> Result<u64, ServeFault>
     requires some { 0 < vec_len seats }
-    ensures ok { IfOk result (λ count. count ≡ accepts) }
+    ensures ok { IfOk result (λ count. count ≡ accepting.entry.accepts) }
 {
+    let Ok(served) = nobody_served(alloc, seats.len()) else {
+        return Err(ServeFault::Memory);
+    };
+    let had = Common {
+        clock: SystemClock::new(rt),
+        served,
+    };
+    let common = &had;
     let stop = Mutex::new(false);
     let stopped = &stop;
     thread::scope(
@@ -107,32 +172,33 @@ fn serve_timed<L: Ledger + Send + Sync, R: Threads + Wait + rt::Clock + Sync>(
         rt,
         move |scope| -> Result<u64, ServeFault>
             requires { 0 < vec_len seats }
-            ensures { IfOk result (λ count. count ≡ accepts) }
+            ensures { IfOk result (λ count. count ≡ accepting.entry.accepts) }
         {
             if scope
-                .spawn(move || keep_time(rt, alloc, shared, timer, stopped))
+                .spawn(move || keep_time(rt, alloc, shared, timer, &common.clock, stopped))
                 .is_err()
             {
                 return Err(ServeFault::Thread);
             }
-            let served = serve_all(rt, alloc, listener, shared, seats, accepts);
+            let served = serve_all(rt, alloc, accepting, shared, common, seats);
             *stopped.lock(rt) = true;
             served
         },
     )
 }
 
-/// Starts a worker at each of the seats, and hands the connections to them as they come.
+/// Starts a worker at each of the seats, and hands the connections to them as they come. If no further one can come, those that are
+/// served are shut down.
 fn serve_all<L: Ledger + Send + Sync, R: Threads + Wait + rt::Clock + Sync>(
     rt: &R,
     alloc: Global,
-    listener: &TcpListener,
+    accepting: Accepting<'_>,
     shared: &Shared<L>,
+    common: &Common<'_, R>,
     seats: Vec<Seat<L>>,
-    accepts: u64,
 ) -> Result<u64, ServeFault>
     requires some { 0 < vec_len seats }
-    ensures ok { IfOk result (λ count. count ≡ accepts) }
+    ensures ok { IfOk result (λ count. count ≡ accepting.entry.accepts) }
 {
     let Ok((sender, receiver)) = bounded(alloc, QUEUE) else {
         return Err(ServeFault::Memory);
@@ -142,33 +208,57 @@ fn serve_all<L: Ledger + Send + Sync, R: Threads + Wait + rt::Clock + Sync>(
         thread::scope_env(),
         rt,
         move |scope| -> Result<u64, ServeFault>
-            ensures { IfOk result (λ count. count ≡ accepts) }
+            ensures { IfOk result (λ count. count ≡ accepting.entry.accepts) }
         {
             for seat in seats {
                 let Ok(connections) = accepted.clone() else {
                     return Err(ServeFault::Memory);
                 };
                 if scope
-                    .spawn(move || work(rt, alloc, shared, seat, connections))
+                    .spawn(move || work(rt, alloc, shared, common, seat, connections))
                     .is_err()
                 {
                     return Err(ServeFault::Thread);
                 }
             }
-            accept_all(rt, listener, sender, accepts)
+            let count = accept_all(rt, accepting, sender);
+            if count.is_err() {
+                shut_down(rt, &common.served);
+            }
+            count
         },
     )
 }
 
-/// Accepts this many connections, hands each of them over, and answers their number.
-fn accept_all<R: Wait>(
+/// A table for the connections of this many workers, who serve none.
+fn nobody_served(alloc: Global, workers: usize) -> Result<Mutex<Served>, AllocError> {
+    let mut open = Vec::with_capacity(alloc, workers)?;
+    for _ in 0..workers {
+        open.push(None)?;
+    }
+    Ok(Mutex::new(Served {
+        closing: false,
+        open,
+    }))
+}
+
+/// Says that the threads stand, accepts that many connections, hands each of them over, and answers their number.
+fn accept_all<R: Wait + rt::Clock>(
     rt: &R,
-    listener: &TcpListener,
+    accepting: Accepting<'_>,
     connections: Sender<TcpStream>,
-    accepts: u64,
 ) -> Result<u64, ServeFault>
-    ensures ok { IfOk result (λ count. count ≡ accepts) }
+    ensures ok { IfOk result (λ count. count ≡ accepting.entry.accepts) }
 {
+    let Accepting {
+        listener,
+        accepts,
+        stands,
+    } = accepting;
+    if let Some(stands) = stands {
+        // Whoever waited for it is gone, if it cannot be said.
+        let _ = stands.send(rt, ());
+    }
     let mut count = 0;
     while count < accepts {
         let connection = accept(rt, listener)?;
@@ -180,8 +270,9 @@ fn accept_all<R: Wait>(
 
 /// The next connection, whose replies leave as soon as they are written.
 ///
-/// A client that went away before it was accepted is passed over.
-fn accept<R: Wait>(rt: &R, listener: &TcpListener) -> Result<TcpStream, ServeFault>
+/// A client that went away before it was accepted is passed over. Where the process or the system is short of something it is tried
+/// again a little later.
+fn accept<R: Wait + rt::Clock>(rt: &R, listener: &TcpListener) -> Result<TcpStream, ServeFault>
     ensures err { IfErr result (λ fault. fault ≡ ServeFault.Accept) }
 {
     for _ in rt.forever() {
@@ -192,10 +283,30 @@ fn accept<R: Wait>(rt: &R, listener: &TcpListener) -> Result<TcpStream, ServeFau
                 return Ok(connection);
             }
             Err(error) if error.kind() == ErrorKind::ConnectionAborted => {}
-            Err(_) => return Err(ServeFault::Accept),
+            Err(error) if is_listeners_own(&error) => return Err(ServeFault::Accept),
+            Err(_) => thread::sleep(rt, Duration::from_millis(RETRY)),
         }
     }
     unreachable!()
+}
+
+/// Whether a failed accept is the listener's own fault.
+fn is_listeners_own(error: &Error) -> bool {
+    match error.raw_os_error() {
+        Some(number) => LISTENERS_OWN.contains(&number),
+        None => false,
+    }
+}
+
+/// Shuts down the connections that are served, and has no further one served. Their sessions end.
+fn shut_down<R: Wait>(rt: &R, served: &Mutex<Served>) {
+    let mut served = served.lock(rt);
+    served.closing = true;
+    for connection in &served.open {
+        if let Some(connection) = connection {
+            let _ = connection.shutdown(Shutdown::Both);
+        }
+    }
 }
 
 /// Gives a connection to the first worker that is free.
@@ -216,11 +327,46 @@ fn work<L: Ledger, R: Wait + rt::Clock>(
     rt: &R,
     alloc: Global,
     shared: &Shared<L>,
+    common: &Common<'_, R>,
     mut seat: Seat<L>,
     connections: Receiver<TcpStream>,
 ) {
     for connection in connections.iter(rt) {
-        serve_connection(rt, alloc, shared, &mut seat, &connection);
+        // A connection for which no memory is left is closed.
+        let Ok(connection) = Arc::new(alloc, connection) else {
+            continue;
+        };
+        if takes(rt, &common.served, seat.number(), &connection) {
+            serve_connection(rt, alloc, shared, &common.clock, &mut seat, &connection);
+            lets_go(rt, &common.served, seat.number());
+        }
+    }
+}
+
+/// Notes the connection that a worker serves from now on. Answers no if none is to be served any more.
+fn takes<R: Wait>(
+    rt: &R,
+    served: &Mutex<Served>,
+    number: u64,
+    connection: &Arc<TcpStream, Global>,
+) -> bool {
+    let Ok(noted) = Arc::try_clone(connection) else {
+        return false;
+    };
+    let mut served = served.lock(rt);
+    if served.closing {
+        return false;
+    }
+    if let Some(place) = served.open.get_mut(number as usize) {
+        *place = Some(noted);
+    }
+    true
+}
+
+/// Notes that a worker serves no connection.
+fn lets_go<R: Wait>(rt: &R, served: &Mutex<Served>, number: u64) {
+    if let Some(place) = served.lock(rt).open.get_mut(number as usize) {
+        *place = None;
     }
 }
 
@@ -229,19 +375,19 @@ fn serve_connection<L: Ledger, R: Wait + rt::Clock>(
     rt: &R,
     alloc: Global,
     shared: &Shared<L>,
+    clock: &SystemClock<'_, R>,
     seat: &mut Seat<L>,
     connection: &TcpStream,
 ) -> Ended {
     let mut reader = ReadFrom::new(connection);
     let mut writer = WriteTo::new(connection);
     let mut desk = SeatDesk::new(rt, shared, seat);
-    let clock = SystemClock::new(rt);
     run_session(
         alloc,
         &mut reader,
         &mut writer,
         &mut desk,
-        &clock,
+        clock,
         &NoGate,
         BLOCKING,
         TURNS,
@@ -254,9 +400,9 @@ fn keep_time<L: Ledger, R: Wait + rt::Clock>(
     alloc: Global,
     shared: &Shared<L>,
     mut seat: Seat<L>,
+    clock: &SystemClock<'_, R>,
     stop: &Mutex<bool>,
 ) {
-    let clock = SystemClock::new(rt);
     for _ in rt.forever() {
         if *stop.lock(rt) {
             return;

@@ -4,6 +4,7 @@ use sr_start::{Fault, SystemClock, report};
 use std::alloc::Global;
 use std::io::{self, Error, ErrorKind};
 use std::rt::Clock;
+use std::sync::atomic::{AtomicU64, Ordering};
 use std::time::Duration;
 
 mod sockets;
@@ -72,5 +73,46 @@ fn clock_tells_milliseconds(rt: HostRuntime) {
     for (time, want) in rows {
         let told = sr_session::Clock::now(&SystemClock::new(&StillClock { time }));
         assert_eq!(rt; told, want);
+    }
+}
+
+/// A clock whose times are set, in milliseconds.
+#[derive(Drop)]
+struct SetClock {
+    system: AtomicU64,
+    passed: AtomicU64,
+}
+
+impl Clock for SetClock {
+    fn monotonic(&self) -> io::Result<Duration> {
+        Ok(Duration::from_millis(self.passed.load(Ordering::SeqCst)))
+    }
+
+    fn since_1970(&self) -> io::Result<Duration> {
+        Ok(Duration::from_millis(self.system.load(Ordering::SeqCst)))
+    }
+}
+
+#[test]
+fn a_clock_that_is_set_back_goes_on(rt: HostRuntime) {
+    let set = SetClock {
+        system: AtomicU64::new(0),
+        passed: AtomicU64::new(0),
+    };
+    let clock = SystemClock::new(&set);
+    // The system's time, the time that has passed, and what is told: from the third row on it is set back, then ahead, and back again.
+    let rows = [
+        (1_000, 10, 1_000),
+        (1_100, 110, 1_100),
+        (500, 120, 1_110),
+        (600, 220, 1_210),
+        (2_000, 230, 2_000),
+        (700, 240, 2_010),
+        (5, 250, 2_020),
+    ];
+    for (system, passed, want) in rows {
+        set.system.store(system, Ordering::SeqCst);
+        set.passed.store(passed, Ordering::SeqCst);
+        assert_eq!(rt; sr_session::Clock::now(&clock), want, "at {passed}");
     }
 }

@@ -78,8 +78,8 @@ returns-in-Ok-Listen-clause-listened g c = λ name flags words_are once asks.
     let listen = subst (λ (read : Asked). AsksToListen read asked.text.now asked.address asked.workers)
     read (rw c.in-Ok-Listen.field-0-is at c.in-Ok-Listen.ensures.ok) in
     let l = c.listen-fault.ensures.listened in
-    let listens = subst (λ (read : Asked). Listens (g.F.TextFiles.may_hold c.args.files.now) g.N.Network.may_refuse g.N.Network.may_end read.policy
-    asked.text.now asked.address asked.workers l.0 (g.O.Sink.failed c.listen-fault.new.writer) c.listen-fault.result) read l.2 in
+    let listens = subst (λ (read : Asked). Listens (g.F.TextFiles.may_hold c.args.files.now) g.N.Network.may_refuse
+    g.N.Network.may_not_begin g.N.Network.may_end read.policy asked.text.now asked.address asked.workers l.0 (g.O.Sink.failed c.listen-fault.new.writer) c.listen-fault.result) read l.2 in
     (asked.text.now, asked.address, asked.workers, listen, l.0, l.1, c.listen-fault.result, listens, c.report-in-Ok-Listen.ensures, refl)
 
 pub returns-in-Ok-Listen-clause-both : goal.returns-in-Ok-Listen-clause-both

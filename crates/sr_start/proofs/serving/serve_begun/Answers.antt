@@ -1,4 +1,4 @@
-use Rattle.sr_start.proofs.serving.serve.Goals as goal
+use Rattle.sr_start.proofs.serving.serve_begun.Goals as goal
 
 pub serve_seats-requires-clause-parts : goal.serve_seats-requires-clause-parts
 serve_seats-requires-clause-parts g c κs within = c.new-blank.ensures
