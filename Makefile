@@ -63,6 +63,7 @@ test:
 	rt ci
 	@$(TWO) given
 	@tests/listening.py $(SERVER)
+	@tests/faults.py $(SERVER)
 
 # What the programs are given, each by itself, and first what takes longest. They have to be proved and built before.
 given: given-driver given-server given-checker given-demo
@@ -124,6 +125,7 @@ replay:
 	@cd crates/book_driver && rt run -- < /dev/null
 	@$(if $(T),scripts/replay $(SERVER) $(DRIVER) $(NAMED),$(TWO) given-server)
 	@$(if $(T),,tests/listening.py $(SERVER))
+	@$(if $(T),,tests/faults.py $(SERVER))
 
 # The histories alone: events handed to a book, with their answers.
 histories:
