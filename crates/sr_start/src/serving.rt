@@ -381,7 +381,7 @@ fn serve_connection<L: Ledger, R: Wait + rt::Clock>(
 ) -> Ended {
     let mut reader = ReadFrom::new(connection);
     let mut writer = WriteTo::new(connection);
-    let mut desk = SeatDesk::new(rt, shared, seat);
+    let mut desk = SeatDesk::beside(rt, shared, seat, connection);
     run_session(
         alloc,
         &mut reader,
