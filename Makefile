@@ -64,6 +64,7 @@ test:
 	@$(TWO) given
 	@tests/listening.py $(SERVER)
 	@tests/faults.py $(SERVER)
+	@tests/waiting.py $(SERVER)
 
 # What the programs are given, each by itself, and first what takes longest. They have to be proved and built before.
 given: given-driver given-server given-checker given-demo
@@ -126,6 +127,7 @@ replay:
 	@$(if $(T),scripts/replay $(SERVER) $(DRIVER) $(NAMED),$(TWO) given-server)
 	@$(if $(T),,tests/listening.py $(SERVER))
 	@$(if $(T),,tests/faults.py $(SERVER))
+	@$(if $(T),,tests/waiting.py $(SERVER))
 
 # The histories alone: events handed to a book, with their answers.
 histories:

@@ -1,9 +1,9 @@
 #!/usr/bin/env python3
 """Has accepts of a server fail, moves the clock that it reads, and refuses it threads: what passes must pass, and nothing else ends it.
 
-usage: tests/faults.py PROGRAM [blocked]
+usage: tests/faults.py PROGRAM
 
-PROGRAM is sr_server. With `blocked` a client waits in BLOCK 0, too, when serving ends.
+PROGRAM is sr_server.
 
 | Part | A wrong program that it catches |
 |---|---|
@@ -153,15 +153,14 @@ def lasting(tally, faults, program):
             tally.compare("PING after a while", b"PONG", connection.call("PING"))
 
 
-def ending(tally, faults, program, blocked):
-    """The listener is at fault: the program ends with its line and status, though clients are connected and one is not served yet."""
+def ending(tally, faults, program):
+    """The listener is at fault: the program ends with its line and status, though clients are connected, one waits, and one is not served yet."""
     for name in OWN:
         with Trial(program, faults) as trial, contextlib.ExitStack() as stack:
             clients = [stack.enter_context(trial.connect()) for _ in range(WORKERS)]
             for client in clients:
                 tally.compare("PING", b"PONG", client.call("PING"))
-            if blocked:
-                clients[-1].send("XREAD", "BLOCK", 0, "STREAMS", "s", "$")
+            clients[-1].send("XREAD", "BLOCK", 0, "STREAMS", "s", "$")
             stack.enter_context(trial.connect())
             time.sleep(0.05)
             faults.fail(name, ALL)
@@ -261,12 +260,11 @@ def play(part, tally, faults, *words):
         tally.wrong(f"{part.__name__}: {type(fault).__name__}: {fault}")
 
 
-def run(tally, program, blocked):
+def run(tally, program):
     with tempfile.TemporaryDirectory() as folder:
         faults = Faults(folder)
-        for part in (passing, lasting, threadless, set_back, set_ahead):
+        for part in (passing, lasting, ending, threadless, set_back, set_ahead):
             play(part, tally, faults, program)
-        play(ending, tally, faults, program, blocked)
 
 
 def end(*_):
@@ -274,14 +272,14 @@ def end(*_):
 
 
 def main():
-    if len(sys.argv) not in (2, 3) or sys.argv[2:] not in ([], ["blocked"]):
+    if len(sys.argv) != 2:
         sys.exit(__doc__.split("\n\n")[1])
     servers.stop_when_ended()
     signal.signal(signal.SIGALRM, end)
     signal.alarm(SECONDS)
     tally = Tally()
     try:
-        run(tally, sys.argv[1], len(sys.argv) == 3)
+        run(tally, sys.argv[1])
     except Late:
         tally.wrong(f"not done after {SECONDS} seconds")
     print(f"faults: {tally.answers} answers, {tally.differing} differ")
