@@ -221,7 +221,7 @@ fn serve_all<L: Ledger + Send + Sync, R: Threads + Wait + rt::Clock + Sync>(
                     return Err(ServeFault::Thread);
                 }
             }
-            let count = accept_all(rt, accepting, sender);
+            let count = begin_accepting(rt, accepting, sender);
             if count.is_err() {
                 shut_down(rt, &common.served);
             }
@@ -243,7 +243,7 @@ fn nobody_served(alloc: Global, workers: usize) -> Result<Mutex<Served>, AllocEr
 }
 
 /// Says that the threads stand, accepts that many connections, hands each of them over, and answers their number.
-fn accept_all<R: Wait + rt::Clock>(
+fn begin_accepting<R: Wait + rt::Clock>(
     rt: &R,
     accepting: Accepting<'_>,
     connections: Sender<TcpStream>,
@@ -259,6 +259,18 @@ fn accept_all<R: Wait + rt::Clock>(
         // Whoever waited for it is gone, if it cannot be said.
         let _ = stands.send(rt, ());
     }
+    accept_all(rt, listener, connections, accepts)
+}
+
+/// Accepts this many connections, hands each of them over, and answers their number.
+fn accept_all<R: Wait + rt::Clock>(
+    rt: &R,
+    listener: &TcpListener,
+    connections: Sender<TcpStream>,
+    accepts: u64,
+) -> Result<u64, ServeFault>
+    ensures ok { IfOk result (λ count. count ≡ accepts) }
+{
     let mut count = 0;
     while count < accepts {
         let connection = accept(rt, listener)?;

@@ -24,7 +24,7 @@ returns-in-Err-begin g c =
     c.in-Ok-listen.ensures.ok refl opened.2 c.in-Err-begin.ensures.err in
     record {
       listened =
-          ([], Appends-nil _, begins_not opened.0 c.in-Err-begin.fault opened.1 end refl c.serving_fault.ensures);
+          ([], Appends-nil _, begins_not opened.0 c.in-Err-begin.fault opened.1 end refl c.serving_fault-in-Err-begin.ensures);
     }
 
 pub returns-in-Err-listen : goal.returns-in-Err-listen
