@@ -410,7 +410,8 @@ crew_has_not_run scripts crew (faults.Worker at why) first told refused =
     let P : ℕ → Type 0 = λ n. IsStopped n crew.scripts refused.0 in
     let Q : List (List Call) → Type 0 = λ ss. IsStopped 0 ss refused.0 in
     let R : ℕ → Type 0 = λ n. IsStopped 0 scripts n in
-    ((subst R here (subst Q told (subst P first refused.2)), refused.3), λ is. let it = is in cc)
+    let stopped : IsStopped 0 scripts at = subst R here (subst Q told (subst P first refused.2)) in
+    ((stopped.within, refused.3), λ is. let it = is in cc)
 crew_has_not_run scripts crew (faults.Close why) first told refused = absurd refused
 crew_has_not_run scripts crew faults.Thread first told refused = (tt, λ is. let it = is in cc)
 
