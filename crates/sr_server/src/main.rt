@@ -22,7 +22,7 @@ mod tests;
 
 use crate::command_line::{refuse_words, words};
 use crate::files::SystemFiles;
-use crate::network::{SystemNetwork, begin_serving};
+use crate::network::{Beginner, Ender, SystemNetwork, begin_serving};
 use sr_resp::WriteTo;
 use sr_session::ReadFrom;
 use sr_start::{ServeFault, start};
@@ -32,13 +32,13 @@ use std::thread::JoinHandle;
 /// Hands `start` the system's files, network, standard input and output.
 fn main(rt: HostRuntime) -> ExitCode {
     let mut files = SystemFiles::new(&rt);
-    let mut network = SystemNetwork::new(
-        &rt,
+    let beginner = Beginner::new(
         |rt, listener, book, workers| -> Result<JoinHandle<ServeFault>, ServeFault>
             requires { (1 ≤ workers) × (workers ≤ 64) }
         { begin_serving(rt, rt.alloc(), listener, book, workers) },
-        |rt, server| -> ServeFault { server.join(rt) },
     );
+    let ender = Ender::new(|rt, server| -> ServeFault { server.join(rt) });
+    let mut network = SystemNetwork::new(&rt, beginner, ender);
     let mut reader = ReadFrom::new(rt.stdin());
     let mut writer = WriteTo::new(rt.stdout());
     let mut err = rt.stderr();

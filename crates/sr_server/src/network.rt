@@ -1,6 +1,7 @@
 //! The system's network: TCP, at an IP address and a port. Any reason why an address cannot be bound is one fault; a
 //! failed allocation is another.
 ghost use Rattle.std.specs.Prelude.{◌≡◌, ◌≤◌, ℕ, IfOk, IfErr, IsTrue};
+ghost use Rattle.std.specs.Thread.{IsSend, IsSync};
 ghost use Rattle.sr_start.specs.Listening.{any_end, any_refusal};
 
 use crossbeam_channel::{Sender, bounded};
@@ -24,36 +25,80 @@ pub(crate) type Beginning = fn(
     usize,
 ) -> Result<JoinHandle<ServeFault>, ServeFault>;
 
-/// Waits until serving has ended, and answers why.
+/// Waits until serving has ended, and answers why. A pointer for the same reason.
 pub(crate) type Ending = fn(&HostRuntime, JoinHandle<ServeFault>) -> ServeFault;
+
+/// A beginning that may be called with 1 to 64 workers.
+#[derive(Drop)]
+pub(crate) struct Beginner {
+    by: Beginning,
+    ghost begins: { (rt : _) (listener : _) (book : _) (workers : ℕ) → (1 ≤ workers) × (workers ≤ 64)
+        → pre by rt listener book workers },
+}
+
+impl Beginner {
+    /// One that begins so.
+    pub(crate) fn new(by: Beginning) -> Beginner
+        requires { (rt : _) (listener : _) (book : _) (workers : ℕ) → (1 ≤ workers) × (workers ≤ 64)
+            → pre by rt listener book workers }
+    {
+        Beginner { by }
+    }
+
+    /// Begins.
+    fn begin(
+        &self,
+        rt: &HostRuntime,
+        listener: TcpListener,
+        book: Book,
+        workers: usize,
+    ) -> Result<JoinHandle<ServeFault>, ServeFault>
+        requires { (1 ≤ workers) × (workers ≤ 64) }
+    {
+        (self.by)(rt, listener, book, workers)
+    }
+}
+
+/// An ending that may be called.
+#[derive(Drop)]
+pub(crate) struct Ender {
+    by: Ending,
+    ghost ends: { (rt : _) (server : _) → pre by rt server },
+}
+
+impl Ender {
+    /// One that ends so.
+    pub(crate) fn new(by: Ending) -> Ender
+        requires { (rt : _) (server : _) → pre by rt server }
+    {
+        Ender { by }
+    }
+
+    /// Waits for the end.
+    fn end(&self, rt: &HostRuntime, server: JoinHandle<ServeFault>) -> ServeFault {
+        (self.by)(rt, server)
+    }
+}
 
 /// The system's network, which may refuse any address and end in any way.
 #[derive(Drop)]
 pub(crate) struct SystemNetwork<'a> {
     rt: &'a HostRuntime,
-    beginning: Beginning,
-    ending: Ending,
-    ghost begins: { (rt : _) (listener : _) (book : _) (workers : ℕ) → (1 ≤ workers) × (workers ≤ 64)
-        → pre beginning rt listener book workers },
-    ghost ends: { (rt : _) (server : _) → pre ending rt server },
+    beginner: Beginner,
+    ender: Ender,
 }
 
 impl<'a> SystemNetwork<'a> {
-    /// The system's network. `beginning` begins to serve the connections of a listener, with 1 to 64 workers, and `ending` waits
-    /// until that has ended.
+    /// The system's network, whose serving begins and ends so.
     pub(crate) fn new(
         rt: &'a HostRuntime,
-        beginning: Beginning,
-        ending: Ending,
-    ) -> SystemNetwork<'a>
-        requires begins { (rt : _) (listener : _) (book : _) (workers : ℕ) → (1 ≤ workers) × (workers ≤ 64)
-            → pre beginning rt listener book workers }
-        requires ends { (rt : _) (server : _) → pre ending rt server }
-    {
+        beginner: Beginner,
+        ender: Ender,
+    ) -> SystemNetwork<'a> {
         SystemNetwork {
             rt,
-            beginning,
-            ending,
+            beginner,
+            ender,
         }
     }
 }
@@ -82,10 +127,16 @@ impl<'a> Network for SystemNetwork<'a> {
         bound: Bound<TcpListener>,
         book: Book,
         workers: usize,
-    ) -> Result<Begun<JoinHandle<ServeFault>>, ServeFault> {
+    ) -> Result<Begun<JoinHandle<ServeFault>>, ServeFault>
+        requires workers { (1 ≤ workers) × (workers ≤ 64) }
+        ensures address { IfOk result (λ begun. begun.address ≡ bound.address) }
+        ensures workers { IfOk result (λ begun. begun.workers ≡ workers) }
+        ensures book { IfOk result (λ begun. begun.book.value ≡ book) }
+        ensures err { IfErr result (λ fault. IsTrue (any_end bound.address workers book fault)) }
+    {
         let Bound { listener, address } = bound;
         let noted = Snapshot::of(&book);
-        let server = (self.beginning)(self.rt, listener, book, workers)?;
+        let server = self.beginner.begin(self.rt, listener, book, workers)?;
         Ok(Begun {
             server,
             address,
@@ -94,14 +145,16 @@ impl<'a> Network for SystemNetwork<'a> {
         })
     }
 
-    fn end(&mut self, begun: Begun<JoinHandle<ServeFault>>) -> ServeFault {
+    fn end(&mut self, begun: Begun<JoinHandle<ServeFault>>) -> ServeFault
+        ensures { IsTrue (any_end begun.address begun.workers begun.book.value result) }
+    {
         let Begun {
             server,
             address: _,
             workers: _,
             book: _,
         } = begun;
-        (self.ending)(self.rt, server)
+        self.ender.end(self.rt, server)
     }
 }
 
@@ -122,7 +175,7 @@ pub(crate) fn begin_serving<R: Copy + Threads + Wait + rt::Clock + Send + Sync +
     let Ok(server) = thread::spawn(
         rt,
         move || -> ServeFault
-            requires { (1 ≤ workers) × (workers ≤ 64) }
+            requires { IsSend R.row × IsSync R.row × (1 ≤ workers) × (workers ≤ 64) }
         { serve_all_that_come(&host, alloc, &listener, book, workers, stands) },
     ) else {
         return Err(ServeFault::Thread);

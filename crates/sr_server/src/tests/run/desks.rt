@@ -71,7 +71,7 @@ fn letters_at<D: Desk>(rt: &(impl AllocGlobal + Abort), desk: &mut D) -> Result<
 }
 
 /// The same at a seat.
-fn letters<L: Ledger, R: AllocGlobal + Abort + Wait>(
+fn letters<L: Ledger, R: AllocGlobal + Abort + Clock + Wait>(
     rt: &R,
     shared: &Shared<L>,
     seat: &mut Seat<L>,
@@ -90,7 +90,7 @@ fn call_and_pause<D: Desk>(alloc: Global, desk: &mut D) -> Result<(), Fail> {
 }
 
 /// While a desk pauses, another seat comes to its turn. It would wait for good if the desk kept the lock.
-fn pause<L: Ledger, R: AllocGlobal + Abort + Wait>(
+fn pause<L: Ledger, R: AllocGlobal + Abort + Clock + Wait>(
     rt: &R,
     shared: &Shared<L>,
     seat: &mut Seat<L>,
