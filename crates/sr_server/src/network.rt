@@ -1,7 +1,6 @@
 //! The system's network: TCP, at an IP address and a port. Any reason why an address cannot be bound is one fault; a
 //! failed allocation is another.
 ghost use Rattle.std.specs.Prelude.{◌≡◌, ◌≤◌, ℕ, IfOk, IfErr, IsTrue};
-ghost use Rattle.std.specs.Thread.{IsSend, IsSync};
 ghost use Rattle.sr_start.specs.Listening.{any_end, any_refusal};
 
 use crossbeam_channel::{Sender, bounded};
@@ -90,11 +89,7 @@ pub(crate) struct SystemNetwork<'a> {
 
 impl<'a> SystemNetwork<'a> {
     /// The system's network, whose serving begins and ends so.
-    pub(crate) fn new(
-        rt: &'a HostRuntime,
-        beginner: Beginner,
-        ender: Ender,
-    ) -> SystemNetwork<'a> {
+    pub(crate) fn new(rt: &'a HostRuntime, beginner: Beginner, ender: Ender) -> SystemNetwork<'a> {
         SystemNetwork {
             rt,
             beginner,
@@ -175,7 +170,7 @@ pub(crate) fn begin_serving<R: Copy + Threads + Wait + rt::Clock + Send + Sync +
     let Ok(server) = thread::spawn(
         rt,
         move || -> ServeFault
-            requires { IsSend R.row × IsSync R.row × (1 ≤ workers) × (workers ≤ 64) }
+            requires { (1 ≤ workers) × (workers ≤ 64) }
         { serve_all_that_come(&host, alloc, &listener, book, workers, stands) },
     ) else {
         return Err(ServeFault::Thread);
