@@ -3,12 +3,13 @@
 .PHONY: run help try demo install test replay histories plans check memory refusals compare clients soak
 .PHONY: bench bench-net bench-solver check-solver
 .PHONY: given given-server given-driver given-checker given-demo given-sessions given-requests given-groups given-moves given-streams
-.PHONY: given-room given-refused given-histories given-refusals given-plans
+.PHONY: given-room given-refused given-tests given-histories given-refusals given-plans
 
 # The programs, where a proof leaves them, and a make that does two things at a time.
 SERVER = crates/sr_server/out/sr_server
 DRIVER = crates/book_driver/out/book_driver
 CHECKER = crates/plan_check/out/plan_check
+TESTS = crates/sr_server/out/sr_server_tests
 TWO = $(MAKE) --no-print-directory --output-sync -j2
 
 # Where `make install` puts the programs, the pages and the unit.
@@ -68,7 +69,7 @@ test:
 
 # What the programs are given, each by itself, and first what takes longest. They have to be proved and built before.
 given: given-driver given-server given-checker given-demo
-given-server: given-sessions given-requests given-groups given-moves given-streams given-room given-refused
+given-server: given-sessions given-requests given-groups given-moves given-streams given-room given-refused given-tests
 given-driver: given-refusals given-histories
 given-checker: given-plans
 
@@ -104,6 +105,11 @@ given-refused:
 	@tests/refused_memory.py $(SERVER)
 	@tests/refused_tick.py $(SERVER)
 
+given-tests:
+	@scripts/memory $(TESTS) 600 run::records
+	@scripts/memory $(TESTS) 600 run::closing
+	@scripts/memory $(TESTS) 400 run::workers::two_scripts
+
 given-histories:
 	@scripts/histories $(DRIVER) examples/histories/*.history tests/histories/*.history
 	@tests/heavy_entry.py $(DRIVER)
@@ -123,6 +129,7 @@ given-demo:
 replay:
 	@$(if $(T),$(if $(NAMED),,echo 'replay: there is no tests/commands/$(T)*.session'; exit 2))
 	@cd crates/sr_server && rt run -- --stdio < /dev/null
+	@$(if $(T),,cd crates/sr_server && rt test)
 	@cd crates/book_driver && rt run -- < /dev/null
 	@$(if $(T),scripts/replay $(SERVER) $(DRIVER) $(NAMED),$(TWO) given-server)
 	@$(if $(T),,tests/listening.py $(SERVER))
