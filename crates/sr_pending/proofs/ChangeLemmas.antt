@@ -2,24 +2,23 @@
 use Rattle.std.proofs.Common.{◌≡◌, ℕ, zero, suc, Bool, true, false, cond, not, List, [], ◌∷◌, ◌++◌, map, set, take, drop, filter, slice_get, Some, inl, inr, refl, ap, subst, sym, ◌∙◌}
 use Rattle.std.proofs.Math.Seq.{take-nil}
 use Rattle.std.specs.List.{All, insert}
-use Rattle.std.proofs.lemmas.List.Elements.{All-append, All-cons, All-filter, All-map, All-weaker}
+use Rattle.std.proofs.lemmas.List.Elements.{All-append, All-cons, All-filter, All-head, All-map, All-tail, All-weaker}
 use Rattle.sr_ids.specs.declared.id.Id.{Id}
 use Rattle.sr_ids.specs.Id.{IsBelow}
 use Rattle.sr_ids.proofs.IdLemmas.{IsBelow-cases, IsBelow-one_way}
 use Rattle.sr_pending.specs.declared.nack.Nack.{Nack}
 use Rattle.sr_pending.specs.Pending.{AreAbove, AreRising, has_id, is_below, is_same_id, with_nack, without}
-use Rattle.sr_pending.specs.steps.Search.{below}
 use Rattle.sr_pending.proofs.NackLemmas.{AreAbove-below, AreAbove-get, AreRising-filter, is_below-from, is_below-true, is_same_id-below, is_same_id-refl}
 use Rattle.sr_pending.proofs.SearchLemmas.{before_place, below_first, has_id-above, has_id-not_first, without-none}
 use Rattle.sr_pending.proofs.Splitting.{Splits, Splits-counted, drop-Splits}
 
 -- the entries that pass, if they come first
-take-Splits : {X : Type 0} (p : X → Bool) (xs : List X) (i : ℕ) → Splits p xs i → take i xs ≡ filter p xs
+pub take-Splits : {X : Type 0} (p : X → Bool) (xs : List X) (i : ℕ) → Splits p xs i → take i xs ≡ filter p xs
 take-Splits p [] i splits = take-nil i
 take-Splits p (x ∷ xs) zero splits = rw splits.0 (take-Splits p xs zero splits.1)
 take-Splits p (x ∷ xs) (suc i) splits = rw splits.0 (ap (λ (l : List _). x ∷ l) (take-Splits p xs i splits.1))
 
-is_below-not : (a b : Id) → IsBelow a b → is_below b a ≡ false
+pub is_below-not : (a b : Id) → IsBelow a b → is_below b a ≡ false
 is_below-not a b lt = by (is_below b a) refl
   where
     by : (test : Bool) → is_below b a ≡ test → test ≡ false
@@ -27,28 +26,13 @@ is_below-not a b lt = by (is_below b a) refl
     by false e = refl
 
 -- of two ids that differ, one is below
-not_below : (a b : Id) → is_same_id a b ≡ false → not (is_below a b) ≡ is_below b a
+pub not_below : (a b : Id) → is_same_id a b ≡ false → not (is_below a b) ≡ is_below b a
 not_below a b apart =
     elim (IsBelow-cases a b) [
       | inl same ↦ absurd (let yes : is_same_id a b ≡ true = rw same (is_same_id-refl b) in let both = sym apart ∙ yes in cc)
       | inr (inl lt) ↦ rw (is_below-from a b lt, is_below-not a b lt)
       | inr (inr gt) ↦ rw (is_below-not b a gt, is_below-from b a gt)
     ]
-
-not_below-above : (id : Id) (xs : List Nack) → has_id id xs ≡ false → filter (λ x. not (is_below x.id id)) xs ≡ filter (λ x. is_below id x.id) xs
-not_below-above id [] fresh = refl
-not_below-above id (x ∷ xs) fresh =
-    let parts = has_id-not_first id x xs fresh in
-    rw (not_below x.id id parts.0) (ap (λ (l : List Nack). cond (is_below id x.id) (x ∷ l) l) (not_below-above id xs parts.1))
-
--- the new entry goes to the place that binary search gives
-pub insert-place : (nack : Nack) (xs : List Nack) → AreRising xs → has_id nack.id xs ≡ false → insert xs (below nack.id xs) nack ≡ with_nack nack xs
-insert-place nack xs rising fresh =
-    let before : Nack → Bool = λ x. is_below x.id nack.id in
-    let splits = Splits-counted before xs (below_first xs nack.id rising) in
-    let front : take (below nack.id xs) xs ≡ filter before xs = take-Splits before xs (below nack.id xs) splits in
-    let back : drop (below nack.id xs) xs ≡ filter (λ x. is_below nack.id x.id) xs = drop-Splits before xs (below nack.id xs) splits ∙ not_below-above nack.id xs fresh in
-    ap (λ (l : List Nack). l ++ nack ∷ drop (below nack.id xs) xs) front ∙ ap (λ (l : List Nack). filter before xs ++ nack ∷ l) back
 
 -- all entries lie below the id
 abbrev AreBelow : Id → List Nack → Type 0
@@ -150,27 +134,29 @@ has_id-without id (x ∷ xs) = by (is_same_id x.id id) refl (has_id-without id x
     by true e rest = rest
     by false e rest = rw e rest
 
--- of entries above an id, none is below it and all are above it
-none_below : (id : Id) (xs : List Nack) → AreAbove id xs → filter (λ x. is_below x.id id) xs ≡ []
-none_below id [] above = refl
-none_below id (x ∷ xs) above = rw (is_below-not id x.id above.0) (none_below id xs above.1)
+-- an entry above all others comes behind them
+module _ (x : Nack) (ys : List Nack) where
+  above-at : (id : Id) (xs : List Nack) → AreAbove id (xs ++ x ∷ ys) → IsBelow id x.id
+  above-at id [] above = above.0
+  above-at id (z ∷ xs) above = above-at id xs above.1
 
-all_above : (id : Id) (xs : List Nack) → AreAbove id xs → filter (λ x. is_below id x.id) xs ≡ xs
-all_above id [] above = refl
-all_above id (x ∷ xs) above = rw (is_below-from id x.id above.0) (ap (λ (l : List Nack). x ∷ l) (all_above id xs above.1))
+  pub fresh-behind : (xs : List Nack) → AreRising (xs ++ x ∷ ys) → has_id x.id xs ≡ false
+  fresh-behind [] rising = refl
+  fresh-behind (z ∷ xs) rising = rw (is_same_id-below z.id x.id (above-at z.id xs rising.0)) (fresh-behind xs rising.1)
 
--- an entry taken out, and another with its id put in, is one in place of the other
-pub with_nack-moved : (xs : List Nack) (i : ℕ) (x y : Nack) → AreRising xs → slice_get xs i ≡ Some x → x.id ≡ y.id → with_nack y (without y.id xs) ≡ set xs i y
-with_nack-moved [] i x y rising here same = cc
-with_nack-moved (z ∷ zs) zero x y rising here same =
-    let first : z ≡ x = cc in
-    let first_id : z.id ≡ y.id = ap (λ (e : Nack). e.id) first ∙ same in
-    let test : is_same_id z.id y.id ≡ true = rw first_id (is_same_id-refl y.id) in
-    let above : AreAbove y.id zs = rw first_id at rising.0 in
-    let gone : without y.id (z ∷ zs) ≡ zs = rw test (without-none y.id zs (has_id-above y.id zs above)) in
-    ap (with_nack y) gone ∙ ap (λ (l : List Nack). l ++ y ∷ filter (λ o. is_below y.id o.id) zs) (none_below y.id zs above) ∙ ap (λ (l : List Nack). y ∷ l) (all_above y.id zs above)
-with_nack-moved (z ∷ zs) (suc i) x y rising here same =
-    let lt : IsBelow z.id y.id = rw same at (AreAbove-get z.id zs i x rising.0 here) in
-    let stays : without y.id (z ∷ zs) ≡ z ∷ without y.id zs = rw (is_same_id-below z.id y.id lt) refl in
-    let joined : with_nack y (z ∷ without y.id zs) ≡ z ∷ with_nack y (without y.id zs) = rw (is_below-from z.id y.id lt, is_below-not z.id y.id lt) refl in
-    ap (with_nack y) stays ∙ joined ∙ ap (λ (l : List Nack). z ∷ l) (with_nack-moved zs i x y rising.1 here same)
+  all_before : (xs : List Nack) → AreRising (xs ++ x ∷ ys) → filter (λ o. is_below o.id x.id) xs ≡ xs
+  all_before [] rising = refl
+  all_before (z ∷ xs) rising = rw (is_below-from z.id x.id (above-at z.id xs rising.0)) (ap (λ (l : List Nack). z ∷ l) (all_before xs rising.1))
+
+  none_behind : (xs : List Nack) → AreRising (xs ++ x ∷ ys) → filter (λ o. is_below x.id o.id) xs ≡ []
+  none_behind [] rising = refl
+  none_behind (z ∷ xs) rising = rw (is_below-not z.id x.id (above-at z.id xs rising.0)) (none_behind xs rising.1)
+
+  pub with_nack-behind : (xs : List Nack) → AreRising (xs ++ x ∷ ys) → with_nack x xs ≡ xs ++ x ∷ []
+  with_nack-behind xs rising =
+      ap (λ (l : List Nack). l ++ x ∷ filter (λ o. is_below x.id o.id) xs) (all_before xs rising)
+      ∙ ap (λ (l : List Nack). xs ++ x ∷ l) (none_behind xs rising)
+
+  pub All-at : (P : Nack → Type 0) (xs : List Nack) → All P (xs ++ x ∷ ys) → P x
+  All-at P [] all = All-head P x ys all
+  All-at P (z ∷ xs) all = All-at P xs (All-tail P z (xs ++ x ∷ ys) all)

@@ -6,8 +6,6 @@ use Rattle.std.proofs.lemmas.List.Filters.{length-filter_both}
 use Rattle.std.specs.VecDeque.{deque_items}
 use Rattle.std.specs.declared.collections.VecDeque.{VecDeque}
 use Rattle.sr_pending.specs.declared.blocks.Place.{Place}
-use Rattle.sr_pending.specs.declared.nack.Nack.{Nack}
-use Rattle.sr_pending.specs.Pending.{is_same_name, owned_by, without_owner}
 use Rattle.sr_pending.specs.steps.Blocks.{AreFilled, IsIn, Laid, at_of, held_in, items_at, items_of}
 use Rattle.sr_pending.proofs.Showing.{laid, shown-at, shown-items, slice_get-left, slice_get-right, start-behind}
 
@@ -98,46 +96,46 @@ module _ {T Z : Type 0} (p : VecDeque T Z → Bool) where
   pub filled-filter : ((d : VecDeque T Z) → p d ≡ true → 0 < length d.items) → (blocks : List (VecDeque T Z)) → AreFilled (filter p blocks)
   filled-filter full blocks = All-weaker (λ (d : VecDeque T Z). p d ≡ true) (λ (d : VecDeque T Z). 0 < length d.items) full (filter p blocks) (filter_passes p blocks)
 
--- the first n blocks have lost the entries of this owner, and the others are as they were
-abbrev pub Kept : {Z : Type 0} → List ℕ → ℕ → List (VecDeque Nack Z) → List (VecDeque Nack Z) → Type 0
-Kept owner zero old new = new ≡ old
-Kept owner (suc n) [] new = ⊥
-Kept owner (suc n) (o ∷ os) [] = ⊥
-Kept owner (suc n) (o ∷ os) (d ∷ ds) = (d.items ≡ without_owner owner o.items) × Kept owner n os ds
+-- the first n blocks have kept those that pass alone, and the others are as they were
+abbrev pub Kept : {T Z : Type 0} → (T → Bool) → ℕ → List (VecDeque T Z) → List (VecDeque T Z) → Type 0
+Kept p zero old new = new ≡ old
+Kept p (suc n) [] new = ⊥
+Kept p (suc n) (o ∷ os) [] = ⊥
+Kept p (suc n) (o ∷ os) (d ∷ ds) = (d.items ≡ filter p o.items) × Kept p n os ds
 
-module _ {Z : Type 0} (owner : List ℕ) where
-  pub Kept-more : (n : ℕ) (old new : List (VecDeque Nack Z)) (was is : VecDeque Nack Z) → Kept owner n old new → n < length new → was ≡ get_or new n was → is.items ≡ without_owner owner was.items → Kept owner (suc n) old (set new n is)
+module _ {T Z : Type 0} (p : T → Bool) where
+  pub Kept-more : (n : ℕ) (old new : List (VecDeque T Z)) (was is : VecDeque T Z) → Kept p n old new → n < length new → was ≡ get_or new n was → is.items ≡ filter p was.items → Kept p (suc n) old (set new n is)
   Kept-more zero old [] was is kept within read less = absurd (omega arith)
   Kept-more zero [] (d ∷ ds) was is kept within read less = absurd (cc)
   Kept-more zero (o ∷ os) (d ∷ ds) was is kept within read less =
       let same : d ≡ o = cc in
-      (less ∙ ap (λ (e : VecDeque Nack Z). without_owner owner e.items) (read ∙ same), cc)
+      (less ∙ ap (λ (e : VecDeque T Z). filter p e.items) (read ∙ same), cc)
   Kept-more (suc n) [] new was is kept within read less = absurd kept
   Kept-more (suc n) (o ∷ os) [] was is kept within read less = absurd kept
   Kept-more (suc n) (o ∷ os) (d ∷ ds) was is kept within read less = (kept.0, Kept-more n os ds was is kept.1 (omega arith) read less)
 
-  pub Kept-length : (n : ℕ) (old new : List (VecDeque Nack Z)) → Kept owner n old new → length new ≡ length old
-  Kept-length zero old new kept = ap (λ (l : List (VecDeque Nack Z)). length l) kept
+  pub Kept-length : (n : ℕ) (old new : List (VecDeque T Z)) → Kept p n old new → length new ≡ length old
+  Kept-length zero old new kept = ap (λ (l : List (VecDeque T Z)). length l) kept
   Kept-length (suc n) [] new kept = absurd kept
   Kept-length (suc n) (o ∷ os) [] kept = absurd kept
   Kept-length (suc n) (o ∷ os) (d ∷ ds) kept = ap suc (Kept-length n os ds kept.1)
 
-  pub Kept-all : (n : ℕ) (old new : List (VecDeque Nack Z)) → Kept owner n old new → length old ≤ n → held_in new ≡ without_owner owner (held_in old)
-  Kept-all zero [] new kept all = ap (λ (l : List (VecDeque Nack Z)). held_in l) kept
+  pub Kept-all : (n : ℕ) (old new : List (VecDeque T Z)) → Kept p n old new → length old ≤ n → held_in new ≡ filter p (held_in old)
+  Kept-all zero [] new kept all = ap (λ (l : List (VecDeque T Z)). held_in l) kept
   Kept-all zero (o ∷ os) new kept all = absurd (omega arith)
   Kept-all (suc n) [] new kept all = absurd kept
   Kept-all (suc n) (o ∷ os) [] kept all = absurd kept
   Kept-all (suc n) (o ∷ os) (d ∷ ds) kept all =
-      ap (λ (l : List Nack). l ++ held_in ds) kept.0
-      ∙ ap (λ (l : List Nack). without_owner owner o.items ++ l) (Kept-all n os ds kept.1 (omega arith))
-      ∙ sym (filter-append (λ (nack : Nack). not (is_same_name nack.owner owner)) o.items (held_in os))
+      ap (λ (l : List T). l ++ held_in ds) kept.0
+      ∙ ap (λ (l : List T). filter p o.items ++ l) (Kept-all n os ds kept.1 (omega arith))
+      ∙ sym (filter-append p o.items (held_in os))
 
--- those of an owner and the others are all
-pub owned-others : (owner : List ℕ) (xs : List Nack) → length (owned_by owner xs) + length (without_owner owner xs) ≡ length xs
-owned-others owner xs = length-filter_both (λ (nack : Nack). is_same_name nack.owner owner) (λ (nack : Nack). not (is_same_name nack.owner owner)) (λ x. refl) xs
+  pub kept-both : (closed new : List (VecDeque T Z)) (tail last : List T) → held_in new ≡ filter p (held_in closed) → last ≡ filter p tail → held_in new ++ last ≡ filter p (held_in closed ++ tail)
+  kept-both closed new tail last before behind =
+      ap (λ (l : List T). l ++ last) before
+      ∙ ap (λ (l : List T). filter p (held_in closed) ++ l) behind
+      ∙ sym (filter-append p (held_in closed) tail)
 
-pub others-both : {Z : Type 0} (owner : List ℕ) (closed new : List (VecDeque Nack Z)) (tail last : List Nack) → held_in new ≡ without_owner owner (held_in closed) → last ≡ without_owner owner tail → held_in new ++ last ≡ without_owner owner (held_in closed ++ tail)
-others-both owner closed new tail last before behind =
-    ap (λ (l : List Nack). l ++ last) before
-    ∙ ap (λ (l : List Nack). without_owner owner (held_in closed) ++ l) behind
-    ∙ sym (filter-append (λ (nack : Nack). not (is_same_name nack.owner owner)) (held_in closed) tail)
+-- those that pass and the others are all
+pub both-parts : {X : Type 0} (p : X → Bool) (xs : List X) → length (filter p xs) + length (filter (λ x. not (p x)) xs) ≡ length xs
+both-parts p xs = length-filter_both p (λ x. not (p x)) (λ x. refl) xs

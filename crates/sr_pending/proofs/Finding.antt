@@ -1,12 +1,15 @@
 -- Where binary search finds the place in a list in blocks: first the block, by its last element, and then the place there.
-use Rattle.std.proofs.Common.{◌≡◌, ℕ, zero, suc, ◌+◌, ◌-◌, ◌<◌, ◌≤◌, Bool, true, false, List, [], ◌∷◌, ◌++◌, length, get_or, take, map, slice_get, refl, ap, sym, subst, ◌∙◌, arith}
+use Rattle.std.proofs.Common.{◌≡◌, ℕ, zero, suc, ◌+◌, ◌-◌, ◌<◌, ◌≤◌, Bool, true, false, List, [], ◌∷◌, ◌++◌, length, get_or, take, map, slice_get, Some, refl, ap, sym, subst, ◌∙◌, arith}
 use Rattle.std.proofs.lemmas.List.{append_assoc, length-append, length-map}
 use Rattle.std.proofs.lemmas.List.Elements.{All-map}
+use Rattle.std.specs.Option.{option_map}
+use Rattle.std.proofs.lemmas.Option.{slice_get-get_or, slice_get-map, slice_get_read, slice_get_within}
 use Rattle.std.specs.List.{All, count_by, flat_map}
 use Rattle.std.specs.List.Sorted.{IsPartitionedBy, IsPartitionPoint}
 use Rattle.std.specs.VecDeque.{deque_items}
 use Rattle.std.specs.declared.collections.VecDeque.{VecDeque}
 use Rattle.sr_pending.specs.steps.Blocks.{AreFilled, IsIn, Laid, at_of, ends_in, items_of, passes}
+use Rattle.sr_pending.specs.steps.Search.{IsEdge}
 use Rattle.sr_pending.proofs.Splitting.{Splits, Splits-count, Splits-counted, Splits-point}
 
 module _ {X : Type 0} (p : X → Bool) where
@@ -23,10 +26,24 @@ module _ {X : Type 0} (p : X → Bool) where
   Splits-first (x ∷ xs) (suc i) splits (suc j) zero d le within passed = absurd (omega arith)
   Splits-first (x ∷ xs) (suc i) splits (suc j) (suc k) d le within passed = Splits-first xs i splits.1 j k d (omega arith) (omega arith) passed
 
-  Splits-within : (xs : List X) (i : ℕ) → Splits p xs i → i ≤ length xs
+  pub Splits-within : (xs : List X) (i : ℕ) → Splits p xs i → i ≤ length xs
   Splits-within [] i splits = omega (arith, splits)
   Splits-within (x ∷ xs) zero splits = omega arith
   Splits-within (x ∷ xs) (suc i) splits = omega (arith, Splits-within xs i splits.1)
+
+  -- where an element passes and the next one fails, the list splits
+  Splits-edge : (xs : List X) (i k : ℕ) → Splits p xs k → IsEdge p xs i → k ≡ i
+  Splits-edge [] i k splits edge = omega (arith, splits, edge.within)
+  Splits-edge (x ∷ xs) zero zero splits edge = refl
+  Splits-edge (x ∷ xs) zero (suc k) splits edge = absurd (let fails = edge.failed x refl in let passes = splits.0 in cc)
+  Splits-edge (x ∷ xs) (suc i) zero splits edge =
+      let lt : i < length (x ∷ xs) = omega (arith, edge.within) in
+      let fails : p (get_or (x ∷ xs) i x) ≡ false = Splits-fails (x ∷ xs) i x splits lt in
+      let passes : p (get_or (x ∷ xs) i x) ≡ true = edge.passed i (get_or (x ∷ xs) i x) refl (slice_get-get_or (x ∷ xs) i x lt) in
+      absurd cc
+  Splits-edge (x ∷ xs) (suc i) (suc k) splits edge =
+      let le : i ≤ length xs = omega (arith, edge.within) in
+      ap (λ (n : ℕ). suc n) (Splits-edge xs i k splits.1 (record { within = le; passed = λ j y is here. edge.passed (suc j) y (ap (λ (n : ℕ). suc n) is) here; failed = λ y here. edge.failed y here }))
 
   -- the two parts of a list that splits do too
   Splits-left : (x y : List X) (i : ℕ) → Splits p (x ++ y) i → (k : ℕ) × Splits p x k
@@ -174,7 +191,7 @@ module _ {X Y : Type 0} (f : X → Y) (q : Y → Bool) where
   Splits-of_map (x ∷ xs) zero splits = (splits.0, Splits-of_map xs zero splits.1)
   Splits-of_map (x ∷ xs) (suc i) splits = (splits.0, Splits-of_map xs i splits.1)
 
-  Splits-map : (xs : List X) (i : ℕ) → Splits (λ (x : X). q (f x)) xs i → Splits q (map f xs) i
+  pub Splits-map : (xs : List X) (i : ℕ) → Splits (λ (x : X). q (f x)) xs i → Splits q (map f xs) i
   Splits-map [] i splits = splits
   Splits-map (x ∷ xs) zero splits = (splits.0, Splits-map xs zero splits.1)
   Splits-map (x ∷ xs) (suc i) splits = (splits.0, Splits-map xs i splits.1)
@@ -188,38 +205,80 @@ module _ {T Z : Type 0} (p : T → Bool) where
     full-closed : AreFull p laid.closed
     full-closed = subst (λ (l : List (List T)). AreFull p l) (sym shown) (All-map (λ (l : List T). 0 < length l) deque_items blocks filled)
 
+    ends : (i : ℕ) × Splits (ends_in p) laid.closed i
+    ends = ends-split p laid.closed laid.tail (count_by p (items_of laid)) (Splits-counted p (items_of laid) first) full-closed
+
     -- what the search for the block asks
     pub blocks-first : IsPartitionedBy block_ends blocks
     blocks-first =
-        let ends = ends-split p laid.closed laid.tail (count_by p (items_of laid)) (Splits-counted p (items_of laid) first) full-closed in
         let same : Splits (ends_in p) (map deque_items blocks) ends.0 = subst (λ (l : List (List T)). Splits (ends_in p) l ends.0) shown ends.1 in
         Splits-first block_ends blocks ends.0 (Splits-of_map deque_items (ends_in p) blocks ends.0 same)
 
-    module _ (n : ℕ) (block : List T) (read : block ≡ get_or (laid.closed ++ laid.tail ∷ []) n []) where
-      -- what the search in the block asks
-      pub block-first : IsPartitionedBy p block
-      block-first =
-          let here = block-split p laid.closed laid.tail (count_by p (items_of laid)) n (Splits-counted p (items_of laid) first) in
-          subst (λ (l : List T). IsPartitionedBy p l) (sym read) (Splits-first p (get_or (laid.closed ++ laid.tail ∷ []) n []) here.0 here.1)
+    -- the block that is found, by the search or by a guess
+    pub found-ends : (n : ℕ) → n ≤ length blocks → IsPartitionPoint (λ (b : VecDeque T Z). block_ends b ≡ true) (λ (b : VecDeque T Z). block_ends b ≡ false) blocks n → Splits (ends_in p) laid.closed n
+    found-ends n within found = subst (λ (l : List (List T)). Splits (ends_in p) l n) (sym shown) (Splits-map deque_items (ends_in p) blocks n (Splits-point block_ends blocks n within found))
 
-      module _ (m : ℕ) (within : n ≤ length blocks) (found : IsPartitionPoint (λ (b : VecDeque T Z). block_ends b ≡ true) (λ (b : VecDeque T Z). block_ends b ≡ false) blocks n) (within_block : m ≤ length block) (found_block : IsPartitionPoint (λ (x : T). p x ≡ true) (λ (x : T). p x ≡ false) block m) where
-        ends-closed : Splits (ends_in p) laid.closed n
-        ends-closed = subst (λ (l : List (List T)). Splits (ends_in p) l n) (sym shown) (Splits-map deque_items (ends_in p) blocks n (Splits-point block_ends blocks n within found))
+    pub guessed-ends : (n : ℕ) → IsEdge (ends_in p) (map deque_items blocks) n → Splits (ends_in p) laid.closed n
+    guessed-ends n edge =
+        let right : IsEdge (ends_in p) laid.closed n = subst (λ (l : List (List T)). IsEdge (ends_in p) l n) (sym shown) edge in
+        subst (λ (i : ℕ). Splits (ends_in p) laid.closed i) (Splits-edge (ends_in p) laid.closed n ends.0 ends.1 right) ends.1
 
-        splits-here : Splits p (get_or (laid.closed ++ laid.tail ∷ []) n []) m
-        splits-here = subst (λ (l : List T). Splits p l m) read (Splits-point p block m within_block found_block)
+module _ {T : Type 0} (p : T → Bool) where
+  module _ (laid : Laid T) (first : IsPartitionedBy p (items_of laid)) (n : ℕ) (block : List T) (read : block ≡ get_or (laid.closed ++ laid.tail ∷ []) n []) where
+    -- what the search in the block asks
+    pub block-first : IsPartitionedBy p block
+    block-first =
+        let here = block-split p laid.closed laid.tail (count_by p (items_of laid)) n (Splits-counted p (items_of laid) first) in
+        subst (λ (l : List T). IsPartitionedBy p l) (sym read) (Splits-first p (get_or (laid.closed ++ laid.tail ∷ []) n []) here.0 here.1)
 
-        within-closed : n ≤ length laid.closed
-        within-closed = omega (arith, within, length-map blocks (λ (b : VecDeque T Z). b.items), ap (λ (l : List (List T)). length l) shown)
+    module _ (m : ℕ) (ends : Splits (ends_in p) laid.closed n) (within_block : m ≤ length block) (found_block : IsPartitionPoint (λ (x : T). p x ≡ true) (λ (x : T). p x ≡ false) block m) where
+      splits-here : Splits p (get_or (laid.closed ++ laid.tail ∷ []) n []) m
+      splits-here = subst (λ (l : List T). Splits p l m) read (Splits-point p block m within_block found_block)
 
-        -- the place is one of the list
-        pub found-place : IsIn (record { block = n; at = m }) laid
-        found-place = record {
-          within = within-closed;
-          in_closed = λ lt. place-closed p laid.closed laid.tail n m ends-closed splits-here lt;
-          in_tail = λ past. place-tail p laid.closed laid.tail n m within-closed splits-here past;
-        }
+      -- the place is one of the list
+      pub found-place : IsIn (record { block = n; at = m }) laid
+      found-place = record {
+        within = Splits-within (ends_in p) laid.closed n ends;
+        in_closed = λ lt. place-closed p laid.closed laid.tail n m ends splits-here lt;
+        in_tail = λ past. place-tail p laid.closed laid.tail n m (Splits-within (ends_in p) laid.closed n ends) splits-here past;
+      }
 
-        -- as many elements pass as lie before it
-        pub found-value : at_of (record { block = n; at = m }) laid ≡ count_by p (items_of laid)
-        found-value = place-all p laid.closed laid.tail (count_by p (items_of laid)) n m (Splits-counted p (items_of laid) first) ends-closed splits-here
+      -- as many elements pass as lie before it
+      pub found-value : at_of (record { block = n; at = m }) laid ≡ count_by p (items_of laid)
+      found-value = place-all p laid.closed laid.tail (count_by p (items_of laid)) n m (Splits-counted p (items_of laid) first) ends splits-here
+
+-- a block that was looked at, and whether it ends with an element that passes
+pub record IsSeen {T Z : Type 0} (p : T → Bool) (blocks : List (VecDeque T Z)) (at : ℕ) (test : Bool) : Type 0 where
+  pub block : VecDeque T Z
+  pub read : block ≡ get_or blocks at block
+  pub ends : ends_in p block.items ≡ test
+
+module _ {T Z : Type 0} (p : T → Bool) (blocks : List (VecDeque T Z)) where
+  seen-ends : (at : ℕ) (test : Bool) → at < length blocks → IsSeen p blocks at test → (x : List T) → slice_get (map deque_items blocks) at ≡ Some x → ends_in p x ≡ test
+  seen-ends at test lt seen x here =
+      let there : slice_get (map deque_items blocks) at ≡ Some seen.block.items = slice_get-map deque_items blocks at ∙ ap (option_map deque_items) (slice_get_read blocks (length blocks) at seen.block refl lt seen.read) in
+      let one : x ≡ seen.block.items = let both = sym here ∙ there in cc in
+      ap (ends_in p) one ∙ seen.ends
+
+  pub IsEdge-seen : (place : ℕ) → place ≤ length blocks → (0 < place → IsSeen p blocks (place - 1) true) → (place < length blocks → IsSeen p blocks place false) → IsEdge (ends_in p) (map deque_items blocks) place
+  IsEdge-seen place le before behind =
+      let many : length (map deque_items blocks) ≡ length blocks = length-map blocks deque_items in
+      record {
+        within = omega (arith, many, le);
+        passed = λ k x is here. seen-ends k true (omega (arith, is, le)) (let at : place - 1 ≡ k = omega (arith, is) in subst (λ (n : ℕ). IsSeen p blocks n true) at (before (omega (arith, is)))) x here;
+        failed = λ x here. let lt : place < length blocks = omega (arith, many, slice_get_within (map deque_items blocks) place x here) in seen-ends place false lt (behind lt) x here;
+      }
+
+-- a place in a block is one of the list
+pub IsIn-block : {T : Type 0} (laid : Laid T) (block at : ℕ) → block ≤ length laid.closed → at < length (get_or (laid.closed ++ laid.tail ∷ []) block []) → IsIn (record { block = block; at = at }) laid
+IsIn-block {T} laid block at le lt =
+    let both = by laid.closed laid.tail block le lt in
+    record { within = le; in_closed = both.0; in_tail = both.1 }
+  where
+    by : (closed : List (List T)) (tail : List T) (n : ℕ) → n ≤ length closed → at < length (get_or (closed ++ tail ∷ []) n []) → (n < length closed → at < length (get_or closed n [])) × (length closed ≤ n → at ≤ length tail)
+    by [] tail zero le lt = ((λ few. absurd (omega arith)), (λ past. omega arith))
+    by [] tail (suc n) le lt = absurd (omega arith)
+    by (b ∷ bs) tail zero le lt = ((λ few. lt), (λ past. absurd (omega arith)))
+    by (b ∷ bs) tail (suc n) le lt =
+        let rest = by bs tail n (omega arith) lt in
+        ((λ few. rest.0 (omega arith)), (λ past. rest.1 (omega arith)))

@@ -12,7 +12,7 @@ longer xs i x = omega (arith, length-append (take i xs) (x ∷ drop i xs), lengt
 
 module _ {T Z : Type 0} where
   -- the open block may be closed, if what came before left room
-  pub laid-rotated : (closed new : VecDeque (VecDeque T Z) Z) (tail tail_new : VecDeque T Z) (spare spare_new : VecDeque (VecDeque T Z) Z) (count room : ℕ) → Rotates closed new tail tail_new spare spare_new → count ≡ length (held_in closed.items ++ tail.items) → deque_len tail + room ≤ deque_capacity tail + 512 * deque_len spare → count + room < 2 ^ 63 → IsLaid new tail_new spare_new count room
+  pub laid-rotated : (closed new : VecDeque (VecDeque T Z) Z) (tail tail_new : VecDeque T Z) (spare spare_new : VecDeque (VecDeque T Z) Z) (count room : ℕ) → Rotates closed new tail tail_new spare spare_new → count ≡ length (held_in closed.items ++ tail.items) → deque_len tail + room ≤ deque_capacity tail + 128 * deque_len spare → count + room < 2 ^ 63 → IsLaid new tail_new spare_new count room
   laid-rotated closed new tail tail_new spare spare_new count room rotates counted fits small =
       record {
         filled = rotates.filled;

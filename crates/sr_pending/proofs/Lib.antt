@@ -6,15 +6,15 @@ pub mod FilterLemmas
 pub mod Finding
 pub mod HeldLemmas
 pub mod Holding
-pub mod IdsLemmas
 pub mod Laying
 pub mod ListingLemmas
 pub mod NackLemmas
 pub mod OwnerLemmas
+pub mod PlaceLemmas
 pub mod RoomLemmas
 pub mod Running
 pub mod SearchLemmas
 pub mod Showing
+pub mod SlotLemmas
 pub mod SoundLemmas
-pub mod SpareLemmas
 pub mod Splitting

@@ -9,7 +9,6 @@ use Rattle.sr_ids.specs.Id.{IsBelow}
 use Rattle.sr_ids.proofs.IdLemmas.{IsBelow-cases}
 use Rattle.sr_pending.specs.declared.nack.Nack.{Nack}
 use Rattle.sr_pending.specs.Pending.{AreAbove, AreRising, is_below, is_same_id, has_id, nack_with, pending_between, without}
-use Rattle.sr_pending.specs.steps.Search.{IsPlace, below, upto}
 use Rattle.sr_pending.proofs.NackLemmas.{IsBelow-trans, is_below-true, is_below-from, is_same_id-true, is_same_id-refl, is_same_id-below, is_same_id-above, AreAbove-below, AreAbove-get}
 use Rattle.sr_pending.proofs.Splitting.{Splits, Splits-counted, drop-Splits, filter-Splits}
 
@@ -48,19 +47,6 @@ not_above_first xs id rising i j d le within upto =
       | inl lt ↦ not_is_below id (get_or xs i d).id (get_or xs j d).id (AreRising-at xs i j d rising lt within) upto
       | inr ge ↦ let same : j ≡ i = omega arith in rw same at upto
     ]
-
--- what lies between the two places
-pub pending_between-places : (xs : List Nack) (start end : Id) → AreRising xs → pending_between start end xs ≡ take (upto end xs - below start xs) (drop (below start xs) xs)
-pending_between-places xs start end rising =
-    let before : Nack → Bool = λ e. is_below e.id start in
-    let behind : Nack → Bool = λ e. not (is_below end e.id) in
-    filter-Splits before behind xs (below start xs) (upto end xs) (Splits-counted before xs (below_first xs start rising)) (Splits-counted behind xs (not_above_first xs end rising))
-
--- what is left where those below an id go
-pub drop-below : (id : Id) (xs : List Nack) → AreRising xs → drop (below id xs) xs ≡ filter (λ e. not (is_below e.id id)) xs
-drop-below id xs rising =
-    let before : Nack → Bool = λ e. is_below e.id id in
-    drop-Splits before xs (below id xs) (Splits-counted before xs (below_first xs id rising))
 
 -- no nack above an id has it
 pub has_id-above : (id : Id) (xs : List Nack) → AreAbove id xs → has_id id xs ≡ false
@@ -134,36 +120,3 @@ has_id-no_place id (y ∷ ys) zero rising splits other =
     ]
 has_id-no_place id (y ∷ ys) (suc i) rising splits other =
     rw (is_same_id-below y.id id (is_below-true y.id id splits.0)) (has_id-no_place id ys i rising.1 splits.1 other)
-
--- the list behind a removal at the place
-pub without-removed : (id : Id) (xs ys : List Nack) (i : ℕ) (x : Nack) → AreRising xs → slice_get xs i ≡ Some x → x.id ≡ id → ys ≡ remove xs i → ys ≡ without id xs
-without-removed id xs ys i x rising here same removed = removed ∙ without-place id xs i x rising here same
-
--- all from a place on
-pub slice_range-rest : (xs : List Nack) (from len : ℕ) → len ≡ length xs → slice_range xs from len ≡ drop from xs
-slice_range-rest xs from len is = ap (λ (n : ℕ). take (n - from) (drop from xs)) is ∙ take_rest xs from
-
--- where an entry has the id, binary search gives its place
-pub IsPlace-below : (id : Id) (xs : List Nack) → AreRising xs → has_id id xs ≡ true → IsPlace id xs (below id xs)
-IsPlace-below id xs rising pending = found (slice_get xs (below id xs)) refl
-  where
-    nowhere : ((x : Nack) → slice_get xs (below id xs) ≡ Some x → x.id ≡ id → ⊥) → ⊥
-    nowhere other =
-        let none = has_id-no_place id xs (below id xs) rising (Splits-counted (λ (e : Nack). is_below e.id id) xs (below_first xs id rising)) other in
-        let both = sym pending ∙ none in
-        cc
-
-    apart : (x : Nack) → slice_get xs (below id xs) ≡ Some x → is_same_id x.id id ≡ false → (y : Nack) → slice_get xs (below id xs) ≡ Some y → y.id ≡ id → ⊥
-    apart x here differs y there same =
-        let one : x ≡ y = let both = sym here ∙ there in cc in
-        let test : is_same_id x.id id ≡ true = rw (one, same) (is_same_id-refl id) in
-        let both = sym differs ∙ test in
-        cc
-
-    by : (x : Nack) → slice_get xs (below id xs) ≡ Some x → (test : Bool) → is_same_id x.id id ≡ test → IsPlace id xs (below id xs)
-    by x here true same = record { nack = x; here = here; same = is_same_id-true x.id id same }
-    by x here false differs = absurd (nowhere (apart x here differs))
-
-    found : (r : Option Nack) → slice_get xs (below id xs) ≡ r → IsPlace id xs (below id xs)
-    found None none = absurd (nowhere (λ x here same. let both = sym none ∙ here in cc))
-    found (Some x) here = by x here (is_same_id x.id id) refl

@@ -4,12 +4,7 @@ use Rattle.std.proofs.Math.Seq.{drop-nil, take-nil}
 use Rattle.std.proofs.lemmas.List.Sums.{length-filter}
 use Rattle.std.specs.List.{count_by}
 use Rattle.std.specs.List.Sorted.{IsPartitionedBy, IsPartitionPoint}
-
--- the first i elements pass the test, and no later one
-abbrev pub Splits : {X : Type 0} → (X → Bool) → List X → ℕ → Type 0
-Splits p [] i = i ≡ 0
-Splits p (x ∷ xs) zero = (p x ≡ false) × Splits p xs zero
-Splits p (x ∷ xs) (suc i) = (p x ≡ true) × Splits p xs i
+pub use Rattle.sr_pending.specs.steps.Search.{Splits}
 
 module _ {X : Type 0} (p : X → Bool) where
   pub Splits-point : (xs : List X) (i : ℕ) → i ≤ length xs → IsPartitionPoint (λ x. p x ≡ true) (λ x. p x ≡ false) xs i → Splits p xs i

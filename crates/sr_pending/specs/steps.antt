@@ -1,7 +1,6 @@
 pub mod Blocks
 pub mod Held
-pub mod Listing
 pub mod Room
 pub mod Search
+pub mod Slots
 pub mod Sound
-pub mod Source

@@ -3,8 +3,8 @@
 
 mod blocks;
 mod edit;
+mod firsts;
 mod held;
-mod ids;
 mod nack;
 mod nacks;
 mod owner;
@@ -13,6 +13,7 @@ mod pending;
 mod room;
 mod run;
 mod search;
+mod slots;
 
 pub use nack::Nack;
 pub use nacks::Nacks;

@@ -1,10 +1,8 @@
 ghost use Rattle.std.specs.Prelude.{◌≡◌, IfOk};
-ghost use Rattle.sr_pending.specs.steps.Blocks.{items_of};
 
 use crate::Owner;
-use crate::blocks::Blocks;
 use sr_ids::Id;
-use std::alloc::{AllocError, Global};
+use std::alloc::AllocError;
 
 /// An entry that was delivered to a consumer and is not acknowledged yet.
 ///
@@ -33,16 +31,4 @@ impl Nack {
             count: self.count,
         })
     }
-}
-
-/// Copies of the entries.
-pub(crate) fn copies(alloc: Global, nacks: &Blocks<Nack>) -> Result<Blocks<Nack>, AllocError>
-    ensures { IfOk result (λ list. items_of list ≡ items_of nacks.now) }
-{
-    let mut list = Blocks::new(alloc);
-    let mut rest = nacks.all();
-    while let Some(nack) = rest.next() {
-        list.push(alloc, nack.copy()?)?;
-    }
-    Ok(list)
 }

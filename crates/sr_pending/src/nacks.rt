@@ -1,20 +1,17 @@
-ghost use Rattle.std.specs.Prelude.{◌≡◌, [], ◌∷◌, true, IfSome, IfNone};
-ghost use Rattle.std.specs.List.{All};
-ghost use Rattle.sr_pending.specs.Pending.{AreRising, first_of, has_id};
-ghost use Rattle.sr_pending.specs.steps.Blocks.{items_of};
-ghost use Rattle.sr_pending.specs.steps.Listing.{looked_up};
+ghost use Rattle.std.specs.Prelude.{◌≡◌, [], ◌∷◌, IfSome, IfNone};
+ghost use Rattle.sr_pending.specs.Pending.{first_of};
+ghost use Rattle.sr_pending.specs.steps.Slots.{AreTaken, nacks_at};
 
 use crate::Nack;
-use crate::blocks::Blocks;
 use crate::run::Run;
-use crate::search::pending_place;
-use sr_ids::Id;
+use crate::slots::entry;
+use slab::Slab;
 use std::marker::Model;
 
 /// Pending entries in rising order, looked at where they lie.
 #[derive(Drop)]
 pub struct Nacks<'a> {
-    source: Source<'a>,
+    listed: Listed<'a>,
     left: Option<u64>,
 }
 
@@ -22,32 +19,20 @@ impl<'a> Model for Nacks<'a> {
     ghost use Rattle.std.specs.Prelude.{List};
     ghost use Rattle.sr_pending.specs.declared.nack.Nack.{Nack};
     ghost use Rattle.sr_pending.specs.Pending.{first_of};
-    ghost use Rattle.sr_pending.specs.steps.Source.{listed};
 
     ghost Value = { List Nack };
 
-    ghost view = { λ n. first_of n.left (listed n.source) };
+    ghost view = { λ n. first_of n.left n.listed };
 }
 
 impl<'a> Nacks<'a> {
-    /// At most `count` of these entries.
-    pub(crate) fn all(rest: Run<'a, Nack>, count: Option<u64>) -> Nacks<'a>
-        ensures { result ≡ first_of count rest.entry }
+    /// At most `count` of the entries in these slots, each of which has one.
+    pub(crate) fn new(slab: &'a Slab<Nack>, slots: Run<'a, usize>, count: Option<u64>) -> Nacks<'a>
+        requires { AreTaken slab.now slots }
+        ensures { result ≡ first_of count (nacks_at slab.now slots.entry) }
     {
         Nacks {
-            source: Source::All(rest),
-            left: count,
-        }
-    }
-
-    /// At most `count` of the entries with these ids, which are all pending.
-    pub(crate) fn owned(nacks: &'a Blocks<Nack>, ids: Run<'a, Id>, count: Option<u64>) -> Nacks<'a>
-        requires rising { AreRising (items_of nacks.now) }
-        requires pending { All (λ id. has_id id (items_of nacks.now) ≡ true) ids }
-        ensures { result ≡ first_of count (looked_up (items_of nacks.now) ids.entry) }
-    {
-        Nacks {
-            source: Source::Owned(Owned { nacks, ids }),
+            listed: Listed { slab, slots },
             left: count,
         }
     }
@@ -59,11 +44,11 @@ impl<'a> Nacks<'a> {
         ensures ended { IfNone result (self.new ≡ []) }
     {
         match self.left {
-            None => self.source.next(),
+            None => self.listed.next(),
             Some(0) => None,
             Some(n) => {
                 self.left = Some(n - 1);
-                self.source.next()
+                self.listed.next()
             }
         }
     }
@@ -73,85 +58,49 @@ impl<'a> Nacks<'a> {
         ensures { result ≡ self.now }
     {
         Nacks {
-            source: self.source.again(),
+            listed: self.listed.again(),
             left: self.left,
         }
     }
 }
 
-/// Where the entries come from: the list itself, or the ids of one owner.
+/// The entries in these slots.
 #[derive(Drop)]
-enum Source<'a> {
-    All(Run<'a, Nack>),
-    Owned(Owned<'a>),
+struct Listed<'a> {
+    slab: &'a Slab<Nack>,
+    slots: Run<'a, usize>,
 }
 
-impl<'a> Source<'a> {
-    ghost use Rattle.sr_pending.specs.steps.Source.{listed};
-
-    /// The next entry. None if there is no other.
-    fn next(&mut self) -> Option<&'a Nack>
-        ensures some { IfSome result (λ nack. listed self.old ≡ nack.now ∷ listed self.new) }
-        ensures none { IfNone result (listed self.old ≡ []) }
-        ensures ended { IfNone result (listed self.new ≡ []) }
-    {
-        match self {
-            Source::All(rest) => rest.next(),
-            Source::Owned(owned) => owned.next(),
-        }
-    }
-
-    /// The same entries once more.
-    fn again(&self) -> Source<'a>
-        ensures { listed result ≡ listed self.now }
-    {
-        match self {
-            Source::All(rest) => Source::All(rest.again()),
-            Source::Owned(owned) => Source::Owned(owned.again()),
-        }
-    }
-}
-
-/// Entries that are found by their ids.
-#[derive(Drop)]
-struct Owned<'a> {
-    nacks: &'a Blocks<Nack>,
-    ids: Run<'a, Id>,
-}
-
-impl<'a> Model for Owned<'a> {
-    ghost use Rattle.std.specs.Prelude.{◌≡◌, true, List};
-    ghost use Rattle.std.specs.List.{All};
+impl<'a> Model for Listed<'a> {
+    ghost use Rattle.std.specs.Prelude.{List};
     ghost use Rattle.sr_pending.specs.declared.nack.Nack.{Nack};
-    ghost use Rattle.sr_pending.specs.Pending.{AreRising, has_id};
-    ghost use Rattle.sr_pending.specs.steps.Blocks.{items_of};
-    ghost use Rattle.sr_pending.specs.steps.Listing.{looked_up};
+    ghost use Rattle.sr_pending.specs.steps.Slots.{AreTaken, nacks_at};
 
     ghost Value = { List Nack };
 
-    ghost view = { λ o. looked_up (items_of o.nacks.now) o.ids };
+    ghost view = { λ l. nacks_at l.slab.now l.slots };
 
-    ghost invariant = { λ o. AreRising (items_of o.nacks.now) × All (λ id. has_id id (items_of o.nacks.now) ≡ true) o.ids };
+    ghost invariant = { λ l. AreTaken l.slab.now l.slots };
 }
 
-impl<'a> Owned<'a> {
-    /// The next entry, found by binary search. None if there is no other.
+impl<'a> Listed<'a> {
+    /// The next entry. None if there is no other.
     fn next(&mut self) -> Option<&'a Nack>
         ensures some { IfSome result (λ nack. self.old ≡ nack.now ∷ self.new) }
         ensures none { IfNone result (self.old ≡ []) }
         ensures ended { IfNone result (self.new ≡ []) }
     {
-        let id = *self.ids.next()?;
-        Some(self.nacks.at(pending_place(self.nacks, id)))
+        let slot = *self.slots.next()?;
+        Some(entry(self.slab, slot))
     }
 
     /// The same entries once more.
-    fn again(&self) -> Owned<'a>
+    fn again(&self) -> Listed<'a>
         ensures { result ≡ self.now }
     {
-        Owned {
-            nacks: self.nacks,
-            ids: self.ids.again(),
+        Listed {
+            slab: self.slab,
+            slots: self.slots.again(),
         }
     }
 }

@@ -1,5 +1,5 @@
 //! Changes to the closed blocks of a list and to the open one after them.
-ghost use Rattle.std.specs.Prelude.{◌≡◌, ◌+◌, ◌-◌, ◌<◌, ◌≤◌, [], ◌∷◌, ◌++◌, length, take, drop, get_or, max, slice_set};
+ghost use Rattle.std.specs.Prelude.{◌≡◌, ◌+◌, ◌-◌, ◌<◌, ◌≤◌, [], ◌∷◌, ◌++◌, length, take, drop, get_or, max};
 ghost use Rattle.std.specs.Prelude.{List, OnOk, option_to_list};
 ghost use Rattle.std.specs.List.{insert, remove};
 ghost use Rattle.std.specs.VecDeque.{deque_len, deque_capacity};
@@ -10,10 +10,10 @@ use std::collections::VecDeque;
 use std::mem::replace;
 
 /// How many elements a block has when it is closed.
-pub(crate) const BLOCK: usize = 512;
+pub(crate) const BLOCK: usize = 128;
 
 /// How many more it has places for then.
-pub(crate) const FREE: usize = 128;
+pub(crate) const FREE: usize = 32;
 
 /// Adds empty blocks, until there are so many.
 pub(crate) fn provide<T>(
@@ -187,21 +187,4 @@ where
     if closed[block].is_empty() {
         drop(closed.remove(block));
     }
-}
-
-/// Puts the value in place of the element at this place of a closed block.
-pub(crate) fn set_in<T>(closed: &mut VecDeque<VecDeque<T>>, block: usize, at: usize, value: T)
-where
-    T: Drop,
-    requires block { block < deque_len closed.old }
-    requires at { at < length (items_at block closed.old.items) }
-    requires filled { AreFilled closed.old.items }
-    ensures items { (rest : List T) → held_in closed.new.items ++ rest ≡
-        slice_set (held_in closed.old.items ++ rest) (length (held_in (take block closed.old.items)) + at) value }
-    ensures filled { AreFilled closed.new.items }
-    ensures blocks { deque_len closed.new ≡ deque_len closed.old }
-    ensures places { deque_capacity closed.new ≡ deque_capacity closed.old }
-{
-    let inner = &mut closed[block];
-    inner[at] = value;
 }

@@ -1,17 +1,19 @@
 use crate::blocks::Blocks;
-use crate::edit::{give_at, touch_at};
-use crate::held::{Held, add_spare, clear, held_for, index_all, put_id, take_id};
-use crate::ids::{ids_above, ids_between};
-use crate::nack::copies;
+use crate::held::{Held, add_spare, clear, held_for, put_slot, take_slot};
 use crate::nacks::Nacks;
 use crate::room::{Room, add_room, in_all, room_for, use_room};
-use crate::search::{above, pending_place, place_below, place_of, range_of};
+use crate::search::{above, from, insert_slot, pending_slot, place_of, range_of, slot_of};
+use crate::slots::{entry, free_all, give_in, id_in, touch_in};
 use crate::{Nack, Owner};
+use slab::Slab;
 use sr_bytes::Name;
 use sr_ids::Id;
 use std::alloc::{AllocError, Global};
 use std::collections::HashMap;
 use std::marker::Model;
+
+/// How many slots stay, once there are no entries.
+const KEPT: usize = 1024;
 
 /// The pending entries of a consumer group, by rising id.
 ///
@@ -19,18 +21,23 @@ use std::marker::Model;
 ///
 /// Source: Redis documentation, "Streams", section "Consumer groups".
 pub struct Pending {
-    nacks: Blocks<Nack>,
-    rooms: Vec<Room>,
+    /// Each entry once, in a slot.
+    slab: Slab<Nack>,
+    /// Their slots, by rising id.
+    slots: Blocks<usize>,
+    /// The slots of each owner's, by rising id.
     held: Held,
+    rooms: Vec<Room>,
 }
 
 // A function of its own, so that a caller that lets go of one is proved without looking at its parts.
 impl Drop for Pending {
     fn drop(self) {
         let Pending {
-            nacks: _,
-            rooms: _,
+            slab: _,
+            slots: _,
             held: _,
+            rooms: _,
         } = self;
     }
 }
@@ -38,13 +45,14 @@ impl Drop for Pending {
 impl Model for Pending {
     ghost use Rattle.sr_pending.specs.Pending.{PendingState};
     ghost use Rattle.sr_pending.specs.steps.Blocks.{items_of};
+    ghost use Rattle.sr_pending.specs.steps.Slots.{nacks_at};
     ghost use Rattle.sr_pending.specs.steps.Sound.{IsSound};
 
     ghost Value = { PendingState };
 
-    ghost view = { λ p. record { nacks = items_of p.nacks; rooms = p.rooms.items } };
+    ghost view = { λ p. record { nacks = nacks_at p.slab (items_of p.slots); rooms = p.rooms.items } };
 
-    ghost invariant = { λ p. IsSound (items_of p.nacks) p.rooms.items p.held p.nacks.room };
+    ghost invariant = { λ p. IsSound p.slab (items_of p.slots) p.rooms.items p.held p.slots.room };
 }
 
 impl Pending {
@@ -63,9 +71,10 @@ impl Pending {
         ensures rooms { result.rooms ≡ [] }
     {
         Pending {
-            nacks: Blocks::new(alloc),
-            rooms: Vec::new(alloc),
+            slab: Slab::new(alloc),
+            slots: Blocks::new(alloc),
             held: HashMap::new(alloc),
+            rooms: Vec::new(alloc),
         }
     }
 
@@ -74,7 +83,7 @@ impl Pending {
         ensures value { result ≡ length self.now.nacks }
         ensures bound { result < 2 ^ 63 }
     {
-        self.nacks.len()
+        self.slots.len()
     }
 
     /// For how many more entries of this owner there is room.
@@ -100,7 +109,8 @@ impl Pending {
             return Ok(());
         }
         let all = in_all(self.rooms.as_slice()).saturating_add(more);
-        self.nacks.reserve(alloc, all)?;
+        self.slab.reserve(all)?;
+        self.slots.reserve(alloc, all)?;
         add_spare(&mut self.held, alloc, owner, n)?;
         add_room(&mut self.rooms, alloc, owner, more)?;
         Ok(())
@@ -115,9 +125,9 @@ impl Pending {
         ensures room { UsesRoom nack.owner self.old.rooms self.new.rooms }
     {
         use_room(&mut self.rooms, nack.owner.name());
-        put_id(&mut self.held, nack.owner.name(), nack.id);
-        let place = place_below(&self.nacks, nack.id);
-        self.nacks.insert(place, nack);
+        let slot = self.slab.insert_reserved(nack);
+        insert_slot(&mut self.slots, &self.slab, slot);
+        put_slot(&mut self.held, &self.slab, slot);
     }
 
     /// Gives a pending entry to another owner, in the room that this one has. It takes no memory.
@@ -132,19 +142,10 @@ impl Pending {
         ensures room { UsesRoom owner self.old.rooms self.new.rooms }
     {
         use_room(&mut self.rooms, owner.name());
-        let place = pending_place(&self.nacks, id);
-        take_id(&mut self.held, self.nacks.at(place).owner.name(), id);
-        put_id(&mut self.held, owner.name(), id);
-        give_at(
-            &mut self.nacks,
-            place,
-            Nack {
-                id,
-                owner,
-                time,
-                count,
-            },
-        );
+        let slot = pending_slot(&self.slab, &self.slots, id);
+        take_slot(&mut self.held, &self.slab, slot);
+        give_in(&mut self.slab, slot, owner, time, count);
+        put_slot(&mut self.held, &self.slab, slot);
     }
 
     /// Sets the time and the count of the entry with this id, if it is pending. It takes no memory.
@@ -154,9 +155,9 @@ impl Pending {
         ensures nacks { self.new.nacks ≡ touched id time count self.old.nacks }
         ensures rooms { self.new.rooms ≡ self.old.rooms }
     {
-        match place_of(&self.nacks, id) {
+        match slot_of(&self.slab, &self.slots, id) {
             None => {}
-            Some(place) => touch_at(&mut self.nacks, place, id, time, count),
+            Some(slot) => touch_in(&mut self.slab, slot, time, count),
         }
     }
 
@@ -168,11 +169,14 @@ impl Pending {
         ensures found { result ≡ has_id id self.old.nacks }
         ensures rooms { self.new.rooms ≡ self.old.rooms }
     {
-        match place_of(&self.nacks, id) {
+        match place_of(&self.slab, &self.slots, id) {
             None => false,
             Some(place) => {
-                take_id(&mut self.held, self.nacks.at(place).owner.name(), id);
-                self.nacks.remove(place);
+                let slot = *self.slots.at(place);
+                take_slot(&mut self.held, &self.slab, slot);
+                self.slots.remove(place);
+                drop(self.slab.remove(slot));
+                self.give_back();
                 true
             }
         }
@@ -188,21 +192,32 @@ impl Pending {
         ensures rooms { self.new.rooms ≡ self.old.rooms }
     {
         let owned = self.count_of(owner);
-        self.nacks.keep_others(owner, owned);
+        self.slots.keep_others(&self.slab, owner, owned);
+        free_all(&mut self.slab, &self.held, owner);
         clear(
             &mut self.held,
             owner,
             room_for(self.rooms.as_slice(), owner),
         );
+        self.give_back();
         owned as u64
+    }
+
+    /// Gives back the memory of many slots, once there are no entries and no room for any.
+    fn give_back(&mut self)
+        ensures { self.new ≡ self.old }
+    {
+        if self.slots.len() == 0 && self.rooms.is_empty() && self.slab.capacity() > KEPT {
+            self.slab.shrink_to_fit();
+        }
     }
 
     /// Whether the entry with this id is pending.
     pub fn contains(&self, id: Id) -> bool
         ensures { result ≡ has_id id self.now.nacks }
     {
-        match place_of(&self.nacks, id) {
-            Some(_place) => true,
+        match slot_of(&self.slab, &self.slots, id) {
+            Some(_slot) => true,
             None => false,
         }
     }
@@ -211,8 +226,8 @@ impl Pending {
     pub fn get(&self, id: Id) -> Option<&Nack>
         ensures { option_copied result ≡ nack_with id self.now.nacks }
     {
-        match place_of(&self.nacks, id) {
-            Some(place) => Some(self.nacks.at(place)),
+        match slot_of(&self.slab, &self.slots, id) {
+            Some(slot) => Some(entry(&self.slab, slot)),
             None => None,
         }
     }
@@ -231,10 +246,16 @@ impl Pending {
             first_of count (owned_by_named (option_copied owner.entry) (pending_between start end self.now.nacks)) }
     {
         match owner {
-            None => Nacks::all(range_of(&self.nacks, start, end), count),
+            None => {
+                let slots = range_of(&self.slab, &self.slots, start, end);
+                Nacks::new(&self.slab, slots, count)
+            }
             Some(owner) => match self.held.get(owner) {
-                None => Nacks::all(self.nacks.nothing(), count),
-                Some(ids) => Nacks::owned(&self.nacks, ids_between(ids, start, end), count),
+                None => Nacks::new(&self.slab, self.slots.nothing(), count),
+                Some(slots) => {
+                    let slots = range_of(&self.slab, slots, start, end);
+                    Nacks::new(&self.slab, slots, count)
+                }
             },
         }
     }
@@ -247,10 +268,10 @@ impl Pending {
             first_of count (owned_by_named (option_copied owner.entry) (pending_above id self.now.nacks)) }
     {
         match owner {
-            None => Nacks::all(above(&self.nacks, id), count),
+            None => Nacks::new(&self.slab, above(&self.slab, &self.slots, id), count),
             Some(owner) => match self.held.get(owner) {
-                None => Nacks::all(self.nacks.nothing(), count),
-                Some(ids) => Nacks::owned(&self.nacks, ids_above(ids, id), count),
+                None => Nacks::new(&self.slab, self.slots.nothing(), count),
+                Some(slots) => Nacks::new(&self.slab, above(&self.slab, slots, id), count),
             },
         }
     }
@@ -259,7 +280,7 @@ impl Pending {
     pub fn all(&self) -> Nacks<'_>
         ensures { result ≡ self.now.nacks }
     {
-        Nacks::all(self.nacks.all(), None)
+        Nacks::new(&self.slab, self.slots.all(), None)
     }
 
     /// The entries from `start` on.
@@ -268,8 +289,7 @@ impl Pending {
     pub fn from_id(&self, start: Id) -> Nacks<'_>
         ensures { result ≡ filter (λ nack. not (is_below nack.id start)) self.now.nacks }
     {
-        let from = place_below(&self.nacks, start);
-        Nacks::all(self.nacks.run(from, self.nacks.end()), None)
+        Nacks::new(&self.slab, from(&self.slab, &self.slots, start), None)
     }
 
     /// The entries of this owner.
@@ -277,8 +297,8 @@ impl Pending {
         ensures { result ≡ owned_by owner.now self.now.nacks }
     {
         match self.held.get(owner) {
-            None => Nacks::all(self.nacks.nothing(), None),
-            Some(ids) => Nacks::owned(&self.nacks, ids.all(), None),
+            None => Nacks::new(&self.slab, self.slots.nothing(), None),
+            Some(slots) => Nacks::new(&self.slab, slots.all(), None),
         }
     }
 
@@ -304,8 +324,8 @@ impl Pending {
     pub fn least_id(&self) -> Option<Id>
         ensures { result ≡ least_pending self.now.nacks }
     {
-        match self.nacks.first() {
-            Some(nack) => Some(nack.id),
+        match self.slots.first() {
+            Some(slot) => Some(id_in(&self.slab, *slot)),
             None => None,
         }
     }
@@ -314,8 +334,8 @@ impl Pending {
     pub fn greatest_id(&self) -> Option<Id>
         ensures { result ≡ greatest_pending self.now.nacks }
     {
-        match self.nacks.last() {
-            Some(nack) => Some(nack.id),
+        match self.slots.last() {
+            Some(slot) => Some(id_in(&self.slab, *slot)),
             None => None,
         }
     }
@@ -325,7 +345,7 @@ impl Pending {
         ensures rising { AreRising self.now.nacks }
         ensures countable { All IsCountable self.now.nacks }
     {
-        let _ = &self.nacks;
+        let _ = &self.slots;
     }
 
     /// A second list of the same entries, with no room.
@@ -333,9 +353,14 @@ impl Pending {
         ensures nacks { IfOk result (λ p. p.nacks ≡ self.now.nacks) }
         ensures rooms { IfOk result (λ p. p.rooms ≡ []) }
     {
-        let nacks = copies(alloc, &self.nacks)?;
-        let held = index_all(alloc, &self.nacks)?;
-        let rooms = Vec::new(alloc);
-        Ok(Pending { nacks, rooms, held })
+        self.sound();
+        let mut copy = Pending::new(alloc);
+        let mut rest = self.all();
+        while let Some(nack) = rest.next() {
+            copy.reserve(alloc, nack.owner.name(), 1)?;
+            copy.put(nack.copy()?);
+        }
+        copy.rooms = Vec::new(alloc);
+        Ok(copy)
     }
 }

@@ -1,92 +1,253 @@
-ghost use Rattle.std.specs.Prelude.{◌≡◌, ◌≤◌, [], IfSome, IfNone, false, true, not};
-ghost use Rattle.sr_pending.specs.Pending.{AreRising, pending_above, pending_between, has_id, is_below};
+//! Lists of slots by the ids of their entries, which rise: found by binary search, and changed there.
+ghost use Rattle.std.specs.Prelude.{◌≡◌, ◌+◌, ◌<◌, ◌≤◌, IsTrue, IfSome, IfNone, false, true, not, filter, map, length};
+ghost use Rattle.std.specs.VecDeque.{deque_items};
+ghost use Rattle.sr_pending.specs.Pending.{AreRising, has_id, is_below, is_between};
 ghost use Rattle.sr_pending.specs.steps.Blocks.{IsIn, at_of, ends_in, items_of};
-ghost use Rattle.sr_pending.specs.steps.Search.{IsAt, IsPlace, below, upto};
+ghost use Rattle.sr_pending.specs.steps.Search.{IsAt, IsEdge, IsSlotOf, Splits, is_before, number_before};
+ghost use Rattle.sr_pending.specs.steps.Slots.{nack_at, nacks_at, slots_with, slots_without};
 
 use crate::Nack;
 use crate::blocks::{Blocks, Place};
+use crate::firsts::guess_between;
 use crate::run::Run;
+use crate::slots::id_in;
+use slab::Slab;
 use sr_ids::Id;
 use std::collections::VecDeque;
 
-/// Whether the last entry of a block lies below the id.
-fn ends_below(block: &VecDeque<Nack>, id: Id) -> bool
-    ensures { result ≡ ends_in (λ nack. is_below nack.id id) block.now.items }
+/// Whether the entry in this slot lies before the id, which counts as one before if that is asked.
+fn lies_before(slab: &Slab<Nack>, slot: usize, id: Id, upto: bool) -> bool
+    ensures { result ≡ is_before upto id (nack_at slab.now slot) }
+{
+    let other = id_in(slab, slot);
+    if upto { other <= id } else { other < id }
+}
+
+/// Whether the last entry of a block does.
+fn ends_before(slab: &Slab<Nack>, block: &VecDeque<usize>, id: Id, upto: bool) -> bool
+    ensures { result ≡ ends_in (λ slot. is_before upto id (nack_at slab.now slot)) block.now.items }
 {
     match block.back() {
-        Some(nack) => nack.id < id,
+        Some(slot) => lies_before(slab, *slot, id, upto),
         None => true,
     }
 }
 
-/// Whether the last entry of a block lies at or below the id.
-fn ends_upto(block: &VecDeque<Nack>, id: Id) -> bool
-    ensures { result ≡ ends_in (λ nack. not (is_below id nack.id)) block.now.items }
+/// Whether the block before this place ends before the id, and the block at it does not.
+fn is_edge(
+    slab: &Slab<Nack>,
+    blocks: &VecDeque<VecDeque<usize>>,
+    place: usize,
+    id: Id,
+    upto: bool,
+) -> bool
+    ensures { IsTrue result → IsEdge (λ block. ends_in (λ slot. is_before upto id (nack_at slab.now slot)) block) (map deque_items blocks.now.items) place }
 {
-    match block.back() {
-        Some(nack) => nack.id <= id,
-        None => true,
+    if place > blocks.len() {
+        return false;
+    }
+    if place > 0 && !ends_before(slab, &blocks[place - 1], id, upto) {
+        return false;
+    }
+    place == blocks.len() || !ends_before(slab, &blocks[place], id, upto)
+}
+
+/// Where the first closed block may be that does not end before the id.
+fn first_guess(slab: &Slab<Nack>, slots: &Blocks<usize>, id: Id, upto: bool) -> usize {
+    let guess = slots.guess(slab, id);
+    match slots.closed().get(guess) {
+        Some(block) => {
+            if ends_before(slab, block, id, upto) {
+                guess + 1
+            } else {
+                guess
+            }
+        }
+        None => guess,
     }
 }
 
-/// The first entry that does not lie below the id, found by binary search.
-pub(crate) fn place_below(nacks: &Blocks<Nack>, id: Id) -> Place
-    requires { AreRising (items_of nacks.now) }
-    ensures place { IsIn result nacks.now }
-    ensures value { at_of result nacks.now ≡ below id (items_of nacks.now) }
+/// How many closed blocks end before the id: by a guess, and by binary search if that is wrong.
+fn block_before(slab: &Slab<Nack>, slots: &Blocks<usize>, id: Id, upto: bool) -> usize
+    requires { AreRising (nacks_at slab.now (items_of slots.now)) }
+    ensures { Splits (λ block. ends_in (λ slot. is_before upto id (nack_at slab.now slot)) block) slots.now.closed result }
 {
-    let block = nacks
+    let guess = first_guess(slab, slots, id, upto);
+    if is_edge(slab, slots.closed(), guess, id, upto) {
+        return guess;
+    }
+    slots
         .closed()
-        .partition_point(|block| ends_below(block, id));
-    let at = nacks.block(block).partition_point(|nack| nack.id < id);
+        .partition_point(|block| ends_before(slab, block, id, upto))
+}
+
+/// The first slot whose entry does not lie before the id.
+fn place_before(slab: &Slab<Nack>, slots: &Blocks<usize>, id: Id, upto: bool) -> Place
+    requires { AreRising (nacks_at slab.now (items_of slots.now)) }
+    ensures place { IsIn result slots.now }
+    ensures value { at_of result slots.now ≡ number_before upto id slab.now (items_of slots.now) }
+{
+    let block = block_before(slab, slots, id, upto);
+    let at = slots
+        .block(block)
+        .partition_point(|slot| lies_before(slab, *slot, id, upto));
     Place { block, at }
 }
 
-/// The first entry that lies above the id, found by binary search.
-fn place_upto(nacks: &Blocks<Nack>, id: Id) -> Place
-    requires { AreRising (items_of nacks.now) }
-    ensures place { IsIn result nacks.now }
-    ensures value { at_of result nacks.now ≡ upto id (items_of nacks.now) }
-{
-    let block = nacks.closed().partition_point(|block| ends_upto(block, id));
-    let at = nacks.block(block).partition_point(|nack| nack.id <= id);
-    Place { block, at }
+/// Where in this block an entry of this id would lie: by proportion between the ids that it and the next one began with, if that finds
+/// it, and by binary search if not.
+fn guess_in(slab: &Slab<Nack>, slots: &Blocks<usize>, number: usize, id: Id) -> usize {
+    if number > slots.closed().len() {
+        return 0;
+    }
+    let block = slots.block(number);
+    if let Some((from, to)) = slots.bounds(number) {
+        if let Some(at) = guess_between(slab, block, id, from, to) {
+            return at;
+        }
+    }
+    block.partition_point(|slot| lies_before(slab, *slot, id, false))
 }
 
-/// The place of the entry with this id.
-pub(crate) fn place_of(nacks: &Blocks<Nack>, id: Id) -> Option<Place>
-    requires { AreRising (items_of nacks.now) }
-    ensures found { IfSome result (λ place. IsAt id place nacks.now) }
-    ensures none { IfNone result (has_id id (items_of nacks.now) ≡ false) }
+/// This place, if it is that of the slot of the entry with this id.
+fn place_if(
+    slab: &Slab<Nack>,
+    slots: &Blocks<usize>,
+    block: usize,
+    at: usize,
+    id: Id,
+) -> Option<Place>
+    ensures { IfSome result (λ place. IsAt id slab.now slots.now place) }
 {
-    let place = place_below(nacks, id);
-    match nacks.get(place) {
+    if block > slots.closed().len() {
+        return None;
+    }
+    if at >= slots.block(block).len() {
+        return None;
+    }
+    let place = Place { block, at };
+    match slots.get(place) {
+        Some(slot) => {
+            if id_in(slab, *slot) == id {
+                Some(place)
+            } else {
+                None
+            }
+        }
         None => None,
-        Some(nack) => { if nack.id == id { Some(place) } else { None } }
     }
 }
 
-/// The place of the entry with this id, which is pending.
-pub(crate) fn pending_place(nacks: &Blocks<Nack>, id: Id) -> Place
-    requires rising { AreRising (items_of nacks.now) }
-    requires pending { has_id id (items_of nacks.now) ≡ true }
-    ensures { IsAt id result nacks.now }
+/// The place of the slot of the entry with this id, if it is the first, or where it is to be looked for first.
+fn guessed_place(slab: &Slab<Nack>, slots: &Blocks<usize>, id: Id) -> Option<Place>
+    ensures { IfSome result (λ place. IsAt id slab.now slots.now place) }
 {
-    place_below(nacks, id)
+    if let Some(place) = place_if(slab, slots, 0, 0, id) {
+        return Some(place);
+    }
+    let block = slots.guess(slab, id);
+    let at = guess_in(slab, slots, block, id);
+    place_if(slab, slots, block, at, id)
 }
 
-/// The entries from `start` to `end`, both included.
-pub(crate) fn range_of(nacks: &Blocks<Nack>, start: Id, end: Id) -> Run<'_, Nack>
-    requires { AreRising (items_of nacks.now) }
-    ensures { result ≡ pending_between start end (items_of nacks.now) }
+/// The place of the slot of the entry with this id.
+pub(crate) fn place_of(slab: &Slab<Nack>, slots: &Blocks<usize>, id: Id) -> Option<Place>
+    requires { AreRising (nacks_at slab.now (items_of slots.now)) }
+    ensures found { IfSome result (λ place. IsAt id slab.now slots.now place) }
+    ensures none { IfNone result (has_id id (nacks_at slab.now (items_of slots.now)) ≡ false) }
 {
-    nacks.run(place_below(nacks, start), place_upto(nacks, end))
+    if let Some(place) = guessed_place(slab, slots, id) {
+        return Some(place);
+    }
+    let place = place_before(slab, slots, id, false);
+    match slots.get(place) {
+        None => None,
+        Some(slot) => {
+            if id_in(slab, *slot) == id {
+                Some(place)
+            } else {
+                None
+            }
+        }
+    }
 }
 
-/// The entries above the id.
-pub(crate) fn above(nacks: &Blocks<Nack>, id: Id) -> Run<'_, Nack>
-    requires { AreRising (items_of nacks.now) }
-    ensures { result ≡ pending_above id (items_of nacks.now) }
+/// The slot of the entry with this id.
+pub(crate) fn slot_of(slab: &Slab<Nack>, slots: &Blocks<usize>, id: Id) -> Option<usize>
+    requires { AreRising (nacks_at slab.now (items_of slots.now)) }
+    ensures found { IfSome result (λ slot. IsSlotOf id slab.now (items_of slots.now) slot) }
+    ensures none { IfNone result (has_id id (nacks_at slab.now (items_of slots.now)) ≡ false) }
 {
-    nacks.run(place_upto(nacks, id), nacks.end())
+    match place_of(slab, slots, id) {
+        None => None,
+        Some(place) => Some(*slots.at(place)),
+    }
+}
+
+/// The slot of the entry with this id, which is pending.
+pub(crate) fn pending_slot(slab: &Slab<Nack>, slots: &Blocks<usize>, id: Id) -> usize
+    requires rising { AreRising (nacks_at slab.now (items_of slots.now)) }
+    requires pending { has_id id (nacks_at slab.now (items_of slots.now)) ≡ true }
+    ensures { IsSlotOf id slab.now (items_of slots.now) result }
+{
+    match slot_of(slab, slots, id) {
+        Some(slot) => slot,
+        None => unreachable!(),
+    }
+}
+
+/// The slots of the entries from `start` to `end`, both included.
+pub(crate) fn range_of<'a>(
+    slab: &Slab<Nack>,
+    slots: &'a Blocks<usize>,
+    start: Id,
+    end: Id,
+) -> Run<'a, usize>
+    requires { AreRising (nacks_at slab.now (items_of slots.now)) }
+    ensures { result ≡ filter (λ slot. is_between start end (nack_at slab.now slot).id) (items_of slots.now) }
+{
+    slots.run(
+        place_before(slab, slots, start, false),
+        place_before(slab, slots, end, true),
+    )
+}
+
+/// The slots of the entries above the id.
+pub(crate) fn above<'a>(slab: &Slab<Nack>, slots: &'a Blocks<usize>, id: Id) -> Run<'a, usize>
+    requires { AreRising (nacks_at slab.now (items_of slots.now)) }
+    ensures { result ≡ filter (λ slot. is_below id (nack_at slab.now slot).id) (items_of slots.now) }
+{
+    slots.run(place_before(slab, slots, id, true), slots.end())
+}
+
+/// The slots of the entries from the id on.
+pub(crate) fn from<'a>(slab: &Slab<Nack>, slots: &'a Blocks<usize>, id: Id) -> Run<'a, usize>
+    requires { AreRising (nacks_at slab.now (items_of slots.now)) }
+    ensures { result ≡ filter (λ slot. not (is_below (nack_at slab.now slot).id id)) (items_of slots.now) }
+{
+    slots.run(place_before(slab, slots, id, false), slots.end())
+}
+
+/// Puts the slot at the place of its entry, in the room that there is.
+pub(crate) fn insert_slot(slots: &mut Blocks<usize>, slab: &Slab<Nack>, slot: usize)
+    requires rising { AreRising (nacks_at slab.now (items_of slots.old)) }
+    requires fresh { has_id (nack_at slab.now slot).id (nacks_at slab.now (items_of slots.old)) ≡ false }
+    requires room { 0 < slots.old.room }
+    ensures items { items_of slots.new ≡ slots_with slot slab.now (items_of slots.old) }
+    ensures room { slots.new.room + 1 ≡ slots.old.room }
+{
+    let place = place_before(slab, slots, id_in(slab, slot), false);
+    slots.insert(place, slot);
+    slots.note(slab);
+}
+
+/// Removes the slot of the entry with this id, if it is among them.
+pub(crate) fn remove_slot(slots: &mut Blocks<usize>, slab: &Slab<Nack>, id: Id)
+    requires { AreRising (nacks_at slab.now (items_of slots.old)) }
+    ensures items { items_of slots.new ≡ slots_without id slab.now (items_of slots.old) }
+    ensures room { slots.new.room ≡ slots.old.room }
+{
+    if let Some(place) = place_of(slab, slots, id) {
+        slots.remove(place);
+    }
 }

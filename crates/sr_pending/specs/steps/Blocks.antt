@@ -55,9 +55,9 @@ module _ {T Z : Type 0} where
   abbrev pub AreFilled : List (VecDeque T Z) → Type 0
   AreFilled blocks = All (λ block. 0 < length block.items) blocks
 
-  -- blocks that have nothing yet, and places for 640 elements each
+  -- blocks that have nothing yet, and places for 160 elements each
   abbrev pub AreSpare : List (VecDeque T Z) → Type 0
-  AreSpare blocks = All (λ block. (block.items ≡ []) × (640 ≤ deque_capacity block)) blocks
+  AreSpare blocks = All (λ block. (block.items ≡ []) × (160 ≤ deque_capacity block)) blocks
 
   -- no closed block is empty; the elements are counted; the spare blocks have nothing, and places among the closed ones;
   -- there is memory for the elements to come, and the open block has a place for the next one
@@ -66,7 +66,7 @@ module _ {T Z : Type 0} where
     pub counted : count ≡ length (held_in closed.items ++ tail.items)
     pub spares : AreSpare spare.items
     pub places : deque_len closed + deque_len spare ≤ deque_capacity closed
-    pub fits : deque_len tail + room ≤ deque_capacity tail + 512 * deque_len spare
+    pub fits : deque_len tail + room ≤ deque_capacity tail + 128 * deque_len spare
     pub ready : 0 < room → deque_len tail < deque_capacity tail
     pub small : count + room < 2 ^ 63
 
@@ -76,7 +76,7 @@ module _ {T Z : Type 0} where
     pub filled : AreFilled new.items
     pub spares : AreSpare spare_new.items
     pub places : deque_len new + deque_len spare_new ≤ deque_capacity new
-    pub fits : deque_len tail_new + (deque_capacity tail_old + 512 * deque_len spare_old) ≤ deque_len tail_old + (deque_capacity tail_new + 512 * deque_len spare_new)
+    pub fits : deque_len tail_new + (deque_capacity tail_old + 128 * deque_len spare_old) ≤ deque_len tail_old + (deque_capacity tail_new + 128 * deque_len spare_new)
     pub ready : 0 < deque_len spare_new → deque_len tail_new < deque_capacity tail_new
 
   -- the elements of a block: none if there is no such block

@@ -1,28 +1,48 @@
--- Where binary search finds entries. No public clause cites it.
+-- Where binary search finds slots. No public clause cites it.
 
-use Rattle.std.specs.Prelude.{◌≡◌, ℕ, List, Some, not, slice_get}
+use Rattle.std.specs.Prelude.{◌≡◌, ℕ, zero, suc, ◌≤◌, Bool, true, false, List, [], ◌∷◌, Some, length, not, slice_get}
 use Rattle.std.specs.List.{count_by}
+use Rattle.slab.specs.Slab.{Slab}
 use Rattle.sr_ids.specs.declared.id.Id.{Id}
 use Rattle.sr_pending.specs.declared.nack.Nack.{Nack}
 use Rattle.sr_pending.specs.declared.blocks.Place.{Place}
 use Rattle.sr_pending.specs.Pending.{is_below}
 use Rattle.sr_pending.specs.steps.Blocks.{IsIn, Laid, at_of, items_of}
+use Rattle.sr_pending.specs.steps.Slots.{nack_at}
 
--- how many entries lie below the id
-abbrev pub below : Id → List Nack → ℕ
-below id nacks = count_by (λ nack. is_below nack.id id) nacks
+-- the entry lies below the id or, if that is asked, at or below it
+abbrev pub is_before : Bool → Id → Nack → Bool
+is_before false id nack = is_below nack.id id
+is_before true id nack = not (is_below id nack.id)
 
--- how many entries lie at or below the id
-abbrev pub upto : Id → List Nack → ℕ
-upto id nacks = count_by (λ nack. not (is_below id nack.id)) nacks
+-- how many entries in these slots do
+abbrev pub number_before : Bool → Id → Slab Nack → List ℕ → ℕ
+number_before upto id slab slots = count_by (λ slot. is_before upto id (nack_at slab slot)) slots
 
--- the entry at this place has the id
-pub record IsPlace (id : Id) (nacks : List Nack) (place : ℕ) : Type 0 where
-  pub nack : Nack
-  pub here : slice_get nacks place ≡ Some nack
-  pub same : nack.id ≡ id
+-- the first i elements pass the test, and no later one
+abbrev pub Splits : {X : Type 0} → (X → Bool) → List X → ℕ → Type 0
+Splits p [] i = i ≡ 0
+Splits p (x ∷ xs) zero = (p x ≡ false) × Splits p xs zero
+Splits p (x ∷ xs) (suc i) = (p x ≡ true) × Splits p xs i
 
--- the entry at this place of a list in blocks has the id
-pub record IsAt (id : Id) (place : Place) (nacks : Laid Nack) : Type 0 where
-  pub within : IsIn place nacks
-  pub at : IsPlace id (items_of nacks) (at_of place nacks)
+-- the element before this place passes the test, if there is one, and the element at it does not
+pub record IsEdge {X : Type 0} (p : X → Bool) (xs : List X) (i : ℕ) : Type 0 where
+  pub within : i ≤ length xs
+  pub passed : (k : ℕ) (x : X) → suc k ≡ i → slice_get xs k ≡ Some x → p x ≡ true
+  pub failed : (x : X) → slice_get xs i ≡ Some x → p x ≡ false
+
+-- the slot at this place has the entry with this id
+pub record IsPlace (id : Id) (slab : Slab Nack) (slots : List ℕ) (slot place : ℕ) : Type 0 where
+  pub here : slice_get slots place ≡ Some slot
+  pub same : (nack_at slab slot).id ≡ id
+
+-- this slot has the entry with this id, and is one of these
+pub record IsSlotOf (id : Id) (slab : Slab Nack) (slots : List ℕ) (slot : ℕ) : Type 0 where
+  pub place : ℕ
+  pub at : IsPlace id slab slots slot place
+
+-- the slot at this place of a list in blocks has the entry with this id
+pub record IsAt (id : Id) (slab : Slab Nack) (slots : Laid ℕ) (place : Place) : Type 0 where
+  pub within : IsIn place slots
+  pub slot : ℕ
+  pub at : IsPlace id slab (items_of slots) slot (at_of place slots)

@@ -1,42 +1,39 @@
-use Rattle.std.proofs.Common.{◌≡◌, Bool, true, false, Some, None, slice_get, sym, ◌∙◌}
-use Rattle.sr_pending.specs.declared.nack.Nack.{Nack}
-use Rattle.sr_pending.specs.Pending.{is_below, is_same_id}
+use Rattle.std.proofs.Common.{◌≡◌, ℕ, true, false, Option, Some, None, slice_get, ap, subst, sym, ◌∙◌}
+use Rattle.sr_pending.specs.Pending.{is_same_id}
 use Rattle.sr_pending.specs.steps.Blocks.{items_of}
-use Rattle.sr_pending.specs.steps.Search.{below}
+use Rattle.sr_pending.specs.steps.Search.{number_before}
+use Rattle.sr_pending.specs.steps.Slots.{nack_at}
 use Rattle.sr_pending.proofs.NackLemmas.{is_same_id-true, is_same_id-refl}
-use Rattle.sr_pending.proofs.SearchLemmas.{below_first, has_id-no_place}
-use Rattle.sr_pending.proofs.Splitting.{Splits-counted}
+use Rattle.sr_pending.proofs.PlaceLemmas.{nowhere}
 use Rattle.sr_pending.proofs.search.place_of.Goals as goal
 
 pub returns-in-None-clause-none : goal.returns-in-None-clause-none
 returns-in-None-clause-none c =
-    let nacks = items_of c.args.nacks.now in
-    let before : Nack → Bool = λ e. is_below e.id c.args.id in
-    let place = below c.args.id nacks in
-    let nothing : slice_get nacks place ≡ None = rw c.place_below-place.ensures.value at (sym c.in-None.ensures) in
-    has_id-no_place c.args.id nacks place c.requires (Splits-counted before nacks (below_first nacks c.args.id c.requires)) (λ x here same. absurd (let both = sym nothing ∙ here in cc))
+    let slots = items_of c.args.slots.now in
+    let slab = c.args.slab.now in
+    let nothing : slice_get slots (number_before false c.args.id slab slots) ≡ None = rw c.place_before-place.ensures.value at (sym c.in-None.ensures) in
+    nowhere (nack_at slab) c.args.id slots c.requires (λ x here same. let both = sym nothing ∙ here in cc)
 
 pub returns-then-eq-clause-found : goal.returns-then-eq-clause-found
 returns-then-eq-clause-found c =
-    let nack = c.in-Some.nack.now in
+    let slot = c.in-Some-get.slot.now in
     record {
-      within = c.place_below-place.ensures.place;
+      within = c.place_before-place.ensures.place;
+      slot = slot;
       at = record {
-        nack = nack;
-        here = sym c.in-Some.ensures;
-        same = is_same_id-true nack.id c.args.id (sym c.eq.ensures ∙ c.if-eq.true);
+        here = sym c.in-Some-get.ensures;
+        same = is_same_id-true (nack_at c.args.slab.now slot).id c.args.id (ap (λ i. is_same_id i c.args.id) (sym c.id_in.ensures) ∙ sym c.eq.ensures ∙ c.if-eq.true);
       };
     }
 
 pub returns-else-eq-clause-none : goal.returns-else-eq-clause-none
 returns-else-eq-clause-none c =
-    let nacks = items_of c.args.nacks.now in
-    let before : Nack → Bool = λ e. is_below e.id c.args.id in
-    let place = below c.args.id nacks in
-    let nack = c.in-Some.nack.now in
-    let here : slice_get nacks place ≡ Some nack = rw c.place_below-place.ensures.value at (sym c.in-Some.ensures) in
-    let apart : is_same_id nack.id c.args.id ≡ false = sym c.eq.ensures ∙ c.if-eq.false in
-    has_id-no_place c.args.id nacks place c.requires (Splits-counted before nacks (below_first nacks c.args.id c.requires)) (λ x there same.
-    let one : nack ≡ x = let both = sym here ∙ there in cc in
-    let test : is_same_id nack.id c.args.id ≡ true = rw (one, same) (is_same_id-refl c.args.id) in
-    absurd (let both = sym apart ∙ test in cc))
+    let slots = items_of c.args.slots.now in
+    let slab = c.args.slab.now in
+    let slot = c.in-Some-get.slot.now in
+    let here : slice_get slots (number_before false c.args.id slab slots) ≡ Some slot = rw c.place_before-place.ensures.value at (sym c.in-Some-get.ensures) in
+    let apart : is_same_id (nack_at slab slot).id c.args.id ≡ false = ap (λ i. is_same_id i c.args.id) (sym c.id_in.ensures) ∙ sym c.eq.ensures ∙ c.if-eq.false in
+    nowhere (nack_at slab) c.args.id slots c.requires (λ x there same.
+    let one : slot ≡ x = let both = sym here ∙ there in cc in
+    let test : is_same_id (nack_at slab slot).id c.args.id ≡ true = subst (λ (s : ℕ). is_same_id (nack_at slab s).id c.args.id ≡ true) (sym one) (subst (λ i. is_same_id i c.args.id ≡ true) (sym same) (is_same_id-refl c.args.id)) in
+    let both = sym apart ∙ test in cc)

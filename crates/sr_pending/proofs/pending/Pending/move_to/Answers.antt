@@ -1,67 +1,93 @@
-use Rattle.std.proofs.Common.{◌≤◌, not, refl, arith}
-use Rattle.std.proofs.lemmas.Option.{slice_get_within}
-use Rattle.sr_pending.specs.steps.Blocks.{at_of, items_of}
+use Rattle.std.proofs.Common.{◌≡◌, ◌≤◌, ℕ, List, ap, refl, subst, sym, ◌∙◌, arith}
+use Rattle.std.specs.HashMap.{HashMap}
+use Rattle.sr_pending.specs.steps.Blocks.{items_of}
 use Rattle.sr_pending.specs.declared.nack.Nack.{Nack}
-use Rattle.sr_pending.specs.Pending.{is_same_id, without}
+use Rattle.sr_pending.specs.Pending.{PendingState, UsesRoom, moved}
 use Rattle.sr_pending.specs.steps.Held.{HasSpare, spare_by}
 use Rattle.sr_pending.specs.steps.Room.{rooms_in_all}
-use Rattle.sr_pending.proofs.HeldLemmas.{AreRisingIds-held, IsIndexed-moved, IsIndexed-taken, ids_below-among, owner-read}
-use Rattle.sr_pending.proofs.NackLemmas.{AreRising-filter}
-use Rattle.sr_pending.proofs.SpareLemmas.{HasSpare-given, HasSpare-used}
-use Rattle.sr_pending.proofs.SoundLemmas.{IsSound-changed}
+use Rattle.sr_pending.specs.steps.Slots.{nack_at, nack_or, slots_without}
+use Rattle.sr_pending.proofs.HeldLemmas.{AreRising-by, HasSpare-given, HasSpare-used, has_id-by}
+use Rattle.sr_pending.proofs.ListingLemmas.{taken-found}
+use Rattle.sr_pending.proofs.SoundLemmas.{IsSound-changed, changed-all, fresh-between, indexed-between, indexed-moved, rising-between}
 use Rattle.sr_pending.proofs.pending.Pending.move_to.Goals as goal
 
-pub at-requires : goal.at-requires
-at-requires c =
-    let found = c.pending_place-place.ensures in
-    record { place = found.within; some = slice_get_within (items_of c.self.inside.nacks) (at_of c.pending_place-place.result c.self.inside.nacks) found.at.nack found.at.here }
+pub take_slot-requires-clause-taken : goal.take_slot-requires-clause-taken
+take_slot-requires-clause-taken c =
+    let p = c.self.inside in
+    let slots = items_of p.slots in
+    let slot = c.pending_slot-slot.result in
+    let found = c.pending_slot-slot.ensures in
+    taken-found p.slab slots c.self.invariant.taken slot found.place found.at.here
 
-pub take_id-requires-clause-rising : goal.take_id-requires-clause-rising
-take_id-requires-clause-rising c =
-    AreRisingIds-held c.self.inside.held (items_of c.self.inside.nacks) c.self.invariant.rising c.self.invariant.indexed c.name-2.result.now
+pub take_slot-requires-clause-rising : goal.take_slot-requires-clause-rising
+take_slot-requires-clause-rising c =
+    let p = c.self.inside in
+    let slots = items_of p.slots in
+    let slot = c.pending_slot-slot.result in
+    let found = c.pending_slot-slot.ensures in
+    AreRising-by p.held p.slab slots c.self.invariant.indexed (nack_at p.slab slot).owner c.self.invariant.rising
 
-pub take_id-requires-clause-among : goal.take_id-requires-clause-among
-take_id-requires-clause-among c =
-    let list = items_of c.self.inside.nacks in
-    let place = at_of c.pending_place-place.result c.self.inside.nacks in
-    let at = c.pending_place-place.ensures.at in
-    let from = c.name-2.result.now in
-    let owned = owner-read list place c.at.result.now at.nack from at.here c.at.ensures c.name-2.ensures in
-    ids_below-among c.self.inside.held list c.self.invariant.rising c.self.invariant.indexed place at.nack at.here c.args.id from at.same owned
+pub give_in-requires : goal.give_in-requires
+give_in-requires c =
+    let p = c.self.inside in
+    let slots = items_of p.slots in
+    let slot = c.pending_slot-slot.result in
+    let found = c.pending_slot-slot.ensures in
+    taken-found p.slab slots c.self.invariant.taken slot found.place found.at.here
 
-pub put_id-requires-clause-rising : goal.put_id-requires-clause-rising
-put_id-requires-clause-rising c =
-    let list = items_of c.self.inside.nacks in
-    let place = at_of c.pending_place-place.result c.self.inside.nacks in
-    let at = c.pending_place-place.ensures.at in
-    let held = c.self.inside.held in
-    let mid = c.take_id.new.held in
-    let from = c.name-2.result.now in
-    let rising = c.self.invariant.rising in
-    let owned = owner-read list place c.at.result.now at.nack from at.here c.at.ensures c.name-2.ensures in
-    let taken = IsIndexed-taken held list rising c.self.invariant.indexed place at.nack at.here c.args.id from at.same owned mid c.take_id.ensures in
-    AreRisingIds-held mid (without c.args.id list) (AreRising-filter (λ n. not (is_same_id n.id c.args.id)) list rising) taken c.name-3.result.now
+pub put_slot-requires-clause-rising : goal.put_slot-requires-clause-rising
+put_slot-requires-clause-rising c =
+    let p = c.self.inside in
+    let slots = items_of p.slots in
+    let slot = c.pending_slot-slot.result in
+    let found = c.pending_slot-slot.ensures in
+    let new = c.give_in.new.slab in
+    let mid = c.take_slot.new.held in
+    let change : Nack → Nack = λ n. record { id = n.id; owner = c.args.owner; time = c.args.time; count = c.args.count } in
+    let rest = slots_without (nack_at p.slab slot).id p.slab slots in
+    AreRising-by mid new rest (indexed-between p.slab new slots p.rooms.items p.held p.slots.room slot found.place c.args.id change c.self.invariant found.at.here found.at.same (λ _. refl) (λ _. (c.requires.time, c.requires.count)) c.give_in.ensures mid c.take_slot.ensures) (nack_at new slot).owner (rising-between p.slab new slots p.rooms.items p.held p.slots.room slot found.place c.args.id change c.self.invariant found.at.here found.at.same (λ _. refl) (λ _. (c.requires.time, c.requires.count)) c.give_in.ensures mid c.take_slot.ensures)
+
+pub put_slot-requires-clause-fresh : goal.put_slot-requires-clause-fresh
+put_slot-requires-clause-fresh c =
+    let p = c.self.inside in
+    let slots = items_of p.slots in
+    let slot = c.pending_slot-slot.result in
+    let found = c.pending_slot-slot.ensures in
+    let new = c.give_in.new.slab in
+    let mid = c.take_slot.new.held in
+    let change : Nack → Nack = λ n. record { id = n.id; owner = c.args.owner; time = c.args.time; count = c.args.count } in
+    let rest = slots_without (nack_at p.slab slot).id p.slab slots in
+    has_id-by mid new rest (indexed-between p.slab new slots p.rooms.items p.held p.slots.room slot found.place c.args.id change c.self.invariant found.at.here found.at.same (λ _. refl) (λ _. (c.requires.time, c.requires.count)) c.give_in.ensures mid c.take_slot.ensures) (nack_at new slot).owner (nack_at new slot).id (fresh-between p.slab new slots p.rooms.items p.held p.slots.room slot found.place c.args.id change c.self.invariant found.at.here found.at.same (λ _. refl) (λ _. (c.requires.time, c.requires.count)) c.give_in.ensures mid c.take_slot.ensures)
 
 pub invariant_of-self : goal.invariant_of-self
 invariant_of-self c =
-    let old = c.self.inside.nacks in
-    let new = c.give_at.new.nacks in
-    let rooms = c.self.inside.rooms.items in
+    let p = c.self.inside in
+    let slots = items_of p.slots in
+    let slot = c.pending_slot-slot.result in
+    let found = c.pending_slot-slot.ensures in
+    let new = c.give_in.new.slab in
+    let mid = c.take_slot.new.held in
+    let change : Nack → Nack = λ n. record { id = n.id; owner = c.args.owner; time = c.args.time; count = c.args.count } in
+    let rooms = p.rooms.items in
     let left = c.use_room.new.rooms.items in
-    let held = c.self.inside.held in
-    let mid = c.take_id.new.held in
-    let now = c.put_id.new.held in
-    let place = at_of c.pending_place-place.result c.self.inside.nacks in
-    let at = c.pending_place-place.ensures.at in
-    let from = c.name-2.result.now in
-    let to = c.args.owner in
-    let given : Nack = record { id = c.args.id; owner = to; time = c.args.time; count = c.args.count } in
-    let change : Nack → Nack = λ n. record { id = n.id; owner = to; time = c.args.time; count = c.args.count } in
-    let spare : old.room ≤ new.room = omega (arith, c.give_at.ensures.room) in
+    let now = c.put_slot.new.held in
+    let from = (nack_at p.slab slot).owner in
+    let to = (nack_at new slot).owner in
+    let is : to ≡ c.args.owner = ap (λ o. (nack_or o).owner) c.give_in.ensures.updates.changed in
+    let uses : UsesRoom to rooms left = subst (λ (o : List ℕ). UsesRoom o rooms left) (c.name.ensures ∙ sym is) c.use_room.ensures.used in
     let used : rooms_in_all left ≤ rooms_in_all rooms = omega (arith, c.use_room.ensures.in_all) in
-    let owned = owner-read (items_of old) place c.at.result.now at.nack from at.here c.at.ensures c.name-2.ensures in
-    let puts = rw c.name-3.ensures at c.put_id.ensures in
-    let indexed = IsIndexed-moved held (items_of old) c.self.invariant.rising c.self.invariant.indexed place at.nack at.here from given at.same owned mid now c.take_id.ensures puts (items_of new) c.give_at.ensures.set in
-    let first : HasSpare mid rooms = HasSpare-given held mid from rooms c.self.invariant.spared _ (spare_by held from) c.take_id.ensures (c.self.invariant.spared from) in
-    let spared = HasSpare-used mid now to rooms first c.args.id left puts (rw c.name.ensures at c.use_room.ensures.used) in
-    IsSound-changed (items_of old) (items_of new) rooms left held now old.room new.room c.self.invariant indexed spared c.args.id change (λ _. refl) (λ _. (c.requires.time, c.requires.count)) c.give_at.ensures.items used spare
+    let first : HasSpare mid rooms = HasSpare-given p.held mid from _ rooms c.self.invariant.spared (spare_by p.held from) c.take_slot.ensures (c.self.invariant.spared from) in
+    let spared = HasSpare-used mid now to _ rooms first left c.put_slot.ensures uses in
+    IsSound-changed p.slab new slots p.rooms.items p.held p.slots.room slot found.place c.args.id change c.self.invariant found.at.here found.at.same (λ _. refl) (λ _. (c.requires.time, c.requires.count)) c.give_in.ensures left now used (indexed-moved p.slab new slots p.rooms.items p.held p.slots.room slot found.place c.args.id change c.self.invariant found.at.here found.at.same (λ _. refl) (λ _. (c.requires.time, c.requires.count)) c.give_in.ensures mid c.take_slot.ensures now c.put_slot.ensures) spared
+
+pub returns-clause-nacks : goal.returns-clause-nacks
+returns-clause-nacks c =
+    let p = c.self.inside in
+    let slots = items_of p.slots in
+    let slot = c.pending_slot-slot.result in
+    let found = c.pending_slot-slot.ensures in
+    let new = c.give_in.new.slab in
+    let mid = c.take_slot.new.held in
+    let change : Nack → Nack = λ n. record { id = n.id; owner = c.args.owner; time = c.args.time; count = c.args.count } in
+    changed-all p.slab new slots p.rooms.items p.held p.slots.room slot found.place c.args.id change c.self.invariant found.at.here found.at.same (λ _. refl) (λ _. (c.requires.time, c.requires.count)) c.give_in.ensures
+    ∙ ap (λ (p : PendingState). moved c.args.id c.args.owner c.args.time c.args.count p.nacks) c.self.view_is

@@ -1,48 +1,64 @@
-use Rattle.std.proofs.Common.{◌≡◌, ℕ, ◌+◌, ◌≤◌, false, List, ap, subst, sym, ◌∙◌, arith}
-use Rattle.std.specs.List.{insert}
-use Rattle.sr_pending.specs.steps.Blocks.{at_of, items_of}
+use Rattle.std.proofs.Common.{◌≡◌, ℕ, false, List, ap, subst, sym, ◌∙◌}
+use Rattle.sr_ids.specs.declared.id.Id.{Id}
+use Rattle.sr_pending.specs.steps.Blocks.{items_of}
 use Rattle.sr_pending.specs.declared.nack.Nack.{Nack}
-use Rattle.sr_pending.specs.Pending.{PendingState, has_id, with_nack}
-use Rattle.sr_pending.specs.steps.Held.{IsIndexed}
-use Rattle.sr_pending.specs.steps.Search.{below}
-use Rattle.sr_pending.proofs.ChangeLemmas.{insert-place}
-use Rattle.sr_pending.proofs.HeldLemmas.{AreRisingIds-held, IsIndexed-put}
-use Rattle.sr_pending.proofs.SpareLemmas.{HasSpare-used}
-use Rattle.sr_pending.proofs.SoundLemmas.{IsSound-with_nack}
+use Rattle.sr_pending.specs.Pending.{PendingState, UsesRoom, has_id, with_nack}
+use Rattle.sr_pending.specs.steps.Slots.{nack_at}
+use Rattle.sr_pending.proofs.HeldLemmas.{AreRising-by, HasSpare-used, has_id-by}
+use Rattle.sr_pending.proofs.SoundLemmas.{IsSound-put, added-put, fresh-put, here-put, indexed-put, rising-put}
 use Rattle.sr_pending.proofs.pending.Pending.put.Goals as goal
 
-fresh : (c : goal.After-insert) → has_id c.args.nack.id (items_of c.self.inside.nacks) ≡ false
-fresh c =
-    let shown : (items_of c.self.inside.nacks) ≡ c.args.self.now.nacks = ap (λ (p : PendingState). p.nacks) c.self.view_is in
-    rw shown c.requires.fresh
+pub insert_slot-requires-clause-rising : goal.insert_slot-requires-clause-rising
+insert_slot-requires-clause-rising c =
+    let p = c.self.inside in
+    let put = c.insert_reserved-slot in
+    let fresh = rw (← ap (λ (p : PendingState). p.nacks) c.self.view_is) at c.requires.fresh in
+    rising-put p.slab put.new.self (items_of p.slots) p.rooms.items p.held p.slots.room put.result c.args.nack c.self.invariant put.ensures.was_vacant put.ensures.updates fresh
 
-added : (c : goal.After-insert) → items_of c.insert.new.self ≡ with_nack c.args.nack (items_of c.self.inside.nacks)
-added c =
-    let nack = c.args.nack in
-    let list = (items_of c.self.inside.nacks) in
-    let place : at_of c.place_below-place.result c.self.inside.nacks ≡ below nack.id list = c.place_below-place.ensures.value in
-    c.insert.ensures.items ∙ ap (λ (n : ℕ). insert list n nack) place ∙ insert-place nack list c.self.invariant.rising (fresh c)
+pub insert_slot-requires-clause-fresh : goal.insert_slot-requires-clause-fresh
+insert_slot-requires-clause-fresh c =
+    let p = c.self.inside in
+    let put = c.insert_reserved-slot in
+    let fresh = rw (← ap (λ (p : PendingState). p.nacks) c.self.view_is) at c.requires.fresh in
+    fresh-put p.slab put.new.self (items_of p.slots) p.rooms.items p.held p.slots.room put.result c.args.nack c.self.invariant put.ensures.was_vacant put.ensures.updates fresh
 
-pub put_id-requires-clause-rising : goal.put_id-requires-clause-rising
-put_id-requires-clause-rising c =
-    AreRisingIds-held c.self.inside.held (items_of c.self.inside.nacks) c.self.invariant.rising c.self.invariant.indexed c.name-2.result.now
+pub put_slot-requires-clause-rising : goal.put_slot-requires-clause-rising
+put_slot-requires-clause-rising c =
+    let p = c.self.inside in
+    let put = c.insert_reserved-slot in
+    let slots = items_of p.slots in
+    let fresh = rw (← ap (λ (p : PendingState). p.nacks) c.self.view_is) at c.requires.fresh in
+    let indexed = indexed-put p.slab put.new.self slots p.rooms.items p.held p.slots.room put.result c.args.nack c.self.invariant put.ensures.was_vacant put.ensures.updates fresh in
+    AreRising-by p.held put.new.self slots indexed (nack_at put.new.self put.result).owner (rising-put p.slab put.new.self slots p.rooms.items p.held p.slots.room put.result c.args.nack c.self.invariant put.ensures.was_vacant put.ensures.updates fresh)
+
+pub put_slot-requires-clause-fresh : goal.put_slot-requires-clause-fresh
+put_slot-requires-clause-fresh c =
+    let p = c.self.inside in
+    let put = c.insert_reserved-slot in
+    let slots = items_of p.slots in
+    let fresh = rw (← ap (λ (p : PendingState). p.nacks) c.self.view_is) at c.requires.fresh in
+    let indexed = indexed-put p.slab put.new.self slots p.rooms.items p.held p.slots.room put.result c.args.nack c.self.invariant put.ensures.was_vacant put.ensures.updates fresh in
+    has_id-by p.held put.new.self slots indexed (nack_at put.new.self put.result).owner (nack_at put.new.self put.result).id (fresh-put p.slab put.new.self slots p.rooms.items p.held p.slots.room put.result c.args.nack c.self.invariant put.ensures.was_vacant put.ensures.updates fresh)
 
 pub invariant_of-self : goal.invariant_of-self
 invariant_of-self c =
-    let nack = c.args.nack in
-    let old = c.self.inside.nacks in
-    let new = c.insert.new.self in
-    let held = c.self.inside.held in
-    let now = c.put_id.new.held in
-    let rooms = c.self.inside.rooms.items in
+    let p = c.self.inside in
+    let put = c.insert_reserved-slot in
+    let slots = items_of p.slots in
+    let rooms = p.rooms.items in
     let left = c.use_room.new.rooms.items in
-    let spare : old.room ≤ new.room + 1 = omega (arith, c.insert.ensures.room) in
-    let gives = rw c.name-2.ensures at c.put_id.ensures in
-    let put = IsIndexed-put held (items_of old) c.self.invariant.rising c.self.invariant.indexed now nack (fresh c) gives in
-    let indexed : IsIndexed now (items_of new) = subst (λ (l : List Nack). IsIndexed now l) (sym (added c)) put in
-    let spared = HasSpare-used held now nack.owner rooms c.self.invariant.spared nack.id left gives (rw c.name.ensures at c.use_room.ensures.used) in
-    IsSound-with_nack (items_of old) (items_of new) rooms left held now old.room new.room c.self.invariant indexed spared nack c.requires.countable (added c) c.use_room.ensures.in_all spare
+    let now = c.put_slot.new.held in
+    let owner = (nack_at put.new.self put.result).owner in
+    let fresh = rw (← ap (λ (p : PendingState). p.nacks) c.self.view_is) at c.requires.fresh in
+    let is : (nack_at put.new.self put.result) ≡ c.args.nack = here-put p.slab put.new.self slots rooms p.held p.slots.room put.result c.args.nack c.self.invariant put.ensures.was_vacant put.ensures.updates fresh in
+    let uses : UsesRoom owner rooms left = subst (λ (o : List ℕ). UsesRoom o rooms left) (c.name.ensures ∙ sym (ap (λ (n : Nack). n.owner) is)) c.use_room.ensures.used in
+    let spared = HasSpare-used p.held now owner _ rooms c.self.invariant.spared left c.put_slot.ensures uses in
+    IsSound-put p.slab put.new.self slots rooms p.held p.slots.room put.result c.args.nack c.self.invariant put.ensures.was_vacant put.ensures.updates fresh (items_of c.insert_slot.new.slots) left now c.insert_slot.new.slots.room put.ensures.len put.ensures.capacity c.requires.countable c.insert_slot.ensures.items c.use_room.ensures.in_all c.insert_slot.ensures.room c.put_slot.ensures spared
 
 pub returns-clause-nacks : goal.returns-clause-nacks
 returns-clause-nacks c =
-    added c ∙ ap (with_nack c.args.nack) (ap (λ (p : PendingState). p.nacks) c.self.view_is)
+    let p = c.self.inside in
+    let put = c.insert_reserved-slot in
+    let fresh = rw (← ap (λ (p : PendingState). p.nacks) c.self.view_is) at c.requires.fresh in
+    added-put p.slab put.new.self (items_of p.slots) p.rooms.items p.held p.slots.room put.result c.args.nack c.self.invariant put.ensures.was_vacant put.ensures.updates fresh (items_of c.insert_slot.new.slots) c.insert_slot.ensures.items
+    ∙ ap (λ (p : PendingState). with_nack c.args.nack p.nacks) c.self.view_is
