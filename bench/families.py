@@ -1,10 +1,12 @@
 """Prints transportation problems, each made from a fixed seed.
 
-usage: families.py [small]
+usage: families.py [small | small-tiers | tiers BITS]
 
-With no argument these are the families of docs/BENCH.md, of 4,096 entries and 64 consumers; with `small` they are 10,000 random
-problems of all shapes, of at most 16 entries. A problem is a line: its name and a colon, how often it is to be timed, how many
-entries and consumers it has, the room of each consumer, and for each entry its cost at each consumer, `-` where it is not allowed.
+With no argument these are the families of docs/BENCH.md, of 4,096 entries and 64 consumers, and with `tiers` the same, where each
+consumer has half of its room at a fee below 2^BITS, or at none for 0. With `small` they are 10,000 random problems of all shapes, of
+at most 16 entries, and with `small-tiers` others where a consumer may have two tiers. A problem is a line: its name and a colon, how
+often it is to be timed, how many entries and consumers it has, the room of each consumer, `FIRST+NEXT@FEE` if it has two tiers, and
+for each entry its cost at each consumer, `-` where it is not allowed.
 """
 
 import functools
@@ -240,6 +242,19 @@ def families():
         yield f"{count} allowed", SLACK, sparse(count)
 
 
+def tiered(room, fee):
+    """A room of two tiers: half of it, and the rest at a fee."""
+    return room // 2, room - room // 2, fee
+
+
+def with_tiers(bits):
+    """The families, where each consumer has half of its room at a fee of its own below 2^bits."""
+    rng = Pcg32(SEED, 2)
+    fees = [rng.next_u64() % (1 << bits) if bits else 0 for _ in range(CONSUMERS)]
+    for name, rooms, rows in families():
+        yield name, [tiered(room, fee) for room, fee in zip(rooms, fees)], rows
+
+
 # Random small problems of all shapes.
 
 
@@ -279,18 +294,50 @@ def small_problems():
         yield f"small {number}", rooms, rows
 
 
+def small_tier(rng, room, kind):
+    """This room, or a part of it and the rest at a fee of the same kind as the costs."""
+    if rng.next_u32() % 3 == 0:
+        return room
+    first = rng.next_u32() % (room + 1)
+    return first, room - first, small_cost(rng, kind)
+
+
+def small_tiered_problems():
+    """Random small problems where a consumer may have two tiers."""
+    rng = Pcg32(SEED, 3)
+    for number in range(1, SMALL_PROBLEMS + 1):
+        kind = rng.next_u32() % 4
+        rooms = [small_tier(rng, room, kind) for room in small_rooms(rng)]
+        entries = rng.next_u32() % 17
+        most = rng.next_u32() % 6
+        rows = [[small_pair(rng, kind, most) for _ in rooms] for _ in range(entries)]
+        yield f"tiers {number}", rooms, rows
+
+
+def spelled(room):
+    """The room of a consumer, of one tier or of two."""
+    return str(room) if isinstance(room, int) else "{}+{}@{}".format(*room)
+
+
 def text(name, rooms, rows, times=0):
     """A problem as it is printed, to be timed so often."""
-    costs = ("-" if cost is None else cost for row in rows for cost in row)
-    return f"{name}: " + " ".join(map(str, [times, len(rows), len(rooms), *rooms, *costs])) + "\n"
+    costs = ("-" if cost is None else str(cost) for row in rows for cost in row)
+    return f"{name}: " + " ".join([str(times), str(len(rows)), str(len(rooms)), *map(spelled, rooms), *costs]) + "\n"
 
 
 def main():
-    made = {(): (families, TIMES), ("small",): (small_problems, 0)}.get(tuple(sys.argv[1:]))
-    if made is None:
-        sys.exit("usage: families.py [small]")
-    problems, times = made
-    sys.stdout.writelines(text(*problem, times) for problem in problems())
+    match sys.argv[1:]:
+        case []:
+            problems, times = families(), TIMES
+        case ["tiers", bits] if bits.isdecimal():
+            problems, times = with_tiers(int(bits)), TIMES
+        case ["small"]:
+            problems, times = small_problems(), 0
+        case ["small-tiers"]:
+            problems, times = small_tiered_problems(), 0
+        case _:
+            sys.exit("usage: families.py [small | small-tiers | tiers BITS]")
+    sys.stdout.writelines(text(*problem, times) for problem in problems)
 
 
 if __name__ == "__main__":

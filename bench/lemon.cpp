@@ -22,15 +22,24 @@ using Simplex = lemon::NetworkSimplex<Graph, std::int64_t, std::int64_t>;
 
 constexpr int runs = 2;
 
+// An entry, a tier of a consumer that it is allowed, and what it is charged there.
 struct Pair {
   int entry;
-  int consumer;
+  int tier;
   std::int64_t cost;
+};
+
+// Some places of a consumer, at a fee for each entry: a column of the graph.
+struct Tier {
+  int consumer;
+  std::int64_t room;
+  std::int64_t fee;
 };
 
 struct Problem {
   int entries;
-  std::vector<std::int64_t> rooms;
+  int consumers;
+  std::vector<Tier> tiers;
   // A row for each entry, with a cost for each consumer, -1 where it is not allowed.
   std::vector<std::int64_t> costs;
 };
@@ -42,27 +51,39 @@ std::int64_t read_number() {
   return word == "-" ? -1 : std::stoll(word);
 }
 
+// The tiers of a consumer, which are one word: its room, or FIRST+NEXT@FEE.
+void read_tiers(int consumer, std::vector<Tier>& tiers) {
+  std::string word;
+  std::cin >> word;
+  const std::size_t next = word.find('+');
+  tiers.push_back({consumer, std::stoll(word.substr(0, next)), 0});
+  if (next == std::string::npos) return;
+  const std::size_t fee = word.find('@');
+  tiers.push_back({consumer, std::stoll(word.substr(next + 1, fee - next - 1)), std::stoll(word.substr(fee + 1))});
+}
+
 // The numbers of a problem, without the first one, which says how often our solver is timed.
 Problem read_problem() {
   Problem problem;
   read_number();
   problem.entries = static_cast<int>(read_number());
-  problem.rooms.resize(read_number());
-  for (std::int64_t& room : problem.rooms) room = read_number();
-  problem.costs.resize(problem.entries * problem.rooms.size());
+  problem.consumers = static_cast<int>(read_number());
+  for (int consumer = 0; consumer < problem.consumers; ++consumer) read_tiers(consumer, problem.tiers);
+  problem.costs.resize(static_cast<std::size_t>(problem.entries) * problem.consumers);
   for (std::int64_t& cost : problem.costs) cost = read_number();
   std::cin.ignore();
   return problem;
 }
 
-// The pairs that are allowed.
+// The pairs of an entry and a tier that are allowed.
 std::vector<Pair> allowed(const Problem& problem) {
-  const int consumers = static_cast<int>(problem.rooms.size());
+  const int tiers = static_cast<int>(problem.tiers.size());
   std::vector<Pair> pairs;
-  const std::int64_t* cost = problem.costs.data();
-  for (int entry = 0; entry < problem.entries; ++entry) {
-    for (int consumer = 0; consumer < consumers; ++consumer, ++cost) {
-      if (*cost >= 0) pairs.push_back({entry, consumer, *cost});
+  const std::int64_t* costs = problem.costs.data();
+  for (int entry = 0; entry < problem.entries; ++entry, costs += problem.consumers) {
+    for (int tier = 0; tier < tiers; ++tier) {
+      const std::int64_t cost = costs[problem.tiers[tier].consumer];
+      if (cost >= 0) pairs.push_back({entry, tier, cost + problem.tiers[tier].fee});
     }
   }
   return pairs;
@@ -81,19 +102,17 @@ double since(std::chrono::steady_clock::time_point start) {
 Answer solve(const Problem& problem) {
   const auto start = std::chrono::steady_clock::now();
   const int entries = problem.entries;
-  const int consumers = static_cast<int>(problem.rooms.size());
+  const int tiers = static_cast<int>(problem.tiers.size());
   const std::vector<Pair> pairs = allowed(problem);
   Graph graph;
-  graph.reserveNode(entries + consumers);
+  graph.reserveNode(entries + tiers);
   graph.reserveArc(static_cast<int>(pairs.size()));
-  for (int node = 0; node < entries + consumers; ++node) graph.addNode();
-  for (const Pair& pair : pairs) graph.addArc(graph.nodeFromId(pair.entry), graph.nodeFromId(entries + pair.consumer));
+  for (int node = 0; node < entries + tiers; ++node) graph.addNode();
+  for (const Pair& pair : pairs) graph.addArc(graph.nodeFromId(pair.entry), graph.nodeFromId(entries + pair.tier));
   Graph::ArcMap<std::int64_t> costs(graph);
   for (std::size_t arc = 0; arc < pairs.size(); ++arc) costs[graph.arcFromId(static_cast<int>(arc))] = pairs[arc].cost;
   Graph::NodeMap<std::int64_t> supplies(graph, 1);
-  for (int consumer = 0; consumer < consumers; ++consumer) {
-    supplies[graph.nodeFromId(entries + consumer)] = -problem.rooms[consumer];
-  }
+  for (int tier = 0; tier < tiers; ++tier) supplies[graph.nodeFromId(entries + tier)] = -problem.tiers[tier].room;
   Simplex simplex(graph);
   simplex.costMap(costs).supplyMap(supplies).supplyType(Simplex::GEQ);
   const auto ready = std::chrono::steady_clock::now();

@@ -71,6 +71,28 @@ MOST_ENTRIES = "".join(f"entry {number}-1 x 1\n" for number in range(1, 4097))
 # There is one entry, and A, which it costs 1, is full with it: A's price may be anything.
 FULL = "entry 1-1 x 1\nconsumer A 1\nrate x A 1\n"
 
+# A has one place without a fee and two at 5 an entry, B three. Both entries cost 2 at A and 8 at B.
+SOFT = """\
+entry 1-1 x 2
+entry 2-1 x 2
+consumer A 1 2 5
+consumer B 3
+rate x A 1
+rate x B 4
+"""
+
+# The same at a fee of 7, at which B is cheaper for one of them.
+DEAR = SOFT.replace("2 5", "2 7")
+
+# A alone, with one place without a fee and one at 5, and three entries.
+SOFT_SHORT = """\
+entry 1-1 x 2
+entry 2-1 x 2
+entry 3-1 x 2
+consumer A 1 1 5
+rate x A 1
+"""
+
 CHEAPEST = "cheapest, total 6"
 
 FORM = "wrong: the reply is neither a plan nor a shortage"
@@ -151,6 +173,25 @@ SENT = [
     (MOST_ENTRIES, "*4 $4 none *1 $3 1-1 *0 :0", "impossible, 0 places for 1 entry"),
     ("", "*5 $4 plan :0 *0 *0 *0", "cheapest, total 0"),
     (GREATEST, "*5 $4 plan :1099511627776 *1 *2 $3 1-1 $1 A *1 *2 $1 A :0 *0", "cheapest, total 1099511627776"),
+    # Both go to A, the second of them at the fee. A's first place is worth the fee.
+    (SOFT, "*5 $4 plan :9 *2 *2 $3 1-1 $1 A *2 $3 2-1 $1 A *2 *3 $1 A :5 :0 *2 $1 B :0 *0", "cheapest, total 9"),
+    (SOFT, "*5 $4 plan :4 *2 *2 $3 1-1 $1 A *2 $3 2-1 $1 A *2 *3 $1 A :5 :0 *2 $1 B :0 *0", PRICES),
+    (SOFT, "*5 $4 plan :14 *2 *2 $3 1-1 $1 A *2 $3 2-1 $1 A *2 *3 $1 A :5 :0 *2 $1 B :0 *0", PRICES),
+    (SOFT, "*5 $4 plan :10 *2 *2 $3 1-1 $1 A *2 $3 2-1 $1 B *2 *3 $1 A :6 :0 *2 $1 B :0 *0", PRICES),
+    (SOFT, "*5 $4 plan :9 *2 *2 $3 1-1 $1 A *2 $3 2-1 $1 A *2 *3 $1 A :4 :0 *2 $1 B :0 *0", PRICES),
+    (SOFT, "*5 $4 plan :9 *2 *2 $3 1-1 $1 A *2 $3 2-1 $1 A *2 *3 $1 A :6 :0 *2 $1 B :0 *0", PRICES),
+    # The second tier has a place left over, so that it has no price.
+    (SOFT, "*5 $4 plan :9 *2 *2 $3 1-1 $1 A *2 $3 2-1 $1 A *2 *3 $1 A :6 :1 *2 $1 B :0 *0", PRICES),
+    # A price is missing, or one too many.
+    (SOFT, "*5 $4 plan :9 *2 *2 $3 1-1 $1 A *2 $3 2-1 $1 A *2 *2 $1 A :5 *2 $1 B :0 *0", NAMES),
+    (SOFT, "*5 $4 plan :9 *2 *2 $3 1-1 $1 A *2 $3 2-1 $1 A *2 *3 $1 A :5 :0 *3 $1 B :0 :0 *0", NAMES),
+    (DEAR, "*5 $4 plan :10 *2 *2 $3 1-1 $1 A *2 $3 2-1 $1 B *2 *3 $1 A :6 :0 *2 $1 B :0 *0", "cheapest, total 10"),
+    (DEAR, "*5 $4 plan :10 *2 *2 $3 1-1 $1 B *2 $3 2-1 $1 A *2 *3 $1 A :6 :0 *2 $1 B :0 *0", "cheapest, total 10"),
+    (DEAR, "*5 $4 plan :11 *2 *2 $3 1-1 $1 A *2 $3 2-1 $1 A *2 *3 $1 A :7 :0 *2 $1 B :0 *0", PRICES),
+    # The places of a shortage are those of both tiers.
+    (SOFT_SHORT, "*4 $4 none *3 $3 1-1 $3 2-1 $3 3-1 *1 *2 $1 A :2 :2", "impossible, 2 places for 3 entries"),
+    (SOFT_SHORT, "*4 $4 none *3 $3 1-1 $3 2-1 $3 3-1 *1 *2 $1 A :1 :1", PLACES),
+    (SOFT_SHORT, "*4 $4 none *2 $3 1-1 $3 2-1 *1 *2 $1 A :2 :2", PLACES),
     (TWO, "-STALE the group has changed", "wrong: the reply is an error"),
     (TWO, "*5", FORM),
     # Numbers as the server does not spell them, one that is too great, and lengths of what is not there.
@@ -192,6 +233,11 @@ INPUTS = [
     ("consumer A 1\n", "no line `reply`"),
     ("consumer A 1\n# B\nconsumer B x\nreply\n", "line 3: not a number"),
     ("consumer A 1000000001", "line 1: a number out of range"),
+    ("consumer A 1 1000000001 0", "line 1: a number out of range"),
+    ("consumer A 600000000 400000001 0", "line 1: a number out of range"),
+    ("consumer A 1 1 1099511627777", "line 1: a number out of range"),
+    ("consumer A 1 2", "line 1: not an `entry`, `gone`, `consumer` or `rate` with its words, nor `reply`"),
+    ("consumer A 1 2 3 4", "line 1: not an `entry`, `gone`, `consumer` or `rate` with its words, nor `reply`"),
     ("entry 1-1 x 0", "line 1: a number out of range"),
     ("entry 1-1 x 1048577", "line 1: a number out of range"),
     ("consumer A 1\nrate x A 1048577", "line 2: a number out of range"),

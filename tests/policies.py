@@ -54,6 +54,32 @@ WRONG_SHAPE = [
     "[soft]\n",
     "Version = 1\n",
     "[limits]\nA = 1\n[rates.x]\na = 1\n",
+    # Soft limits and fees stand in a file of version 2 alone, also empty ones.
+    "[fees]\n",
+    "version = 1\n[soft]\n",
+    "version = 1\n[fees]\n",
+    "version = 1\n[soft]\n[fees]\n",
+    "[limits]\nA = 2\n[soft]\nA = 1\n[fees]\nA = 1\n",
+    "version = 1\n[limits]\nA = 2\n[soft]\nA = 1\n[fees]\nA = 1\n",
+    "version = 3\n[limits]\nA = 2\n[soft]\nA = 1\n[fees]\nA = 1\n",
+    "version = 0\n[soft]\n[fees]\n",
+    # One without the other, a consumer in one of them alone, and one without a limit.
+    "version = 2\n[soft]\n",
+    "version = 2\n[fees]\n",
+    "version = 2\n[limits]\nA = 2\n[soft]\nA = 1\n",
+    "version = 2\n[limits]\nA = 2\n[fees]\nA = 1\n",
+    "version = 2\n[limits]\nA = 2\nB = 2\n[soft]\nA = 1\n[fees]\nA = 1\nB = 1\n",
+    "version = 2\n[limits]\nA = 2\nB = 2\n[soft]\nA = 1\nB = 1\n[fees]\nA = 1\n",
+    "version = 2\n[limits]\nA = 2\nB = 2\n[soft]\nA = 1\n[fees]\nB = 1\n",
+    "version = 2\n[soft]\nA = 0\n[fees]\nA = 0\n",
+    "version = 2\n[limits]\nB = 1\n[soft]\nA = 0\n[fees]\nA = 0\n",
+    # Another kind, and a shape that is judged before the range.
+    "version = 2\nsoft = 1\nfees = 1\n",
+    "version = 2\n[limits]\nA = 2\n[soft]\nA = 1.0\n[fees]\nA = 1\n",
+    "version = 2\n[limits]\nA = 2\n[soft]\nA = 1\n[fees]\nA = true\n",
+    "version = 2\n[limits]\nA = 2\n[soft.x]\nA = 1\n[fees]\nx = 1\n",
+    "version = 2\n[limits]\nA = 2\n[soft]\nA = 3\n[fees]\nB = 1\n",
+    "version = 2\n[limits]\nA = -1\n[soft]\n",
 ]
 
 
@@ -64,7 +90,7 @@ def file_of(consumers, classes):
 
 
 OUT_OF_RANGE = [
-    "version = 2\n",
+    "version = 3\n",
     "version = 0\n",
     "version = -1\n",
     "[limits]\nA = -1\n",
@@ -72,6 +98,13 @@ OUT_OF_RANGE = [
     "[limits]\nA = 9223372036854775807\n",
     "[limits]\nA = 1\n[rates.x]\nA = -1\n",
     "[limits]\nA = 1\n[rates.x]\nA = 1048577\n",
+    "version = 2\n[limits]\nA = 2\n[soft]\nA = 3\n[fees]\nA = 1\n",
+    "version = 2\n[limits]\nA = 2\n[soft]\nA = -1\n[fees]\nA = 1\n",
+    "version = 2\n[limits]\nA = 2\n[soft]\nA = 2\n[fees]\nA = -1\n",
+    "version = 2\n[limits]\nA = 2\n[soft]\nA = 2\n[fees]\nA = 1099511627777\n",
+    "version = 2\n[limits]\nA = 2\nB = 9\n[soft]\nA = 3\nB = 3\n[fees]\nA = 1\nB = 1\n",
+    "version = 2\n[limits]\nA = 1000000001\n[soft]\nA = 1\n[fees]\nA = 1\n",
+    "version = 2\n[limits]\nA = -1\n[soft]\nA = 0\n[fees]\nA = 0\n",
     file_of(65, 0),
     file_of(0, 1025),
 ]
@@ -79,6 +112,10 @@ OUT_OF_RANGE = [
 POLICIES = [
     "",
     "version = 1\n",
+    "version = 2\n",
+    "version = 2\n[soft]\n[fees]\n",
+    "version = 2\n[limits]\nA = 2\nB = 1\n[soft]\nA = 2\n[fees]\nA = 1099511627776\n",
+    "version = 2\n[limits]\nA = 2\n[soft]\nA = 0\n[fees]\nA = 0\n",
     'class_field = ""\n',
     "[limits]\n",
     "[rates.x]\n",

@@ -5,7 +5,8 @@ use Rattle.std.specs.Prelude.{◌≡◌, ◌≢◌, ◌⊎◌, ℕ, ◌+◌, ◌
 use Rattle.std.specs.Char.{digit_value, is_ascii_whitespace}
 use Rattle.std.specs.Map.{lookup}
 
--- what a backslash and each of these bytes spell: quotes, a backslash, a line feed, a carriage return, a tab, a bell, a backspace
+-- what a backslash and each of these bytes spell: quotes, a backslash, a line feed, a carriage return, a tab, a bell,
+-- a backspace
 abbrev pub escapes : List (ℕ × ℕ)
 escapes = (34, 34) ∷ (92, 92) ∷ (110, 10) ∷ (114, 13) ∷ (116, 9) ∷ (97, 7) ∷ (98, 8) ∷ []
 

@@ -37,7 +37,8 @@ pub(crate) fn judge(alloc: Global, input: &[u8]) -> Result<Finding, AllocError> 
 
 /// The line at the front of some bytes, without its end, and the bytes after it.
 fn first_line(bytes: &[u8]) -> (&[u8], &[u8])
-    ensures whole { (bytes.now ≡ result.0.now ++ 10 ∷ result.1.now) ⊎ ((bytes.now ≡ result.0.now) × (result.1.now ≡ [])) }
+    ensures whole { (bytes.now ≡ result.0.now ++ 10 ∷ result.1.now)
+        ⊎ ((bytes.now ≡ result.0.now) × (result.1.now ≡ [])) }
     ensures one { All (λ byte. byte ≢ 10) result.0.now }
 {
     match split_once(bytes, b'\n') {

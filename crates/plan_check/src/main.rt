@@ -1,7 +1,8 @@
-//! Checks a reply of RECOVER.PLAN or RECOVER.RUN against a snapshot that is written line by line, both on standard input.
+//! Checks a reply of RECOVER.PLAN or RECOVER.RUN against a snapshot that is written line by line, both on standard
+//! input.
 //!
-//! It prints one line, and ends with status 0 if the reply is right, with 1 if it is not or nothing could be judged, and with
-//! 2 if it is given arguments.
+//! It prints one line, and ends with status 0 if the reply is right, with 1 if it is not or nothing could be judged,
+//! and with 2 if it is given arguments.
 #![tactic(auto)]
 
 mod fault;

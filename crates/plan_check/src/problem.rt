@@ -25,11 +25,15 @@ const MAX_ROOM: u64 = 1_000_000_000;
 
 const MAX_RATE: u64 = 1 << 20;
 
+const MAX_FEE: u64 = 1 << 40;
+
 /// A live consumer, but for its name.
 #[derive(Drop)]
 struct Consumer {
-    /// How many more entries it may get.
+    /// How many more entries it may get without a fee.
     room: u64,
+    /// How many it may get beyond these, and the fee of each, if it has a second tier.
+    next: Option<(u64, u64)>,
     /// What a unit of weight costs, for each class that it may take.
     rates: BTreeMap<Vec<u8>, u64>,
 }
@@ -117,14 +121,24 @@ impl Problem {
         insert_new(&mut self.gone, id, Name::new(Vec::new(alloc)))
     }
 
-    /// Adds a live consumer: its name and its room.
+    /// Adds a live consumer: its name and its room, and, if it has a second tier, the room and the fee of this.
     fn add_consumer(&mut self, alloc: Global, operands: &[Vec<u8>]) -> Result<(), Fault> {
-        let [name, room] = operands else {
-            return Err(Fault::Form);
+        let (name, room, next) = match operands {
+            [name, room] => (name, room, None),
+            [name, room, more, fee] => (name, room, Some((more.as_slice(), fee.as_slice()))),
+            _ => return Err(Fault::Form),
         };
         let room = number_within(room.as_slice(), 0, MAX_ROOM)?;
-        let rates = BTreeMap::new(alloc);
-        insert_new(&mut self.consumers, name.clone()?, Consumer { room, rates })
+        let next = match next {
+            Some((more, fee)) => Some(tier_of(more, fee, MAX_ROOM - room)?),
+            None => None,
+        };
+        let consumer = Consumer {
+            room,
+            next,
+            rates: BTreeMap::new(alloc),
+        };
+        insert_new(&mut self.consumers, name.clone()?, consumer)
     }
 
     /// Adds what a unit of weight of a class costs at a consumer that a line before has named.
@@ -137,9 +151,10 @@ impl Problem {
         insert_new(&mut consumer.rates, class.clone()?, rate)
     }
 
-    /// The snapshot of the problem. Its key, its group and the one dead consumer have the empty name: no check looks at them.
+    /// The snapshot of the problem. Its key, its group and the one dead consumer have the empty name: no check looks at
+    /// them.
     ///
-    /// Nothing is pending for a consumer, so that its limit is its room.
+    /// Nothing is pending for a consumer, so that its limit is its room, and its soft limit that of its first tier.
     pub(crate) fn snapshot(self, alloc: Global) -> Result<Option<Snapshot>, AllocError> {
         let Problem {
             stranded,
@@ -184,10 +199,15 @@ fn live_of(
 ) -> Result<Vec<Live>, AllocError> {
     let mut live = Vec::new(alloc);
     for (name, consumer) in consumers {
+        let (more, tier) = match consumer.next {
+            Some((more, fee)) => (more, Some((consumer.room, fee))),
+            None => (0, None),
+        };
         live.push(Live {
             name: Name::new(name.clone()?),
-            limit: consumer.room,
+            limit: consumer.room.saturating_add(more),
             pending: 0,
+            tier,
         })?;
     }
     Ok(live)
@@ -208,6 +228,13 @@ fn rates_of(
         table.push((Name::new(class.clone()?), Rates::new(rates)))?;
     }
     Ok(table)
+}
+
+/// The room, which is at most this, and the fee of a second tier that two words write.
+fn tier_of(room: &[u8], fee: &[u8], most: u64) -> Result<(u64, u64), Fault> {
+    let room = number_within(room, 0, most)?;
+    let fee = number_within(fee, 0, MAX_FEE)?;
+    Ok((room, fee))
 }
 
 /// The id that a word spells.

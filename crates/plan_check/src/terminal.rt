@@ -58,8 +58,9 @@ impl Outline {
         Ok(())
     }
 
-    /// Adds an item whose number ends at this column: one more of an open array, or the first one of an array that begins. One may
-    /// begin where no open array has this column: at the first line, and behind another number of the same line.
+    /// Adds an item whose number ends at this column: one more of an open array, or the first one of an array that
+    /// begins. One may begin where no open array has this column: at the first line, and behind another number of the
+    /// same line.
     fn add_item(
         &mut self,
         alloc: Global,

@@ -1,5 +1,6 @@
 //! The words of a line, as they are or in double quotes, as redis-cli takes and prints them.
-ghost use Rattle.std.specs.Prelude.{◌≡◌, ◌≢◌, ◌++◌, ◌∷◌, ◌<◌, ℕ, List, [], Some, IsSome, IfSome, IfNone, IfOk, SomeIff, All};
+ghost use Rattle.std.specs.Prelude.{◌≡◌, ◌≢◌, ◌++◌, ◌∷◌, ◌<◌, ℕ, List, [], All};
+ghost use Rattle.std.specs.Prelude.{Some, IsSome, IfSome, IfNone, IfOk, SomeIff};
 ghost use Rattle.std.specs.Char.{digit_value, is_ascii_whitespace};
 ghost use Rattle.plan_check.specs.Words.{HasByte, HasQuoted, HasWord, escaped as escaped_by};
 
@@ -64,7 +65,8 @@ pub(crate) fn quoted_word(alloc: Global, text: &[u8]) -> Result<(Vec<u8>, &[u8])
     }
 }
 
-/// The byte at the front of a quoted text, and the bytes after its spelling. `None` at the closing quotes and at no byte.
+/// The byte at the front of a quoted text, and the bytes after its spelling. `None` at the closing quotes and at no
+/// byte.
 fn first_byte(text: &[u8]) -> Option<(u8, &[u8])>
     ensures found { IfSome result (λ read. HasByte text.now read.0 read.1.now) }
     ensures none { IfNone result ((byte : ℕ) (after : List ℕ) → HasByte text.now byte after → ⊥) }
@@ -113,7 +115,8 @@ fn is_blank(byte: u8) -> bool
 
 /// The bytes before the first `mark`, and those after it. `None` if there is no `mark`.
 pub(crate) fn split_once(bytes: &[u8], mark: u8) -> Option<(&[u8], &[u8])>
-    ensures found { IfSome result (λ parts. (bytes.now ≡ parts.0.now ++ mark ∷ parts.1.now) × All (λ byte. byte ≢ mark) parts.0.now) }
+    ensures found { IfSome result (λ parts.
+        (bytes.now ≡ parts.0.now ++ mark ∷ parts.1.now) × All (λ byte. byte ≢ mark) parts.0.now) }
     ensures none { IfNone result (All (λ byte. byte ≢ mark) bytes.now) }
 {
     let end = bytes.iter().position(|byte| *byte == mark)?;

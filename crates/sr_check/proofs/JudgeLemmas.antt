@@ -1,7 +1,7 @@
 -- What a plan and a shortage that were read are worth.
 use Rattle.std.proofs.Common.{◌≡◌, ℕ, ◌^◌, ◌<◌, Bool, List, ◌++◌, codes, length, sym, ap, ◌∙◌, subst}
 use Rattle.sr_transport.specs.Certificate.{IsShortage, places_of}
-use Rattle.sr_transport.specs.Problem.{Transport}
+use Rattle.sr_transport.specs.Problem.{Tiered}
 use Rattle.sr_transport.specs.Solved.{IsBest}
 use Rattle.sr_policy.specs.Problem.{problem_of}
 use Rattle.sr_policy.specs.Snapshot.{Shown, AreInOrder, ComesBefore}
@@ -24,7 +24,7 @@ plan-unread shown reply text done reason word small none answer applied shows e 
     none claimed.assign claimed.prices claimed.total claimed.read
 
 -- the plan that was read does not show itself right
-pub plan-unshown : (shown : Shown) (p : Transport) (reply text read costs : List ℕ) (n : ℕ) (done : Bool) (reason : Reason)
+pub plan-unshown : (shown : Shown) (p : Tiered) (reply text read costs : List ℕ) (n : ℕ) (done : Bool) (reason : Reason)
     → p ≡ problem_of shown → AreInOrder (λ a b. ComesBefore a.name b.name) shown.live
     → Begins reply (array_header 5 ++ bulk_string (plan_word done)) text → length text < 2 ^ 64
     → IsPlanText shown text read costs n → (IsBest p read costs n → ⊥) → IsVerified shown reply (says.Wrong reason)
@@ -37,7 +37,7 @@ plan-unshown shown p reply text read costs n done reason posed ordered word smal
     none (subst (λ m. IsBest p read costs m) (sym same.2) third)
 
 -- and it does
-pub plan-shown : (shown : Shown) (p : Transport) (reply text read costs : List ℕ) (n : ℕ) (done : Bool)
+pub plan-shown : (shown : Shown) (p : Tiered) (reply text read costs : List ℕ) (n : ℕ) (done : Bool)
     → p ≡ problem_of shown → Begins reply (array_header 5 ++ bulk_string (plan_word done)) text
     → IsPlanText shown text read costs n → IsBest p read costs n → IsVerified shown reply (says.Cheapest done n)
 plan-shown shown p reply text read costs n done posed word plan shows = record {
@@ -48,7 +48,7 @@ plan-shown shown p reply text read costs n done posed word plan shows = record {
 }
 
 -- no shortage was read
-pub shortage-unread : (shown : Shown) (p : Transport) (reply text : List ℕ) (reason : Reason) → p ≡ problem_of shown
+pub shortage-unread : (shown : Shown) (p : Tiered) (reply text : List ℕ) (reason : Reason) → p ≡ problem_of shown
     → Begins reply (array_header 4 ++ bulk_string (codes "none")) text → length text < 2 ^ 64
     → ((set : List ℕ) → IsShortage p set → IsShortageText shown text set → ⊥) → IsVerified shown reply (says.Wrong reason)
 shortage-unread shown p reply text reason posed word small none answer applied shows e =
@@ -56,7 +56,7 @@ shortage-unread shown p reply text reason posed word small none answer applied s
     none claimed.set (subst (λ q. IsShortage q claimed.set) (sym posed) claimed.shows) claimed.read
 
 -- the set that was read has places enough
-pub shortage-unshown : (shown : Shown) (p : Transport) (reply text read : List ℕ) (reason : Reason) → p ≡ problem_of shown
+pub shortage-unshown : (shown : Shown) (p : Tiered) (reply text read : List ℕ) (reason : Reason) → p ≡ problem_of shown
     → Begins reply (array_header 4 ++ bulk_string (codes "none")) text → length text < 2 ^ 64
     → ((set : List ℕ) → IsShortage p set → IsShortageText shown text set → read ≡ set) → (IsShortage p read → ⊥)
     → IsVerified shown reply (says.Wrong reason)
@@ -65,7 +65,7 @@ shortage-unshown shown p reply text read reason posed word small one none =
     is)) shows))
 
 -- and it has not
-pub shortage-shown : (shown : Shown) (p : Transport) (reply text read : List ℕ) (places : ℕ) → p ≡ problem_of shown
+pub shortage-shown : (shown : Shown) (p : Tiered) (reply text read : List ℕ) (places : ℕ) → p ≡ problem_of shown
     → Begins reply (array_header 4 ++ bulk_string (codes "none")) text
     → IsShortageText shown text read → IsShortage p read → places ≡ places_of p read
     → IsVerified shown reply (says.Impossible places)
@@ -73,5 +73,5 @@ shortage-shown shown p reply text read places posed word is shows count = record
   set = read;
   shows = subst (λ q. IsShortage q read) posed shows;
   spelled = shortage-spelled shown reply text read word is;
-  count = count ∙ ap (λ (q : Transport). places_of q read) posed;
+  count = count ∙ ap (λ (q : Tiered). places_of q read) posed;
 }

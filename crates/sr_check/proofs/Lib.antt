@@ -5,6 +5,7 @@ pub mod OrderLemmas
 pub mod MoveLemmas
 pub mod ChosenLemmas
 pub mod ListLemmas
+pub mod PriceLemmas
 pub mod PlanLemmas
 pub mod ShortageLemmas
 pub mod JudgeLemmas

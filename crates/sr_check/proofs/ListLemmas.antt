@@ -3,7 +3,7 @@ use Rattle.std.proofs.Common.{◌≡◌, ℕ, ◌+◌, ◌^◌, ◌<◌, ◌≤�
 use Rattle.std.specs.Prelude.{◌↔◌}
 use Rattle.std.specs.List.{All, flat_map}
 use Rattle.std.proofs.lemmas.List.{drop_all, drop_more, length-map}
-use Rattle.sr_transport.specs.Problem.{Transport}
+use Rattle.sr_transport.specs.Problem.{Tiered}
 use Rattle.sr_transport.specs.Certificate.{is_reached}
 use Rattle.sr_policy.specs.declared.live.Live.{Live}
 use Rattle.sr_policy.specs.Bounds.{most_limit}
@@ -89,14 +89,14 @@ count_of f xs = sym (length-map xs f)
 
 -- ---- the rooms of the consumers that are reached
 
-abbrev pub rooms_from : Transport → List ℕ → ℕ → List Live → List Answer
+abbrev pub rooms_from : Tiered → List ℕ → ℕ → List Live → List Answer
 rooms_from p set n live = map share_answer (reached_from p set n (drop n live))
 
 next_consumer : (live : List Live) (n : ℕ) (consumer : Live) → n < length live → consumer ≡ get_or live n consumer
     → drop n live ≡ consumer ∷ drop (n + 1) live
 next_consumer live n consumer lt is = drop_more live n consumer lt ∙ ap (λ (first : Live). first ∷ drop (n + 1) live) (sym is)
 
-pub reached_next : (p : Transport) (set : List ℕ) (n : ℕ) (live : List Live) (consumer : Live) → n < length live
+pub reached_next : (p : Tiered) (set : List ℕ) (n : ℕ) (live : List Live) (consumer : Live) → n < length live
     → consumer ≡ get_or live n consumer → is_reached p set n ≡ true
     → reached_from p set n (drop n live) ≡ (consumer.name, room_at consumer) ∷ reached_from p set (n + 1) (drop (n + 1) live)
 reached_next p set n live consumer lt is reached =
@@ -104,7 +104,7 @@ reached_next p set n live consumer lt is reached =
     1) (drop (n + 1) live) in
     ap (reached_from p set n) (next_consumer live n consumer lt is) ∙ ap more reached
 
-pub unreached_next : (p : Transport) (set : List ℕ) (n : ℕ) (live : List Live) (consumer : Live) → n < length live
+pub unreached_next : (p : Tiered) (set : List ℕ) (n : ℕ) (live : List Live) (consumer : Live) → n < length live
     → consumer ≡ get_or live n consumer → is_reached p set n ≡ false
     → reached_from p set n (drop n live) ≡ reached_from p set (n + 1) (drop (n + 1) live)
 unreached_next p set n live consumer lt is unreached =
@@ -112,15 +112,15 @@ unreached_next p set n live consumer lt is unreached =
     1) (drop (n + 1) live) in
     ap (reached_from p set n) (next_consumer live n consumer lt is) ∙ ap more unreached
 
-pub reached_none : (p : Transport) (set : List ℕ) (n : ℕ) (live : List Live) → length live ≤ n
+pub reached_none : (p : Tiered) (set : List ℕ) (n : ℕ) (live : List Live) → length live ≤ n
     → reached_from p set n (drop n live) ≡ []
 reached_none p set n live past = ap (reached_from p set n) (drop_all n live past)
 
--- a problem has a room for each live consumer, and it is small
-pub one_room : (shown : Shown) (p : Transport) (live : List Live) → p ≡ problem_of shown → live ≡ shown.live
-    → length live ≡ length p.rooms
+-- a problem has the live consumers, and the room of each is small
+pub one_room : (shown : Shown) (p : Tiered) (live : List Live) → p ≡ problem_of shown → live ≡ shown.live
+    → length live ≡ p.takers
 one_room shown p live posed same =
-    ap length same ∙ sym (length-map shown.live room_at) ∙ sym (ap (λ (q : Transport). length q.rooms) posed)
+    ap length same ∙ sym (ap (λ (q : Tiered). q.takers) posed)
 
 pub room_fits : (shown live : List Live) (n : ℕ) (consumer : Live) (room : ℕ) → live ≡ shown → n < length live
     → consumer ≡ get_or live n consumer → All (λ c. c.limit ≤ most_limit) shown → room ≡ room_at consumer → room < 2 ^ 63
@@ -130,7 +130,7 @@ room_fits shown live n consumer room same lt is all roomy =
     omega (arith, small, roomy)
 
 -- how many are reached, counted one by one
-pub counted_next : (p : Transport) (set : List ℕ) (n count : ℕ) (live : List Live) (consumer : Live) (all : List (Text × ℕ))
+pub counted_next : (p : Tiered) (set : List ℕ) (n count : ℕ) (live : List Live) (consumer : Live) (all : List (Text × ℕ))
     → n < length live → consumer ≡ get_or live n consumer → is_reached p set n ≡ true
     → count + length (reached_from p set n (drop n live)) ≡ length all
     → count + 1 + length (reached_from p set (n + 1) (drop (n + 1) live)) ≡ length all
@@ -138,7 +138,7 @@ counted_next p set n count live consumer all lt is reached sum =
     let e = ap length (reached_next p set n live consumer lt is reached) in
     omega (arith, e, sum)
 
-pub passed_next : (p : Transport) (set : List ℕ) (n count : ℕ) (live : List Live) (consumer : Live) (all : List (Text × ℕ))
+pub passed_next : (p : Tiered) (set : List ℕ) (n count : ℕ) (live : List Live) (consumer : Live) (all : List (Text × ℕ))
     → n < length live → consumer ≡ get_or live n consumer → is_reached p set n ≡ false
     → count + length (reached_from p set n (drop n live)) ≡ length all
     → count + length (reached_from p set (n + 1) (drop (n + 1) live)) ≡ length all
@@ -146,7 +146,7 @@ passed_next p set n count live consumer all lt is unreached sum =
     let e = ap length (unreached_next p set n live consumer lt is unreached) in
     omega (arith, e, sum)
 
-pub room_read : (p : Transport) (set : List ℕ) (n : ℕ) (live : List Live) (consumer : Live) (all : List Answer) (start left
+pub room_read : (p : Tiered) (set : List ℕ) (n : ℕ) (live : List Live) (consumer : Live) (all : List Answer) (start left
     next : List ℕ) → n < length live → consumer ≡ get_or live n consumer → is_reached p set n ≡ true
     → AreLeft all start (rooms_from p set n live) left → Begins left (share_answer (consumer.name, room_at consumer)) next
     → AreLeft all start (rooms_from p set (n + 1) live) next
@@ -155,7 +155,7 @@ room_read p set n live consumer all start left next lt is reached are first =
     AreLeft-more all (rooms_from p set (n + 1) live) start left next (share_answer (consumer.name, room_at consumer)) (subst (λ
     l. AreLeft all start l left) e are) first
 
-pub room_stuck : (p : Transport) (set : List ℕ) (n : ℕ) (live : List Live) (consumer : Live) (all : List Answer) (start left
+pub room_stuck : (p : Tiered) (set : List ℕ) (n : ℕ) (live : List Live) (consumer : Live) (all : List Answer) (start left
     after : List ℕ) → n < length live → consumer ≡ get_or live n consumer → is_reached p set n ≡ true
     → AreLeft all start (rooms_from p set n live) left → ((others : List ℕ)
     → Begins left (share_answer (consumer.name, room_at consumer)) others → ⊥) → Begins start (flat all) after → ⊥
@@ -164,14 +164,14 @@ room_stuck p set n live consumer all start left after lt is reached are none beg
     AreLeft-stuck all (rooms_from p set (n + 1) live) start left after (share_answer (consumer.name, room_at consumer)) (subst
     (λ l. AreLeft all start l left) e are) none begins
 
-pub room_passed : (p : Transport) (set : List ℕ) (n : ℕ) (live : List Live) (consumer : Live) (all : List Answer) (start left :
+pub room_passed : (p : Tiered) (set : List ℕ) (n : ℕ) (live : List Live) (consumer : Live) (all : List Answer) (start left :
     List ℕ) → n < length live → consumer ≡ get_or live n consumer → is_reached p set n ≡ false
     → AreLeft all start (rooms_from p set n live) left → AreLeft all start (rooms_from p set (n + 1) live) left
 room_passed p set n live consumer all start left lt is unreached are =
     AreLeft-same all (rooms_from p set n live) (rooms_from p set (n + 1) live) start left (ap (map share_answer)
     (unreached_next p set n live consumer lt is unreached)) are
 
-pub rooms_read : (p : Transport) (set : List ℕ) (n : ℕ) (live : List Live) (all : List Answer) (start left : List ℕ)
+pub rooms_read : (p : Tiered) (set : List ℕ) (n : ℕ) (live : List Live) (all : List Answer) (start left : List ℕ)
     → length live ≤ n → AreLeft all start (rooms_from p set n live) left → Begins start (flat all) left
 rooms_read p set n live all start left past are =
     AreLeft-all all start left (AreLeft-same all (rooms_from p set n live) [] start left (ap (map share_answer) (reached_none p

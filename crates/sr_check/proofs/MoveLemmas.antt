@@ -1,14 +1,14 @@
--- The moves and the prices of a plan are there in one way.
-use Rattle.std.proofs.Common.{◌≡◌, ℕ, ◌^◌, ◌<◌, pos, List, ◌++◌, length, refl, sym, subst}
+-- The moves of a plan are there in one way.
+use Rattle.std.proofs.Common.{◌≡◌, ℕ, ◌^◌, ◌<◌, List, ◌++◌, length, refl, sym, subst}
 use Rattle.sr_policy.specs.declared.live.Live.{Live}
 use Rattle.sr_policy.specs.declared.stranded.Stranded.{Stranded}
 use Rattle.sr_policy.specs.Rules.{Text}
 use Rattle.sr_policy.specs.Snapshot.{AreInOrder, ComesBefore}
-use Rattle.sr_resp.specs.Reply.{Answer, Int, Bulk, array_header, bulk_string, integer, reply_text}
+use Rattle.sr_resp.specs.Reply.{Answer, Bulk, array_header, bulk_string, reply_text}
 use Rattle.sr_resp.specs.steps.Decoding.{HasPart}
 use Rattle.sr_check.specs.Answer.{name_at}
 use Rattle.sr_check.specs.PlanReply.{id_answer}
-use Rattle.sr_check.specs.steps.Read.{Begins, HasMove, HasShare}
+use Rattle.sr_check.specs.steps.Read.{Begins, HasMove}
 use Rattle.sr_check.proofs.ReadLemmas.{HasPart-one}
 use Rattle.sr_check.proofs.BeginsLemmas.{Begins-append, Begins-rest, Begins-front, Begins-back, Begins-part, part-Begins}
 use Rattle.sr_check.proofs.AreReadLemmas.{IsOne}
@@ -24,24 +24,11 @@ last_bulk text x y ps a b small short first second =
     (bulk_string a) refl)) (part-Begins between y (Bulk b) short rest) in
     (cc same.0, same.1)
 
-last_integer : (text x y : List ℕ) (ps : Answer) (m n : ℕ) → m < 2 ^ 63 → n < 2 ^ 63 → Begins text (ps ++ integer (pos m)) x
-    → Begins text (ps ++ integer (pos n)) y → (m ≡ n) × (x ≡ y)
-last_integer text x y ps m n small short first second =
-    let between = reply_text (integer (pos m)) ++ x in
-    let rest = Begins-rest text between y ps (integer (pos n)) (Begins-front text x ps (integer (pos m)) first) second in
-    let same = HasPart-one between (Int (pos m)) (Int (pos n)) x y (part-Begins between x (Int (pos m)) small (Begins-back
-    between x (integer (pos m)) refl)) (part-Begins between y (Int (pos n)) short rest) in
-    (cc same.0, same.1)
-
 pub HasMove-one : (live : List Live) → AreInOrder (λ a b. ComesBefore a.name b.name) live → IsOne (HasMove live)
 HasMove-one live ordered entry text c d x y a b =
     let same = last_bulk text x y (array_header 2 ++ id_answer entry.id) (name_at live c) (name_at live d) a.named b.named
     a.begins b.begins in
     (one_consumer live ordered c d a.is_live b.is_live same.0, same.1)
-
-pub HasShare-one : IsOne HasShare
-HasShare-one consumer text m n x y a b = last_integer text x y (array_header 2 ++ bulk_string consumer.name) m n a.small
-    b.small a.begins b.begins
 
 -- ---- a move is read part by part
 
@@ -90,37 +77,4 @@ HasMove-read live entry text items name string after c header id is lt named =
       is_live = lt;
       named = there.fits;
       begins = Begins-append text items after (array_header 2) (id_answer entry.id ++ bulk_string (name_at live c)) header last;
-    }
-
--- ---- a price likewise
-
-pub no_share-header : (consumer : Live) (text : List ℕ) (n : ℕ) (after : List ℕ) → ((x : List ℕ)
-    → Begins text (array_header 2) x → ⊥) → HasShare consumer text n after → ⊥
-no_share-header consumer text n after none has =
-    none _ (Begins-front text after (array_header 2) (bulk_string consumer.name ++ integer (pos n)) has.begins)
-
-pub no_share-name : (consumer : Live) (text items : List ℕ) (n : ℕ) (after : List ℕ) → Begins text (array_header 2) items
-    → ((x : List ℕ) → Begins items (bulk_string consumer.name) x → ⊥) → HasShare consumer text n after → ⊥
-no_share-name consumer text items n after header none has =
-    let rest = Begins-rest text items after (array_header 2) (bulk_string consumer.name ++ integer (pos n)) header has.begins in
-    none _ (Begins-front items after (bulk_string consumer.name) (integer (pos n)) rest)
-
-pub share-price : (consumer : Live) (text items price : List ℕ) (n : ℕ) (after : List ℕ) → Begins text (array_header 2) items
-    → Begins items (bulk_string consumer.name) price
-    → HasShare consumer text n after → HasPart price (Int (pos n)) after
-share-price consumer text items price n after header name has =
-    let rest = Begins-rest text items after (array_header 2) (bulk_string consumer.name ++ integer (pos n)) header has.begins in
-    part-Begins price after (Int (pos n)) has.small (Begins-rest items price after (bulk_string consumer.name) (integer (pos
-    n)) name rest)
-
-pub HasShare-read : (consumer : Live) (text items price : List ℕ) (n : ℕ) (after : List ℕ)
-    → Begins text (array_header 2) items → Begins items (bulk_string consumer.name) price
-    → HasPart price (Int (pos n)) after → HasShare consumer text n after
-HasShare-read consumer text items price n after header name is =
-    let last = Begins-append items price after (bulk_string consumer.name) (integer (pos n)) name (Begins-part price after (Int
-    (pos n)) is) in
-    record {
-      small = is.fits;
-      begins = Begins-append text items after (array_header 2) (bulk_string consumer.name ++ integer
-          (pos n)) header last;
     }

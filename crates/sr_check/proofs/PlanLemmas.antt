@@ -1,8 +1,10 @@
 -- A plan's text: what is read of it, and what it spells.
-use Rattle.std.proofs.Common.{◌≡◌, ℕ, suc, ◌^◌, ◌<◌, pos, Bool, true, false, List, [], ◌∷◌, ◌++◌, codes, length, map, refl, sym, ◌∙◌, subst, arith}
-use Rattle.std.specs.List.{All, zip}
-use Rattle.std.proofs.lemmas.List.{append-nil, length-map}
-use Rattle.std.proofs.lemmas.List.Elements.{All-from_get_or}
+use Rattle.std.proofs.Common.{◌≡◌, ℕ, suc, ◌^◌, ◌<◌, pos, Bool, true, false, List, [], ◌∷◌, ◌++◌, codes, length, map, take, drop, refl, sym, ap, ◌∙◌, subst, arith}
+use Rattle.std.specs.List.{All, flat_map, sum_by, zip}
+use Rattle.std.proofs.lemmas.List.{append-nil, length-drop, length-take-le, take-append-drop}
+use Rattle.std.proofs.lemmas.List.Elements.{All-drop, All-from_get_or, All-take}
+use Rattle.std.proofs.lemmas.List.Sums.{sum_by-cons}
+use Rattle.std.proofs.Math.Seq.{take-append_seam, drop-append_seam}
 use Rattle.sr_ids.specs.declared.id.Id.{Id}
 use Rattle.sr_ids.specs.Spelling.{spelling}
 use Rattle.sr_transport.specs.Assignment.{IsAssignment}
@@ -10,19 +12,21 @@ use Rattle.sr_transport.specs.Certificate.{places_of}
 use Rattle.sr_transport.specs.Solved.{IsBest}
 use Rattle.sr_policy.specs.declared.live.Live.{Live}
 use Rattle.sr_policy.specs.declared.stranded.Stranded.{Stranded}
-use Rattle.sr_policy.specs.Problem.{problem_of, room_at}
+use Rattle.sr_policy.specs.Problem.{problem_of, tier_count}
+use Rattle.sr_policy.proofs.ProblemLemmas.{length-tiers_from}
 use Rattle.sr_policy.specs.Rules.{Text}
 use Rattle.sr_policy.specs.Snapshot.{Shown, AreInOrder, ComesBefore}
 use Rattle.sr_resp.specs.Reply.{Answer as Parts, Int, Bulk, Array, array_header, array_of, bulk_string, integer, reply_text}
 use Rattle.sr_resp.specs.steps.Decoding.{HasPart}
-use Rattle.sr_check.specs.Answer.{Answer, AreTold, IsShown, best, short, name_at, moves_of}
-use Rattle.sr_check.specs.PlanReply.{move_answer, share_answer, plan_word, verdict_answer}
-use Rattle.sr_check.specs.steps.Read.{AreRead, Begins, HasArray, HasMove, HasShare, IsPlanText, gone_ids, ids_of, rooms_answer}
+use Rattle.sr_check.specs.Answer.{Answer, AreTold, IsShown, best, short, name_at, moves_of, prices_by}
+use Rattle.sr_check.specs.PlanReply.{move_answer, price_answer, plan_word, verdict_answer}
+use Rattle.sr_check.specs.steps.Read.{AreRead, ArePrices, Begins, HasArray, HasMove, HasPrices, IsPlanText, gone_ids, ids_of, rooms_answer}
 use Rattle.sr_check.proofs.ReadLemmas.{HasPart-one}
 use Rattle.sr_check.proofs.BeginsLemmas.{Begins-append, Begins-front, Begins-back, Begins-none, none-Begins, Begins-part, part-Begins, Begins-shorter, Begins-cut, Begins-whole, Begins-last, bulk_within}
 use Rattle.sr_check.proofs.AreReadLemmas.{HasArray-one, AreRead-length}
 use Rattle.sr_check.proofs.ListLemmas.{flat, array-begins}
-use Rattle.sr_check.proofs.MoveLemmas.{HasMove-one, HasShare-one}
+use Rattle.sr_check.proofs.MoveLemmas.{HasMove-one}
+use Rattle.sr_check.proofs.PriceLemmas.{ArePriced, ArePrices-one}
 
 -- ---- moves
 
@@ -88,39 +92,86 @@ moves-read live (entry ∷ stranded) text (c ∷ assign) after small same all is
 
 -- ---- prices
 
-abbrev pub shares_at : List Live → List ℕ → List (Text × ℕ)
-shares_at live prices = zip (map (λ consumer. consumer.name) live) prices
+-- a consumer takes as many of them as it has tiers
+prices_by-own : (consumer : Live) (live : List Live) (own rest : List ℕ) → length own ≡ tier_count consumer
+    → prices_by (consumer ∷ live) (own ++ rest) ≡ (consumer.name, own) ∷ prices_by live rest
+prices_by-own consumer live own rest each =
+    let n = length own in
+    let front : take n (own ++ rest) ≡ own = take-append_seam own rest in
+    let back : drop n (own ++ rest) ≡ rest = drop-append_seam own rest in
+    let here : prices_by (consumer ∷ live) (own ++ rest)
+    ≡ (consumer.name, take n (own ++ rest)) ∷ prices_by live (drop n (own ++ rest)) =
+    ap (λ (k : ℕ). (consumer.name, take k (own ++ rest)) ∷ prices_by live (drop k (own ++ rest))) (sym each) in
+    here ∙ ap (λ (t : List ℕ). (consumer.name, t) ∷ prices_by live (drop n (own ++ rest))) front
+    ∙ ap (λ (t : List ℕ). (consumer.name, own) ∷ prices_by live t) back
 
-shares-spelled : (live : List Live) (text prices after : List ℕ) → AreRead HasShare live text prices after
-    → Begins text (flat (map share_answer (shares_at live prices))) after
-shares-spelled [] text [] after read = Begins-none text after read
-shares-spelled [] text (n ∷ prices) after read = absurd read
-shares-spelled (consumer ∷ live) text [] after read = absurd read
-shares-spelled (consumer ∷ live) text (n ∷ prices) after (between, first, others) =
-    Begins-append text between after (share_answer (consumer.name, n)) (flat (map share_answer (shares_at live prices)))
-    first.begins (shares-spelled live between prices after others)
+shares-spelled : (live : List Live) (text after : List ℕ) (grouped : List (List ℕ))
+    → AreRead HasPrices live text grouped after
+    → Begins text (flat (map price_answer (prices_by live (flat_map (λ own. own) grouped)))) after
+shares-spelled [] text after [] read = Begins-none text after read
+shares-spelled [] text after (own ∷ grouped) read = absurd read
+shares-spelled (consumer ∷ live) text after [] read = absurd read
+shares-spelled (consumer ∷ live) text after (own ∷ grouped) (between, first, others) =
+    let rest = flat_map (λ (o : List ℕ). o) grouped in
+    subst (λ (by : List (Text × List ℕ)). Begins text (flat (map price_answer by)) after)
+    (sym (prices_by-own consumer live own rest first.each))
+    (Begins-append text between after (price_answer (consumer.name, own)) (flat (map price_answer (prices_by live rest)))
+    first.begins (shares-spelled live between after grouped others))
 
-shares-count : (live : List Live) (prices : List ℕ) → length prices ≡ length live
-    → length live ≡ length (map share_answer (shares_at live prices))
-shares-count [] prices same = refl
-shares-count (consumer ∷ live) [] same = absurd (omega arith)
-shares-count (consumer ∷ live) (n ∷ prices) same = let e = shares-count live prices (omega arith) in omega arith
+shares-count : (live : List Live) (prices : List ℕ) → length live ≡ length (map price_answer (prices_by live prices))
+shares-count [] prices = refl
+shares-count (consumer ∷ live) prices =
+    let e = shares-count live (drop (tier_count consumer) prices) in omega arith
 
-shares-read : (live : List Live) (text prices after : List ℕ) → length prices ≡ length live → All (λ n. n < 2 ^ 63) prices
-    → Begins text (flat (map share_answer (shares_at live prices))) after → AreRead HasShare live text prices after
-shares-read [] text [] after same all is = none-Begins text after is
-shares-read [] text (n ∷ prices) after same all is = absurd (omega arith)
-shares-read (consumer ∷ live) text [] after same all is = absurd (omega arith)
-shares-read (consumer ∷ live) text (n ∷ prices) after same all is =
-    let items = flat (map share_answer (shares_at live prices)) in
-    let between = reply_text items ++ after in
-    let first = Begins-front text after (share_answer (consumer.name, n)) items is in
-    let has : HasShare consumer text n between = record { small = All-first (λ m. m < 2 ^ 63) n prices all; begins = first } in (
-      between,
-      has,
-      shares-read live between prices after (omega arith) (All-rest (λ m. m < 2 ^ 63) n prices all) (Begins-back
-          between after items refl),
-    )
+-- the array of all prices
+prices-spelled : (live : List Live) (text prices after : List ℕ) → ArePrices live text prices after
+    → Begins text (array_of (map price_answer (prices_by live prices))) after
+prices-spelled live text prices after are =
+    let items : Begins are.shares.items (flat (map price_answer (prices_by live prices))) after =
+    subst (λ (ns : List ℕ). Begins are.shares.items (flat (map price_answer (prices_by live ns))) after) (sym are.in_turn)
+    (shares-spelled live are.shares.items after are.grouped are.shares.read) in
+    array-begins (map price_answer (prices_by live prices)) (length live) text are.shares.items after
+    (shares-count live prices) are.shares.header items
+
+shares-read : (live : List Live) (text prices after : List ℕ) → length prices ≡ sum_by tier_count live → AreTold prices
+    → Begins text (flat (map price_answer (prices_by live prices))) after → ArePriced live text prices after
+shares-read [] text [] after same told is = record { grouped = []; read = none-Begins text after is; in_turn = refl }
+shares-read [] text (n ∷ prices) after same told is = absurd (omega arith)
+shares-read (consumer ∷ live) text prices after same told is =
+    let n = tier_count consumer in
+    let sum = sum_by-cons tier_count consumer live in
+    let own = take n prices in
+    let rest = drop n prices in
+    let each : length own ≡ n = length-take-le n prices (omega (arith, same, sum)) in
+    let cut = Begins-cut text after (price_answer (consumer.name, own)) (flat (map price_answer (prices_by live rest))) is in
+    let has : HasPrices consumer text own cut.0 = record {
+      each = each;
+      told = All-take (λ (m : ℕ). m < 2 ^ 63) n prices told;
+      begins = cut.1;
+    } in
+    let others = shares-read live cut.0 rest after (omega (arith, same, sum, length-drop n prices))
+    (All-drop (λ (m : ℕ). m < 2 ^ 63) n prices told) cut.2 in
+    record {
+      grouped = own ∷ others.grouped;
+      read = (cut.0, has, others.read);
+      in_turn = sym (take-append-drop n prices) ∙ ap (λ (t : List ℕ). own ++ t) others.in_turn;
+    }
+
+prices-read : (live : List Live) (text prices after : List ℕ) → length prices ≡ sum_by tier_count live → AreTold prices
+    → Begins text (array_of (map price_answer (prices_by live prices))) after → ArePrices live text prices after
+prices-read live text prices after same told is =
+    let items = map price_answer (prices_by live prices) in
+    let cut = Begins-cut text after (array_header (length items)) (flat items) is in
+    let priced = shares-read live cut.0 prices after same told cut.2 in
+    record {
+      grouped = priced.grouped;
+      shares = record {
+        items = cut.0;
+        header = subst (λ n. Begins text (array_header n) cut.0) (sym (shares-count live prices)) cut.1;
+        read = priced.read;
+      };
+      in_turn = priced.in_turn;
+    }
 
 -- ---- what is read of a plan is there in one way
 
@@ -134,20 +185,20 @@ plan-moves shown text moves assign prices n total cost plan =
 pub plan-shares : (shown : Shown) → AreInOrder (λ a b. ComesBefore a.name b.name) shown.live
     → (text moves shares read assign prices : List ℕ) (n total : ℕ) → HasPart text (Int (pos n)) moves
     → HasArray (HasMove shown.live) shown.stranded moves read shares → (plan : IsPlanText shown text assign prices total)
-    → (read ≡ assign) × HasArray HasShare shown.live shares prices plan.gone_at
+    → (read ≡ assign) × ArePrices shown.live shares prices plan.gone_at
 plan-shares shown ordered text moves shares read assign prices n total cost has plan =
     let there = plan-moves shown text moves assign prices n total cost plan in
     let same = HasArray-one (HasMove shown.live) (HasMove-one shown.live ordered) shown.stranded moves read assign shares
     plan.prices_at has there.1 in
-    (same.0, subst (λ t. HasArray HasShare shown.live t prices plan.gone_at) (sym same.1) plan.shares)
+    (same.0, subst (λ t. ArePrices shown.live t prices plan.gone_at) (sym same.1) plan.shares)
 
 pub plan-gone : (shown : Shown) → AreInOrder (λ a b. ComesBefore a.name b.name) shown.live
     → (text moves shares gone read costs assign prices : List ℕ) (n total : ℕ) → HasPart text (Int (pos n)) moves
-    → HasArray (HasMove shown.live) shown.stranded moves read shares → HasArray HasShare shown.live shares costs gone
+    → HasArray (HasMove shown.live) shown.stranded moves read shares → ArePrices shown.live shares costs gone
     → (plan : IsPlanText shown text assign prices total) → (costs ≡ prices) × Begins gone (gone_ids shown.gone) []
 plan-gone shown ordered text moves shares gone read costs assign prices n total cost has likewise plan =
     let there = plan-shares shown ordered text moves shares read assign prices n total cost has plan in
-    let same = HasArray-one HasShare HasShare-one shown.live shares costs prices gone plan.gone_at likewise there.1 in
+    let same = ArePrices-one shown.live shares costs prices gone plan.gone_at likewise there.1 in
     (same.0, subst (λ t. Begins t (gone_ids shown.gone) []) (sym same.1) plan.gone)
 
 pub one_plan : (shown : Shown) → AreInOrder (λ a b. ComesBefore a.name b.name) shown.live
@@ -168,9 +219,9 @@ moves-as live other stranded entries text assign after e f has =
     subst (λ l. HasArray (HasMove l) entries text assign after) (sym e) (subst (λ s. HasArray (HasMove live) s text assign
     after) (sym f) has)
 
-pub shares-as : (live other : List Live) (text prices after : List ℕ) → other ≡ live
-    → HasArray HasShare live text prices after → HasArray HasShare other text prices after
-shares-as live other text prices after e has = subst (λ l. HasArray HasShare l text prices after) (sym e) has
+pub shares-as : (live other : List Live) (text prices after : List ℕ) → other ≡ live → ArePrices live text prices after
+    → ArePrices other text prices after
+shares-as live other text prices after e has = subst (λ l. ArePrices l text prices after) (sym e) has
 
 pub gone-as : (gone other : List (Id × Text)) (text after : List ℕ) → other ≡ gone → Begins text (gone_ids gone) after
     → Begins text (gone_ids other) after
@@ -181,7 +232,7 @@ gone-as gone other text after e is = subst (λ l. Begins text (gone_ids l) after
 -- what comes after the word
 abbrev pub after_plan_word : Shown → List ℕ → List ℕ → ℕ → Parts
 after_plan_word shown assign prices total =
-    integer (pos total) ++ (array_of (map move_answer (moves_of shown assign)) ++ (array_of (map share_answer (shares_at
+    integer (pos total) ++ (array_of (map move_answer (moves_of shown assign)) ++ (array_of (map price_answer (prices_by
     shown.live prices)) ++ (gone_ids shown.gone ++ [])))
 
 pub plan-spelled : (shown : Shown) (reply text assign prices : List ℕ) (total : ℕ) (done : Bool)
@@ -189,17 +240,13 @@ pub plan-spelled : (shown : Shown) (reply text assign prices : List ℕ) (total 
     → reply ≡ reply_text (verdict_answer shown (best assign prices total) done)
 plan-spelled shown reply text assign prices total done word plan =
     let moves = array_of (map move_answer (moves_of shown assign)) in
-    let shares = array_of (map share_answer (shares_at shown.live prices)) in
+    let shares = array_of (map price_answer (prices_by shown.live prices)) in
     let a = array-begins (map move_answer (moves_of shown assign)) (length shown.stranded) plan.moves_at plan.moves.items
     plan.prices_at
     (moves-count shown.live shown.stranded assign (AreRead-length (HasMove shown.live) shown.stranded plan.moves.items assign
     plan.prices_at plan.moves.read)) plan.moves.header
     (moves-spelled shown.live shown.stranded plan.moves.items assign plan.prices_at plan.moves.read) in
-    let b = array-begins (map share_answer (shares_at shown.live prices)) (length shown.live) plan.prices_at plan.shares.items
-    plan.gone_at
-    (shares-count shown.live prices (AreRead-length HasShare shown.live plan.shares.items prices plan.gone_at
-    plan.shares.read)) plan.shares.header
-    (shares-spelled shown.live plan.shares.items prices plan.gone_at plan.shares.read) in
+    let b = prices-spelled shown.live plan.prices_at prices plan.gone_at plan.shares in
     let end = Begins-append plan.gone_at [] [] (gone_ids shown.gone) [] plan.gone (Begins-none [] [] refl) in
     let last = Begins-append plan.prices_at plan.gone_at [] shares (gone_ids shown.gone ++ []) b end in
     let middle = Begins-append plan.moves_at plan.prices_at [] moves (shares ++ (gone_ids shown.gone ++ [])) a last in
@@ -213,11 +260,7 @@ plan-spelled shown reply text assign prices total done word plan =
 consumers-live : (shown : Shown) (assign : List ℕ) → IsAssignment (problem_of shown) assign
     → All (λ c. c < length shown.live) assign
 consumers-live shown assign assignment =
-    All-from_get_or (λ c. c < length shown.live) assign 0 (λ i lt. omega (
-      arith,
-      (assignment.placement.allowed i lt).0,
-      length-map shown.live room_at,
-    ))
+    All-from_get_or (λ c. c < length shown.live) assign 0 (λ i lt. (assignment.placement.allowed i lt).0)
 
 -- and a right answer's reply is read
 best-read : (shown : Shown) (text assign prices : List ℕ) (total : ℕ) → length text < 2 ^ 64
@@ -225,16 +268,14 @@ best-read : (shown : Shown) (text assign prices : List ℕ) (total : ℕ) → le
     → Begins text (after_plan_word shown assign prices total) [] → IsPlanText shown text assign prices total
 best-read shown text assign prices total small shows told is =
     let moved = map move_answer (moves_of shown assign) in
-    let priced = map share_answer (shares_at shown.live prices) in
+    let priced = map price_answer (prices_by shown.live prices) in
     let gone = gone_ids shown.gone ++ [] in
     let every = shows.assignment.every in
-    let each = shows.shown.one_each in
-    let many : length prices ≡ length shown.live = each ∙ length-map shown.live room_at in
+    let many : length prices ≡ sum_by tier_count shown.live = shows.shown.one_each ∙ length-tiers_from 0 shown.live in
     let a = Begins-cut text [] (integer (pos total)) (array_of moved ++ (array_of priced ++ gone)) is in
     let b = Begins-cut a.0 [] (array_of moved) (array_of priced ++ gone) a.2 in
     let d = Begins-cut b.0 [] (array_of priced) gone b.2 in
     let e = Begins-cut a.0 b.0 (array_header (length moved)) (flat moved) b.1 in
-    let f = Begins-cut b.0 d.0 (array_header (length priced)) (flat priced) d.1 in
     let shorter = Begins-shorter text a.0 (integer (pos total)) a.1 in
     let back = Begins-shorter a.0 e.0 (array_header (length moved)) e.1 in
     record {
@@ -248,11 +289,7 @@ best-read shown text assign prices total small shows told is =
         read = moves-read shown.live shown.stranded e.0 assign b.0 (omega (arith, small, shorter, back)) every (consumers-live
             shown assign shows.assignment) e.2;
       };
-      shares = record {
-        items = f.0;
-        header = subst (λ n. Begins b.0 (array_header n) f.0) (sym (shares-count shown.live prices many)) f.1;
-        read = shares-read shown.live f.0 prices d.0 many told f.2;
-      };
+      shares = prices-read shown.live b.0 prices d.0 many told d.1;
       gone = Begins-last d.0 (gone_ids shown.gone) d.2;
     }
 

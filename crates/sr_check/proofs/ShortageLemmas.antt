@@ -3,7 +3,7 @@ use Rattle.std.proofs.Common.{◌≡◌, ℕ, ◌^◌, ◌<◌, ◌≤◌, pos, 
 use Rattle.std.specs.List.{All}
 use Rattle.std.proofs.lemmas.List.{append-nil, length-map, length-append}
 use Rattle.sr_transport.specs.Certificate.{IsShortage, places_of}
-use Rattle.sr_transport.specs.Problem.{Transport}
+use Rattle.sr_transport.specs.Problem.{Tiered}
 use Rattle.sr_policy.specs.declared.live.Live.{Live}
 use Rattle.sr_policy.specs.declared.stranded.Stranded.{Stranded}
 use Rattle.sr_policy.specs.Problem.{problem_of}
@@ -36,7 +36,7 @@ array-bulk text n after string others is has =
     absurd (omega (arith, marks))
 
 -- after the ids come the rooms, which are an array
-rooms-end : (p : Transport) (set : List ℕ) (live : List Live) (text after string others : List ℕ)
+rooms-end : (p : Tiered) (set : List ℕ) (live : List Live) (text after string others : List ℕ)
     → Begins text (rooms_answer p set live) after → HasPart text (Bulk string) others → ⊥
 rooms-end p set live text after string others is has =
     let rooms = map share_answer (reached_from p set 0 live) in
@@ -44,43 +44,43 @@ rooms-end p set live text after string others is has =
     array-bulk text (length rooms) cut.0 string others cut.1 has
 
 -- a shortage's text has the ids of its set
-pub HasChosen-shortage : (shown : Shown) (p : Transport) (text set : List ℕ) → p ≡ problem_of shown → IsShortage p set
+pub HasChosen-shortage : (shown : Shown) (p : Tiered) (text set : List ℕ) → p ≡ problem_of shown → IsShortage p set
     → (is : IsShortageText shown text set) → HasChosen shown.stranded is.ids_at set is.rooms_at
 HasChosen-shortage shown p text set posed shows is = record {
   rising = shows.rising;
-  within = λ k d lt. omega (arith, shows.entries k d lt, ap (λ (q : Transport). q.entries) posed);
+  within = λ k d lt. omega (arith, shows.entries k d lt, ap (λ (q : Tiered). q.entries) posed);
   ids = is.ids;
   ended = λ string others. rooms-end (problem_of shown) set shown.live is.rooms_at is.places_at string others is.rooms;
 }
 
-rooms-moved : (q p : Transport) (live : List Live) (set read left rooms after : List ℕ) → p ≡ q → read ≡ set → rooms ≡ left
+rooms-moved : (q p : Tiered) (live : List Live) (set read left rooms after : List ℕ) → p ≡ q → read ≡ set → rooms ≡ left
     → Begins left (rooms_answer q set live) after → Begins rooms (rooms_answer p read live) after
 rooms-moved q p live set read left rooms after e f g is =
     subst (λ t. Begins t (rooms_answer p read live) after) (sym g) (subst (λ ns. Begins left (rooms_answer p ns live) after)
     (sym f) (subst (λ o. Begins left (rooms_answer o set live) after) (sym e) is))
 
-places-moved : (q p : Transport) (set read left : List ℕ) → p ≡ q → read ≡ set
+places-moved : (q p : Tiered) (set read left : List ℕ) → p ≡ q → read ≡ set
     → Begins left (integer (pos (places_of q set))) [] → Begins left (integer (pos (places_of p read))) []
 places-moved q p set read left e f is =
-    subst (λ (ns : List ℕ). Begins left (integer (pos (places_of p ns))) []) (sym f) (subst (λ (o : Transport). Begins left
+    subst (λ (ns : List ℕ). Begins left (integer (pos (places_of p ns))) []) (sym f) (subst (λ (o : Tiered). Begins left
     (integer (pos (places_of o set))) []) (sym e) is)
 
 -- numbers of stranded entries are numbers of entries of the problem
-pub within-entries : (shown : Shown) (p : Transport) (stranded : List Stranded) (set : List ℕ) → p ≡ problem_of shown
+pub within-entries : (shown : Shown) (p : Tiered) (stranded : List Stranded) (set : List ℕ) → p ≡ problem_of shown
     → stranded ≡ shown.stranded → All (λ i. i < length stranded) set → All (λ i. i < p.entries) set
 within-entries shown p stranded set posed same all =
-    let counted : length stranded ≡ p.entries = ap length same ∙ sym (ap (λ (q : Transport). q.entries) posed) in
+    let counted : length stranded ≡ p.entries = ap length same ∙ sym (ap (λ (q : Tiered). q.entries) posed) in
     subst (λ (n : ℕ). All (λ i. i < n) set) counted all
 
 -- what is read of a shortage
-pub record IsKnown (p : Transport) (live : List Live) (n : ℕ) (read rooms set : List ℕ) : Type 0 where
+pub record IsKnown (p : Tiered) (live : List Live) (n : ℕ) (read rooms set : List ℕ) : Type 0 where
   pub counted : n ≡ length set
   pub same : read ≡ set
   pub places_at : List ℕ
   pub rooms_are : Begins rooms (rooms_answer p read live) places_at
   pub places_are : Begins places_at (integer (pos (places_of p read))) []
 
-pub shortage-known : (shown : Shown) (p : Transport) (text ids read rooms set : List ℕ) (n : ℕ) → p ≡ problem_of shown
+pub shortage-known : (shown : Shown) (p : Tiered) (text ids read rooms set : List ℕ) (n : ℕ) → p ≡ problem_of shown
     → HasPart text (Array n) ids
     → ((other after : List ℕ) → HasChosen shown.stranded ids other after → (read ≡ other) × (rooms ≡ after))
     → IsShortage p set → IsShortageText shown text set → IsKnown p shown.live n read rooms set
@@ -97,7 +97,7 @@ shortage-known shown p text ids read rooms set n posed header chosen shows is =
     }
 
 -- the text is read
-pub IsShortageText-read : (shown : Shown) (p : Transport) (text ids rooms places set : List ℕ) (n : ℕ) → p ≡ problem_of shown
+pub IsShortageText-read : (shown : Shown) (p : Tiered) (text ids rooms places set : List ℕ) (n : ℕ) → p ≡ problem_of shown
     → HasPart text (Array n) ids → length set ≡ n → Begins ids (flat (ids_of shown.stranded set)) rooms
     → Begins rooms (rooms_answer p set shown.live) places → Begins places (integer (pos (places_of p set))) []
     → IsShortageText shown text set
@@ -108,7 +108,7 @@ IsShortageText-read shown p text ids rooms places set n posed header counted is 
   header = subst (λ k. HasPart text (Array k) ids) (sym counted) header;
   ids = is;
   rooms = subst (λ q. Begins rooms (rooms_answer q set shown.live) places) posed roomy;
-  places = subst (λ (q : Transport). Begins places (integer (pos (places_of q set))) []) posed last;
+  places = subst (λ (q : Tiered). Begins places (integer (pos (places_of q set))) []) posed last;
 }
 
 -- ---- and spells a reply

@@ -31,4 +31,5 @@ abbrev pub IsVerified : Shown → List ℕ → Verified → Type 0
 IsVerified shown text (says.Cheapest done total) = IsCheapestReply shown text done total
 IsVerified shown text (says.Impossible places) = IsShortageReply shown text places
 IsVerified shown text (says.Wrong reason) =
-    (answer : Answer) (done : Bool) → IsShown (problem_of shown) answer → text ≢ reply_text (verdict_answer shown answer done)
+    (answer : Answer) (done : Bool) → IsShown (problem_of shown) answer
+    → text ≢ reply_text (verdict_answer shown answer done)

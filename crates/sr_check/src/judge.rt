@@ -5,11 +5,10 @@ ghost use Rattle.sr_check.specs.Verified.{IsVerified};
 ghost use Rattle.sr_check.specs.steps.Read.{Begins};
 
 use crate::expect::{after_bulk, after_header};
-use crate::places::places_of;
 use crate::plan::plan_of;
 use crate::shortage::shortage_of;
 use sr_policy::{Snapshot, problem};
-use sr_transport::{Solved, check, check_shortage};
+use sr_transport::{Solved, check, check_shortage, places};
 use std::alloc::{AllocError, Global};
 
 /// What is wrong with a reply. The first that is found is told.
@@ -104,7 +103,7 @@ fn shortage_worth(alloc: Global, snapshot: &Snapshot, bytes: &[u8]) -> Result<Ve
         });
     }
     Ok(Verified::Impossible {
-        places: places_of(&problem, set.as_slice()),
+        places: places(&problem, set.as_slice()),
     })
 }
 

@@ -3,7 +3,6 @@
 
 mod expect;
 mod judge;
-mod places;
 mod plan;
 mod read;
 mod shortage;

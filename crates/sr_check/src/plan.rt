@@ -1,8 +1,9 @@
 //! A plan, read from a reply.
-ghost use Rattle.std.specs.Prelude.{◌≡◌, ◌≢◌, ◌<◌, ◌^◌, ℕ, List, length, IfSome, IfNone, IfOk, IfErr};
+ghost use Rattle.std.specs.Prelude.{◌≡◌, ◌≢◌, ◌∷◌, ◌<◌, ◌^◌, ℕ, List, length, IfSome, IfNone, IfOk, IfErr};
+ghost use Rattle.std.specs.Option.{option_to_list};
 ghost use Rattle.sr_policy.specs.Snapshot.{AreInOrder, ComesBefore};
 ghost use Rattle.sr_check.specs.Answer.{name_at};
-ghost use Rattle.sr_check.specs.steps.Read.{HasMove, HasShare, AreRead, HasArray, IsPlanText};
+ghost use Rattle.sr_check.specs.steps.Read.{HasMove, HasPrices, ArePrices, HasArray, IsPlanText};
 
 use crate::Reason;
 use crate::expect::{after_bulk, after_header, after_id, after_ids};
@@ -15,7 +16,7 @@ use std::alloc::{AllocError, Global};
 pub(crate) struct Plan {
     /// The number of the consumer that each stranded entry goes to.
     pub(crate) assign: Vec<usize>,
-    /// The price of each live consumer.
+    /// The prices of the tiers of each live consumer.
     pub(crate) prices: Vec<u64>,
     /// What it claims to cost.
     pub(crate) total: u64,
@@ -57,7 +58,8 @@ pub(crate) fn plan_of(
     }))
 }
 
-/// The number of the consumer of each entry, from the array of moves at the front of some bytes, and the bytes after it.
+/// The number of the consumer of each entry, from the array of moves at the front of some bytes, and the bytes after
+/// it.
 fn moves_of<'a>(
     alloc: Global,
     stranded: &[Stranded],
@@ -126,16 +128,15 @@ fn consumer_of(live: &[Live], name: &[u8]) -> Option<usize>
     None
 }
 
-/// The price of each consumer, from the array of prices at the front of some bytes, and the bytes after it.
+/// The prices of each consumer's tiers, from the array of prices at the front of some bytes, and the bytes after it.
 fn prices_of<'a>(
     alloc: Global,
     live: &[Live],
     bytes: &'a [u8],
 ) -> Result<Result<(Vec<u64>, &'a [u8]), Reason>, AllocError>
-    ensures found { IfOk result (λ read. IfOk read (λ found.
-        HasArray HasShare live.now bytes.now found.0.items found.1.now)) }
+    ensures found { IfOk result (λ read. IfOk read (λ found. ArePrices live.now bytes.now found.0.items found.1.now)) }
     ensures none { IfOk result (λ read. IfErr read (λ _. (prices after : List ℕ)
-        → HasArray HasShare live.now bytes.now prices after → ⊥)) }
+        → ArePrices live.now bytes.now prices after → ⊥)) }
 {
     let Some(items) = after_header(bytes, live.len()) else {
         return Ok(Err(Reason::Consumers));
@@ -143,21 +144,31 @@ fn prices_of<'a>(
     let mut prices = Vec::with_capacity(alloc, live.len())?;
     let mut left = items;
     for consumer in live {
-        let Some((price, after)) = first_price(consumer, left) else {
+        let Some((price, next, after)) = first_prices(consumer, left) else {
             return Ok(Err(Reason::Consumers));
         };
         prices.push(price)?;
+        if let Some(next) = next {
+            prices.push(next)?;
+        }
         left = after;
     }
     Ok(Ok((prices, left)))
 }
 
-/// The price of a consumer, from the name and number at the front of some bytes, and the bytes after them.
-fn first_price<'a>(consumer: &Live, bytes: &'a [u8]) -> Option<(u64, &'a [u8])>
-    ensures found { IfSome result (λ found. HasShare consumer.now bytes.now found.0 found.1.now) }
-    ensures none { IfNone result ((n : ℕ) (after : List ℕ) → HasShare consumer.now bytes.now n after → ⊥) }
+/// The prices of a consumer, the second if it has two tiers, from the name and numbers at the front of some bytes, and
+/// the bytes after them.
+fn first_prices<'a>(consumer: &Live, bytes: &'a [u8]) -> Option<(u64, Option<u64>, &'a [u8])>
+    ensures found { IfSome result (λ found.
+        HasPrices consumer.now bytes.now (found.0 ∷ option_to_list found.1) found.2.now) }
+    ensures none { IfNone result ((prices after : List ℕ) → HasPrices consumer.now bytes.now prices after → ⊥) }
 {
-    let name = after_header(bytes, 2)?;
-    let price = after_bulk(name, consumer.name.as_slice())?;
-    integer(price)
+    let name = after_header(bytes, consumer.tiers() + 1)?;
+    let first = after_bulk(name, consumer.name.as_slice())?;
+    let (price, second) = integer(first)?;
+    if consumer.tier.is_none() {
+        return Some((price, None, second));
+    }
+    let (next, after) = integer(second)?;
+    Some((price, Some(next), after))
 }

@@ -10,10 +10,9 @@ ghost use Rattle.sr_check.specs.steps.Read.{Begins, HasChosen, IsShortageText, i
 
 use crate::Reason;
 use crate::expect::{after_header, after_id, after_integer, after_share};
-use crate::places::{is_reached, places_of};
 use crate::read::header;
 use sr_policy::{Live, Snapshot, Stranded};
-use sr_transport::Problem;
+use sr_transport::{Problem, is_reached, places as places_of};
 use std::alloc::{AllocError, Global};
 
 /// The numbers of the entries of the shortage that some bytes are, after the word. Whether there are too few places for
@@ -60,7 +59,8 @@ fn chosen<'a>(
     bytes: &'a [u8],
 ) -> Result<(Vec<usize>, &'a [u8]), AllocError>
     requires { AreInOrder (λ a b. IsBelow a.id b.id) stranded.now }
-    ensures found { IfOk result (λ found. Begins bytes.now (flat_map (λ item. item) (ids_of stranded.now found.0.items)) found.1.now) }
+    ensures found { IfOk result (λ found.
+        Begins bytes.now (flat_map (λ item. item) (ids_of stranded.now found.0.items)) found.1.now) }
     ensures same { IfOk result (λ found. (set after : List ℕ)
         → HasChosen stranded.now bytes.now set after → (found.0.items ≡ set) × (found.1.now ≡ after)) }
     ensures within { IfOk result (λ found. All (λ i. i < length stranded.now) found.0.items) }
@@ -85,7 +85,8 @@ fn after_rooms<'a>(
 ) -> Option<&'a [u8]>
     requires problem { problem.now ≡ problem_of snapshot.now }
     requires entries { All (λ i. i < problem.now.entries) set.now }
-    ensures found { IfSome result (λ after. Begins bytes.now (rooms_answer problem.now set.now snapshot.now.live) after.now) }
+    ensures found { IfSome result (λ after.
+        Begins bytes.now (rooms_answer problem.now set.now snapshot.now.live) after.now) }
     ensures none { IfNone result ((after : List ℕ)
         → Begins bytes.now (rooms_answer problem.now set.now snapshot.now.live) after → ⊥) }
 {
@@ -102,7 +103,7 @@ fn after_rooms<'a>(
 
 /// How many consumers some entry of the set is allowed.
 fn reached(problem: &Problem, live: &[Live], set: &[usize]) -> usize
-    requires each { length live.now ≡ length problem.now.rooms }
+    requires each { length live.now ≡ problem.now.takers }
     requires entries { All (λ i. i < problem.now.entries) set.now }
     ensures { result ≡ length (reached_from problem.now set.now 0 live.now) }
 {

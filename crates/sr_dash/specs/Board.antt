@@ -2,14 +2,14 @@
 -- Source: docs/COMMANDS.md, RECOVER.BOARD.
 
 use Rattle.std.specs.Prelude.{ℕ, ◌-◌, ◌+◌, ◌/◌, ◌%◌, ◌==◌, ◌&&◌, nat_lt, not, List, [], ◌∷◌, ◌++◌, codes, decimal}
-use Rattle.std.specs.Prelude.{filter, length, map, replicate, Bool, Option, Some, None, if◌then◌else◌}
+use Rattle.std.specs.Prelude.{filter, length, map, replicate, Bool, true, false, Option, Some, None, if◌then◌else◌}
 use mathlib.Core.List.{foldr}
 use Rattle.std.specs.List.{flat_map}
 use Rattle.std.specs.Option.{option_map}
 use Rattle.sr_bytes.specs.Order.{comes_before}
 use Rattle.sr_group.specs.Group.{GroupState, consumer_with, oldest_of}
 use Rattle.sr_pending.specs.Pending.{owned_by}
-use Rattle.sr_policy.specs.Rules.{Rules, Text, consumers_of, limit_of}
+use Rattle.sr_policy.specs.Rules.{Rules, Text, consumers_of, has_tiers, limit_of, tier_of}
 use Rattle.sr_policy.specs.Snapshot.{room_of}
 
 -- ---- who has a line
@@ -25,12 +25,13 @@ names_on group rules = foldr with_name (map (λ consumer. consumer.name) group.c
 
 -- ---- what a line says
 
--- a consumer: how many entries are pending for it, how many may be, for how long the one that was delivered longest ago
--- was not delivered again, and for how long it was not seen, in milliseconds
+-- a consumer: how many entries are pending for it, how many may be, its soft limit and its fee, for how long the one
+-- that was delivered longest ago was not delivered again, and for how long it was not seen, in milliseconds
 pub record Row : Type 0 where
   pub name : Text
   pub pending : ℕ
   pub limit : Option ℕ
+  pub tier : Option (ℕ × ℕ)
   pub oldest : Option ℕ
   pub idle : Option ℕ
 
@@ -43,6 +44,7 @@ row_of group moment rules name = record {
   name = name;
   pending = length (owned_by name group.nacks);
   limit = limit_of rules name;
+  tier = tier_of rules name;
   oldest = option_map (since moment) (oldest_of (owned_by name group.nacks));
   idle = option_map (λ consumer. since moment consumer.seen) (consumer_with name group.consumers);
 }
@@ -50,6 +52,14 @@ row_of group moment rules name = record {
 -- how many more may become pending for it
 abbrev pub room_in : Row → Option ℕ
 room_in row = option_map (λ limit. room_of limit row.pending) row.limit
+
+-- its soft limit
+abbrev pub soft_in : Row → Option ℕ
+soft_in row = option_map (λ tier. tier.0) row.tier
+
+-- the fee of each entry beyond it
+abbrev pub fee_in : Row → Option ℕ
+fee_in row = option_map (λ tier. tier.1) row.tier
 
 -- ---- how it is written
 
@@ -84,25 +94,37 @@ abbrev pub cell : Option ℕ → List ℕ
 cell None = codes "-"
 cell (Some n) = decimal n
 
--- name, pending, limit, room, oldest and idle, in columns with a space between
-abbrev pub columns : (name pending limit room oldest idle : List ℕ) → List ℕ
-columns name pending limit room oldest idle =
-    on_the_left 20 name
-    ++ 0x20 ∷ on_the_right 8 pending
-    ++ 0x20 ∷ on_the_right 8 limit
-    ++ 0x20 ∷ on_the_right 8 room
-    ++ 0x20 ∷ on_the_right 12 oldest
-    ++ 0x20 ∷ on_the_right 12 idle
-    ++ 0x0a ∷ []
+-- what the columns after the name say, each with its width
+abbrev pub cells : (pending limit room oldest idle : List ℕ) → List (ℕ × List ℕ)
+cells pending limit room oldest idle = (8, pending) ∷ (8, limit) ∷ (8, room) ∷ (12, oldest) ∷ (12, idle) ∷ []
 
-abbrev pub heading : List ℕ
-heading = columns (codes "consumer") (codes "pending") (codes "limit") (codes "room") (codes "oldest") (codes "idle")
+-- and the last two, which a wide board has
+abbrev pub tier_cells : Bool → (soft fee : List ℕ) → List (ℕ × List ℕ)
+tier_cells false soft fee = []
+tier_cells true soft fee = (8, soft) ∷ (14, fee) ∷ []
 
-abbrev pub line : Row → List ℕ
-line row =
-    columns
-    (escaped row.name) (decimal row.pending) (cell row.limit) (cell (room_in row)) (cell row.oldest) (cell row.idle)
+-- columns, each on the right of its width, with a space before it
+abbrev pub columns : List (ℕ × List ℕ) → List ℕ
+columns cells = flat_map (λ column. 0x20 ∷ on_the_right column.0 column.1) cells
 
--- the whole board at a moment
+-- a name, and the columns after it
+abbrev pub written : List ℕ → List (ℕ × List ℕ) → List ℕ
+written name cells = on_the_left 20 name ++ columns cells ++ 0x0a ∷ []
+
+abbrev pub heading : Bool → List ℕ
+heading wide =
+    written (codes "consumer")
+    (cells (codes "pending") (codes "limit") (codes "room") (codes "oldest") (codes "idle")
+    ++ tier_cells wide (codes "soft") (codes "fee"))
+
+abbrev pub line : Bool → Row → List ℕ
+line wide row =
+    written (escaped row.name)
+    (cells (decimal row.pending) (cell row.limit) (cell (room_in row)) (cell row.oldest) (cell row.idle)
+    ++ tier_cells wide (cell (soft_in row)) (cell (fee_in row)))
+
+-- the whole board at a moment; it is wide under a policy that gives a consumer a soft limit
 abbrev pub board : GroupState → ℕ → Rules → List ℕ
-board group moment rules = heading ++ flat_map (λ name. line (row_of group moment rules name)) (names_on group rules)
+board group moment rules =
+    heading (has_tiers rules)
+    ++ flat_map (λ name. line (has_tiers rules) (row_of group moment rules name)) (names_on group rules)

@@ -1,5 +1,6 @@
 //! The line of one consumer, and the lines of some.
 ghost use Rattle.std.specs.Prelude.{◌≡◌, ◌++◌, OnOk, option_map};
+ghost use Rattle.sr_policy.specs.Rules.{has_tiers};
 ghost use Rattle.sr_policy.specs.Snapshot.{room_of as room};
 ghost use Rattle.sr_dash.specs.Board as boards;
 ghost use Rattle.sr_dash.specs.steps.Names.{lines_of};
@@ -10,51 +11,71 @@ use sr_group::Group;
 use sr_policy::{Policy, room_of};
 use std::alloc::AllocError;
 
-/// How many bytes the columns of counts have: pending, limit and room.
+/// How many bytes the columns of counts have: pending, limit, room and soft.
 const COUNT_WIDTH: usize = 8;
 
 /// How many bytes the columns of milliseconds have: oldest and idle.
 const TIME_WIDTH: usize = 12;
 
+/// How many bytes the column of fees has.
+const FEE_WIDTH: usize = 14;
+
+/// What a board shows: a group at a moment, under a policy. It is wide if the policy gives a consumer a soft limit.
+#[derive(Drop)]
+pub(crate) struct View<'a> {
+    pub(crate) group: &'a Group,
+    pub(crate) moment: u64,
+    pub(crate) policy: &'a Policy,
+    pub(crate) wide: bool,
+}
+
 /// Writes the line of each of these names.
 pub(crate) fn write_lines(
     out: &mut Vec<u8>,
-    group: &Group,
-    moment: u64,
-    policy: &Policy,
+    view: &View<'_>,
     names: &[Name],
 ) -> Result<(), AllocError>
-    ensures { OnOk result (out.new.items ≡ out.old.items ++ lines_of group.now.shown moment policy.now names.now) }
+    requires { view.now.wide ≡ has_tiers view.now.policy.now }
+    ensures { OnOk result (out.new.items
+        ≡ out.old.items ++ lines_of view.now.group.now.shown view.now.moment view.now.policy.now names.now) }
 {
     for name in names {
-        write_line(out, group, moment, policy, name)?;
+        write_line(out, view, name)?;
     }
     Ok(())
 }
 
 /// Writes the line of the consumer with this name.
-pub(crate) fn write_line(
-    out: &mut Vec<u8>,
-    group: &Group,
-    moment: u64,
-    policy: &Policy,
-    name: &Name,
-) -> Result<(), AllocError>
-    ensures { OnOk result (out.new.items
-        ≡ out.old.items ++ boards.line (boards.row_of group.now.shown moment policy.now name.now)) }
+pub(crate) fn write_line(out: &mut Vec<u8>, view: &View<'_>, name: &Name) -> Result<(), AllocError>
+    requires { view.now.wide ≡ has_tiers view.now.policy.now }
+    ensures { OnOk result (out.new.items ≡ out.old.items ++ boards.line view.now.wide
+        (boards.row_of view.now.group.now.shown view.now.moment view.now.policy.now name.now)) }
 {
-    let pending = group.pending().count_of(name) as u64;
-    let limit = policy.limit(name);
-    let oldest = since(moment, group.oldest(name));
-    let idle = since(moment, group.seen(name));
+    let pending = view.group.pending().count_of(name) as u64;
+    let limit = view.policy.limit(name);
+    let oldest = since(view.moment, view.group.oldest(name));
+    let idle = since(view.moment, view.group.seen(name));
     write_name(out, name.as_slice())?;
     write_number(out, COUNT_WIDTH, Some(pending))?;
     write_number(out, COUNT_WIDTH, limit)?;
     write_number(out, COUNT_WIDTH, room_under(limit, pending))?;
     write_number(out, TIME_WIDTH, oldest)?;
     write_number(out, TIME_WIDTH, idle)?;
+    write_tier(out, view.wide, view.policy.tier(name))?;
     out.push(b'\n')?;
     Ok(())
+}
+
+/// Writes the columns of a soft limit and its fee, if the board is wide.
+fn write_tier(out: &mut Vec<u8>, wide: bool, tier: Option<(u64, u64)>) -> Result<(), AllocError>
+    ensures { OnOk result (out.new.items ≡ out.old.items ++ boards.columns (boards.tier_cells wide
+        (boards.cell (option_map (λ tier. tier.0) tier)) (boards.cell (option_map (λ tier. tier.1) tier)))) }
+{
+    if !wide {
+        return Ok(());
+    }
+    write_number(out, COUNT_WIDTH, tier.map(|(soft, _fee)| soft))?;
+    write_number(out, FEE_WIDTH, tier.map(|(_soft, fee)| fee))
 }
 
 /// How many more entries may become pending under a limit, if there is one.

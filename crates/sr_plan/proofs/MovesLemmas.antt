@@ -1,15 +1,18 @@
 -- The cursors over the moves of a plan and over the entries of a shortage, step by step.
-use Rattle.std.proofs.Common.{◌≡◌, ℕ, ◌<◌, List, [], ◌∷◌, length, map, get_or, ap, ◌∙◌, arith}
-use Rattle.std.specs.List.{All, zip}
-use Rattle.std.proofs.lemmas.List.{get_or-map, length-map}
-use Rattle.std.proofs.lemmas.List.Elements.{All-head, All-tail}
+use Rattle.std.proofs.Common.{◌≡◌, ℕ, ◌^◌, ◌<◌, ◌≤◌, List, [], ◌∷◌, length, map, get_or, take, drop, refl, ap, ◌∙◌, arith}
+use Rattle.std.specs.List.{All, sum_by, zip}
+use Rattle.std.proofs.lemmas.List.{get_or-map, length-drop, length-map}
+use Rattle.std.proofs.lemmas.List.Elements.{All-cons, All-drop, All-head, All-nil, All-tail, All-take}
+use Rattle.std.proofs.lemmas.List.Sums.{sum_by-cons}
 use Rattle.std.proofs.lemmas.Slice.Zip.{length-zip}
 use Rattle.sr_ids.specs.declared.id.Id.{Id}
 use Rattle.sr_policy.specs.declared.live.Live.{Live}
 use Rattle.sr_policy.specs.declared.stranded.Stranded.{Stranded}
 use Rattle.sr_policy.specs.Rules.{Text}
-use Rattle.sr_plan.specs.Verdict.{name_at, id_at}
-use Rattle.sr_plan.specs.steps.Moves.{AreMoves}
+use Rattle.sr_policy.specs.Problem.{tier_count}
+use Rattle.sr_check.specs.Answer.{AreTold}
+use Rattle.sr_plan.specs.Verdict.{name_at, id_at, prices_by}
+use Rattle.sr_plan.specs.steps.Moves.{AreMoves, ArePrices}
 
 -- as many moves as entries
 pub length-moves : (stranded : List Stranded) (assign : List ℕ) (live : List Live) → AreMoves stranded assign live
@@ -57,3 +60,37 @@ pub ids-left : (set left : List ℕ) (i : ℕ) (stranded : List Stranded) → se
     → All (λ k. k < length stranded) left
 ids-left set left i stranded first all =
     let all : All (λ k. k < length stranded) (i ∷ left) = rw first at all in All-tail (λ k. k < length stranded) i left all
+
+-- a price list begins with those of the first consumer
+pub prices-enough : (live rest : List Live) (consumer : Live) (prices : List ℕ) → live ≡ consumer ∷ rest → ArePrices live prices
+    → tier_count consumer ≤ length prices
+prices-enough live rest consumer prices first are =
+    omega (arith, are ∙ ap (sum_by tier_count) first, sum_by-cons tier_count consumer rest)
+
+-- the prices of the first consumer, and those after it
+pub prices-read : (live rest : List Live) (consumer : Live) (prices : List ℕ) → live ≡ consumer ∷ rest
+    → prices_by live prices ≡ (consumer.name, take (tier_count consumer) prices) ∷ prices_by rest (drop (tier_count consumer) prices)
+prices-read live rest consumer prices first = ap (λ (l : List Live). prices_by l prices) first
+
+pub prices-left : (live rest : List Live) (consumer : Live) (prices : List ℕ) → live ≡ consumer ∷ rest → ArePrices live prices
+    → ArePrices rest (drop (tier_count consumer) prices)
+prices-left live rest consumer prices first are =
+    omega (
+      arith,
+      are ∙ ap (sum_by tier_count) first,
+      sum_by-cons tier_count consumer rest,
+      length-drop (tier_count consumer) prices,
+    )
+
+-- as many as consumers
+pub length-prices : (live : List Live) (prices : List ℕ) → length live ≡ length (prices_by live prices)
+length-prices [] prices = refl
+length-prices (consumer ∷ live) prices = omega (arith, length-prices live (drop (tier_count consumer) prices))
+
+-- prices that can be told can be told consumer by consumer
+pub prices-told : (live : List Live) (prices : List ℕ) → AreTold prices → All (λ own. AreTold own.1) (prices_by live prices)
+prices-told [] prices told = All-nil (λ own. AreTold own.1)
+prices-told (consumer ∷ live) prices told =
+    All-cons (λ own. AreTold own.1) (consumer.name, take (tier_count consumer) prices)
+    (prices_by live (drop (tier_count consumer) prices)) (All-take (λ price. price < 2 ^ 63) (tier_count consumer) prices told)
+    (prices-told live (drop (tier_count consumer) prices) (All-drop (λ price. price < 2 ^ 63) (tier_count consumer) prices told))

@@ -1,21 +1,20 @@
 -- The reply of a verdict, part by part.
-use Rattle.std.proofs.Common.{◌≡◌, ℕ, ◌+◌, ◌<◌, ◌≤◌, suc, Bool, true, false, cond, pos, codes, List, [], ◌∷◌, ◌++◌, length, map, drop, get_or, refl, ap, sym, ◌∙◌, subst, arith}
-use Rattle.std.specs.List.{flat_map, zip}
+use Rattle.std.proofs.Common.{◌≡◌, ℕ, ◌+◌, ◌<◌, ◌≤◌, suc, Bool, true, false, cond, pos, codes, List, [], ◌∷◌, ◌++◌, length, map, drop, get_or, refl, ap, append_assoc, sym, ◌∙◌, subst, arith}
+use Rattle.std.specs.List.{AllByRecursion, flat_map}
 use Rattle.std.proofs.lemmas.List.{drop_all, length-map}
 use Rattle.std.proofs.lemmas.Simd.{map-map}
-use Rattle.std.proofs.lemmas.Slice.Zip.{length-zip}
 use Rattle.std.proofs.Math.Seq.{drop-cons}
 use Rattle.sr_ids.specs.declared.id.Id.{Id}
 use Rattle.sr_resp.specs.Reply.{Answer, Part, IsReply, array_header, array_of, bulk_string, integer}
 use Rattle.sr_resp.proofs.CallerLemmas.{IsReply-array_of, IsReply-array_of_map}
-use Rattle.sr_transport.specs.Problem.{Transport}
+use Rattle.sr_transport.specs.Problem.{Tiered}
 use Rattle.sr_transport.specs.Certificate.{is_reached, places_of}
 use Rattle.sr_policy.specs.declared.live.Live.{Live}
 use Rattle.sr_policy.specs.Problem.{problem_of, room_at}
 use Rattle.sr_policy.specs.Rules.{Text}
 use Rattle.sr_policy.specs.Snapshot.{Shown}
-use Rattle.sr_plan.specs.Verdict.{best, id_at, moves_of, short}
-use Rattle.sr_check.specs.PlanReply.{id_answer, move_answer, share_answer, plan_word, reached_from, verdict_answer}
+use Rattle.sr_plan.specs.Verdict.{best, id_at, moves_of, prices_by, short}
+use Rattle.sr_check.specs.PlanReply.{id_answer, move_answer, price_answer, share_answer, plan_word, reached_from, verdict_answer}
 use Rattle.sr_plan.proofs.ArrayLemmas.{map-written, HasLeft, left-after, left-none}
 
 -- each item of a verdict's arrays is a reply
@@ -28,28 +27,49 @@ IsReply-ids ids = IsReply-array_of_map id_answer ids (λ id. refl)
 pub IsReply-gone : (gone : List (Id × Text)) → IsReply (array_of (map (λ (pair : Id × Text). id_answer pair.0) gone))
 IsReply-gone gone = IsReply-array_of_map (λ (pair : Id × Text). id_answer pair.0) gone (λ pair. refl)
 
-pub IsReply-shares : (shares : List (Text × ℕ)) → IsReply (array_of (map share_answer shares))
-IsReply-shares shares =
-    IsReply-array_of_map share_answer shares (λ share. IsReply-array_of (bulk_string share.0 ∷ integer (pos share.1) ∷ []) (refl, (refl, tt)))
+-- each item is a reply, if each is an integer
+integers_are_replies : (ns : List ℕ) → AllByRecursion IsReply (map (λ (n : ℕ). integer (pos n)) ns)
+integers_are_replies [] = tt
+integers_are_replies (n ∷ ns) = (refl, integers_are_replies ns)
+
+pub IsReply-prices : (prices : List (Text × List ℕ)) → IsReply (array_of (map price_answer prices))
+IsReply-prices prices =
+    IsReply-array_of_map price_answer prices (λ own.
+    IsReply-array_of (bulk_string own.0 ∷ map (λ (n : ℕ). integer (pos n)) own.1) (refl, integers_are_replies own.1))
 
 -- past the last of a list, the draft is the array of all of it
 pub list-written : {X : Type 0} (f : X → Answer) (xs : List X) (i : ℕ) (draft : List Part) → length xs ≤ i
     → draft ++ flat_map f (drop i xs) ≡ array_header (length xs) ++ flat_map f xs → draft ≡ array_of (map f xs)
 list-written f xs i draft past e = map-written f xs (drop i xs) draft (drop_all i xs past) e
 
--- the same of consumers with their numbers
-pub shares-written : (live : List Live) (numbers : List ℕ) (i : ℕ) (draft : List Part) → length numbers ≡ length live → length live ≤ i
-    → draft ++ flat_map share_answer (zip (map (λ (consumer : Live). consumer.name) (drop i live)) (drop i numbers))
-    ≡ array_header (length live) ++ flat_map share_answer (zip (map (λ (consumer : Live). consumer.name) live) numbers)
-    → draft ≡ array_of (map share_answer (zip (map (λ (consumer : Live). consumer.name) live) numbers))
-shares-written live numbers i draft each past e =
-    let names : List Live → List Text = map (λ (consumer : Live). consumer.name) in
-    let all : List (Text × ℕ) = zip (names live) numbers in
-    let counted : length all ≡ length live =
-    omega (arith, each, length-zip (names live) numbers, length-map live (λ (consumer : Live). consumer.name)) in
-    let none : zip (names (drop i live)) (drop i numbers) ≡ [] = ap (λ (l : List Live). zip (names l) (drop i numbers)) (drop_all i live past) in
-    map-written share_answer all (zip (names (drop i live)) (drop i numbers)) draft none
-    (e ∙ ap (λ (n : ℕ). array_header n ++ flat_map share_answer all) (sym counted))
+-- a consumer's name and its prices are written one after another
+pub price-written : (name : Text) (own : List ℕ)
+    → array_header (length own + 1) ++ bulk_string name ++ flat_map (λ (n : ℕ). integer (pos n)) own ≡ price_answer (name, own)
+price-written name own =
+    let items : List Answer = map (λ (n : ℕ). integer (pos n)) own in
+    let count : length own + 1 ≡ length (bulk_string name ∷ items) = omega (arith, length-map own (λ (n : ℕ). integer (pos n))) in
+    ap (λ (n : ℕ). array_header n ++ bulk_string name ++ flat_map (λ (n : ℕ). integer (pos n)) own) count
+    ∙ ap (λ (parts : List Part). array_header (length (bulk_string name ∷ items)) ++ bulk_string name ++ parts) (flattened own)
+  where
+    flattened : (ns : List ℕ) → flat_map (λ (n : ℕ). integer (pos n)) ns ≡ flat_map (λ (item : Answer). item) (map (λ (n : ℕ). integer (pos n)) ns)
+    flattened [] = refl
+    flattened (n ∷ ns) = ap (λ (parts : List Part). integer (pos n) ++ parts) (flattened ns)
+
+-- one consumer more is written
+pub prices-more : (left rest : List (Text × List ℕ)) (name : Text) (own : List ℕ) (draft headed named now all : List Part)
+    → left ≡ (name, own) ∷ rest → draft ++ flat_map price_answer left ≡ all → headed ≡ draft ++ array_header (length own + 1)
+    → named ≡ headed ++ bulk_string name → now ≡ named ++ flat_map (λ (n : ℕ). integer (pos n)) own
+    → now ++ flat_map price_answer rest ≡ all
+prices-more left rest name own draft headed named now all first before a b d =
+    let numbers : List Part = flat_map (λ (n : ℕ). integer (pos n)) own in
+    let whole : now ≡ draft ++ price_answer (name, own) =
+    d ∙ ap (λ (l : List Part). l ++ numbers) (b ∙ ap (λ (l : List Part). l ++ bulk_string name) a)
+    ∙ append_assoc (draft ++ array_header (length own + 1)) (bulk_string name) numbers
+    ∙ append_assoc draft (array_header (length own + 1)) (bulk_string name ++ numbers)
+    ∙ ap (λ (l : List Part). draft ++ l) (price-written name own) in
+    ap (λ (l : List Part). l ++ flat_map price_answer rest) whole
+    ∙ append_assoc draft (price_answer (name, own)) (flat_map price_answer rest)
+    ∙ ap (λ (l : List (Text × List ℕ)). draft ++ flat_map price_answer l) (sym first) ∙ before
 
 -- the next consumer
 next_consumer : (live : List Live) (n : ℕ) (consumer : Live) → n < length live → consumer ≡ get_or live n consumer
@@ -59,21 +79,21 @@ next_consumer live n consumer lt is =
     drop-cons live n consumer lt ∙ ap (λ (first : Live). first ∷ drop (suc n) live) (sym is)
     ∙ ap (λ (k : ℕ). consumer ∷ drop k live) (sym next)
 
-reached_first : (p : Transport) (set : List ℕ) (n : ℕ) (consumer : Live) (rest : List Live) → is_reached p set n ≡ true
+reached_first : (p : Tiered) (set : List ℕ) (n : ℕ) (consumer : Live) (rest : List Live) → is_reached p set n ≡ true
     → map share_answer (reached_from p set n (consumer ∷ rest))
     ≡ share_answer (consumer.name, room_at consumer) ∷ map share_answer (reached_from p set (n + 1) rest)
 reached_first p set n consumer rest reached =
     let more : Bool → List (Text × ℕ) = λ is. cond is ((consumer.name, room_at consumer) ∷ []) [] ++ reached_from p set (n + 1) rest in
     ap (λ (is : Bool). map share_answer (more is)) reached
 
-unreached_first : (p : Transport) (set : List ℕ) (n : ℕ) (consumer : Live) (rest : List Live) → is_reached p set n ≡ false
+unreached_first : (p : Tiered) (set : List ℕ) (n : ℕ) (consumer : Live) (rest : List Live) → is_reached p set n ≡ false
     → map share_answer (reached_from p set n (consumer ∷ rest)) ≡ map share_answer (reached_from p set (n + 1) rest)
 unreached_first p set n consumer rest unreached =
     let more : Bool → List (Text × ℕ) = λ is. cond is ((consumer.name, room_at consumer) ∷ []) [] ++ reached_from p set (n + 1) rest in
     ap (λ (is : Bool). map share_answer (more is)) unreached
 
 -- a reached consumer is added with its room, and another is passed over
-pub room_added : (p : Transport) (set : List ℕ) (n room : ℕ) (live : List Live) (consumer : Live) (reply now item : Answer) (all : List Answer)
+pub room_added : (p : Tiered) (set : List ℕ) (n room : ℕ) (live : List Live) (consumer : Live) (reply now item : Answer) (all : List Answer)
     → n < length live → consumer ≡ get_or live n consumer → is_reached p set n ≡ true → room ≡ room_at consumer
     → item ≡ share_answer (consumer.name, room)
     → HasLeft reply (map share_answer (reached_from p set n (drop n live))) all
@@ -87,7 +107,7 @@ room_added p set n room live consumer reply now item all lt is reached roomy ite
     ∙ reached_first p set n consumer (drop (n + 1) live) reached ∙ ap (λ (first : Answer). first ∷ left) (sym one) in
     left-after reply now (item ∷ []) left all (subst (λ (l : List Answer). HasLeft reply l all) split has) added
 
-pub room_passed : (p : Transport) (set : List ℕ) (n : ℕ) (live : List Live) (consumer : Live) (reply : Answer) (all : List Answer)
+pub room_passed : (p : Tiered) (set : List ℕ) (n : ℕ) (live : List Live) (consumer : Live) (reply : Answer) (all : List Answer)
     → n < length live → consumer ≡ get_or live n consumer → is_reached p set n ≡ false
     → HasLeft reply (map share_answer (reached_from p set n (drop n live))) all
     → HasLeft reply (map share_answer (reached_from p set (n + 1) (drop (n + 1) live))) all
@@ -98,7 +118,7 @@ room_passed p set n live consumer reply all lt is unreached has =
     subst (λ (l : List Answer). HasLeft reply l all) split has
 
 -- and past the last, all are there
-pub rooms-written : (p : Transport) (set : List ℕ) (i : ℕ) (live : List Live) (reply : Answer) → length live ≤ i
+pub rooms-written : (p : Tiered) (set : List ℕ) (i : ℕ) (live : List Live) (reply : Answer) → length live ≤ i
     → HasLeft reply (map share_answer (reached_from p set i (drop i live))) (map share_answer (reached_from p set 0 live))
     → reply ≡ array_of (map share_answer (reached_from p set 0 live))
 rooms-written p set i live reply past has =
@@ -108,7 +128,7 @@ rooms-written p set i live reply past has =
 -- the parts of a plan's reply
 pub plan-written : (shown : Shown) (assign prices : List ℕ) (total : ℕ) (word cost moves priced gone : Answer) (applied : Bool)
     → word ≡ bulk_string (plan_word applied) → cost ≡ integer (pos total) → moves ≡ array_of (map move_answer (moves_of shown assign))
-    → priced ≡ array_of (map share_answer (zip (map (λ (consumer : Live). consumer.name) shown.live) prices))
+    → priced ≡ array_of (map price_answer (prices_by shown.live prices))
     → gone ≡ array_of (map (λ (pair : Id × Text). id_answer pair.0) shown.gone)
     → array_of (word ∷ cost ∷ moves ∷ priced ∷ gone ∷ []) ≡ verdict_answer shown (best assign prices total) applied
 plan-written shown assign prices total word cost moves priced gone applied a b d e f =
@@ -116,13 +136,13 @@ plan-written shown assign prices total word cost moves priced gone applied a b d
     λ first second third fourth fifth. array_of (first ∷ second ∷ third ∷ fourth ∷ fifth ∷ []) in
     let said : Answer = bulk_string (plan_word applied) in
     let moved : Answer = array_of (map move_answer (moves_of shown assign)) in
-    let shares : Answer = array_of (map share_answer (zip (map (λ (consumer : Live). consumer.name) shown.live) prices)) in
+    let shares : Answer = array_of (map price_answer (prices_by shown.live prices)) in
     ap (λ (first : Answer). whole first cost moves priced gone) a ∙ ap (λ (second : Answer). whole said second moves priced gone) b
     ∙ ap (λ (third : Answer). whole said (integer (pos total)) third priced gone) d
     ∙ ap (λ (fourth : Answer). whole said (integer (pos total)) moved fourth gone) e ∙ ap (whole said (integer (pos total)) moved shares) f
 
 -- the parts of a shortage's reply
-pub shortage-written : (shown : Shown) (set : List ℕ) (p : Transport) (n : ℕ) (word ids rooms places : Answer) (applied : Bool)
+pub shortage-written : (shown : Shown) (set : List ℕ) (p : Tiered) (n : ℕ) (word ids rooms places : Answer) (applied : Bool)
     → p ≡ problem_of shown → word ≡ bulk_string (codes "none") → ids ≡ array_of (map id_answer (map (id_at shown.stranded) set))
     → rooms ≡ array_of (map share_answer (reached_from p set 0 shown.live)) → places ≡ integer (pos n) → n ≡ places_of p set
     → array_of (word ∷ ids ∷ rooms ∷ places ∷ []) ≡ verdict_answer shown (short set) applied
@@ -130,10 +150,10 @@ shortage-written shown set p n word ids rooms places applied posed a b d e f =
     let whole : Answer → Answer → Answer → Answer → Answer = λ first second third fourth. array_of (first ∷ second ∷ third ∷ fourth ∷ []) in
     let none : Answer = bulk_string (codes "none") in
     let listed : Answer = array_of (map (λ (i : ℕ). id_answer (id_at shown.stranded i)) set) in
-    let roomy : Transport → Answer = λ q. array_of (map share_answer (reached_from q set 0 shown.live)) in
+    let roomy : Tiered → Answer = λ q. array_of (map share_answer (reached_from q set 0 shown.live)) in
     let same_ids : ids ≡ listed = b ∙ ap array_of (map-map id_answer (id_at shown.stranded) set) in
     let same_rooms : rooms ≡ roomy (problem_of shown) = d ∙ ap roomy posed in
     let same_places : places ≡ integer (pos (places_of (problem_of shown) set)) =
-    e ∙ ap (λ (k : ℕ). integer (pos k)) (f ∙ ap (λ (q : Transport). places_of q set) posed) in
+    e ∙ ap (λ (k : ℕ). integer (pos k)) (f ∙ ap (λ (q : Tiered). places_of q set) posed) in
     ap (λ (first : Answer). whole first ids rooms places) a ∙ ap (λ (second : Answer). whole none second rooms places) same_ids
     ∙ ap (λ (third : Answer). whole none listed third places) same_rooms ∙ ap (whole none listed (roomy (problem_of shown))) same_places

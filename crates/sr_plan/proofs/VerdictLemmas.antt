@@ -1,7 +1,7 @@
 -- What a verdict is worth.
 use Rattle.std.proofs.Common.{◌≡◌, ◌≤◌, ℕ, List, subst, arith}
 use Rattle.std.specs.List.{All}
-use Rattle.sr_transport.specs.Problem.{Transport}
+use Rattle.sr_transport.specs.Problem.{Tiered}
 use Rattle.sr_transport.specs.Limits.{greatest_price}
 use Rattle.sr_transport.specs.Solved.{IsSolution, HasSmallPrices as AreSmall}
 use Rattle.sr_transport.specs.declared.solved.Solved.{Solved}
@@ -9,21 +9,26 @@ use Rattle.sr_transport.specs.declared.solved.Solved.TheVariants.{Best, Short}
 use Rattle.sr_transport.proofs.CallerLemmas.{prices_show_cheapest, shortage_excludes}
 use Rattle.sr_policy.specs.Problem.{problem_of}
 use Rattle.sr_policy.specs.Snapshot.{Shown, IsSnapshot}
+use Rattle.sr_policy.proofs.ProblemLemmas.{are_tiers}
 use Rattle.sr_check.specs.Answer.{AreTold}
 use Rattle.sr_plan.specs.Verdict.{Answer, best, short, HasSmallPrices, IsShown, IsWorth, IsVerdict}
 use Rattle.sr_plan.specs.steps.Judged.{answer_of}
 
--- an answer that shows that it is right is worth what it says
-pub shown_is_worth : (p : Transport) (answer : Answer) → IsShown p answer → IsWorth p answer
-shown_is_worth p (best assign prices total) shown = (shown.0.assignment, prices_show_cheapest p assign prices shown.0.assignment shown.0.shown)
-shown_is_worth p (short set) shown = shortage_excludes p set shown
+-- an answer to a snapshot's problem that shows that it is right is worth what it says
+pub shown_is_worth : (shown : Shown) (answer : Answer) → IsShown (problem_of shown) answer → IsWorth (problem_of shown) answer
+shown_is_worth shown (best assign prices total) right =
+    let p = problem_of shown in (
+      right.0.assignment,
+      prices_show_cheapest p assign prices (are_tiers shown.live) right.0.assignment right.0.shown,
+    )
+shown_is_worth shown (short set) right = shortage_excludes (problem_of shown) set right
 
 -- a reply can tell prices that are small
 small_are_told : (prices : List ℕ) → All (λ price. price ≤ greatest_price) prices → AreTold prices
 small_are_told prices small k d within = omega (arith, small k d within)
 
 -- a solution of a snapshot's problem, with small prices, is a verdict on it
-solution_is_shown : (p : Transport) (solved : Solved) → IsSolution p solved → AreSmall solved → IsShown p (answer_of solved)
+solution_is_shown : (p : Tiered) (solved : Solved) → IsSolution p solved → AreSmall solved → IsShown p (answer_of solved)
 solution_is_shown p (Best assign prices total) solution small = (solution, small_are_told prices.items small)
 solution_is_shown p (Short set) solution small = solution
 
@@ -31,11 +36,11 @@ solution_is_small : (solved : Solved) → AreSmall solved → HasSmallPrices (an
 solution_is_small (Best assign prices total) small = small
 solution_is_small (Short set) small = small
 
-pub solved_is_verdict : (shown : Shown) (p : Transport) (solved : Solved) → IsSnapshot shown → p ≡ problem_of shown → IsSolution p solved
+pub solved_is_verdict : (shown : Shown) (p : Tiered) (solved : Solved) → IsSnapshot shown → p ≡ problem_of shown → IsSolution p solved
     → AreSmall solved → IsVerdict (record { snapshot = shown; answer = answer_of solved })
 solved_is_verdict shown p solved sound posed solution small =
     record {
       snapshot = sound;
-      shown = subst (λ (q : Transport). IsShown q (answer_of solved)) posed (solution_is_shown p solved solution small);
+      shown = subst (λ (q : Tiered). IsShown q (answer_of solved)) posed (solution_is_shown p solved solution small);
       small = solution_is_small solved small;
     }

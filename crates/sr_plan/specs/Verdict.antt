@@ -7,7 +7,7 @@ use Rattle.sr_policy.specs.Problem.{problem_of}
 use Rattle.sr_policy.specs.Rules.{Text}
 use Rattle.sr_policy.specs.Snapshot.{Shown, IsSnapshot}
 use Rattle.sr_transport.specs.Limits.{greatest_price}
-pub use Rattle.sr_check.specs.Answer.{Answer, best, short, IsShown, IsWorth, name_at, id_at, moves_of}
+pub use Rattle.sr_check.specs.Answer.{Answer, best, short, IsShown, IsWorth, name_at, id_at, moves_of, prices_by}
 
 -- a snapshot, and an answer to its problem
 pub record Judged : Type 0 where
@@ -25,7 +25,7 @@ pub record IsVerdict (judged : Judged) : Type 0 where
   pub shown : IsShown (problem_of judged.snapshot) judged.answer
   pub small : HasSmallPrices judged.answer
 
--- what a verdict says: a plan has moves, a total and prices, and a shortage has its entries' ids
+-- what a verdict says: a plan has moves, a total and the prices of each consumer, and a shortage has its entries' ids
 abbrev pub moves_in : Shown → Answer → Option (List (Id × Text))
 moves_in shown (best assign prices total) = Some (moves_of shown assign)
 moves_in shown (short set) = None
@@ -34,9 +34,9 @@ abbrev pub total_in : Answer → Option ℕ
 total_in (best assign prices total) = Some total
 total_in (short set) = None
 
-abbrev pub prices_in : Answer → Option (List ℕ)
-prices_in (best assign prices total) = Some prices
-prices_in (short set) = None
+abbrev pub prices_in : Shown → Answer → Option (List (Text × List ℕ))
+prices_in shown (best assign prices total) = Some (prices_by shown.live prices)
+prices_in shown (short set) = None
 
 abbrev pub shortage_in : Shown → Answer → Option (List Id)
 shortage_in shown (best assign prices total) = None

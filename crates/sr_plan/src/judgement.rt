@@ -1,5 +1,4 @@
 ghost use Rattle.std.specs.Prelude.{◌≡◌, IfOk};
-ghost use Rattle.std.specs.Option.{option_copied};
 ghost use Rattle.sr_policy.specs.Problem.{problem_of};
 ghost use Rattle.sr_plan.specs.Calls.{claim_calls};
 ghost use Rattle.sr_check.specs.PlanReply.{verdict_answer};
@@ -7,6 +6,7 @@ ghost use Rattle.sr_plan.specs.Verdict.{IsVerdict, IsWorth, total_in, prices_in,
 
 use crate::calls::calls_of;
 use crate::moves::{Moves, Shortage};
+use crate::prices::Prices;
 use crate::reply::{plan_reply, shortage_reply};
 use sr_args::Call;
 use sr_bytes::Name;
@@ -70,7 +70,7 @@ impl Judgement {
         let _ = &self.solved;
     }
 
-    /// What a plan costs: the sum of rate times weight over its moves. `None` for a shortage.
+    /// What a plan costs: the sum of rate times weight over its moves, and of the fees of entries beyond soft limits. `None` for a shortage.
     pub(crate) fn total(&self) -> Option<u64>
         ensures { result ≡ total_in self.now.answer }
     {
@@ -80,13 +80,16 @@ impl Judgement {
         }
     }
 
-    /// The prices that show a plan to be a cheapest one: one for each live consumer, in their order and in the unit of
-    /// the costs. `None` for a shortage.
-    pub(crate) fn prices(&self) -> Option<&[u64]>
-        ensures { option_copied result ≡ prices_in self.now.answer }
+    /// The prices that show a plan to be a cheapest one: each live consumer, in their order, with one for each of its tiers, in the
+    /// unit of the costs. `None` for a shortage.
+    pub(crate) fn prices(&self) -> Option<Prices<'_>>
+        ensures { result ≡ prices_in self.now.snapshot self.now.answer }
     {
         match &self.solved {
-            Solved::Best { prices, .. } => Some(prices.as_slice()),
+            Solved::Best { prices, .. } => Some(Prices::new(
+                self.snapshot.live(),
+                prices.as_slice(),
+            )),
             Solved::Short { .. } => None,
         }
     }

@@ -4,9 +4,10 @@
 mod calls;
 mod judgement;
 mod moves;
-mod places;
+mod prices;
 mod reply;
 mod verdict;
 
 pub use moves::{Moves, Shortage};
+pub use prices::Prices;
 pub use verdict::Verdict;

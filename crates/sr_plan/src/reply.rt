@@ -1,21 +1,21 @@
 ghost use Rattle.std.specs.Prelude.{◌≡◌, ◌++◌, ◌<◌, ◌^◌, Bool, pos, All, length, map, IfOk, OnOk};
-ghost use Rattle.std.specs.List.{zip};
+ghost use Rattle.std.specs.List.{flat_map};
 ghost use Rattle.sr_transport.specs.Certificate.{IsShortage};
 ghost use Rattle.sr_transport.specs.Solved.{IsBest};
 ghost use Rattle.sr_policy.specs.Problem.{problem_of};
 ghost use Rattle.sr_resp.specs.Reply.{array_of, integer};
 ghost use Rattle.sr_check.specs.Answer.{AreTold};
 ghost use Rattle.sr_plan.specs.Verdict.{best, short};
-ghost use Rattle.sr_check.specs.PlanReply.{id_answer, move_answer, share_answer};
+ghost use Rattle.sr_check.specs.PlanReply.{id_answer, move_answer, price_answer, share_answer};
 ghost use Rattle.sr_check.specs.PlanReply.{plan_word, reached_from, verdict_answer};
 
 use crate::moves::{Moves, Shortage};
-use crate::places::{is_reached, places_of};
+use crate::prices::Prices;
 use sr_bytes::Name;
 use sr_ids::{Id, write_id};
-use sr_policy::{Live, Snapshot, problem};
+use sr_policy::{Snapshot, problem};
 use sr_resp::{Draft, Reply};
-use sr_transport::Problem;
+use sr_transport::{Problem, is_reached, places};
 use std::alloc::{AllocError, Global};
 
 /// The reply of a plan: the word, the total, the moves, the prices, and the ids of the entries that are gone.
@@ -36,7 +36,7 @@ pub(crate) fn plan_reply(
     let word = Reply::short(alloc, word_of(applied));
     let cost = number_reply(alloc, total);
     let moves = moves_reply(alloc, moves)?;
-    let prices = prices_reply(alloc, live, prices)?;
+    let prices = prices_reply(alloc, Prices::new(live, prices))?;
     let gone = gone_reply(alloc, snapshot.gone())?;
     Reply::array(alloc, [word, cost, moves, prices, gone])
 }
@@ -55,7 +55,7 @@ pub(crate) fn shortage_reply(
     let word = Reply::short(alloc, b"none");
     let ids = ids_reply(alloc, Shortage::new(set, snapshot.stranded()))?;
     let rooms = rooms_reply(alloc, snapshot, &problem, set)?;
-    let places = number_reply(alloc, places_of(&problem, set));
+    let places = number_reply(alloc, places(&problem, set));
     Reply::array(alloc, [word, ids, rooms, places])
 }
 
@@ -109,18 +109,29 @@ fn gone_reply(alloc: Global, gone: &[(Id, Name)]) -> Result<Reply, AllocError>
     Ok(draft.finish())
 }
 
-/// The prices of the live consumers as an array, each of them an array of a name and a number.
-fn prices_reply(alloc: Global, live: &[Live], prices: &[u64]) -> Result<Reply, AllocError>
-    requires each { length prices.now ≡ length live.now }
-    requires told { AreTold prices.now }
-    ensures { IfOk result (λ reply. reply
-        ≡ array_of (map share_answer (zip (map (λ consumer. consumer.name) live.now) prices.now))) }
+/// The prices of the live consumers as an array, each of them an array of a name and the prices of its tiers.
+fn prices_reply(alloc: Global, mut prices: Prices<'_>) -> Result<Reply, AllocError>
+    requires { All (λ own. AreTold own.1) prices }
+    ensures { IfOk result (λ reply. reply ≡ array_of (map price_answer prices.entry)) }
 {
-    let mut draft = Draft::array(alloc, live.len());
-    for (i, consumer) in live.iter().enumerate() {
-        write_share(&mut draft, &consumer.name, prices[i])?;
+    let mut draft = Draft::array(alloc, prices.len());
+    while let Some((consumer, own)) = prices.next() {
+        draft.header(own.len() + 1)?;
+        draft.bulk(consumer.as_slice())?;
+        write_prices(&mut draft, own)?;
     }
     Ok(draft.finish())
+}
+
+/// Adds prices to a draft, each as an integer.
+fn write_prices(draft: &mut Draft, prices: &[u64]) -> Result<(), AllocError>
+    requires { AreTold prices.now }
+    ensures { OnOk result (draft.new ≡ draft.old ++ flat_map (λ price. integer (pos price)) prices.now) }
+{
+    for price in prices {
+        draft.int(*price as i64)?;
+    }
+    Ok(())
 }
 
 /// The rooms of the consumers that some entry of the set is allowed, as an array.
@@ -153,16 +164,6 @@ fn share_reply(alloc: Global, consumer: &Name, n: u64) -> Result<Reply, AllocErr
 {
     let name = Reply::bulk(alloc, consumer.copy(alloc)?);
     Reply::array(alloc, [name, number_reply(alloc, n)])
-}
-
-/// Adds a consumer's name and a number to a draft, as an array.
-fn write_share(draft: &mut Draft, consumer: &Name, n: u64) -> Result<(), AllocError>
-    requires { n < 2 ^ 63 }
-    ensures { OnOk result (draft.new ≡ draft.old ++ share_answer (consumer.now, n)) }
-{
-    draft.header(2)?;
-    draft.bulk(consumer.as_slice())?;
-    draft.int(n as i64)
 }
 
 /// Adds an id to a draft, as a bulk string.

@@ -15,6 +15,10 @@ most_classes = 1024
 abbrev pub most_limit : ℕ
 most_limit = 1000000000
 
+-- what each entry beyond a soft limit costs beside
+abbrev pub most_fee : ℕ
+most_fee = 2 ^ 40
+
 -- a rate
 abbrev pub most_rate : ℕ
 most_rate = 2 ^ 20

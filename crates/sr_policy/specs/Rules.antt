@@ -1,9 +1,11 @@
--- What a policy says: how many entries each consumer may have pending, which consumers may take entries of which class,
--- and at which rate; and the class and the weight of an entry.
+-- What a policy says: how many entries each consumer may have pending, how many of them without a fee, which consumers
+-- may take entries of which class, and at which rate; and the class and the weight of an entry.
 -- Source: docs/POLICY.md.
 
-use Rattle.std.specs.Prelude.{ℕ, zero, ◌+◌, min, max, List, [], ◌∷◌, length, map, codes, Option, Some, None, is_some, nat_eq, option_and_then, option_map, unwrap_or, sum_by, if◌then◌else◌}
+use Rattle.std.specs.Prelude.{ℕ, ◌+◌, min, max, Bool, nat_eq, List, [], length, map, sum_by, codes}
+use Rattle.std.specs.Prelude.{Option, Some, None, is_some, option_and_then, option_map, if◌then◌else◌}
 use Rattle.std.specs.Cmp.Lexicographic.{pointwise}
+use Rattle.std.specs.List.{list_any}
 use Rattle.std.specs.Map.{lookup}
 use Rattle.sr_policy.specs.Bounds.{most_weight}
 use Rattle.sr_policy.specs.declared.live.Live.{Live}
@@ -12,16 +14,19 @@ use Rattle.sr_policy.specs.declared.live.Live.{Live}
 abbrev pub Text : Type 0
 Text = List ℕ
 
--- the field that gives an entry its class, if there is one; the limit of each consumer, in byte order of their names; and
--- for each class the rates of the consumers that may take its entries
+-- the field that gives an entry its class, if there is one; the limit of each consumer, in byte order of their names;
+-- for each class the rates of the consumers that may take its entries; and the soft limit of some consumers, with the
+-- fee for each entry beyond it
 pub record Rules : Type 0 where
   pub class_field : Option Text
   pub limits : List (Text × ℕ)
   pub rates : List (Text × List (Text × ℕ))
+  pub soft : List (Text × ℕ)
+  pub fees : List (Text × ℕ)
 
 -- no consumers, no rates, and one class for all entries
 abbrev pub no_rules : Rules
-no_rules = record { class_field = None; limits = []; rates = [] }
+no_rules = record { class_field = None; limits = []; rates = []; soft = []; fees = [] }
 
 -- what the first of the pairs with this name holds
 abbrev pub value_at : {V : Type 0} → Text → List (Text × V) → Option V
@@ -35,10 +40,21 @@ consumers_of rules = map (λ limit. limit.0) rules.limits
 abbrev pub limit_of : Rules → Text → Option ℕ
 limit_of rules consumer = value_at consumer rules.limits
 
+-- the soft limit of the consumer and the fee of each entry beyond it; None for a consumer without a soft limit
+abbrev pub tier_of : Rules → Text → Option (ℕ × ℕ)
+tier_of rules consumer =
+    option_and_then (λ soft. option_map (λ fee. (soft, fee)) (value_at consumer rules.fees))
+    (value_at consumer rules.soft)
+
+-- some consumer has a soft limit
+abbrev pub has_tiers : Rules → Bool
+has_tiers rules = list_any (λ consumer. is_some (tier_of rules consumer)) (consumers_of rules)
+
 -- the consumer as a live one, with this many entries pending for it; None for one that the policy doesn't name
 abbrev pub live_of : Rules → Text → ℕ → Option Live
 live_of rules consumer pending =
-    option_map (λ limit. record { name = consumer; limit = limit; pending = pending }) (limit_of rules consumer)
+    option_map (λ limit. record { name = consumer; limit = limit; pending = pending; tier = tier_of rules consumer })
+    (limit_of rules consumer)
 
 -- the cost of an entry of this class for each unit of its weight; None if the consumer may not take it
 abbrev pub rate_of : Rules → Text → Text → Option ℕ
@@ -52,8 +68,8 @@ other_class = codes "*"
 abbrev pub classed_by : Rules → List (Text × Text) → Option Text
 classed_by rules fields = option_and_then (λ name. value_at name fields) rules.class_field
 
--- this value, if the policy has a table of rates for it, and else `*`. A table's name is text, so a value that isn't UTF-8
--- has none
+-- this value, if the policy has a table of rates for it, and else `*`. A table's name is text, so a value that isn't
+-- UTF-8 has none
 abbrev pub class_of_value : Rules → Option Text → Text
 class_of_value rules None = other_class
 class_of_value rules (Some value) = if is_some (value_at value rules.rates) then value else other_class

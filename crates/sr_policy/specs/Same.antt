@@ -24,8 +24,13 @@ abbrev pub same_stranded : Stranded → Stranded → Bool
 same_stranded a b =
     same_id a.id b.id && (same_text a.owner b.owner && ((a.weight == b.weight) && same_text a.class b.class))
 
+abbrev pub same_tier : ℕ × ℕ → ℕ × ℕ → Bool
+same_tier a b = (a.0 == b.0) && (a.1 == b.1)
+
 abbrev pub same_live : Live → Live → Bool
-same_live a b = same_text a.name b.name && ((a.limit == b.limit) && (a.pending == b.pending))
+same_live a b =
+    same_text a.name b.name
+    && ((a.limit == b.limit) && ((a.pending == b.pending) && option_eq same_tier a.tier b.tier))
 
 abbrev pub same_gone : Id × Text → Id × Text → Bool
 same_gone a b = same_id a.0 b.0 && same_text a.1 b.1
@@ -46,35 +51,51 @@ same a b =
     && (pointwise same_live a.live b.live
     && pointwise same_class a.rates b.rates)))))
 
--- The test is true exactly where both sides are equal.
+-- The test is true exactly if both sides are equal. The proofs are here because the laws of `==` in src/equal.rt name
+-- them, and may name nothing of proofs/.
 
-rate_decides : (a b : Option ℕ) → Decides (option_eq nat_eq a b) (a ≡ b)
-rate_decides None None = (λ e. refl, λ e. refl)
-rate_decides (Some x) (Some y) = (λ e. ap Some ((Decides-eqb x y).0 e), λ e. (Decides-eqb x y).1 (cc))
-rate_decides a b = (λ e. cc, λ e. cc)
+option_decides :
+    {T : Type 0} {E : T → T → Bool} → ((a b : T) → Decides (E a b) (a ≡ b))
+    → (a b : Option T) → Decides (option_eq E a b) (a ≡ b)
+option_decides each None None = (λ e. refl, λ e. refl)
+option_decides each (Some x) (Some y) = (λ e. ap Some ((each x y).0 e), λ e. (each x y).1 (cc))
+option_decides each a b = (λ e. cc, λ e. cc)
 
 pub rates_decide : (a b : List (Option ℕ)) → Decides (same_rates a b) (a ≡ b)
-rates_decide a b = slice_eq-Decides rate_decides a b (same_rates a b) refl
+rates_decide a b = slice_eq-Decides (option_decides Decides-eqb) a b (same_rates a b) refl
 
 id_decides : (a b : Id) → Decides (same_id a b) (a ≡ b)
 id_decides a b =
-    Decides-like _ (λ p i. record { ms = p.0 i; seq = p.1 i }) (λ e. (ap (λ (x : Id). x.ms) e, ap (λ (x : Id). x.seq) e))
+    Decides-like _ (λ p i. record { ms = p.0 i; seq = p.1 i })
+    (λ e. (ap (λ (x : Id). x.ms) e, ap (λ (x : Id). x.seq) e))
     (Decides-and _ _ (Decides-eqb a.ms b.ms) (Decides-eqb a.seq b.seq))
 
 stranded_decides : (a b : Stranded) → Decides (same_stranded a b) (a ≡ b)
 stranded_decides a b =
     Decides-like _ (λ p i. record { id = p.0 i; owner = p.1.0 i; weight = p.1.1.0 i; class = p.1.1.1 i })
-    (λ e. (ap (λ (x : Stranded). x.id) e, (ap (λ (x : Stranded). x.owner) e, (ap (λ (x : Stranded). x.weight) e, ap (λ (x : Stranded). x.class) e))))
+    (λ e. (
+      ap (λ (x : Stranded). x.id) e,
+      (ap (λ (x : Stranded). x.owner) e, (ap (λ (x : Stranded). x.weight) e, ap (λ (x : Stranded). x.class) e)),
+    ))
     (Decides-and _ _ (id_decides a.id b.id)
     (Decides-and _ _ (bytes_eq-Decides a.owner b.owner)
     (Decides-and _ _ (Decides-eqb a.weight b.weight) (bytes_eq-Decides a.class b.class))))
 
+tier_decides : (a b : ℕ × ℕ) → Decides (same_tier a b) (a ≡ b)
+tier_decides a b =
+    Decides-like _ (λ p i. (p.0 i, p.1 i)) (λ e. (ap (λ (x : ℕ × ℕ). x.0) e, ap (λ (x : ℕ × ℕ). x.1) e))
+    (Decides-and _ _ (Decides-eqb a.0 b.0) (Decides-eqb a.1 b.1))
+
 live_decides : (a b : Live) → Decides (same_live a b) (a ≡ b)
 live_decides a b =
-    Decides-like _ (λ p i. record { name = p.0 i; limit = p.1.0 i; pending = p.1.1 i })
-    (λ e. (ap (λ (x : Live). x.name) e, (ap (λ (x : Live). x.limit) e, ap (λ (x : Live). x.pending) e)))
+    Decides-like _ (λ p i. record { name = p.0 i; limit = p.1.0 i; pending = p.1.1.0 i; tier = p.1.1.1 i })
+    (λ e. (
+      ap (λ (x : Live). x.name) e,
+      (ap (λ (x : Live). x.limit) e, (ap (λ (x : Live). x.pending) e, ap (λ (x : Live). x.tier) e)),
+    ))
     (Decides-and _ _ (bytes_eq-Decides a.name b.name)
-    (Decides-and _ _ (Decides-eqb a.limit b.limit) (Decides-eqb a.pending b.pending)))
+    (Decides-and _ _ (Decides-eqb a.limit b.limit)
+    (Decides-and _ _ (Decides-eqb a.pending b.pending) (option_decides tier_decides a.tier b.tier))))
 
 gone_decides : (a b : Id × Text) → Decides (same_gone a b) (a ≡ b)
 gone_decides a b =
@@ -90,14 +111,25 @@ class_decides a b =
 pub same_decides : (a b : Shown) → Decides (same a b) (a ≡ b)
 same_decides a b =
     Decides-like _
-    (λ p i. record { key = p.0 i; group = p.1.0 i; dead = p.1.1.0 i; stranded = p.1.1.1.0 i; gone = p.1.1.1.1.0 i; live = p.1.1.1.1.1.0 i; rates = p.1.1.1.1.1.1 i })
+    (λ p i. record {
+      key = p.0 i;
+      group = p.1.0 i;
+      dead = p.1.1.0 i;
+      stranded = p.1.1.1.0 i;
+      gone = p.1.1.1.1.0 i;
+      live = p.1.1.1.1.1.0 i;
+      rates = p.1.1.1.1.1.1 i;
+    })
     (λ e. (
       ap (λ (x : Shown). x.key) e,
       (
         ap (λ (x : Shown). x.group) e,
         (
           ap (λ (x : Shown). x.dead) e,
-          (ap (λ (x : Shown). x.stranded) e, (ap (λ (x : Shown). x.gone) e, (ap (λ (x : Shown). x.live) e, ap (λ (x : Shown). x.rates) e))),
+          (
+            ap (λ (x : Shown). x.stranded) e,
+            (ap (λ (x : Shown). x.gone) e, (ap (λ (x : Shown). x.live) e, ap (λ (x : Shown). x.rates) e)),
+          ),
         ),
       ),
     ))
@@ -106,7 +138,8 @@ same_decides a b =
     (Decides-and _ _ (slice_eq-Decides bytes_eq-Decides a.dead b.dead _ refl)
     (Decides-and _ _ (slice_eq-Decides stranded_decides a.stranded b.stranded _ refl)
     (Decides-and _ _ (slice_eq-Decides gone_decides a.gone b.gone _ refl)
-    (Decides-and _ _ (slice_eq-Decides live_decides a.live b.live _ refl) (slice_eq-Decides class_decides a.rates b.rates _ refl)))))))
+    (Decides-and _ _ (slice_eq-Decides live_decides a.live b.live _ refl)
+    (slice_eq-Decides class_decides a.rates b.rates _ refl)))))))
 
 pub same_is_equivalence : IsEquivalence same
 same_is_equivalence = decided same same_decides

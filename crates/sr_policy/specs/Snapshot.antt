@@ -8,13 +8,14 @@ use Rattle.sr_ids.specs.declared.id.Id.{Id}
 use Rattle.sr_ids.specs.Id.{IsBelow}
 use Rattle.sr_policy.specs.declared.stranded.Stranded.{Stranded}
 use Rattle.sr_policy.specs.declared.live.Live.{Live}
-use Rattle.sr_policy.specs.Bounds.{most_consumers, most_classes, most_limit, most_rate, most_weight, most_stranded}
+use Rattle.sr_policy.specs.Bounds.{most_consumers, most_classes, most_stranded}
+use Rattle.sr_policy.specs.Bounds.{most_fee, most_limit, most_rate, most_weight}
 use Rattle.sr_policy.specs.Rules.{Text}
 pub use Rattle.sr_bytes.specs.Order.{comes_before, ComesBefore, AreInOrder}
 
--- the key and the group; the names of the dead consumers; the entries that are pending for them and still in the stream,
--- and those that are no longer in the stream, each with its owner; the consumers that could take them; and for each class
--- the rate of each of these consumers, None if it may not take the class. No times and no counts
+-- the key and the group; the names of the dead consumers; the entries that are pending for them and still in the
+-- stream, and those that are no longer in the stream, each with its owner; the consumers that could take them; and for
+-- each class the rate of each of these consumers, None if it may not take the class. No times and no counts
 pub record Shown : Type 0 where
   pub key : Text
   pub group : Text
@@ -54,6 +55,11 @@ pub record AreRates (consumers : ℕ) (rates : List (Option ℕ)) : Type 0 where
   pub places : length rates ≡ consumers
   pub small : All (λ rate. IfSome rate (λ n. n ≤ most_rate)) rates
 
+-- the soft limit is not above the limit, and the fee is not too great
+pub record IsTier (limit : ℕ) (tier : ℕ × ℕ) : Type 0 where
+  pub soft : tier.0 ≤ limit
+  pub fee : tier.1 ≤ most_fee
+
 -- no list is too long, and no number too great; `*` may be there beside the classes of the policy
 pub record IsWithinBounds (shown : Shown) : Type 0 where
   pub few_stranded : length shown.stranded ≤ most_stranded
@@ -61,6 +67,7 @@ pub record IsWithinBounds (shown : Shown) : Type 0 where
   pub few_classes : length shown.rates ≤ most_classes + 1
   pub weights : All (λ entry. IsWeight entry.weight) shown.stranded
   pub limits : All (λ consumer. consumer.limit ≤ most_limit) shown.live
+  pub tiers : All (λ consumer. IfSome consumer.tier (IsTier consumer.limit)) shown.live
   pub rates : All (λ class. AreRates (length shown.live) class.1) shown.rates
 
 -- these lists make a snapshot

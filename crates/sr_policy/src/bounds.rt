@@ -12,6 +12,9 @@ pub(crate) const MAX_LIMIT: u64 = 1_000_000_000;
 /// The greatest rate.
 pub(crate) const MAX_RATE: u64 = 1 << 20;
 
+/// The greatest fee of an entry beyond a soft limit.
+pub(crate) const MAX_FEE: u64 = 1 << 40;
+
 /// The greatest weight of an entry.
 pub(crate) const MAX_WEIGHT: u64 = 1 << 20;
 

@@ -1,40 +1,64 @@
 ghost use Rattle.std.specs.Prelude.{◌≡◌, ◌++◌, ◌*◌, ◌≤◌, ◌^◌, IfOk, OnOk, All, IfSome, None, option_map, map};
 ghost use Rattle.std.specs.List.{flat_map};
 ghost use Rattle.sr_transport.specs.Problem.{IsWithinLimits};
-ghost use Rattle.sr_policy.specs.Snapshot.{IsWeight};
-ghost use Rattle.sr_policy.specs.Problem.{room_at, costs_at, costs_of as costs_in, problem_of};
+ghost use Rattle.sr_policy.specs.Snapshot.{IsTier, IsWeight};
+ghost use Rattle.sr_policy.specs.Problem.{costs_at, costs_of as costs_in, problem_of, tiers_at, tiers_from};
 
 use crate::live::Live;
 use crate::numbers::found;
 use crate::snapshot::Snapshot;
 use crate::stranded::Stranded;
-use sr_transport::Problem;
+use sr_transport::{Problem, Tier};
 use std::alloc::{AllocError, Global};
 
 /// The transportation problem of a snapshot: who could take its stranded entries, and at what cost.
 #[tactic(auto, using(crate::proofs::ProblemLemmas::problem_within))]
 pub fn problem(alloc: Global, snapshot: &Snapshot) -> Result<Problem, AllocError>
     ensures ok { IfOk result (λ problem. problem ≡ problem_of snapshot.now) }
-    ensures within { IfOk result (λ problem. IsWithinLimits problem.rooms problem.entries problem.costs) }
+    ensures within { IfOk result (λ problem.
+        IsWithinLimits problem.tiers problem.takers problem.entries problem.costs) }
 {
     snapshot.sound();
-    let rooms = rooms_of(alloc, snapshot.live())?;
+    let consumers = snapshot.live().len();
+    let tiers = tiers_of(alloc, snapshot.live())?;
     let costs = costs_of(alloc, snapshot)?;
-    match Problem::new(rooms, snapshot.stranded().len(), costs) {
+    match Problem::new(tiers, consumers, snapshot.stranded().len(), costs) {
         Some(problem) => Ok(problem),
         None => unreachable!("a snapshot is within the limits of a problem"),
     }
 }
 
-/// The room of each consumer.
-fn rooms_of(alloc: Global, live: &[Live]) -> Result<Vec<u64>, AllocError>
-    ensures { IfOk result (λ rooms. rooms.items ≡ map room_at live.now) }
+/// The tiers of all consumers.
+fn tiers_of(alloc: Global, live: &[Live]) -> Result<Vec<Tier>, AllocError>
+    requires { All (λ consumer. IfSome consumer.tier (IsTier consumer.limit)) live.now }
+    ensures { IfOk result (λ tiers. tiers.items ≡ tiers_from 0 live.now) }
 {
-    let mut rooms = Vec::with_capacity(alloc, live.len())?;
-    for consumer in live {
-        rooms.push(consumer.room())?;
+    let mut tiers = Vec::with_capacity(alloc, live.len())?;
+    for (number, consumer) in live.iter().enumerate() {
+        add_tiers(&mut tiers, number, consumer)?;
     }
-    Ok(rooms)
+    Ok(tiers)
+}
+
+/// Adds the tiers of the consumer with this number: what is free, and what is beyond its soft limit if it has one.
+fn add_tiers(tiers: &mut Vec<Tier>, number: usize, consumer: &Live) -> Result<(), AllocError>
+    requires { IfSome consumer.now.tier (IsTier consumer.now.limit) }
+    ensures { OnOk result (tiers.new.items ≡ tiers.old.items ++ tiers_at number consumer.now) }
+{
+    let free = consumer.free_room();
+    tiers.push(Tier {
+        consumer: number,
+        room: free,
+        fee: 0,
+    })?;
+    if let Some((_soft, fee)) = consumer.tier {
+        tiers.push(Tier {
+            consumer: number,
+            room: consumer.room() - free,
+            fee,
+        })?;
+    }
+    Ok(())
 }
 
 /// What each stranded entry costs at each consumer, row by entry.

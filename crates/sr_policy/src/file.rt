@@ -1,9 +1,13 @@
-ghost use Rattle.std.specs.Prelude.{◌≡◌, Ok, Err, IfOk, IfErr, true};
+ghost use Rattle.std.specs.Prelude.{◌≡◌, Ok, Err, IfOk, IfErr, map, true};
 ghost use Rattle.toml.specs.View.{table_view};
-ghost use Rattle.sr_policy.specs.File.{is_in_range as is_file_in_range, meaning_of_file, rules_of as rules_of_file, rates_of as rates_in_table};
+ghost use Rattle.sr_bytes.specs.Order.{AreInOrder, ComesBefore};
+ghost use Rattle.sr_policy.specs.File.{is_in_range as is_file_in_range, meaning_of_file};
+ghost use Rattle.sr_policy.specs.File.{numbers_of as numbers_in, rates_of as rates_in_table, rules_of as rules_of_file};
+ghost use Rattle.sr_policy.specs.File.{table_at as table_in};
 
 use crate::Policy;
 use crate::numbers::{Numbers, numbers_of};
+use crate::policy::Parts;
 use crate::range::is_in_range;
 use crate::shape::has_shape;
 use crate::table::{name_of, table_at, text_at};
@@ -16,7 +20,8 @@ use toml::Table;
 pub enum PolicyFault {
     /// It is not a TOML document.
     Toml,
-    /// It has another key, a value of another kind, or a rate for a consumer without a limit.
+    /// It has another key, a value of another kind, or a rate for a consumer without a limit; or it has soft limits or
+    /// fees, and is not of version 2, or they are not for the same consumers, each with a limit.
     Shape,
     /// A number is out of its range, or there are too many consumers or classes.
     Range,
@@ -49,7 +54,8 @@ impl Policy {
 /// Whether a file has the shape of a policy, and then whether its numbers are in range.
 fn judge(file: &Table) -> Result<(), PolicyFault>
     ensures ok { IfOk result (λ _. is_file_in_range (table_view file.now) ≡ true) }
-    ensures meant { IfOk result (λ _. meaning_of_file (table_view file.now) ≡ Ok (rules_of_file (table_view file.now))) }
+    ensures meant { IfOk result (λ _.
+        meaning_of_file (table_view file.now) ≡ Ok (rules_of_file (table_view file.now))) }
     ensures err { IfErr result (λ fault. meaning_of_file (table_view file.now) ≡ Err fault) }
 {
     if !has_shape(file) {
@@ -70,15 +76,29 @@ fn policy_of(alloc: Global, file: &Table) -> Result<Policy, AllocError>
         Some(text) => Some(name_of(alloc, text)?),
         None => None,
     };
-    let limits = match table_at(file, "limits") {
-        Some(limits) => numbers_of(alloc, limits)?,
-        None => Numbers::none(alloc),
-    };
     let rates = match table_at(file, "rates") {
         Some(classes) => rates_of(alloc, classes)?,
         None => Vec::new(alloc),
     };
-    Policy::of(alloc, class_field, limits, rates)
+    let parts = Parts {
+        class_field,
+        limits: numbers_at(alloc, file, "limits")?,
+        rates,
+        soft: numbers_at(alloc, file, "soft")?,
+        fees: numbers_at(alloc, file, "fees")?,
+    };
+    Policy::of(alloc, parts)
+}
+
+/// The numbers of the table at a key: none if it is missing.
+fn numbers_at(alloc: Global, file: &Table, key: &str) -> Result<Numbers, AllocError>
+    ensures value { IfOk result (λ numbers. numbers ≡ numbers_in (table_in key.now (table_view file.now))) }
+    ensures order { IfOk result (λ numbers. AreInOrder ComesBefore (map (λ pair. pair.0) numbers)) }
+{
+    match table_at(file, key) {
+        Some(numbers) => numbers_of(alloc, numbers),
+        None => Ok(Numbers::none(alloc)),
+    }
 }
 
 /// The rates of each class.

@@ -1,10 +1,12 @@
 //! Whether parts make a snapshot.
-ghost use Rattle.std.specs.Prelude.{◌≡◌, ◌↔◌, ◌≤◌, length, IsTrue, All};
+ghost use Rattle.std.specs.Prelude.{◌≡◌, ◌↔◌, ◌≤◌, length, IsTrue, IfSome, All};
 ghost use Rattle.sr_ids.specs.Id.{IsBelow};
 ghost use Rattle.sr_policy.specs.Bounds.{most_limit};
 ghost use Rattle.sr_policy.specs.Snapshot as spec;
 
-use crate::bounds::{MAX_CLASSES, MAX_CONSUMERS, MAX_LIMIT, MAX_RATE, MAX_STRANDED, MAX_WEIGHT};
+use crate::bounds::{
+    MAX_CLASSES, MAX_CONSUMERS, MAX_FEE, MAX_LIMIT, MAX_RATE, MAX_STRANDED, MAX_WEIGHT,
+};
 use crate::live::Live;
 use crate::rates::Rates;
 use crate::snapshot::Parts;
@@ -120,6 +122,7 @@ fn is_within_bounds(parts: &Parts) -> bool
         && parts.rates.len() <= MAX_CLASSES + 1
         && are_weights(parts.stranded.as_slice())
         && are_limits(parts.live.as_slice())
+        && are_tiers(parts.live.as_slice())
         && are_class_rates(parts.live.len(), parts.rates.as_slice())
 }
 
@@ -135,6 +138,22 @@ fn are_limits(live: &[Live]) -> bool
     ensures { IsTrue result ↔ All (λ consumer. consumer.limit ≤ most_limit) live.now }
 {
     live.iter().all(|consumer| consumer.limit <= MAX_LIMIT)
+}
+
+/// Whether no soft limit is above its consumer's limit, and no fee too great.
+fn are_tiers(live: &[Live]) -> bool
+    ensures { IsTrue result ↔ All (λ consumer. IfSome consumer.tier (spec.IsTier consumer.limit)) live.now }
+{
+    live.iter().all(|consumer| consumer
+        .tier
+        .is_none_or(|tier| is_tier(consumer.limit, tier)))
+}
+
+/// Whether a soft limit is not above a limit, and its fee is not too great.
+fn is_tier(limit: u64, tier: (u64, u64)) -> bool
+    ensures { IsTrue result ↔ spec.IsTier limit tier }
+{
+    tier.0 <= limit && tier.1 <= MAX_FEE
 }
 
 /// Whether each class has rates, one for each consumer.

@@ -1,5 +1,5 @@
-//! Who may take a dead consumer's entries, and at what cost: the policy that an operator writes, the snapshot of a group
-//! under it, and the transportation problem of that snapshot.
+//! Who may take a dead consumer's entries, and at what cost: the policy that an operator writes, the snapshot of a
+//! group under it, and the transportation problem of that snapshot.
 #![tactic(auto)]
 
 mod bounds;

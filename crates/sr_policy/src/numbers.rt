@@ -10,7 +10,7 @@ use std::alloc::{AllocError, Global};
 use std::marker::Model;
 use toml::Table;
 
-/// Numbers by name: the limits of consumers, or their rates for a class.
+/// Numbers by name: the limits of consumers, their soft limits or fees, or their rates for a class.
 #[derive(Drop)]
 pub(crate) struct Numbers {
     pairs: Vec<(Name, u64)>,

@@ -7,8 +7,8 @@ use sr_bytes::{Name, Pairs};
 use std::alloc::{AllocError, Global};
 use std::marker::Model;
 
-/// What an operator allows: how many entries each consumer may have pending, which consumers may take the entries of
-/// which class, and at which rate.
+/// What an operator allows: how many entries each consumer may have pending, and how many of them without a fee, which
+/// consumers may take the entries of which class, and at which rate.
 ///
 /// Source: docs/POLICY.md.
 pub struct Policy {
@@ -17,6 +17,8 @@ pub struct Policy {
     consumers: Vec<Name>,
     limits: Numbers,
     rates: Vec<(Name, Numbers)>,
+    soft: Numbers,
+    fees: Numbers,
 }
 
 // A function of its own, so that a caller that lets go of one is proved without looking at its parts.
@@ -27,6 +29,8 @@ impl Drop for Policy {
             consumers: _,
             limits: _,
             rates: _,
+            soft: _,
+            fees: _,
         } = self;
     }
 }
@@ -38,17 +42,55 @@ impl Model for Policy {
 
     ghost Value = { Rules };
 
-    ghost view = { λ p. record { class_field = p.class_field; limits = p.limits; rates = p.rates.items } };
+    ghost view = { λ p. record {
+      class_field = p.class_field;
+      limits = p.limits;
+      rates = p.rates.items;
+      soft = p.soft;
+      fees = p.fees;
+    } };
 
     ghost invariant = { λ p. (p.consumers.items ≡ map (λ limit. limit.0) p.limits)
-        × IsPolicy (record { class_field = p.class_field; limits = p.limits; rates = p.rates.items }) };
+        × IsPolicy (record {
+          class_field = p.class_field;
+          limits = p.limits;
+          rates = p.rates.items;
+          soft = p.soft;
+          fees = p.fees;
+        }) };
+}
+
+/// The parts of a policy, before they are one.
+#[derive(Drop)]
+pub(crate) struct Parts {
+    pub(crate) class_field: Option<Name>,
+    pub(crate) limits: Numbers,
+    pub(crate) rates: Vec<(Name, Numbers)>,
+    pub(crate) soft: Numbers,
+    pub(crate) fees: Numbers,
+}
+
+impl Model for Parts {
+    ghost use Rattle.sr_policy.specs.Rules.{Rules};
+
+    ghost Value = { Rules };
+
+    ghost view = { λ p. record {
+      class_field = p.class_field;
+      limits = p.limits;
+      rates = p.rates.items;
+      soft = p.soft;
+      fees = p.fees;
+    } };
 }
 
 impl Policy {
     ghost use Rattle.std.specs.Prelude.{◌≡◌, IfOk, option_map};
     ghost use Rattle.sr_bytes.specs.Order.{AreInOrder, ComesBefore};
     ghost use Rattle.sr_policy.specs.Policy.{IsPolicy};
-    ghost use Rattle.sr_policy.specs.Rules.{no_rules, value_at, consumers_of, limit_of, live_of, rate_of, classed_by as classed_in, class_of as class_by};
+    ghost use Rattle.sr_policy.specs.Rules.{no_rules, value_at, consumers_of, limit_of, live_of, rate_of};
+    ghost use Rattle.sr_policy.specs.Rules.{has_tiers, tier_of};
+    ghost use Rattle.sr_policy.specs.Rules.{classed_by as classed_in, class_of as class_by};
 
     /// The policy without consumers and rates, under which no entry can be given to anybody. It takes no memory.
     pub fn empty(alloc: Global) -> Policy
@@ -59,29 +101,36 @@ impl Policy {
             consumers: Vec::new(alloc),
             limits: Numbers::none(alloc),
             rates: Vec::new(alloc),
+            soft: Numbers::none(alloc),
+            fees: Numbers::none(alloc),
         }
     }
 
     /// The policy of these parts.
-    pub(crate) fn of(
-        alloc: Global,
-        class_field: Option<Name>,
-        limits: Numbers,
-        rates: Vec<(Name, Numbers)>,
-    ) -> Result<Policy, AllocError>
-        requires { IsPolicy (record { class_field = class_field; limits = limits; rates = rates.items }) }
-        ensures { IfOk result (λ policy. policy ≡ record { class_field = class_field; limits = limits; rates = rates.items }) }
+    pub(crate) fn of(alloc: Global, parts: Parts) -> Result<Policy, AllocError>
+        requires { IsPolicy parts }
+        ensures { IfOk result (λ policy. policy ≡ parts) }
     {
+        let Parts {
+            class_field,
+            limits,
+            rates,
+            soft,
+            fees,
+        } = parts;
         let consumers = names_of(alloc, limits.as_slice())?;
         Ok(Policy {
             class_field,
             consumers,
             limits,
             rates,
+            soft,
+            fees,
         })
     }
 
-    /// Law: the consumers are in order, no list is too long, and no number too great. Calling this has no effect.
+    /// Law: the consumers are in order, no list is too long, no number too great, and no soft limit above its limit.
+    /// Calling this has no effect.
     pub fn sound(&self)
         ensures { IsPolicy self.now }
     {
@@ -120,7 +169,27 @@ impl Policy {
             name,
             limit,
             pending,
+            tier: self.tier(consumer),
         }))
+    }
+
+    /// A consumer's soft limit and the fee of each entry beyond it, or `None` if it has no soft limit. It takes no
+    /// memory.
+    pub fn tier(&self, consumer: &Name) -> Option<(u64, u64)>
+        ensures { result ≡ tier_of self.now consumer.now }
+    {
+        let soft = self.soft.get(consumer)?;
+        let fee = self.fees.get(consumer)?;
+        Some((soft, fee))
+    }
+
+    /// Whether some consumer has a soft limit. It takes no memory.
+    pub fn has_tiers(&self) -> bool
+        ensures { result ≡ has_tiers self.now }
+    {
+        self.consumers
+            .iter()
+            .any(|consumer| self.tier(consumer).is_some())
     }
 
     /// What an entry of a class costs at a consumer for each unit of its weight, or `None` if the consumer may not take

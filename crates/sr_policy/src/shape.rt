@@ -1,19 +1,21 @@
 //! Whether a file has the shape of a policy.
-ghost use Rattle.std.specs.Prelude.{◌≡◌, is_some, true};
+ghost use Rattle.std.specs.Prelude.{◌&&◌, ◌≡◌, is_some, true};
 ghost use Rattle.std.specs.List.{list_all};
 ghost use Rattle.std.specs.Option.{option_map_or};
 ghost use Rattle.toml.specs.Data.{as_table, get_member};
 ghost use Rattle.toml.specs.View.{view, table_view};
 ghost use Rattle.sr_policy.specs.File as spec;
 
+use crate::range::is_between;
 use crate::table::{table_at, value_at};
 use toml::{Table, Value};
 
-/// Whether a file has no other keys, each value of its kind, and no rate for a consumer without a limit.
+/// Whether a file has no other keys, each value of its kind, no rate for a consumer without a limit, and soft limits
+/// and fees for the same consumers, in version 2 alone.
 pub(crate) fn has_shape(file: &Table) -> bool
     ensures { result ≡ spec.has_shape (table_view file.now) }
 {
-    has_known_keys(file) && has_kinds(file) && are_all_limited(file)
+    has_known_keys(file) && has_kinds(file) && are_all_limited(file) && are_tiers(file)
 }
 
 /// Whether a file has no other keys than those of a policy.
@@ -32,7 +34,12 @@ fn has_known_keys(file: &Table) -> bool
 fn is_known_key(key: &str) -> bool
     ensures { result ≡ spec.is_known_key key.now }
 {
-    key == "version" || key == "class_field" || key == "limits" || key == "rates"
+    key == "version"
+        || key == "class_field"
+        || key == "limits"
+        || key == "rates"
+        || key == "soft"
+        || key == "fees"
 }
 
 /// Whether each value is of its kind.
@@ -43,6 +50,8 @@ fn has_kinds(file: &Table) -> bool
         && is_text_at(file, "class_field")
         && is_number_table_at(file, "limits")
         && is_rate_table_at(file, "rates")
+        && is_number_table_at(file, "soft")
+        && is_number_table_at(file, "fees")
 }
 
 /// Whether the value at a key is an integer, or the key is missing.
@@ -131,7 +140,8 @@ fn are_number_tables(classes: &Table) -> bool
 
 /// Whether every consumer that has a rate has a limit.
 fn are_all_limited(file: &Table) -> bool
-    ensures { result ≡ spec.are_all_limited (spec.limits_in (table_view file.now)) (spec.rates_in (table_view file.now)) }
+    ensures { result
+        ≡ spec.are_all_limited (spec.limits_in (table_view file.now)) (spec.rates_in (table_view file.now)) }
 {
     match table_at(file, "rates") {
         Some(classes) => are_classes_limited(file, classes),
@@ -153,7 +163,8 @@ fn are_classes_limited(file: &Table, classes: &Table) -> bool
 
 /// The same for the rates of one class.
 fn is_limited(file: &Table, value: &Value) -> bool
-    ensures { result ≡ option_map_or (spec.are_limited (spec.limits_in (table_view file.now))) (as_table (view value.now)) true }
+    ensures { result
+        ≡ option_map_or (spec.are_limited (spec.limits_in (table_view file.now))) (as_table (view value.now)) true }
 {
     match value.as_table() {
         Some(rates) => are_limited(file, rates),
@@ -165,20 +176,70 @@ fn is_limited(file: &Table, value: &Value) -> bool
 fn are_limited(file: &Table, rates: &Table) -> bool
     ensures { result ≡ spec.are_limited (spec.limits_in (table_view file.now)) (table_view rates.now) }
 {
-    for (consumer, _rate) in rates.iter() {
-        if !has_limit(file, consumer.as_str()) {
+    are_keys_at(file, "limits", rates)
+}
+
+/// Whether each key of a table is one of the table that the file has at `key`.
+fn are_keys_at(file: &Table, key: &str, table: &Table) -> bool
+    ensures { result ≡ spec.are_limited (spec.table_at key.now (table_view file.now)) (table_view table.now) }
+{
+    for (consumer, _value) in table.iter() {
+        if !has_key_at(file, key, consumer.as_str()) {
             return false;
         }
     }
     true
 }
 
-/// Whether the file has a limit at a key.
-fn has_limit(file: &Table, consumer: &str) -> bool
-    ensures { result ≡ is_some (get_member consumer.now (spec.limits_in (table_view file.now))) }
+/// Whether the table that the file has at `key` has this consumer.
+fn has_key_at(file: &Table, key: &str, consumer: &str) -> bool
+    ensures { result ≡ is_some (get_member consumer.now (spec.table_at key.now (table_view file.now))) }
 {
-    match table_at(file, "limits") {
-        Some(limits) => value_at(limits, consumer).is_some(),
+    match table_at(file, key) {
+        Some(table) => value_at(table, consumer).is_some(),
         None => false,
+    }
+}
+
+/// Whether a file has neither soft limits nor fees, or, in version 2, both, for the same consumers, which have limits.
+fn are_tiers(file: &Table) -> bool
+    ensures { result ≡ spec.are_tiers (table_view file.now) }
+{
+    match (value_at(file, "soft"), value_at(file, "fees")) {
+        (None, None) => true,
+        (Some(_), Some(_)) => is_of_version_2(file) && are_same_consumers(file),
+        _ => false,
+    }
+}
+
+/// Whether a file says that it is of version 2.
+fn is_of_version_2(file: &Table) -> bool
+    ensures { result ≡ spec.is_of_version_2 (table_view file.now) }
+{
+    match value_at(file, "version") {
+        Some(version) => is_between(version, 2, 2),
+        None => false,
+    }
+}
+
+/// Whether the consumers of two tables are the same, and each of them has a limit.
+fn are_same_consumers(file: &Table) -> bool
+    ensures { result ≡ (spec.are_limited (spec.fees_in (table_view file.now)) (spec.soft_in (table_view file.now))
+        && spec.are_limited (spec.soft_in (table_view file.now)) (spec.fees_in (table_view file.now))
+        && spec.are_limited (spec.limits_in (table_view file.now)) (spec.soft_in (table_view file.now))) }
+{
+    are_all_keys_at(file, "fees", "soft")
+        && are_all_keys_at(file, "soft", "fees")
+        && are_all_keys_at(file, "limits", "soft")
+}
+
+/// Whether each key of the table at one key of a file is one of the table at another.
+fn are_all_keys_at(file: &Table, key: &str, other: &str) -> bool
+    ensures { result ≡ spec.are_limited (spec.table_at key.now (table_view file.now))
+        (spec.table_at other.now (table_view file.now)) }
+{
+    match table_at(file, other) {
+        Some(table) => are_keys_at(file, key, table),
+        None => true,
     }
 }

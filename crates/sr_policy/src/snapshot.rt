@@ -62,8 +62,8 @@ impl Snapshot {
     ghost use Rattle.std.specs.Prelude.{◌≡◌, ◌↔◌, IsSome, IfSome};
     ghost use Rattle.sr_policy.specs.Snapshot.{IsSnapshot};
 
-    /// The snapshot of these parts: the key and the group, the dead consumers, the stranded entries, the entries that are
-    /// pending for the dead and no longer in the stream, the live consumers, and for each class their rates.
+    /// The snapshot of these parts: the key and the group, the dead consumers, the stranded entries, the entries that
+    /// are pending for the dead and no longer in the stream, the live consumers, and for each class their rates.
     ///
     /// `None` if a list is not in order or too long, a number is out of its range, or an owner is not dead.
     pub fn new(

@@ -4,8 +4,8 @@ ghost use Rattle.sr_policy.specs.Rules.{weight_of as weight};
 use crate::bounds::MAX_WEIGHT;
 use sr_bytes::Pairs;
 
-/// The weight of an entry with these fields: how many bytes its fields and values have, but at least 1 and at most 2^20.
-/// It takes no memory.
+/// The weight of an entry with these fields: how many bytes its fields and values have, but at least 1 and at most
+/// 2^20. It takes no memory.
 pub fn weight_of(mut fields: Pairs<'_>) -> u64
     ensures { result ≡ weight fields.entry }
 {

@@ -3,8 +3,8 @@ use Rattle.std.proofs.Common.{◌≡◌, ℕ, ◌+◌, ◌<◌, ◌⊎◌, true,
 use Rattle.std.proofs.Math.ListN.{set, length-set}
 use Rattle.std.proofs.lemmas.Bool.{cases_eq}
 use Rattle.std.proofs.lemmas.List.{get_or-set_same, get_or-set_other}
-use Rattle.sr_transport.specs.Problem.{Transport, consumers, room_of}
-use Rattle.sr_transport.specs.Assignment.{load}
+use Rattle.sr_transport.specs.plain.Problem.{Transport, consumers, room_of}
+use Rattle.sr_transport.specs.plain.Assignment.{load}
 use Rattle.sr_solver.specs.declared.label.Label.{Label}
 use Rattle.sr_solver.specs.Labels.{no_label, label_at, open_count, priced}
 use Rattle.sr_solver.specs.Search.{IsWithin, IsSearch, IsNearest, IsRound, IsClosed}

@@ -12,3 +12,5 @@ pub mod ShortageLemmas
 pub mod SolvedLemmas
 pub mod OrderLemmas
 pub mod RenamedShortageLemmas
+pub mod TierLemmas
+pub mod ChargeLemmas

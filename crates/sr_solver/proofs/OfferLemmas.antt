@@ -1,13 +1,13 @@
 -- One consumer more is asked whether an entry of the closed one comes nearer.
 use Rattle.std.proofs.Common.{◌≡◌, ℕ, ◌+◌, ◌*◌, ◌<◌, ◌≤◌, ◌⊎◌, true, false, List, length, get_or, Option, Some, None, refl, sym, ap, ◌∙◌, inl, inr, arith}
 use Rattle.std.specs.Prelude.{IfSome}
-use Rattle.sr_transport.specs.Limits.{greatest_cost, greatest_price, most_consumers}
+use Rattle.sr_transport.specs.Limits.{greatest_charge, greatest_price, most_tiers}
 use Rattle.sr_solver.specs.Limits.{greatest_way, greatest_bound}
 use Rattle.std.proofs.lemmas.Bool.{cases_eq, cases_lt, false≢true}
 use Rattle.std.proofs.Math.Nat.{mul-le-mul_left}
 use Rattle.std.proofs.lemmas.Nat.{mul-add-lt}
-use Rattle.sr_transport.specs.Problem.{Transport, IsWithinLimits, consumers, cost_at, cost_of, IsAllowed}
-use Rattle.sr_transport.specs.Certificate.{IsLeast}
+use Rattle.sr_transport.specs.plain.Problem.{Transport, IsWithinLimits, consumers, cost_at, cost_of, IsAllowed}
+use Rattle.sr_transport.specs.plain.Certificate.{IsLeast}
 use Rattle.sr_solver.specs.declared.label.Label.{Label}
 use Rattle.sr_solver.specs.Labels.{label_at, open_count, priced}
 use Rattle.sr_solver.specs.declared.table.Bound.{Bound}
@@ -34,7 +34,7 @@ skip_at p prices at t b cutoff labels (Some bound) known far i here allowed =
       | inl closed ↦ inl closed
       | inr (inl near) ↦ inr (inl (near.0, omega (arith, near.1, below)))
       | inr (inr beyond) ↦ inr (inr (
-          beyond_more cutoff (greatest_cost + get_or prices t 0) ((label_at labels t).dist + (bound.low + get_or prices b 0))
+          beyond_more cutoff (greatest_charge + get_or prices t 0) ((label_at labels t).dist + (bound.low + get_or prices b 0))
           (priced p prices i t) ((label_at labels t).dist + priced p prices i b) (omega (arith, below)) beyond
           ))
     ]
@@ -319,7 +319,7 @@ price_small p k xs prices placed le c lt = omega (arith, placed.low c lt, placed
 
 pub hops_small : (p : Transport) (k : ℕ) (xs prices : List ℕ) (cutoff : Option ℕ) (labels : List Label) (t upto : ℕ)
     → IsPlaced p k xs prices → IsSearch p k xs prices cutoff labels t upto
-    → (c : ℕ) → c < consumers p → (label_at labels c).closed ≡ true → (label_at labels c).hops ≤ most_consumers
+    → (c : ℕ) → c < consumers p → (label_at labels c).closed ≡ true → (label_at labels c).hops ≤ most_tiers
 hops_small p k xs prices cutoff labels t upto placed search c lt closed =
     omega (arith, search.few_closed c lt closed, placed.limits.consumers)
 
@@ -378,7 +378,7 @@ pair_within p a b n same lta ltb = rw same (mul-add-lt a (consumers p) b (consum
 
 -- and its number is small
 pub pair_small : (p : Transport) (a b n : ℕ) → IsWithinLimits p.rooms p.entries p.costs → n ≡ consumers p → a < consumers p → b < consumers p
-    → a * n + b < most_consumers * most_consumers
+    → a * n + b < most_tiers * most_tiers
 pair_small p a b n limits same lta ltb =
     omega (
       arith,

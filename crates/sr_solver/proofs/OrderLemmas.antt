@@ -1,6 +1,6 @@
 -- An answer of a problem whose entries stand in another order is one of the problem.
 use Rattle.std.proofs.Common.{◌≡◌, ℕ, zero, suc, ◌+◌, ◌*◌, ◌<◌, ◌≤◌, ◌==◌, ◌≢◌, cond, List, [], ◌∷◌, ◌++◌, length, length-append, get_or, Bool, refl, sym, ap, ◌∙◌, inl, inr, arith, eq-eqb, Option, None}
-use Rattle.sr_transport.specs.Limits.{greatest_cost}
+use Rattle.sr_transport.specs.Limits.{greatest_charge}
 use Rattle.std.specs.Prelude.{unwrap_or, IfSome}
 use Rattle.std.specs.List.{All, sum_by}
 use Rattle.std.proofs.lemmas.List.{get_or_append_left, get_or_at, get_or-append-add, get_or-set_same, get_or-set_other}
@@ -12,10 +12,10 @@ use Rattle.std.proofs.lemmas.Nat.{mul-add-lt}
 use Rattle.std.proofs.Math.Nat.{mul_comm}
 use Rattle.std.proofs.Math.ListN.{set}
 use Rattle.sr_transport.specs.Sum.{sum_below}
-use Rattle.sr_transport.specs.Problem.{Transport, IsWithinLimits, consumers, cost_at, cost_of, IsAllowed}
-use Rattle.sr_transport.specs.Assignment.{load, IsAssignment, total_of}
-use Rattle.sr_transport.specs.Certificate.{IsLeast, ShowsCheapest}
-use Rattle.sr_transport.specs.Solved.{IsBest}
+use Rattle.sr_transport.specs.plain.Problem.{Transport, IsWithinLimits, consumers, cost_at, cost_of, IsAllowed}
+use Rattle.sr_transport.specs.plain.Assignment.{load, IsAssignment, total_of}
+use Rattle.sr_transport.specs.plain.Certificate.{IsLeast, ShowsCheapest}
+use Rattle.sr_transport.specs.plain.Solved.{IsBest}
 use Rattle.sr_transport.proofs.SumLemmas.{sum_below-same, sum_by_below}
 use Rattle.sr_solver.specs.Order.{numbers_below, IsOrder, IsReordered, IsRenamed, row_below, rows_below}
 
@@ -96,7 +96,7 @@ row_at p i (suc n) c lt =
     ]
 
 -- two lists of one length with the same at each place
-list_same : {X : Type 0} (xs ys : List X) (d : X) → length xs ≡ length ys
+pub list_same : {X : Type 0} (xs ys : List X) (d : X) → length xs ≡ length ys
     → ((i : ℕ) → i < length xs → get_or xs i d ≡ get_or ys i d) → xs ≡ ys
 list_same [] [] d e same = refl
 list_same [] (y ∷ ys) d e same = absurd (omega arith)
@@ -237,38 +237,43 @@ renamed_total p q order ys xs is re every renamed assigned =
 
 -- the reordered problem is within the limits
 row_small : (p : Transport) → IsWithinLimits p.rooms p.entries p.costs → (i n : ℕ) → i < p.entries → n ≤ consumers p
-    → All (λ cost. IfSome cost (λ c. c ≤ greatest_cost)) (row_below p i n)
-row_small p limits i zero lt le = All-nil (λ cost. IfSome cost (λ c. c ≤ greatest_cost))
+    → All (λ cost. IfSome cost (λ c. c ≤ greatest_charge)) (row_below p i n)
+row_small p limits i zero lt le = All-nil (λ cost. IfSome cost (λ c. c ≤ greatest_charge))
 row_small p limits i (suc n) lt le =
-    All-push (λ cost. IfSome cost (λ c. c ≤ greatest_cost)) (row_below p i n) (cost_at p i n) (row_small p limits i n lt (omega arith))
-    (All-get_or (λ cost. IfSome cost (λ c. c ≤ greatest_cost)) p.costs (i * consumers p + n) None
+    All-push (λ cost. IfSome cost (λ c. c ≤ greatest_charge)) (row_below p i n) (cost_at p i n) (row_small p limits i n lt (omega arith))
+    (All-get_or (λ cost. IfSome cost (λ c. c ≤ greatest_charge)) p.costs (i * consumers p + n) None
     (omega (arith, limits.pairs, mul-add-lt i (consumers p) n p.entries lt (omega arith), mul_comm (consumers p) p.entries)) limits.small_costs)
 
 rows_small : (p : Transport) → IsWithinLimits p.rooms p.entries p.costs → (order : List ℕ) → IsOrder p.entries order → (n : ℕ) → n ≤ p.entries
-    → All (λ cost. IfSome cost (λ c. c ≤ greatest_cost)) (rows_below p order n)
-rows_small p limits order is zero le = All-nil (λ cost. IfSome cost (λ c. c ≤ greatest_cost))
+    → All (λ cost. IfSome cost (λ c. c ≤ greatest_charge)) (rows_below p order n)
+rows_small p limits order is zero le = All-nil (λ cost. IfSome cost (λ c. c ≤ greatest_charge))
 rows_small p limits order is (suc n) le =
-    All-append (λ cost. IfSome cost (λ c. c ≤ greatest_cost)) (rows_below p order n) (row_below p (get_or order n 0) (consumers p))
+    All-append (λ cost. IfSome cost (λ c. c ≤ greatest_charge)) (rows_below p order n) (row_below p (get_or order n 0) (consumers p))
     (rows_small p limits order is n (omega arith))
     (row_small p limits (get_or order n 0) (consumers p)
     (All-get_or (λ i. i < p.entries) order n 0 (omega (arith, order_length p.entries order is)) (order_below p.entries order is)) (omega arith))
 
-pub is_reordered : (p q : Transport) (order rooms : List ℕ) (costs : List (Option ℕ)) → IsOrder p.entries order
-    → q ≡ record { rooms = rooms; entries = p.entries; costs = costs } → rooms ≡ p.rooms → costs ≡ rows_below p order (length order)
-    → IsReordered p q order
-is_reordered p q order rooms costs is same same_rooms same_costs =
-    rw same (record { rooms = same_rooms; entries = refl; costs = rw (order_length p.entries order is) at same_costs })
+pub is_reordered : (p q : Transport) (order rooms : List ℕ) (entries : ℕ) (costs rows : List (Option ℕ))
+    → q ≡ record { rooms = rooms; entries = entries; costs = costs } → rooms ≡ p.rooms → entries ≡ p.entries → costs ≡ rows
+    → rows ≡ rows_below p order p.entries → IsReordered p q order
+is_reordered p q order rooms entries costs rows same same_rooms same_entries same_costs are_rows =
+    rw same (record { rooms = same_rooms; entries = same_entries; costs = same_costs ∙ are_rows })
 
-pub reordered_limits : (p : Transport) (order rooms : List ℕ) (costs : List (Option ℕ)) → IsWithinLimits p.rooms p.entries p.costs
-    → IsOrder p.entries order → rooms ≡ p.rooms → costs ≡ rows_below p order p.entries → IsWithinLimits rooms p.entries costs
-reordered_limits p order rooms costs limits is same_rooms same_costs =
-    rw same_rooms (rw same_costs (record {
+pub reordered_limits : (p : Transport) (order : List ℕ) (costs : List (Option ℕ)) → IsWithinLimits p.rooms p.entries p.costs
+    → IsOrder p.entries order → costs ≡ rows_below p order p.entries → IsWithinLimits p.rooms p.entries costs
+reordered_limits p order costs limits is same =
+    rw same (record {
       consumers = limits.consumers;
       few_entries = limits.few_entries;
       pairs = length-rows_below p order p.entries;
       small_rooms = limits.small_rooms;
       small_costs = rows_small p limits order is p.entries (omega arith);
-    }))
+    })
+
+-- the limits of the costs as they are given
+pub given_limits : (p : Transport) (rooms : List ℕ) (entries : ℕ) (costs rows : List (Option ℕ)) → rooms ≡ p.rooms → entries ≡ p.entries
+    → costs ≡ rows → IsWithinLimits p.rooms p.entries rows → IsWithinLimits rooms entries costs
+given_limits p rooms entries costs rows same_rooms same_entries same_costs limits = rw (same_rooms, same_entries, same_costs) limits
 
 -- a number in the order
 pub order_at : (n : ℕ) (order : List ℕ) → IsOrder n order → (k : ℕ) → k < n → get_or order k 0 < n

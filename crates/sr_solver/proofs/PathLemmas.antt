@@ -4,7 +4,7 @@ use Rattle.std.proofs.Math.ListN.{set, length-set}
 use Rattle.std.proofs.lemmas.Bool.{cases_eq, ne_eqb}
 use Rattle.std.proofs.lemmas.List.{get_or-set_same, get_or-set_other}
 use Rattle.std.proofs.lemmas.List.Sums.{sum_by-set}
-use Rattle.sr_transport.specs.Assignment.{load}
+use Rattle.sr_transport.specs.plain.Assignment.{load}
 use Rattle.sr_solver.specs.declared.label.Label.{Label}
 use Rattle.sr_solver.specs.Labels.{label_at}
 use Rattle.sr_solver.specs.Path.{IsStep, ArePaths, IsMoved, IsShifting, AreShifted}

@@ -1,14 +1,14 @@
 -- At the start no entry stands anywhere. Then one more is placed: the prices rise, and the entries move along the path.
 use Rattle.std.proofs.Common.{◌≡◌, ℕ, ◌+◌, ◌*◌, ◌<◌, ◌≤◌, ◌⊎◌, Bool, true, false, List, length, get_or, Option, Some, refl, sym, ap, ◌∙◌, subst, inl, inr, arith}
-use Rattle.sr_transport.specs.Limits.{greatest_rise, most_consumers}
+use Rattle.sr_transport.specs.Limits.{greatest_rise, most_tiers}
 use Rattle.std.proofs.lemmas.Bool.{cases_eq, cases_lt, false≢true}
 use Rattle.std.proofs.Math.ListN.{set, length-set, replicate}
 use Rattle.std.proofs.lemmas.List.{get_or_past, get_or-set_same, get_or-set_other, get_or-replicate, length-replicate}
 use Rattle.std.proofs.lemmas.List.Folds.{sum_by-replicate}
 use Rattle.std.proofs.lemmas.Nat.{mul-add-lt}
-use Rattle.sr_transport.specs.Problem.{Transport, IsWithinLimits, consumers, room_of, IsAllowed}
-use Rattle.sr_transport.specs.Assignment.{load}
-use Rattle.sr_transport.specs.Certificate.{IsLeast}
+use Rattle.sr_transport.specs.plain.Problem.{Transport, IsWithinLimits, consumers, room_of, IsAllowed}
+use Rattle.sr_transport.specs.plain.Assignment.{load}
+use Rattle.sr_transport.specs.plain.Certificate.{IsLeast}
 use Rattle.sr_solver.specs.declared.label.Label.{Label}
 use Rattle.sr_solver.specs.Labels.{no_label, label_at, open_count, priced}
 use Rattle.sr_solver.specs.declared.placement.Placement.{Placement}
@@ -94,7 +94,7 @@ end_near p k xs prices labels end placed found =
     ] in
     let some_open : 0 < open_count labels =
     open_count-above labels end (omega (arith, lt, found.search.one_each)) found.nearest.not_closed in
-    let hops : (label_at labels end).hops ≤ most_consumers =
+    let hops : (label_at labels end).hops ≤ most_tiers =
     omega (arith, found.search.few end lt found.nearest.reached, some_open, placed.limits.consumers) in
     omega (arith, found.search.long end lt found.nearest.reached, no_price, hops)
 

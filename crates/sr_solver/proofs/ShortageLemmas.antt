@@ -9,11 +9,11 @@ use Rattle.std.proofs.lemmas.List.Elements.{All-nil, All-append, All-push, All-w
 use Rattle.std.proofs.lemmas.List.Folds.{Any-from_list_any}
 use Rattle.sr_transport.specs.Sum.{sum_below}
 use Rattle.sr_transport.specs.Limits.{greatest_room}
-use Rattle.sr_transport.specs.Problem.{Transport, IsWithinLimits, consumers, room_of, cost_at, IsAllowed}
-use Rattle.sr_transport.specs.Assignment.{load}
-use Rattle.sr_transport.specs.Certificate.{is_reached, places_of, IsShortage}
+use Rattle.sr_transport.specs.plain.Problem.{Transport, IsWithinLimits, consumers, room_of, cost_at, IsAllowed}
+use Rattle.sr_transport.specs.plain.Assignment.{load}
+use Rattle.sr_transport.specs.plain.Certificate.{is_reached, places_of, IsShortage}
 use Rattle.sr_transport.proofs.SumLemmas.{sum_below-le, sum_below-le_most, sum_by_below, sum_by-loads}
-use Rattle.sr_transport.proofs.LimitLemmas.{room_small}
+use Rattle.sr_transport.proofs.PlainLimitLemmas.{room_small}
 use Rattle.sr_solver.specs.Order.{numbers_below}
 use Rattle.sr_solver.proofs.OrderLemmas.{length-numbers_below, numbers_at, range_all}
 use Rattle.sr_solver.specs.declared.label.Label.{Label}

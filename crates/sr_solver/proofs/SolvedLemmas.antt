@@ -3,10 +3,10 @@ use Rattle.std.proofs.Common.{◌≡◌, ℕ, ◌≤◌, List, arith}
 use Rattle.sr_transport.specs.Limits.{greatest_price, greatest_total}
 use Rattle.std.specs.List.{All}
 use Rattle.std.proofs.lemmas.List.Elements.{All-from_get_or}
-use Rattle.sr_transport.specs.Problem.{Transport}
-use Rattle.sr_transport.specs.Assignment.{IsAssignment, total_of}
-use Rattle.sr_transport.specs.Certificate.{ShowsCheapest}
-use Rattle.sr_transport.specs.Solved.{IsBest}
+use Rattle.sr_transport.specs.plain.Problem.{Transport}
+use Rattle.sr_transport.specs.plain.Assignment.{IsAssignment, total_of}
+use Rattle.sr_transport.specs.plain.Certificate.{ShowsCheapest}
+use Rattle.sr_transport.specs.plain.Solved.{IsBest}
 use Rattle.sr_solver.specs.Placed.{IsPlaced}
 
 -- the placement is an assignment

@@ -1,6 +1,6 @@
 -- The table of bounds: what an entry that leaves or comes makes of it, and what a bound tells.
 use Rattle.std.proofs.Common.{◌≡◌, ℕ, ◌+◌, ◌*◌, ◌<◌, ◌≤◌, ◌⊎◌, List, length, get_or, Option, Some, None, refl, sym, ap, ◌∙◌, inl, inr, arith, false}
-use Rattle.sr_transport.specs.Limits.{greatest_cost}
+use Rattle.sr_transport.specs.Limits.{greatest_charge}
 use Rattle.std.specs.Prelude.{IsSome, IsSomeAnd, IfSome, unwrap_or}
 use Rattle.std.specs.Option.{is_some}
 use Rattle.std.proofs.Math.ListN.{set, length-set}
@@ -8,7 +8,7 @@ use Rattle.std.proofs.Math.Nat.{mul-le-mul_left}
 use Rattle.std.proofs.lemmas.Nat.{mul-add-lt}
 use Rattle.std.proofs.lemmas.Bool.{cases_eq, cases_lt, false≢true}
 use Rattle.std.proofs.lemmas.List.{get_or-set_same, get_or-set_other}
-use Rattle.sr_transport.specs.Problem.{Transport, IsWithinLimits, consumers, cost_at, cost_of, IsAllowed}
+use Rattle.sr_transport.specs.plain.Problem.{Transport, IsWithinLimits, consumers, cost_at, cost_of, IsAllowed}
 use Rattle.sr_solver.specs.declared.table.Bound.{Bound}
 use Rattle.sr_solver.specs.Table.{unknown, IsUnknown, IsAt, IsTight, IsKnown, IsTableOf, IsTable, IsWithout, IsBest, IsLowered, IsRowChanged, IsApart, IsLeastMore}
 use Rattle.sr_solver.proofs.SearchLemmas.{cost_small}
@@ -131,7 +131,7 @@ known_without p at at' a b i (Some old) (Some new) to from known without = recor
 -- what was known after an entry came, by its cost
 record IsStillAt (here : ℕ) (there : Option ℕ) (old new : Option Bound) : Type 0 where
   same : new ≡ old
-  below : IsSome there → IsSomeAnd old (λ bound. bound.low + here ≤ unwrap_or there 0 + greatest_cost)
+  below : IsSome there → IsSomeAnd old (λ bound. bound.low + here ≤ unwrap_or there 0 + greatest_charge)
 
 record IsBestAt (i here : ℕ) (there : Option ℕ) (old new : Option Bound) : Type 0 where
   allowed : IsSome there
@@ -154,7 +154,7 @@ pub record HasCome (at at' : ℕ → Type 0) (i : ℕ) : Type 0 where
 
 known_still : (p : Transport) (at at' : ℕ → Type 0) (a b i : ℕ) (old : Option Bound) → HasCome at at' i
     → IsKnown p at a b old
-    → (IsAllowed p i b → IsSomeAnd old (λ bound. bound.low + cost_of p i a ≤ cost_of p i b + greatest_cost))
+    → (IsAllowed p i b → IsSomeAnd old (λ bound. bound.low + cost_of p i a ≤ cost_of p i b + greatest_charge))
     → IsKnown p at' a b old
 known_still p at at' a b i None come known below = λ j here allowed. elim (come.back j here) [
   | inl e ↦ absurd (below (rw (← e) allowed))
@@ -173,9 +173,9 @@ known_still p at at' a b i (Some old) come known below = record {
 
 -- the new best is no more than any bound before
 low_falls : (p : Transport) (at : ℕ → Type 0) (a b i low : ℕ) (old : Option Bound)
-    → low + cost_of p i a ≡ cost_of p i b + greatest_cost → IfSome old (λ bound. cost_of p i b + greatest_cost ≤ bound.low + cost_of p i a)
+    → low + cost_of p i a ≡ cost_of p i b + greatest_charge → IfSome old (λ bound. cost_of p i b + greatest_charge ≤ bound.low + cost_of p i a)
     → IsKnown p at a b old
-    → (j : ℕ) → at j → IsAllowed p j b → low + cost_of p j a ≤ cost_of p j b + greatest_cost
+    → (j : ℕ) → at j → IsAllowed p j b → low + cost_of p j a ≤ cost_of p j b + greatest_charge
 low_falls p at a b i low None tight lower known j here allowed = absurd (known j here allowed)
 low_falls p at a b i low (Some old) tight lower known j here allowed = omega (arith, tight, lower, known.below j here allowed)
 
@@ -184,7 +184,7 @@ known_best : (p : Transport) (at at' : ℕ → Type 0) (a b i : ℕ) (old new : 
     → IsKnown p at a b old → IsBest i (cost_of p i a) (cost_of p i b) old new → IsKnown p at' a b new
 known_best p at at' a b i old None limits come allowed known best = absurd best.tight
 known_best p at at' a b i old (Some new) limits come allowed known best =
-    let tight : new.low + cost_of p i a ≡ cost_of p i b + greatest_cost = best.tight.1 in
+    let tight : new.low + cost_of p i a ≡ cost_of p i b + greatest_charge = best.tight.1 in
     record {
       small = omega (arith, tight, cost_small p limits i b);
       below = λ j here may. elim (come.back j here) [

@@ -1,9 +1,9 @@
--- The cutoff of a search: the length of the way to a consumer with room, where one is reached. A path that is no shorter is of no
--- use.
+-- The cutoff of a search: the length of the way to a consumer with room, where one is reached. A path that is no
+-- shorter is of no use.
 
 use Rattle.std.specs.Prelude.{◌≡◌, ℕ, ◌+◌, ◌<◌, ◌≤◌, List, slice_index, ◌⊎◌, Option, Some, None}
-use Rattle.sr_transport.specs.Problem.{Transport, room_of}
-use Rattle.sr_transport.specs.Assignment.{load}
+use Rattle.sr_transport.specs.plain.Problem.{Transport, room_of}
+use Rattle.sr_transport.specs.plain.Assignment.{load}
 use Rattle.sr_solver.specs.declared.label.Label.{Label}
 use Rattle.sr_solver.specs.Limits.{greatest_way}
 use Rattle.sr_solver.specs.Labels.{label_at}

@@ -6,6 +6,7 @@ pub mod Placed
 pub mod Table
 pub mod Members
 pub mod Taker
+pub mod Takers
 pub mod Search
 pub mod Path
 pub mod Shortage

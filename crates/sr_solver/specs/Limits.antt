@@ -1,12 +1,12 @@
 -- The limits of what a search adds up. Those of a problem and of its answers are in sr_transport.
 
 use Rattle.std.specs.Prelude.{ℕ, ◌*◌}
-use Rattle.sr_transport.specs.Limits.{greatest_cost, greatest_price}
+use Rattle.sr_transport.specs.Limits.{greatest_charge, greatest_price}
 
 -- prices, and lengths of paths, while entries are placed: so small that any four of them can be added up
 abbrev pub greatest_way : ℕ
-greatest_way = 4 * greatest_price
+greatest_way = 2 * greatest_price
 
--- a bound of the table: a difference of two costs, with the greatest cost added
+-- a bound of the table: a difference of two costs, with the greatest charge added
 abbrev pub greatest_bound : ℕ
-greatest_bound = 2 * greatest_cost
+greatest_bound = 2 * greatest_charge

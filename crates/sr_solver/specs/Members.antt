@@ -1,9 +1,9 @@
--- The members of each consumer: the entries that stand there, in one list with a row for each consumer. Rows are of one width. A
--- row begins with how many members follow.
+-- The members of each consumer: the entries that stand there, in one list with a row for each consumer. Rows are of one
+-- width. A row begins with how many members follow.
 
 use Rattle.std.specs.Prelude.{◌≡◌, ℕ, ◌+◌, ◌*◌, ◌<◌, ◌≤◌, List, length, slice_index, ◌⊎◌}
-use Rattle.sr_transport.specs.Problem.{Transport, consumers, room_of}
-use Rattle.sr_transport.specs.Assignment.{load}
+use Rattle.sr_transport.specs.plain.Problem.{Transport, consumers, room_of}
+use Rattle.sr_transport.specs.plain.Assignment.{load}
 use Rattle.sr_solver.specs.Table.{IsAt}
 
 -- entry i is among the first n members of the row that begins at `row`
@@ -12,7 +12,8 @@ IsListed members row n i = (j : ℕ) × (j < n) × (slice_index members (row + 1
 
 -- no entry stands twice among the first n members of the row that begins at `row`
 abbrev pub AreApart : List ℕ → ℕ → ℕ → Type 0
-AreApart members row n = (j k : ℕ) → j < k → k < n → slice_index members (row + 1 + j) ≡ slice_index members (row + 1 + k) → ⊥
+AreApart members row n =
+    (j k : ℕ) → j < k → k < n → slice_index members (row + 1 + j) ≡ slice_index members (row + 1 + k) → ⊥
 
 -- entry i stands at a, and is among the first n members of the row
 abbrev pub IsSeen : Transport → List ℕ → List ℕ → ℕ → ℕ → ℕ → ℕ → Type 0

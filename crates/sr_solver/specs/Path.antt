@@ -1,7 +1,7 @@
 -- What is done along a path that was found.
 
 use Rattle.std.specs.Prelude.{◌≡◌, ℕ, ◌+◌, ◌<◌, List, length, slice_index, ◌⊎◌, true, false, cond, ◌==◌}
-use Rattle.sr_transport.specs.Assignment.{load}
+use Rattle.sr_transport.specs.plain.Assignment.{load}
 use Rattle.sr_solver.specs.declared.label.Label.{Label}
 use Rattle.sr_solver.specs.Labels.{label_at}
 
@@ -20,12 +20,13 @@ pub record IsStep (labels : List Label) (k c x : ℕ) : Type 0 where
   pub from : (((label_at labels c).mover ≡ k) × (x ≡ length labels))
       ⊎ ((x < length labels) × ((label_at labels x).closed ≡ true) × (0 < (label_at labels x).hops))
 
--- each reached consumer is reached by an entry that stands nowhere, which is entry k, or that stands where fewer entries
--- move along the path
+-- each reached consumer is reached by an entry that stands nowhere, which is entry k, or that stands where fewer
+-- entries move along the path
 pub record ArePaths (labels : List Label) (k : ℕ) (xs : List ℕ) : Type 0 where
   pub new : slice_index xs k ≡ length labels
   pub entry : (c : ℕ) → c < length labels → 0 < (label_at labels c).hops → (label_at labels c).mover < length xs
-  pub step : (c : ℕ) → c < length labels → 0 < (label_at labels c).hops → IsStep labels k c (slice_index xs (label_at labels c).mover)
+  pub step : (c : ℕ) → c < length labels → 0 < (label_at labels c).hops
+      → IsStep labels k c (slice_index xs (label_at labels c).mover)
 
 -- an entry moved along the path to consumer x
 pub record IsMoved (labels : List Label) (end i x : ℕ) : Type 0 where

@@ -1,7 +1,7 @@
 -- How the placement of all entries, one after another, ends.
 
 use Rattle.std.specs.Prelude.{◌≡◌, Bool, false, List}
-use Rattle.sr_transport.specs.Problem.{Transport}
+use Rattle.sr_transport.specs.plain.Problem.{Transport}
 use Rattle.sr_solver.specs.declared.label.Label.{Label}
 use Rattle.sr_solver.specs.declared.placement.Placement.{Placement}
 use Rattle.sr_solver.specs.declared.placing.Progress.{Progress}
@@ -12,5 +12,6 @@ use Rattle.sr_solver.specs.Search.{IsStuck}
 -- every entry is placed; or there is no place for one of them; or the search was too slow for one who has no patience
 abbrev pub IsEndOf : Transport → Bool → Placement → List Label → Progress → Type 0
 IsEndOf p is_patient placement labels Placed = IsStanding p p.entries placement
-IsEndOf p is_patient placement labels (Stuck entry) = IsStuck p entry placement.assign.items placement.prices.items labels
+IsEndOf p is_patient placement labels (Stuck entry) =
+    IsStuck p entry placement.assign.items placement.prices.items labels
 IsEndOf p is_patient placement labels Slow = is_patient ≡ false

@@ -1,10 +1,11 @@
 -- The state of the search of a path that makes place for entry k, where the entries xs are placed.
 -- Source: the invariants of Dijkstra's search over reduced costs.
 
-use Rattle.std.specs.Prelude.{◌≡◌, ℕ, ◌+◌, ◌*◌, ◌<◌, ◌≤◌, List, length, slice_index, ◌⊎◌, Bool, true, false, Option, Some, None}
-use Rattle.sr_transport.specs.Limits.{greatest_cost}
-use Rattle.sr_transport.specs.Problem.{Transport, consumers, room_of, cost_at, cost_of, IsAllowed}
-use Rattle.sr_transport.specs.Assignment.{load}
+use Rattle.std.specs.Prelude.{◌≡◌, ℕ, ◌+◌, ◌*◌, ◌<◌, ◌≤◌, List, length, slice_index, ◌⊎◌, Bool, true, false, Option}
+use Rattle.std.specs.Prelude.{Some, None}
+use Rattle.sr_transport.specs.Limits.{greatest_charge}
+use Rattle.sr_transport.specs.plain.Problem.{Transport, consumers, room_of, cost_at, cost_of, IsAllowed}
+use Rattle.sr_transport.specs.plain.Assignment.{load}
 use Rattle.sr_solver.specs.declared.label.Label.{Label}
 use Rattle.sr_solver.specs.declared.label.Offer.{Offer}
 use Rattle.sr_solver.specs.Labels.{no_label, label_at, open_count, priced}
@@ -22,7 +23,8 @@ pub record IsNextStep (p : Transport) (k : ℕ) (xs prices : List ℕ) (from lab
   pub earlier : label.mover < k
   pub closed : from.closed ≡ true
   pub hops : label.hops ≡ from.hops + 1
-  pub dist : label.dist + priced p prices label.mover (slice_index xs label.mover) ≡ from.dist + priced p prices label.mover c
+  pub dist : label.dist + priced p prices label.mover (slice_index xs label.mover)
+      ≡ from.dist + priced p prices label.mover c
 
 -- how consumer c was reached
 pub record IsWay (p : Transport) (k : ℕ) (xs prices : List ℕ) (labels : List Label) (c : ℕ) : Type 0 where
@@ -42,11 +44,12 @@ IsCovered p prices cutoff labels dist base i c =
 
 -- the search, where the entries at consumer t are offered to the consumers below `upto`, and those at each other closed
 -- consumer to all
-pub record IsSearch (p : Transport) (k : ℕ) (xs prices : List ℕ) (cutoff : Option ℕ) (labels : List Label) (t upto : ℕ) : Type 0 where
+pub record IsSearch (p : Transport) (k : ℕ) (xs prices : List ℕ) (cutoff : Option ℕ) (labels : List Label)
+    (t upto : ℕ) : Type 0 where
   pub one_each : length labels ≡ consumers p
   pub way : (c : ℕ) → c < consumers p → 0 < (label_at labels c).hops → IsWay p k xs prices labels c
   pub long : (c : ℕ) → c < consumers p → 0 < (label_at labels c).hops
-      → (label_at labels c).dist ≤ slice_index prices c + (label_at labels c).hops * greatest_cost
+      → (label_at labels c).dist ≤ slice_index prices c + (label_at labels c).hops * greatest_charge
   pub few : (c : ℕ) → c < consumers p → 0 < (label_at labels c).hops
       → (label_at labels c).hops + open_count labels ≤ consumers p + 1
   pub few_closed : (c : ℕ) → c < consumers p → (label_at labels c).closed ≡ true
@@ -54,13 +57,16 @@ pub record IsSearch (p : Transport) (k : ℕ) (xs prices : List ℕ) (cutoff : O
   pub reached : (c : ℕ) → c < consumers p → (label_at labels c).closed ≡ true → 0 < (label_at labels c).hops
   pub full : (c : ℕ) → c < consumers p → (label_at labels c).closed ≡ true → load xs c ≡ room_of p c
   pub nearer : (c d : ℕ) → c < consumers p → d < consumers p → (label_at labels c).closed ≡ true
-      → (label_at labels d).closed ≡ false → 0 < (label_at labels d).hops → (label_at labels c).dist ≤ (label_at labels d).dist
+      → (label_at labels d).closed ≡ false → 0 < (label_at labels d).hops
+      → (label_at labels c).dist ≤ (label_at labels d).dist
   pub latest : (c : ℕ) → c < consumers p → (label_at labels c).closed ≡ true → t < consumers p
       → (label_at labels c).dist ≤ (label_at labels t).dist
   pub new_offered : (c : ℕ) → IsAllowed p k c → IsWithin p prices labels 0 0 k c
-  pub offered : (i c : ℕ) → i < k → (label_at labels (slice_index xs i)).closed ≡ true → (slice_index xs i ≡ t → c < upto)
+  pub offered : (i c : ℕ) → i < k → (label_at labels (slice_index xs i)).closed ≡ true
+      → (slice_index xs i ≡ t → c < upto)
       → IsAllowed p i c
-      → IsCovered p prices cutoff labels (label_at labels (slice_index xs i)).dist (priced p prices i (slice_index xs i)) i c
+      → IsCovered p prices cutoff labels (label_at labels (slice_index xs i)).dist
+      (priced p prices i (slice_index xs i)) i c
 
 -- consumer t is the nearest of those that are reached and not closed
 pub record IsNearest (p : Transport) (labels : List Label) (t : ℕ) : Type 0 where
@@ -80,14 +86,16 @@ abbrev pub IsRound : Transport → ℕ → List ℕ → List ℕ → Option ℕ 
 IsRound p k xs prices cutoff labels = IsSearch p k xs prices cutoff labels (consumers p) (consumers p)
 
 -- the search after consumer t is closed, and its entries are offered to the consumers below `upto`
-pub record IsClosed (p : Transport) (k : ℕ) (xs prices : List ℕ) (cutoff : Option ℕ) (old new : List Label) (t upto : ℕ) : Type 0 where
+pub record IsClosed (p : Transport) (k : ℕ) (xs prices : List ℕ) (cutoff : Option ℕ) (old new : List Label)
+    (t upto : ℕ) : Type 0 where
   pub search : IsSearch p k xs prices cutoff new t upto
   pub closed : (label_at new t).closed ≡ true
   pub fewer : open_count new < open_count old
 
--- the label of consumer c stays where the entries at consumer t are offered: it is closed, or none of them comes nearer, and
--- nearer than the cutoff
-pub record IsLeftAt (p : Transport) (k : ℕ) (xs prices : List ℕ) (cutoff : Option ℕ) (t : ℕ) (old new : List Label) (c : ℕ) : Type 0 where
+-- the label of consumer c stays where the entries at consumer t are offered: it is closed, or none of them comes
+-- nearer, and nearer than the cutoff
+pub record IsLeftAt (p : Transport) (k : ℕ) (xs prices : List ℕ) (cutoff : Option ℕ) (t : ℕ) (old new : List Label)
+    (c : ℕ) : Type 0 where
   pub same : label_at new c ≡ label_at old c
   pub no_nearer : (i : ℕ) → i < k → slice_index xs i ≡ t → IsAllowed p i c
       → ((label_at old c).closed ≡ true) ⊎ IsCovered p prices cutoff old (label_at old t).dist (priced p prices i t) i c
@@ -107,7 +115,8 @@ pub record IsNewAt (p : Transport) (k : ℕ) (xs prices : List ℕ) (t : ℕ) (o
       → cost_of p (label_at new c).mover c + cost_of p i t ≤ cost_of p i c + cost_of p (label_at new c).mover t
 
 -- the entries at consumer t were offered to consumer c
-pub record IsAsked (p : Transport) (k : ℕ) (xs prices : List ℕ) (cutoff : Option ℕ) (t c : ℕ) (old new : List Label) : Type 0 where
+pub record IsAsked (p : Transport) (k : ℕ) (xs prices : List ℕ) (cutoff : Option ℕ) (t c : ℕ)
+    (old new : List Label) : Type 0 where
   pub one_each : length new ≡ length old
   pub here : IsLeftAt p k xs prices cutoff t old new c ⊎ IsNewAt p k xs prices t old new c
   pub others : (d : ℕ) → (d ≡ c → ⊥) → label_at new d ≡ label_at old d

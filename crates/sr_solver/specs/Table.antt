@@ -1,10 +1,11 @@
--- The table of bounds: for each ordered pair of consumers, what the entries that stand at the one cost more at the other.
--- Sums are compared, never differences: a bound is greater by the greatest cost than what it bounds.
+-- The table of bounds: for each ordered pair of consumers, what the entries that stand at the one cost more at the
+-- other. Sums are compared, never differences: a bound is greater by the greatest charge than what it bounds.
 
-use Rattle.std.specs.Prelude.{◌≡◌, ℕ, ◌+◌, ◌*◌, ◌<◌, ◌≤◌, List, length, slice_index, slice_index_or, ◌⊎◌, Option, Some, None, IsSomeAnd, IfSome, true}
-use Rattle.sr_transport.specs.Limits.{greatest_cost}
+use Rattle.std.specs.Prelude.{◌≡◌, ℕ, ◌+◌, ◌*◌, ◌<◌, ◌≤◌, List, length, slice_index, slice_index_or, ◌⊎◌, Option, Some}
+use Rattle.std.specs.Prelude.{None, IsSomeAnd, IfSome, true}
+use Rattle.sr_transport.specs.Limits.{greatest_charge}
 use Rattle.sr_solver.specs.Limits.{greatest_bound}
-use Rattle.sr_transport.specs.Problem.{Transport, consumers, cost_of, IsAllowed}
+use Rattle.sr_transport.specs.plain.Problem.{Transport, consumers, cost_of, IsAllowed}
 use Rattle.sr_solver.specs.declared.label.Label.{Label}
 use Rattle.sr_solver.specs.declared.table.Bound.{Bound}
 use Rattle.sr_solver.specs.Cutoff.{IsBeyond}
@@ -25,12 +26,12 @@ IsAt xs n a i = (i < n) × (slice_index xs i ≡ a)
 pub record IsTight (p : Transport) (at : ℕ → Type 0) (a b low k : ℕ) : Type 0 where
   pub stands : at k
   pub allowed : IsAllowed p k b
-  pub tight : low + cost_of p k a ≡ cost_of p k b + greatest_cost
+  pub tight : low + cost_of p k a ≡ cost_of p k b + greatest_charge
 
 -- no entry at a costs less than `low` more at b, and the best, where it is known, costs exactly this
 pub record IsBound (p : Transport) (at : ℕ → Type 0) (a b low : ℕ) (known : Option ℕ) : Type 0 where
   pub small : low ≤ greatest_bound
-  pub below : (i : ℕ) → at i → IsAllowed p i b → low + cost_of p i a ≤ cost_of p i b + greatest_cost
+  pub below : (i : ℕ) → at i → IsAllowed p i b → low + cost_of p i a ≤ cost_of p i b + greatest_charge
   pub best : (k : ℕ) → known ≡ Some k → IsTight p at a b low k
 
 -- what is known of the entries at a that may go to b: that there is none, or a bound
@@ -56,17 +57,18 @@ IsApart at i a j = at a j × (j ≡ i → ⊥)
 abbrev pub IsWithout : ℕ → Option Bound → Option Bound → Type 0
 IsWithout entry None new = new ≡ None
 IsWithout entry (Some old) new =
-    IsSomeAnd new (λ bound. (bound.low ≡ old.low) × ((k : ℕ) → bound.best ≡ Some k → (old.best ≡ Some k) × (k ≡ entry → ⊥)))
+    IsSomeAnd new (λ bound. (bound.low ≡ old.low)
+    × ((k : ℕ) → bound.best ≡ Some k → (old.best ≡ Some k) × (k ≡ entry → ⊥)))
 
 -- what was known is a bound for an entry that comes, too
 pub record IsStill (here there : ℕ) (old new : Option Bound) : Type 0 where
   pub same : new ≡ old
-  pub below : IsSomeAnd old (λ bound. bound.low + here ≤ there + greatest_cost)
+  pub below : IsSomeAnd old (λ bound. bound.low + here ≤ there + greatest_charge)
 
 -- or it is the new best
 pub record IsBest (entry here there : ℕ) (old new : Option Bound) : Type 0 where
-  pub tight : IsSomeAnd new (λ bound. (bound.best ≡ Some entry) × (bound.low + here ≡ there + greatest_cost))
-  pub lower : IfSome old (λ bound. there + greatest_cost ≤ bound.low + here)
+  pub tight : IsSomeAnd new (λ bound. (bound.best ≡ Some entry) × (bound.low + here ≡ there + greatest_charge))
+  pub lower : IfSome old (λ bound. there + greatest_charge ≤ bound.low + here)
 
 -- what is known once an entry has come that costs `here` where it stands, and `there` at the other consumer
 abbrev pub IsLowered : ℕ → ℕ → Option ℕ → Option Bound → Option Bound → Type 0
@@ -74,7 +76,8 @@ IsLowered entry here None old new = new ≡ old
 IsLowered entry here (Some there) old new = IsStill here there old new ⊎ IsBest entry here there old new
 
 -- of one row of a table of n columns, the first places changed, each as `to` says
-pub record IsRowChanged (n a upto : ℕ) (to : ℕ → Option Bound → Option Bound → Type 0) (old new : List (Option Bound)) : Type 0 where
+pub record IsRowChanged (n a upto : ℕ) (to : ℕ → Option Bound → Option Bound → Type 0)
+    (old new : List (Option Bound)) : Type 0 where
   pub one_each : length new ≡ length old
   pub row : (b : ℕ) → b < upto → to b (slice_index_or old (a * n + b) None) (slice_index_or new (a * n + b) None)
   pub others : (q : ℕ) → (q < a * n) ⊎ (a * n + upto ≤ q) → slice_index_or new q None ≡ slice_index_or old q None
@@ -90,11 +93,11 @@ abbrev pub IsMover : Transport → (ℕ → Type 0) → ℕ → ℕ → Option �
 IsMover p at a b None = (i : ℕ) → at i → IsAllowed p i b → ⊥
 IsMover p at a b (Some k) = IsLeastMore p at a b k
 
--- no entry of which this is known comes nearer than before, and nearer than the cutoff, to a consumer from one whose label is
--- `from`; `here` and `there` are the prices of the two
+-- no entry of which this is known comes nearer than before, and nearer than the cutoff, to a consumer from one whose
+-- label is `from`; `here` and `there` are the prices of the two
 abbrev pub IsNoNearer : Option Bound → Label → ℕ → Label → ℕ → Option ℕ → Type 0
 IsNoNearer None from here label there cutoff = Unit {0}
 IsNoNearer (Some bound) from here label there cutoff =
     (label.closed ≡ true)
-    ⊎ ((0 < label.hops) × (label.dist + (greatest_cost + here) ≤ from.dist + (bound.low + there)))
-    ⊎ IsBeyond cutoff (greatest_cost + here) (from.dist + (bound.low + there))
+    ⊎ ((0 < label.hops) × (label.dist + (greatest_charge + here) ≤ from.dist + (bound.low + there)))
+    ⊎ IsBeyond cutoff (greatest_charge + here) (from.dist + (bound.low + there))

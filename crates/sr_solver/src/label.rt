@@ -1,5 +1,5 @@
 ghost use Rattle.std.specs.Prelude.{◌≡◌, ◌+◌, ◌*◌, ◌≤◌, ◌&&◌, not, nat_lt, IfSome, true, false};
-ghost use Rattle.sr_transport.specs.Limits.{greatest_cost};
+ghost use Rattle.sr_transport.specs.Limits.{greatest_charge};
 ghost use Rattle.sr_solver.specs.Limits.{greatest_way};
 ghost use Rattle.sr_solver.specs.Labels.{no_label};
 ghost use Rattle.sr_solver.specs.Cutoff.{IsBeyond};
@@ -57,7 +57,7 @@ pub struct Offer {
 pub fn offered(cost: Option<u64>, price: u64, offer: Offer, label: Label) -> Label
     requires dist { offer.dist ≤ greatest_way }
     requires price { price ≤ greatest_way }
-    requires cost { IfSome cost (λ c. c ≤ greatest_cost) }
+    requires cost { IfSome cost (λ c. c ≤ greatest_charge) }
     requires above { IfSome cost (λ c. offer.base ≤ offer.dist + (c + price)) }
     requires cutoff { IfSome offer.cutoff (λ d. d ≤ greatest_way) }
     ensures { IsOffered cost price offer label result }

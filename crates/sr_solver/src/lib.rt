@@ -15,6 +15,7 @@ mod shortage;
 mod solution;
 mod table;
 mod taker;
+mod tiered;
 mod wanted;
 
-pub use solution::solve;
+pub use tiered::solve;

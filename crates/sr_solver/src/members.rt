@@ -23,7 +23,8 @@ pub fn remove(members: &mut [usize], row: usize, entry: usize)
 pub fn add(members: &mut [usize], row: usize, entry: usize)
     requires short { length members.old ≤ 2 ^ 32 }
     requires room { row + 1 + slice_index members.old row < length members.old }
-    ensures { members.new ≡ slice_set (slice_set members.old (row + 1 + slice_index members.old row) entry) row (slice_index members.old row + 1) }
+    ensures { members.new ≡ slice_set (slice_set members.old (row + 1 + slice_index members.old row) entry) row
+        (slice_index members.old row + 1) }
 {
     let count = members[row];
     members[row + 1 + count] = entry;

@@ -1,13 +1,14 @@
 ghost use Rattle.std.specs.Prelude.{◌≡◌, ◌<◌, ◌≤◌, ◌++◌, length, All, IfOk};
 ghost use Rattle.sr_transport.specs.Limits.{most_entries};
-ghost use Rattle.sr_transport.specs.Problem.{consumers, IsWithinLimits};
-ghost use Rattle.sr_solver.specs.Order.{numbers_below, IsOrder, IsReordered, IsRenamed, AreEntriesAt, row_below, rows_below};
+ghost use Rattle.sr_transport.specs.plain.Problem.{consumers, IsWithinLimits};
+ghost use Rattle.sr_solver.specs.Order.{numbers_below, IsOrder, IsReordered, IsRenamed, AreEntriesAt, row_below};
+ghost use Rattle.sr_solver.specs.Order.{rows_below};
 
-use sr_transport::Problem;
+use sr_transport::Columns;
 use std::alloc::{AllocError, Global};
 
 /// The entries, those first whose costs differ most.
-pub fn by_range(alloc: Global, problem: &Problem) -> Result<Vec<usize>, AllocError>
+pub fn by_range(alloc: Global, problem: &Columns<'_>) -> Result<Vec<usize>, AllocError>
     ensures { IfOk result (λ order. IsOrder problem.now.entries order.items) }
 {
     let narrow = narrownesses(alloc, problem)?;
@@ -28,7 +29,7 @@ pub fn numbers(alloc: Global, n: usize) -> Result<Vec<usize>, AllocError>
 }
 
 /// How narrow the costs of each entry are.
-fn narrownesses(alloc: Global, problem: &Problem) -> Result<Vec<u64>, AllocError> {
+fn narrownesses(alloc: Global, problem: &Columns<'_>) -> Result<Vec<u64>, AllocError> {
     let mut narrow = Vec::new(alloc);
     for entry in 0..problem.entries() {
         narrow.push(narrowness(problem, entry))?;
@@ -37,7 +38,7 @@ fn narrownesses(alloc: Global, problem: &Problem) -> Result<Vec<u64>, AllocError
 }
 
 /// A number that is the less, the more the costs of an entry differ.
-fn narrowness(problem: &Problem, entry: usize) -> u64
+fn narrowness(problem: &Columns<'_>, entry: usize) -> u64
     requires { entry < problem.now.entries }
 {
     let mut least = u64::MAX;
@@ -51,37 +52,28 @@ fn narrowness(problem: &Problem, entry: usize) -> u64
     u64::MAX - greatest.saturating_sub(least)
 }
 
-/// The problem with its entries in this order.
-pub fn reordered(alloc: Global, problem: &Problem, order: &[usize]) -> Result<Problem, AllocError>
+/// The costs of the problem with its entries in this order.
+pub fn reordered(
+    alloc: Global,
+    problem: &Columns<'_>,
+    order: &[usize],
+) -> Result<Vec<Option<u64>>, AllocError>
     requires { IsOrder problem.now.entries order.now }
-    ensures value { IfOk result (λ q. IsReordered problem.now q order.now) }
-    ensures limits { IsWithinLimits problem.now.rooms problem.now.entries problem.now.costs }
+    ensures value { IfOk result (λ costs. costs.items ≡ rows_below problem.now order.now problem.now.entries) }
+    ensures within { IfOk result (λ costs. IsWithinLimits problem.now.rooms problem.now.entries costs.items) }
 {
-    let rooms = rooms(alloc, problem)?;
-    let costs = rows(alloc, problem, order)?;
-    Ok(Problem::new(rooms, problem.entries(), costs).unwrap())
-}
-
-/// The rooms of a problem.
-fn rooms(alloc: Global, problem: &Problem) -> Result<Vec<u64>, AllocError>
-    ensures value { IfOk result (λ rooms. rooms.items ≡ problem.now.rooms) }
-    ensures limits { IsWithinLimits problem.now.rooms problem.now.entries problem.now.costs }
-{
-    let mut rooms = Vec::new(alloc);
-    for consumer in 0..problem.consumers() {
-        rooms.push(problem.room(consumer))?;
-    }
-    Ok(rooms)
+    rows(alloc, problem, order)
 }
 
 /// The rows of costs of these entries.
 pub fn rows(
     alloc: Global,
-    problem: &Problem,
+    problem: &Columns<'_>,
     order: &[usize],
 ) -> Result<Vec<Option<u64>>, AllocError>
     requires { All (λ entry. entry < problem.now.entries) order.now }
-    ensures { IfOk result (λ costs. costs.items ≡ rows_below problem.now order.now (length order.now)) }
+    ensures value { IfOk result (λ costs. costs.items ≡ rows_below problem.now order.now (length order.now)) }
+    ensures limits { IsWithinLimits problem.now.rooms problem.now.entries problem.now.costs }
 {
     let mut costs = Vec::with_capacity(alloc, order.len().saturating_mul(problem.consumers()))?;
     for place in 0..order.len() {

@@ -1,9 +1,9 @@
 ghost use Rattle.std.specs.Prelude.{◌≡◌, ℕ, ◌+◌, ◌<◌, ◌≤◌, ◌==◌, cond, length, slice_index, true};
-ghost use Rattle.sr_transport.specs.Limits.{most_consumers};
+ghost use Rattle.sr_transport.specs.Limits.{most_tiers};
 ghost use Rattle.sr_solver.specs.Limits.{greatest_way};
 ghost use Rattle.sr_solver.specs.Labels.{label_at};
-ghost use Rattle.sr_transport.specs.Problem.{IsWithinLimits, consumers, room_of, IsAllowed};
-ghost use Rattle.sr_transport.specs.Assignment.{load};
+ghost use Rattle.sr_transport.specs.plain.Problem.{IsWithinLimits, consumers, room_of, IsAllowed};
+ghost use Rattle.sr_transport.specs.plain.Assignment.{load};
 ghost use Rattle.sr_solver.specs.Table.{IsTable};
 ghost use Rattle.sr_solver.specs.Members.{AreWide, AreMembers};
 ghost use Rattle.sr_solver.specs.Path.{AreRaised, ArePaths, AreShifted};
@@ -11,15 +11,16 @@ ghost use Rattle.sr_solver.specs.Path.{AreRaised, ArePaths, AreShifted};
 use crate::label::Label;
 use crate::placement::Placement;
 use crate::table::{Bound, put};
-use sr_transport::Problem;
+use sr_transport::Columns;
 
 /// Raises the price of each closed consumer by as much as the path to it is shorter than `dist`.
 pub fn raise(prices: &mut [u64], labels: &[Label], dist: u64)
     requires one_each { length labels.now ≡ length prices.old }
-    requires few { length prices.old ≤ most_consumers }
+    requires few { length prices.old ≤ most_tiers }
     requires dist { dist ≤ greatest_way }
     requires low { (c : ℕ) → c < length prices.old → slice_index prices.old c ≤ greatest_way }
-    requires near { (c : ℕ) → c < length prices.old → (label_at labels.now c).closed ≡ true → (label_at labels.now c).dist ≤ dist }
+    requires near { (c : ℕ) → c < length prices.old → (label_at labels.now c).closed ≡ true
+        → (label_at labels.now c).dist ≤ dist }
     ensures { AreRaised dist labels.now prices.old prices.new }
 {
     for consumer in 0..prices.len() {
@@ -33,7 +34,7 @@ pub fn raise(prices: &mut [u64], labels: &[Label], dist: u64)
 /// Moves the entries of the path that ends at `end`, each to the next consumer, the last of them `entry`, which stood
 /// nowhere.
 pub fn shift(
-    problem: &Problem,
+    problem: &Columns<'_>,
     entry: usize,
     end: usize,
     labels: &[Label],
@@ -51,13 +52,15 @@ pub fn shift(
     requires wide { AreWide problem.now placement.old.width }
     requires in_room { (c : ℕ) → c < length labels.now
         → load placement.old.assign.items c + cond (end == c) 1 0 ≤ room_of problem.now c }
-    requires members { AreMembers problem.now placement.old.width placement.old.assign.items placement.old.members.items }
+    requires members { AreMembers problem.now placement.old.width placement.old.assign.items
+        placement.old.members.items }
     requires table { IsTable problem.now placement.old.assign.items table.old }
     ensures assign { AreShifted labels.now entry end placement.old.assign.items placement.new.assign.items }
     ensures prices { placement.new.prices ≡ placement.old.prices }
     ensures loads { placement.new.loads ≡ placement.old.loads }
     ensures width { placement.new.width ≡ placement.old.width }
-    ensures members { AreMembers problem.now placement.new.width placement.new.assign.items placement.new.members.items }
+    ensures members { AreMembers problem.now placement.new.width placement.new.assign.items
+        placement.new.members.items }
     ensures table { IsTable problem.now placement.new.assign.items table.new }
 {
     let mut place = end;

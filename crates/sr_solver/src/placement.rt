@@ -2,7 +2,7 @@ ghost use Rattle.std.specs.Prelude.{◌≤◌, ◌⊎◌, IfOk};
 ghost use Rattle.sr_solver.specs.Members.{AreWide};
 ghost use Rattle.sr_solver.specs.Placed.{IsStanding};
 
-use sr_transport::Problem;
+use sr_transport::Columns;
 use std::alloc::{AllocError, Global};
 
 /// Where the entries stand, and the prices that show it cheapest.
@@ -21,7 +21,7 @@ pub struct Placement {
 }
 
 /// No entry stands anywhere yet.
-pub fn nowhere(alloc: Global, problem: &Problem) -> Result<Placement, AllocError>
+pub fn nowhere(alloc: Global, problem: &Columns<'_>) -> Result<Placement, AllocError>
     ensures { IfOk result (IsStanding problem.now 0) }
 {
     let consumers = problem.consumers();
@@ -40,7 +40,7 @@ pub fn nowhere(alloc: Global, problem: &Problem) -> Result<Placement, AllocError
 }
 
 /// How many numbers a row of members needs: one more than the greatest room, but no more than for all entries.
-fn row_width(problem: &Problem) -> usize
+fn row_width(problem: &Columns<'_>) -> usize
     ensures { AreWide problem.now result }
 {
     let mut most = 0;

@@ -1,5 +1,5 @@
 ghost use Rattle.std.specs.Prelude.{◌≡◌, ◌+◌, ◌<◌, ◌≤◌, ℕ, length, true, false};
-ghost use Rattle.sr_transport.specs.Problem.{consumers};
+ghost use Rattle.sr_transport.specs.plain.Problem.{consumers};
 ghost use Rattle.sr_solver.specs.Placed.{IsStanding};
 ghost use Rattle.sr_solver.specs.Table.{IsTable};
 ghost use Rattle.sr_solver.specs.Taker.{IsTaker};
@@ -13,7 +13,7 @@ use crate::placement::Placement;
 use crate::search::search;
 use crate::table::{Bound, put};
 use crate::taker::taker;
-use sr_transport::Problem;
+use sr_transport::Columns;
 
 /// How the placement of all entries ends.
 pub enum Progress {
@@ -32,7 +32,7 @@ const FEW_SEARCHES: usize = 16;
 const SEARCH_STEP: usize = 8;
 
 /// Places the first entries, as long as each has a consumer that takes it, and gives how many these are.
-pub fn take_all(problem: &Problem, placement: &mut Placement) -> usize
+pub fn take_all(problem: &Columns<'_>, placement: &mut Placement) -> usize
     requires standing { IsStanding problem.now 0 placement.old }
     ensures few { result ≤ problem.now.entries }
     ensures standing { IsStanding problem.now result placement.new }
@@ -49,7 +49,7 @@ pub fn take_all(problem: &Problem, placement: &mut Placement) -> usize
 }
 
 /// Places an entry at a consumer that takes it.
-fn join(problem: &Problem, entry: usize, consumer: usize, placement: &mut Placement)
+fn join(problem: &Columns<'_>, entry: usize, consumer: usize, placement: &mut Placement)
     requires entry { entry < problem.now.entries }
     requires standing { IsStanding problem.now entry placement.old }
     requires taker { IsTaker problem.now placement.old.prices.items placement.old.loads.items entry consumer }
@@ -62,7 +62,7 @@ fn join(problem: &Problem, entry: usize, consumer: usize, placement: &mut Placem
 
 /// Places entry after entry from `first` on, where those before it are placed.
 pub fn place_all(
-    problem: &Problem,
+    problem: &Columns<'_>,
     first: usize,
     is_patient: bool,
     placement: &mut Placement,
@@ -93,7 +93,7 @@ pub fn place_all(
 
 /// Places an entry at a consumer that takes it, if there is one.
 fn take(
-    problem: &Problem,
+    problem: &Columns<'_>,
     entry: usize,
     placement: &mut Placement,
     table: &mut [Option<Bound>],
@@ -115,7 +115,7 @@ fn take(
 
 /// Places an entry at the end of a shortest path, where there is a place for it.
 fn place(
-    problem: &Problem,
+    problem: &Columns<'_>,
     entry: usize,
     placement: &mut Placement,
     table: &mut [Option<Bound>],
@@ -127,7 +127,8 @@ fn place(
     requires labels { length labels.old ≡ consumers problem.now }
     ensures standing { result ≡ true → IsStanding problem.now (entry + 1) placement.new }
     ensures table { result ≡ true → IsTable problem.now placement.new.assign.items table.new }
-    ensures stuck { result ≡ false → IsStuck problem.now entry placement.new.assign.items placement.new.prices.items labels.new }
+    ensures stuck { result ≡ false
+        → IsStuck problem.now entry placement.new.assign.items placement.new.prices.items labels.new }
 {
     let Some(end) = search(problem, entry, placement, table, labels) else {
         return false;

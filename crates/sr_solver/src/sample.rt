@@ -1,12 +1,12 @@
 ghost use Rattle.std.specs.Prelude.{◌≡◌, ℕ, ◌+◌, ◌*◌, ◌^◌, ◌<◌, length, All, IfOk, IfSome};
 ghost use Rattle.std.specs.List.Sorted.{IsPermutation};
-ghost use Rattle.sr_transport.specs.Problem.{consumers};
+ghost use Rattle.sr_transport.specs.plain.Problem.{consumers};
 ghost use Rattle.sr_solver.specs.Order.{IsOrder};
 
 use crate::order::{by_range, rows};
 use crate::solution::solve_in_order;
 use crate::wanted::{crowds, wanted_price};
-use sr_transport::{Problem, Solved};
+use sr_transport::{Columns, Solved};
 use std::alloc::{AllocError, Global};
 
 /// One entry out of this many is in the sample.
@@ -23,9 +23,9 @@ const TRIES: usize = 4;
 
 /// The entries in the order in which they are placed: first those that want a consumer with a high price.
 ///
-/// The prices come from a sample, which is solved first. Which sample that is, and whether it has an answer, affects the
-/// time alone.
-pub fn placing_order(alloc: Global, problem: &Problem) -> Result<Vec<usize>, AllocError>
+/// The prices come from a sample, which is solved first. Which sample that is, and whether it has an answer, affects
+/// the time alone.
+pub fn placing_order(alloc: Global, problem: &Columns<'_>) -> Result<Vec<usize>, AllocError>
     ensures { IfOk result (λ order. IsOrder problem.now.entries order.items) }
 {
     let mut order = by_range(alloc, problem)?;
@@ -40,9 +40,9 @@ pub fn placing_order(alloc: Global, problem: &Problem) -> Result<Vec<usize>, All
     Ok(order)
 }
 
-/// Whether the entries are allowed so few consumers that a sample costs more time than it saves. One of each `STEP` entries in a row
-/// is looked at.
-pub fn is_sparse(problem: &Problem) -> bool {
+/// Whether the entries are allowed so few consumers that a sample costs more time than it saves. One of each `STEP`
+/// entries in a row is looked at.
+pub fn is_sparse(problem: &Columns<'_>) -> bool {
     let mut pairs = 0usize;
     for block in 0..problem.entries() / STEP {
         for cost in problem.costs(place_in(block)) {
@@ -54,7 +54,8 @@ pub fn is_sparse(problem: &Problem) -> bool {
 
 /// One of each `STEP` entries in a row. Which one follows no period.
 fn sample(alloc: Global, order: &[usize]) -> Result<Vec<usize>, AllocError>
-    ensures { IfOk result (λ sample. (n : ℕ) → All (λ entry. entry < n) order.now → All (λ entry. entry < n) sample.items) }
+    ensures { IfOk result (λ sample. (n : ℕ) → All (λ entry. entry < n) order.now
+        → All (λ entry. entry < n) sample.items) }
 {
     let mut sample = Vec::with_capacity(alloc, order.len() / STEP)?;
     for block in 0..order.len() / STEP {
@@ -80,7 +81,7 @@ fn mixed(number: u64) -> u64 {
 /// Sorts entries by falling price of the consumer that they want.
 fn by_price(
     alloc: Global,
-    problem: &Problem,
+    problem: &Columns<'_>,
     prices: &[u64],
     order: &mut Vec<usize>,
 ) -> Result<(), AllocError>
@@ -99,7 +100,7 @@ fn by_price(
 /// The prices of a cheapest assignment of these entries alone, with the rooms smaller in proportion.
 fn prices_of(
     alloc: Global,
-    problem: &Problem,
+    problem: &Columns<'_>,
     sample: Vec<usize>,
 ) -> Result<Option<Vec<u64>>, AllocError>
     requires { All (λ entry. entry < problem.now.entries) sample.items }
@@ -110,7 +111,7 @@ fn prices_of(
     for _ in 0..TRIES {
         let rooms = smaller_rooms(alloc, problem, whole)?;
         let costs = rows(alloc, problem, &sample)?;
-        let Some(smaller) = Problem::new(rooms, sample.len(), costs) else {
+        let Some(smaller) = Columns::new(&rooms, sample.len(), &costs) else {
             return Ok(None);
         };
         match solve_in_order(alloc, &smaller)? {
@@ -127,7 +128,8 @@ fn prices_of(
 
 /// The entries but for those at these places.
 fn without(alloc: Global, entries: &[usize], places: &[usize]) -> Result<Vec<usize>, AllocError>
-    ensures { IfOk result (λ kept. (n : ℕ) → All (λ entry. entry < n) entries.now → All (λ entry. entry < n) kept.items) }
+    ensures { IfOk result (λ kept. (n : ℕ) → All (λ entry. entry < n) entries.now
+        → All (λ entry. entry < n) kept.items) }
 {
     let mut is_kept = vec![in alloc; true; entries.len()]?;
     for place in places {
@@ -145,7 +147,11 @@ fn without(alloc: Global, entries: &[usize], places: &[usize]) -> Result<Vec<usi
 }
 
 /// The rooms for this many entries in place of all. Their sums are rounded, so that many small rooms do not grow.
-fn smaller_rooms(alloc: Global, problem: &Problem, entries: usize) -> Result<Vec<u64>, AllocError>
+fn smaller_rooms(
+    alloc: Global,
+    problem: &Columns<'_>,
+    entries: usize,
+) -> Result<Vec<u64>, AllocError>
     ensures { IfOk result (λ rooms. length rooms.items ≡ consumers problem.now) }
 {
     let all = problem.entries().max(1) as u64;

@@ -1,27 +1,28 @@
 ghost use Rattle.std.specs.Prelude.{◌≡◌, ℕ, ◌<◌, ◌≤◌, length, slice_index, IfSome, IfNone, None, true};
-ghost use Rattle.sr_transport.specs.Limits.{most_consumers};
+ghost use Rattle.sr_transport.specs.Limits.{most_tiers};
 ghost use Rattle.sr_solver.specs.Limits.{greatest_way};
-ghost use Rattle.sr_transport.specs.Problem.{IsWithinLimits, consumers, room_of, IsAllowed};
-ghost use Rattle.sr_transport.specs.Assignment.{load};
-ghost use Rattle.sr_transport.specs.Certificate.{IsLeast};
+ghost use Rattle.sr_transport.specs.plain.Problem.{IsWithinLimits, consumers, room_of, IsAllowed};
+ghost use Rattle.sr_transport.specs.plain.Assignment.{load};
+ghost use Rattle.sr_transport.specs.plain.Certificate.{IsLeast};
 ghost use Rattle.sr_solver.specs.Labels.{label_at, open_count};
 ghost use Rattle.sr_solver.specs.Placed.{IsStanding};
 ghost use Rattle.sr_solver.specs.Cutoff.{IsCutoff, IsCut};
 ghost use Rattle.sr_solver.specs.Offers.{IsOfferedAt, offer_of};
 ghost use Rattle.sr_solver.specs.Table.{IsTable};
-ghost use Rattle.sr_solver.specs.Search.{IsStarted, IsBetter, IsNearest, AreAllClosed, IsSearch, IsRound, IsAsked, IsEnd};
+ghost use Rattle.sr_solver.specs.Search.{IsStarted, IsBetter, IsNearest, AreAllClosed, IsSearch, IsRound, IsAsked};
+ghost use Rattle.sr_solver.specs.Search.{IsEnd};
 
 use crate::label::{Label, Offer, offered};
 use crate::placement::Placement;
 use crate::table::{Bound, least_mover, may_be_nearer};
-use sr_transport::Problem;
+use sr_transport::Columns;
 
 /// Looks for the shortest path that makes place for `entry`, and gives the consumer where it ends, which has room left.
 ///
-/// `None` where no path ends at a consumer with room: each consumer that the search reached is full, and closed. Once one with
-/// room is reached, paths that are no shorter than the way there are left out.
+/// `None` where no path ends at a consumer with room: each consumer that the search reached is full, and closed. Once
+/// one with room is reached, paths that are no shorter than the way there are left out.
 pub fn search(
-    problem: &Problem,
+    problem: &Columns<'_>,
     entry: usize,
     placement: &Placement,
     table: &mut [Option<Bound>],
@@ -32,8 +33,10 @@ pub fn search(
     requires table { IsTable problem.now placement.now.assign.items table.old }
     requires labels { length labels.old ≡ consumers problem.now }
     ensures table { IsTable problem.now placement.now.assign.items table.new }
-    ensures end { IfSome result (IsEnd problem.now entry placement.now.assign.items placement.now.prices.items labels.new) }
-    ensures round { IfNone result (IsRound problem.now entry placement.now.assign.items placement.now.prices.items None labels.new) }
+    ensures end { IfSome result (IsEnd problem.now entry placement.now.assign.items placement.now.prices.items
+        labels.new) }
+    ensures round { IfNone result (IsRound problem.now entry placement.now.assign.items placement.now.prices.items
+        None labels.new) }
     ensures all_closed { IfNone result (AreAllClosed problem.now labels.new) }
 {
     let loads = placement.loads.as_slice();
@@ -49,7 +52,7 @@ pub fn search(
 
 /// Forgets the last search, and offers the new entry to each consumer; gives the first cutoff.
 fn start(
-    problem: &Problem,
+    problem: &Columns<'_>,
     entry: usize,
     placement: &Placement,
     labels: &mut [Label],
@@ -77,9 +80,10 @@ fn start(
     cutoff
 }
 
-/// The cutoff once a consumer has this label: it falls to the way there, where that is nearer, and the consumer has room.
+/// The cutoff once a consumer has this label: it falls to the way there, where that is nearer, and the consumer has
+/// room.
 fn cut(
-    problem: &Problem,
+    problem: &Columns<'_>,
     loads: &[u64],
     consumer: usize,
     label: Label,
@@ -101,7 +105,7 @@ fn cut(
 }
 
 /// The nearest open consumer, and of equally near ones rather one with room; `None` where none is open.
-fn nearest(problem: &Problem, loads: &[u64], labels: &[Label]) -> Option<usize>
+fn nearest(problem: &Columns<'_>, loads: &[u64], labels: &[Label]) -> Option<usize>
     requires loads_each { length loads.now ≡ consumers problem.now }
     requires labels_each { length labels.now ≡ consumers problem.now }
     ensures some { IfSome result (IsNearest problem.now labels.now) }
@@ -118,7 +122,7 @@ fn nearest(problem: &Problem, loads: &[u64], labels: &[Label]) -> Option<usize>
 
 /// Whether a consumer is nearer than the best so far, or as near and the only one of the two with room.
 fn is_better(
-    problem: &Problem,
+    problem: &Columns<'_>,
     loads: &[u64],
     labels: &[Label],
     consumer: usize,
@@ -142,7 +146,7 @@ fn is_better(
 
 /// Closes a consumer: offers the entries that stand there to the others, and gives the next cutoff.
 fn close(
-    problem: &Problem,
+    problem: &Columns<'_>,
     entry: usize,
     near: usize,
     cutoff: Option<u64>,
@@ -176,10 +180,10 @@ fn close(
     cutoff
 }
 
-/// Offers to the consumer `other` the entry at `near` that costs least more there, where the table lets it come nearer, and
-/// nearer than the cutoff; gives the next cutoff.
+/// Offers to the consumer `other` the entry at `near` that costs least more there, where the table lets it come nearer,
+/// and nearer than the cutoff; gives the next cutoff.
 fn ask(
-    problem: &Problem,
+    problem: &Columns<'_>,
     entry: usize,
     near: usize,
     other: usize,
@@ -193,11 +197,13 @@ fn ask(
     requires other { other < consumers problem.now }
     requires standing { IsStanding problem.now entry placement.now }
     requires table { IsTable problem.now placement.now.assign.items table.old }
-    requires search { IsSearch problem.now entry placement.now.assign.items placement.now.prices.items cutoff labels.old near other }
+    requires search { IsSearch problem.now entry placement.now.assign.items placement.now.prices.items cutoff
+        labels.old near other }
     requires cutoff { IfSome cutoff (λ d. d ≤ greatest_way) }
     requires closed { (label_at labels.old near).closed ≡ true }
     ensures table { IsTable problem.now placement.now.assign.items table.new }
-    ensures asked { IsAsked problem.now entry placement.now.assign.items placement.now.prices.items cutoff near other labels.old labels.new }
+    ensures asked { IsAsked problem.now entry placement.now.assign.items placement.now.prices.items cutoff near other
+        labels.old labels.new }
     ensures cut { IsCut problem.now placement.now.loads.items other (label_at labels.new other) cutoff result }
 {
     let prices = placement.prices.as_slice();
@@ -215,7 +221,7 @@ fn ask(
 
 /// Offers an entry that stands at the consumer `near` to the consumer `other`.
 fn offer(
-    problem: &Problem,
+    problem: &Columns<'_>,
     near: usize,
     mover: usize,
     other: usize,
@@ -232,9 +238,10 @@ fn offer(
     requires labels_each { length labels.old ≡ consumers problem.now }
     requires low { (c : ℕ) → c < consumers problem.now → slice_index prices.now c ≤ greatest_way }
     requires dist { (label_at labels.old near).dist ≤ greatest_way }
-    requires hops { (label_at labels.old near).hops ≤ most_consumers }
+    requires hops { (label_at labels.old near).hops ≤ most_tiers }
     requires cutoff { IfSome cutoff (λ d. d ≤ greatest_way) }
-    ensures { IsOfferedAt problem.now prices.now (offer_of problem.now prices.now cutoff labels.old near mover) other labels.old labels.new }
+    ensures { IsOfferedAt problem.now prices.now (offer_of problem.now prices.now cutoff labels.old near mover) other
+        labels.old labels.new }
 {
     let label = labels[near];
     let offer = Offer {

@@ -1,9 +1,10 @@
 ghost use Rattle.std.specs.Prelude.{◌≡◌, ◌<◌, ◌≤◌, IfOk, IfSome, IsSome, true};
 ghost use Rattle.sr_transport.specs.Sum.{sum_below};
 ghost use Rattle.sr_transport.specs.Limits.{greatest_total};
-ghost use Rattle.sr_transport.specs.Problem.{consumers, room_of};
-ghost use Rattle.sr_transport.specs.Assignment.{IsAssignment, total_of};
-ghost use Rattle.sr_transport.specs.Solved.{IsSolution, IsOptimal, HasSmallPrices};
+ghost use Rattle.sr_transport.specs.plain.Problem.{consumers, room_of};
+ghost use Rattle.sr_transport.specs.plain.Assignment.{IsAssignment, total_of};
+ghost use Rattle.sr_transport.specs.plain.Solved.{IsSolution};
+ghost use Rattle.sr_transport.specs.Solved.{HasSmallPrices};
 ghost use Rattle.sr_solver.specs.Placed.{IsPlaced, IsStanding};
 
 use crate::label::Label;
@@ -13,19 +14,19 @@ use crate::placing::{Progress, place_all, take_all};
 use crate::sample::{is_sparse, placing_order};
 use crate::shortage::{places, stranded};
 use crate::table::{Bound, forget};
-use sr_transport::{Problem, Solved};
+use sr_transport::{Columns, Solved};
 use std::alloc::{AllocError, Global};
 
-/// Solves a transportation problem: gives a cheapest assignment with prices that show it, or entries for which there
-/// are too few places.
+/// Solves a transportation problem without tiers: gives a cheapest assignment with prices that show it, or entries for
+/// which there are too few places.
 ///
-/// The entries are placed one after another, each along a shortest path that makes place for it. They come in the order they have
-/// if that is quick, and else in an order of their own, on which the time depends, and not the worth of the answer.
+/// The entries are placed one after another, each along a shortest path that makes place for it. They come in the order
+/// they have if that is quick, and else in an order of their own, on which the time depends, and not the worth of the
+/// answer.
 ///
 /// Source: the method of successive shortest paths (J. Edmonds, R. M. Karp, 1972).
-pub fn solve(alloc: Global, problem: &Problem) -> Result<Solved, AllocError>
+pub fn solve_columns(alloc: Global, problem: &Columns<'_>) -> Result<Solved, AllocError>
     ensures solution { IfOk result (IsSolution problem.now) }
-    ensures optimal { IfOk result (IsOptimal problem.now) }
     ensures prices { IfOk result HasSmallPrices }
 {
     if places(problem) < problem.entries() as u64 {
@@ -38,10 +39,9 @@ pub fn solve(alloc: Global, problem: &Problem) -> Result<Solved, AllocError>
 }
 
 /// The answer to a problem with more entries than places: all entries.
-fn all_short(alloc: Global, problem: &Problem) -> Result<Solved, AllocError>
+fn all_short(alloc: Global, problem: &Columns<'_>) -> Result<Solved, AllocError>
     requires { sum_below (room_of problem.now) (consumers problem.now) < problem.now.entries }
     ensures solution { IfOk result (IsSolution problem.now) }
-    ensures optimal { IfOk result (IsOptimal problem.now) }
     ensures prices { IfOk result HasSmallPrices }
 {
     let set = numbers(alloc, problem.entries())?;
@@ -49,13 +49,13 @@ fn all_short(alloc: Global, problem: &Problem) -> Result<Solved, AllocError>
 }
 
 /// Solves a problem, placing its entries in an order of their own.
-fn solve_reordered(alloc: Global, problem: &Problem) -> Result<Solved, AllocError>
+fn solve_reordered(alloc: Global, problem: &Columns<'_>) -> Result<Solved, AllocError>
     ensures solution { IfOk result (IsSolution problem.now) }
-    ensures optimal { IfOk result (IsOptimal problem.now) }
     ensures prices { IfOk result HasSmallPrices }
 {
     let order = placing_order(alloc, problem)?;
-    let other = reordered(alloc, problem, &order)?;
+    let costs = reordered(alloc, problem, &order)?;
+    let other = Columns::new(problem.rooms(), problem.entries(), &costs).unwrap();
     let mut renamed = vec![in alloc; 0usize; problem.entries()]?;
     match solve_in_order(alloc, &other)? {
         Solved::Best {
@@ -78,20 +78,22 @@ fn solve_reordered(alloc: Global, problem: &Problem) -> Result<Solved, AllocErro
 }
 
 /// Solves a problem, placing its entries in the order they have.
-pub(crate) fn solve_in_order(alloc: Global, problem: &Problem) -> Result<Solved, AllocError>
+pub(crate) fn solve_in_order(alloc: Global, problem: &Columns<'_>) -> Result<Solved, AllocError>
     ensures solution { IfOk result (IsSolution problem.now) }
-    ensures optimal { IfOk result (IsOptimal problem.now) }
     ensures prices { IfOk result HasSmallPrices }
 {
     let found = answer(alloc, problem, true)?;
     Ok(found.unwrap())
 }
 
-/// The answer to a problem, found by placing its entries in the order they have. If that seems to take long, the patient go on;
-/// others get `None`.
-fn answer(alloc: Global, problem: &Problem, is_patient: bool) -> Result<Option<Solved>, AllocError>
+/// The answer to a problem, found by placing its entries in the order they have. If that seems to take long, the
+/// patient go on; others get `None`.
+fn answer(
+    alloc: Global,
+    problem: &Columns<'_>,
+    is_patient: bool,
+) -> Result<Option<Solved>, AllocError>
     ensures solution { IfOk result (λ found. IfSome found (IsSolution problem.now)) }
-    ensures optimal { IfOk result (λ found. IfSome found (IsOptimal problem.now)) }
     ensures prices { IfOk result (λ found. IfSome found HasSmallPrices) }
     ensures patient { is_patient ≡ true → IfOk result (λ found. IsSome found) }
 {
@@ -109,7 +111,7 @@ fn answer(alloc: Global, problem: &Problem, is_patient: bool) -> Result<Option<S
 /// The answer, once the entries before `first` are placed.
 fn finish(
     alloc: Global,
-    problem: &Problem,
+    problem: &Columns<'_>,
     first: usize,
     is_patient: bool,
     placement: Placement,
@@ -117,7 +119,6 @@ fn finish(
     requires first { first < problem.now.entries }
     requires standing { IsStanding problem.now first placement }
     ensures solution { IfOk result (λ found. IfSome found (IsSolution problem.now)) }
-    ensures optimal { IfOk result (λ found. IfSome found (IsOptimal problem.now)) }
     ensures prices { IfOk result (λ found. IfSome found HasSmallPrices) }
     ensures patient { is_patient ≡ true → IfOk result (λ found. IsSome found) }
 {
@@ -144,10 +145,9 @@ fn finish(
 }
 
 /// The answer where every entry is placed.
-fn best(problem: &Problem, assign: Vec<usize>, prices: Vec<u64>) -> Solved
+fn best(problem: &Columns<'_>, assign: Vec<usize>, prices: Vec<u64>) -> Solved
     requires { IsPlaced problem.now problem.now.entries assign.items prices.items }
     ensures solution { IsSolution problem.now result }
-    ensures optimal { IsOptimal problem.now result }
     ensures prices { HasSmallPrices result }
 {
     let total = sum_of_costs(problem, &assign);
@@ -159,7 +159,7 @@ fn best(problem: &Problem, assign: Vec<usize>, prices: Vec<u64>) -> Solved
 }
 
 /// The sum of the costs of an assignment. Unlike `total` of sr_transport it need not see that it is one.
-fn sum_of_costs(problem: &Problem, assign: &[usize]) -> u64
+fn sum_of_costs(problem: &Columns<'_>, assign: &[usize]) -> u64
     requires { IsAssignment problem.now assign.now }
     ensures total { result ≡ total_of problem.now assign.now }
     ensures small { result ≤ greatest_total }

@@ -1,18 +1,20 @@
-ghost use Rattle.std.specs.Prelude.{◌≡◌, ℕ, ◌+◌, ◌*◌, ◌<◌, ◌≤◌, length, slice_index, slice_set, IfSome, IsSome, true, false};
-ghost use Rattle.sr_transport.specs.Limits.{greatest_cost};
+ghost use Rattle.std.specs.Prelude.{◌≡◌, ℕ, ◌+◌, ◌*◌, ◌<◌, ◌≤◌, length, slice_index, slice_set, IfSome, IsSome, true};
+ghost use Rattle.std.specs.Prelude.{false};
+ghost use Rattle.sr_transport.specs.Limits.{greatest_charge};
 ghost use Rattle.sr_solver.specs.Limits.{greatest_bound, greatest_way};
-ghost use Rattle.sr_transport.specs.Problem.{IsWithinLimits, consumers, room_of, cost_at, cost_of, IsAllowed};
-ghost use Rattle.sr_transport.specs.Assignment.{load};
+ghost use Rattle.sr_transport.specs.plain.Problem.{IsWithinLimits, consumers, room_of, cost_at, cost_of, IsAllowed};
+ghost use Rattle.sr_transport.specs.plain.Assignment.{load};
 ghost use Rattle.sr_solver.specs.Members.{AreWide, AreMembersOf, AreMembers};
-ghost use Rattle.sr_solver.specs.Table.{IsUnknown, IsAt, IsApart, IsKnown, IsTableOf, IsTable, IsWithout, IsLowered, IsRowChanged, IsMover, IsNoNearer};
+ghost use Rattle.sr_solver.specs.Table.{IsUnknown, IsAt, IsApart, IsKnown, IsTableOf, IsTable, IsWithout, IsLowered};
+ghost use Rattle.sr_solver.specs.Table.{IsRowChanged, IsMover, IsNoNearer};
 
 use crate::label::{Label, is_beyond};
 use crate::members::{add, remove};
 use crate::placement::Placement;
-use sr_transport::{MAX_COST, Problem};
+use sr_transport::{Columns, MAX_CHARGE};
 
 /// What is added to a difference of two costs, so that it is not below 0.
-const ABOVE: u64 = MAX_COST;
+const ABOVE: u64 = MAX_CHARGE;
 
 /// What is known of the entries that stand at one consumer and may go to another.
 #[derive(Clone, Copy)]
@@ -45,8 +47,8 @@ pub fn forget(table: &mut [Option<Bound>])
     }
 }
 
-/// Whether an entry of which this is known may come nearer than the cutoff, and nearer than before, to a consumer with the
-/// label `label`, from one with the label `from`; `here` and `there` are the prices of the two.
+/// Whether an entry of which this is known may come nearer than the cutoff, and nearer than before, to a consumer with
+/// the label `label`, from one with the label `from`; `here` and `there` are the prices of the two.
 pub fn may_be_nearer(
     known: Option<Bound>,
     from: Label,
@@ -75,10 +77,10 @@ pub fn may_be_nearer(
     (label.hops == 0 || sum < label.dist + base) && !is_beyond(cutoff, base, sum)
 }
 
-/// The entry at `from` that costs least more at `to`, or `None` where none may go there. Where the table doesn't know it, it
-/// is looked for, and noted.
+/// The entry at `from` that costs least more at `to`, or `None` where none may go there. Where the table doesn't know
+/// it, it is looked for, and noted.
 pub fn least_mover(
-    problem: &Problem,
+    problem: &Columns<'_>,
     from: usize,
     to: usize,
     placement: &Placement,
@@ -88,8 +90,10 @@ pub fn least_mover(
     requires every { length placement.now.assign.items ≡ problem.now.entries }
     requires from { from < consumers problem.now }
     requires to { to < consumers problem.now }
-    requires placed { (i : ℕ) → IsAt placement.now.assign.items problem.now.entries from i → IsAllowed problem.now i from }
-    requires members { AreMembers problem.now placement.now.width placement.now.assign.items placement.now.members.items }
+    requires placed { (i : ℕ) → IsAt placement.now.assign.items problem.now.entries from i
+        → IsAllowed problem.now i from }
+    requires members { AreMembers problem.now placement.now.width placement.now.assign.items
+        placement.now.members.items }
     requires table { IsTable problem.now placement.now.assign.items table.old }
     ensures mover { IsMover problem.now (IsAt placement.now.assign.items problem.now.entries from) from to result }
     ensures table { IsTable problem.now placement.now.assign.items table.new }
@@ -109,13 +113,15 @@ pub fn least_mover(
 }
 
 /// Looks through the entries at `from` for the one that costs least more at `to`.
-fn find(problem: &Problem, from: usize, to: usize, placement: &Placement) -> Option<Bound>
+fn find(problem: &Columns<'_>, from: usize, to: usize, placement: &Placement) -> Option<Bound>
     requires limits { IsWithinLimits problem.now.rooms problem.now.entries problem.now.costs }
     requires every { length placement.now.assign.items ≡ problem.now.entries }
     requires from { from < consumers problem.now }
     requires to { to < consumers problem.now }
-    requires placed { (i : ℕ) → IsAt placement.now.assign.items problem.now.entries from i → IsAllowed problem.now i from }
-    requires members { AreMembers problem.now placement.now.width placement.now.assign.items placement.now.members.items }
+    requires placed { (i : ℕ) → IsAt placement.now.assign.items problem.now.entries from i
+        → IsAllowed problem.now i from }
+    requires members { AreMembers problem.now placement.now.width placement.now.assign.items
+        placement.now.members.items }
     ensures known { IsKnown problem.now (IsAt placement.now.assign.items problem.now.entries from) from to result }
     ensures best { IfSome result (λ bound. IsSome bound.best) }
 {
@@ -133,8 +139,8 @@ fn find(problem: &Problem, from: usize, to: usize, placement: &Placement) -> Opt
 
 /// What is known once an entry has come that costs `here` where it stands, and `there` at the other consumer.
 fn lowered(known: Option<Bound>, entry: usize, here: u64, there: Option<u64>) -> Option<Bound>
-    requires here { here ≤ greatest_cost }
-    requires there { IfSome there (λ c. c ≤ greatest_cost) }
+    requires here { here ≤ greatest_charge }
+    requires there { IfSome there (λ c. c ≤ greatest_charge) }
     ensures lowered { IsLowered entry here there known result }
     ensures best { IfSome known (λ bound. IsSome bound.best) → IfSome result (λ bound. IsSome bound.best) }
 {
@@ -155,7 +161,7 @@ fn lowered(known: Option<Bound>, entry: usize, here: u64, there: Option<u64>) ->
 
 /// Moves an entry to a consumer, from the one where it stands, if it stands anywhere.
 pub fn put(
-    problem: &Problem,
+    problem: &Columns<'_>,
     entry: usize,
     to: usize,
     placement: &mut Placement,
@@ -167,13 +173,15 @@ pub fn put(
     requires allowed { IsAllowed problem.now entry to }
     requires wide { AreWide problem.now placement.old.width }
     requires room { load (slice_set placement.old.assign.items entry to) to ≤ room_of problem.now to }
-    requires members { AreMembers problem.now placement.old.width placement.old.assign.items placement.old.members.items }
+    requires members { AreMembers problem.now placement.old.width placement.old.assign.items
+        placement.old.members.items }
     requires table { IsTable problem.now placement.old.assign.items table.old }
     ensures assign { placement.new.assign.items ≡ slice_set placement.old.assign.items entry to }
     ensures prices { placement.new.prices ≡ placement.old.prices }
     ensures loads { placement.new.loads ≡ placement.old.loads }
     ensures width { placement.new.width ≡ placement.old.width }
-    ensures members { AreMembers problem.now placement.new.width placement.new.assign.items placement.new.members.items }
+    ensures members { AreMembers problem.now placement.new.width placement.new.assign.items
+        placement.new.members.items }
     ensures table { IsTable problem.now placement.new.assign.items table.new }
 {
     take_out(
@@ -198,7 +206,7 @@ pub fn put(
 
 /// Takes an entry out of the members and the table, where it stands anywhere.
 fn take_out(
-    problem: &Problem,
+    problem: &Columns<'_>,
     entry: usize,
     assign: &[usize],
     width: usize,
@@ -224,7 +232,7 @@ fn take_out(
 
 /// Brings an entry that stands nowhere into the members and the table, at a consumer.
 fn bring_in(
-    problem: &Problem,
+    problem: &Columns<'_>,
     entry: usize,
     to: usize,
     assign: &[usize],
@@ -249,10 +257,11 @@ fn bring_in(
 }
 
 /// Notes that an entry has left a consumer: it is no longer the best of those that may go elsewhere.
-fn leave(problem: &Problem, entry: usize, from: usize, table: &mut [Option<Bound>])
+fn leave(problem: &Columns<'_>, entry: usize, from: usize, table: &mut [Option<Bound>])
     requires from { from < consumers problem.now }
     requires each_pair { length table.old ≡ consumers problem.now * consumers problem.now }
-    ensures { IsRowChanged (consumers problem.now) from (consumers problem.now) (λ to old new. IsWithout entry old new) table.old table.new }
+    ensures { IsRowChanged (consumers problem.now) from (consumers problem.now)
+        (λ to old new. IsWithout entry old new) table.old table.new }
 {
     for to in 0..problem.consumers() {
         let pair = from * problem.consumers() + to;
@@ -285,7 +294,7 @@ fn other_than(best: Option<usize>, entry: usize) -> Option<usize>
 }
 
 /// Notes that an entry has come to a consumer.
-fn arrive(problem: &Problem, entry: usize, to: usize, table: &mut [Option<Bound>])
+fn arrive(problem: &Columns<'_>, entry: usize, to: usize, table: &mut [Option<Bound>])
     requires limits { IsWithinLimits problem.now.rooms problem.now.entries problem.now.costs }
     requires entry { entry < problem.now.entries }
     requires allowed { IsAllowed problem.now entry to }

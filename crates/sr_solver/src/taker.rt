@@ -1,10 +1,10 @@
 ghost use Rattle.std.specs.Prelude.{◌≡◌, ℕ, ◌<◌, ◌≤◌, length, slice_index, nat_lt, IfSome, IfNone};
-ghost use Rattle.sr_transport.specs.Limits.{greatest_cost};
-ghost use Rattle.sr_transport.specs.Problem.{consumers};
+ghost use Rattle.sr_transport.specs.Limits.{greatest_charge};
+ghost use Rattle.sr_transport.specs.plain.Problem.{consumers};
 ghost use Rattle.sr_solver.specs.Limits.{greatest_way};
 ghost use Rattle.sr_solver.specs.Taker.{IsTaker, IsCompared};
 
-use sr_transport::Problem;
+use sr_transport::Columns;
 
 /// The cheapest of the consumers that were looked at.
 #[derive(Clone, Copy)]
@@ -15,9 +15,9 @@ pub struct Cheapest {
     pub free: Option<usize>,
 }
 
-/// A consumer where the sum of cost and price is least for an entry, and that has room; `None` if all with the least sum are
-/// full.
-pub fn taker(problem: &Problem, entry: usize, prices: &[u64], loads: &[u64]) -> Option<usize>
+/// A consumer where the sum of cost and price is least for an entry, and that has room; `None` if all with the least
+/// sum are full.
+pub fn taker(problem: &Columns<'_>, entry: usize, prices: &[u64], loads: &[u64]) -> Option<usize>
     requires entry { entry < problem.now.entries }
     requires prices_each { length prices.now ≡ consumers problem.now }
     requires loads_each { length loads.now ≡ consumers problem.now }
@@ -46,7 +46,7 @@ fn compared(
     price: u64,
     has_room: bool,
 ) -> Cheapest
-    requires cost { IfSome cost (λ c. c ≤ greatest_cost) }
+    requires cost { IfSome cost (λ c. c ≤ greatest_charge) }
     requires price { price ≤ greatest_way }
     ensures { IsCompared consumer cost price has_room cheapest result }
 {

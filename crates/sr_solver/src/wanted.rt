@@ -1,12 +1,12 @@
 //! Which consumer an entry wants at given prices. No clause mentions it: only the order of placement depends on it.
 ghost use Rattle.std.specs.Prelude.{◌≡◌, ◌<◌, length, IfOk};
-ghost use Rattle.sr_transport.specs.Problem.{consumers};
+ghost use Rattle.sr_transport.specs.plain.Problem.{consumers};
 
-use sr_transport::Problem;
+use sr_transport::Columns;
 use std::alloc::{AllocError, Global};
 
 /// How many entries want each consumer: cost and price are least for them there.
-pub fn crowds(alloc: Global, problem: &Problem, prices: &[u64]) -> Result<Vec<u64>, AllocError>
+pub fn crowds(alloc: Global, problem: &Columns<'_>, prices: &[u64]) -> Result<Vec<u64>, AllocError>
     requires one_each { length prices.now ≡ consumers problem.now }
     ensures { IfOk result (λ crowds. length crowds.items ≡ consumers problem.now) }
 {
@@ -18,7 +18,7 @@ pub fn crowds(alloc: Global, problem: &Problem, prices: &[u64]) -> Result<Vec<u6
 }
 
 /// Counts an entry at each consumer that it wants.
-fn join_crowds(problem: &Problem, prices: &[u64], entry: usize, crowds: &mut [u64])
+fn join_crowds(problem: &Columns<'_>, prices: &[u64], entry: usize, crowds: &mut [u64])
     requires entry { entry < problem.now.entries }
     requires prices_each { length prices.now ≡ consumers problem.now }
     requires crowds_each { length crowds.old ≡ consumers problem.now }
@@ -32,9 +32,9 @@ fn join_crowds(problem: &Problem, prices: &[u64], entry: usize, crowds: &mut [u6
     }
 }
 
-/// The price of the consumer that an entry wants. Of several it is the highest price at which fewer entries want the consumer
-/// than it has room for, or else the lowest.
-pub fn wanted_price(problem: &Problem, prices: &[u64], crowds: &[u64], entry: usize) -> u64
+/// The price of the consumer that an entry wants. Of several it is the highest price at which fewer entries want the
+/// consumer than it has room for, or else the lowest.
+pub fn wanted_price(problem: &Columns<'_>, prices: &[u64], crowds: &[u64], entry: usize) -> u64
     requires entry { entry < problem.now.entries }
     requires prices_each { length prices.now ≡ consumers problem.now }
     requires crowds_each { length crowds.now ≡ consumers problem.now }
@@ -55,7 +55,7 @@ pub fn wanted_price(problem: &Problem, prices: &[u64], crowds: &[u64], entry: us
 }
 
 /// The least sum of cost and price over the consumers of an entry.
-fn least_sum(problem: &Problem, prices: &[u64], entry: usize) -> u64
+fn least_sum(problem: &Columns<'_>, prices: &[u64], entry: usize) -> u64
     requires entry { entry < problem.now.entries }
     requires one_each { length prices.now ≡ consumers problem.now }
 {

@@ -20,8 +20,9 @@ use Rattle.sr_policy.specs.Bounds.{most_stranded}
 use Rattle.sr_policy.specs.declared.live.Live.{Live}
 use Rattle.sr_policy.specs.declared.stranded.Stranded.{Stranded}
 use Rattle.sr_policy.specs.Policy.{IsPolicy}
-use Rattle.sr_policy.specs.Rules.{Rules, Text, class_of, class_of_value, classed_by, consumers_of, limit_of, live_of, other_class, rate_of, size_of, value_at, weight_of}
-use Rattle.sr_policy.specs.Snapshot.{AreIdsInOrder, AreNamesInOrder, AreOwnersDead, AreRates, IsSnapshot, IsWeight, IsWithinBounds, Shown, is_among}
+use Rattle.sr_policy.specs.Rules.{Rules, Text, class_of, class_of_value, classed_by, consumers_of, limit_of, live_of, other_class, rate_of, size_of, tier_of, value_at, weight_of}
+use Rattle.sr_policy.proofs.PolicyLemmas.{live_of-tier}
+use Rattle.sr_policy.specs.Snapshot.{AreIdsInOrder, AreNamesInOrder, AreOwnersDead, AreRates, IsSnapshot, IsTier, IsWeight, IsWithinBounds, Shown, is_among}
 use Rattle.sr_space.specs.declared.snap.SnapFault.{SnapFault}
 use Rattle.sr_space.specs.declared.snap.SnapFault.TheVariants as faults
 use Rattle.sr_space.specs.Snap.{IsSnapFault, gone_in, if_few, in_order, listed, snapped_group, snapped_stream, live_in, of_dead, rates_in, shown_with, stranded_as, stranded_in}
@@ -98,7 +99,7 @@ ids_in_order rules key group dead entries nacks rising = record {
 one_live : (rules : Rules) (name : Text) (pending : ℕ) → AtMostOne (λ (consumer : Live). consumer.name ≡ name) (listed (live_of rules name pending))
 one_live rules name pending = by (limit_of rules name)
   where
-    by : (limit : Option ℕ) → AtMostOne (λ (consumer : Live). consumer.name ≡ name) (listed (option_map (λ l. record { name = name; limit = l; pending = pending }) limit))
+    by : (limit : Option ℕ) → AtMostOne (λ (consumer : Live). consumer.name ≡ name) (listed (option_map (λ l. record { name = name; limit = l; pending = pending; tier = tier_of rules name }) limit))
     by None = tt
     by (Some limit) = refl
 
@@ -173,9 +174,20 @@ value_at-all P name (x ∷ xs) all = by (value_at-all P name xs (All-tail (λ pa
 live_limit : (rules : Rules) (name : Text) (pending : ℕ) → IsPolicy rules → All (λ (consumer : Live). consumer.limit ≤ 1000000000) (listed (live_of rules name pending))
 live_limit rules name pending policy = by (limit_of rules name) (value_at-all (λ limit. limit ≤ 1000000000) name rules.limits policy.limits)
   where
-    by : (limit : Option ℕ) → IfSome limit (λ n. n ≤ 1000000000) → All (λ (consumer : Live). consumer.limit ≤ 1000000000) (listed (option_map (λ l. record { name = name; limit = l; pending = pending }) limit))
+    by : (limit : Option ℕ) → IfSome limit (λ n. n ≤ 1000000000) → All (λ (consumer : Live). consumer.limit ≤ 1000000000) (listed (option_map (λ l. record { name = name; limit = l; pending = pending; tier = tier_of rules name }) limit))
     by None small = All-nil (λ (consumer : Live). consumer.limit ≤ 1000000000)
     by (Some limit) small = All-cons (λ (consumer : Live). consumer.limit ≤ 1000000000) _ [] small (All-nil (λ (consumer : Live). consumer.limit ≤ 1000000000))
+
+-- each live consumer's soft limit is at most its limit, and its fee at most the greatest
+abbrev HasTier : Live → Type 0
+HasTier consumer = IfSome consumer.tier (IsTier consumer.limit)
+
+live_tier : (rules : Rules) (name : Text) (pending : ℕ) → IsPolicy rules → All HasTier (listed (live_of rules name pending))
+live_tier rules name pending policy = by (live_of rules name pending) (live_of-tier rules name pending policy)
+  where
+    by : (live : Option Live) → IfSome live HasTier → All HasTier (listed live)
+    by None has = All-nil HasTier
+    by (Some live) has = All-cons HasTier live [] has (All-nil HasTier)
 
 rate_small : (rules : Rules) (class consumer : Text) → IsPolicy rules → IfSome (rate_of rules class consumer) (λ n. n ≤ 2 ^ 20)
 rate_small rules class consumer policy =
@@ -275,6 +287,8 @@ within_bounds rules key group dead entries nacks policy few =
       weights = all_anyway (λ (entry : Stranded). IsWeight entry.weight) (λ nack. stranded_as rules nack (entry_with nack.id entries)) (λ nack. stranded_weight rules nack (entry_with nack.id entries)) (of_dead dead nacks);
       limits = all_anyway (λ (consumer : Live). consumer.limit ≤ 1000000000) (λ name. listed (live_of rules name (length (owned_by name nacks))))
           (λ name. live_limit rules name (length (owned_by name nacks)) policy) (filter (λ name. not (is_among dead name)) (consumers_of rules));
+      tiers = all_anyway HasTier (λ name. listed (live_of rules name (length (owned_by name nacks))))
+          (λ name. live_tier rules name (length (owned_by name nacks)) policy) (filter (λ name. not (is_among dead name)) (consumers_of rules));
       rates = All-map (λ (class : Text × List (Option ℕ)). AreRates (length live) class.1) (λ (class : Text). (class, map (λ (consumer : Live). rate_of rules class consumer.name) live)) _
           (λ k d lt. are_rates rules live _ policy);
     }

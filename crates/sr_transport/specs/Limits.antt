@@ -6,11 +6,15 @@ use Rattle.std.specs.Prelude.{ℕ, ◌*◌, ◌^◌}
 abbrev pub most_consumers : ℕ
 most_consumers = 64
 
+-- tiers of a problem: two for each consumer
+abbrev pub most_tiers : ℕ
+most_tiers = 128
+
 -- entries of a problem
 abbrev pub most_entries : ℕ
 most_entries = 4096
 
--- how many entries a consumer may have room for
+-- how many entries a tier may have room for
 abbrev pub greatest_room : ℕ
 greatest_room = 1000000000
 
@@ -18,14 +22,22 @@ greatest_room = 1000000000
 abbrev pub greatest_cost : ℕ
 greatest_cost = 2 ^ 40
 
--- what an assignment may cost: the greatest cost for each entry, 2 ^ 52
+-- what a tier may cost beyond the pair
+abbrev pub greatest_fee : ℕ
+greatest_fee = 2 ^ 40
+
+-- what an entry may be charged in a tier: a cost and a fee, 2 ^ 41
+abbrev pub greatest_charge : ℕ
+greatest_charge = 2 * 2 ^ 40
+
+-- what an assignment may cost: the greatest charge for each entry, 2 ^ 53
 abbrev pub greatest_total : ℕ
-greatest_total = most_entries * greatest_cost
+greatest_total = most_entries * greatest_charge
 
--- what the price of a consumer may rise by when an entry is placed: the greatest cost for each consumer, 2 ^ 46
+-- what the price of a tier may rise by when an entry is placed: the greatest charge for each tier, 2 ^ 48
 abbrev pub greatest_rise : ℕ
-greatest_rise = most_consumers * greatest_cost
+greatest_rise = most_tiers * greatest_charge
 
--- the price of a consumer in an answer of the solver: the greatest rise for each entry, 2 ^ 58
+-- the price of a tier in an answer of the solver: the greatest rise for each entry, 2 ^ 60
 abbrev pub greatest_price : ℕ
 greatest_price = most_entries * greatest_rise

@@ -1,11 +1,15 @@
-//! The transportation problem: entries, consumers with room, and a cost for each allowed pair; and checkers of the
-//! cheapest assignment and of a shortage.
+//! The transportation problem: entries, consumers with room in one or two tiers, and a cost for each allowed pair; and
+//! checkers of the cheapest assignment and of a shortage.
 #![tactic(auto)]
 
 mod certificate;
+mod columns;
+mod given;
 mod problem;
 mod solved;
+mod tiers;
 
-pub use certificate::{check_prices, check_shortage};
-pub use problem::{MAX_COST, Problem};
+pub use certificate::{check_prices, check_shortage, is_reached, places};
+pub use columns::{Columns, MAX_CHARGE};
+pub use problem::{MAX_COST, Problem, Tier};
 pub use solved::{Solved, check, total};

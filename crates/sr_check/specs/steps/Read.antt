@@ -1,21 +1,22 @@
 -- What is read from the front of a text, and what is left of it. Only private clauses cite this.
 -- Source: RESP2 protocol specification, "RESP protocol description".
 
-use Rattle.std.specs.Prelude.{◌≡◌, ℕ, ◌+◌, ◌<◌, ◌^◌, pos, Bool, true, false, List, [], ◌∷◌, ◌++◌, All, decimal, length, map}
+use Rattle.std.specs.Prelude.{◌≡◌, ℕ, ◌+◌, ◌<◌, ◌^◌, pos, Bool, true, false}
+use Rattle.std.specs.Prelude.{List, [], ◌∷◌, ◌++◌, All, decimal, length, map}
 use Rattle.std.specs.List.{flat_map}
 use Rattle.std.specs.List.Sorted.{IsStrictlyIncreasing}
 use Rattle.sr_ids.specs.declared.id.Id.{Id}
 use Rattle.sr_transport.specs.Certificate.{places_of}
-use Rattle.sr_transport.specs.Problem.{Transport}
+use Rattle.sr_transport.specs.Problem.{Tiered}
 use Rattle.sr_policy.specs.declared.live.Live.{Live}
 use Rattle.sr_policy.specs.declared.stranded.Stranded.{Stranded}
-use Rattle.sr_policy.specs.Problem.{problem_of}
+use Rattle.sr_policy.specs.Problem.{problem_of, tier_count}
 use Rattle.sr_policy.specs.Rules.{Text}
 use Rattle.sr_policy.specs.Snapshot.{Shown}
 use Rattle.sr_resp.specs.Reply.{Answer, Int, Bulk, Array, array_header, array_of, integer, reply_text}
 use Rattle.sr_resp.specs.steps.Decoding.{HasPart}
-use Rattle.sr_check.specs.Answer.{id_at, name_at}
-use Rattle.sr_check.specs.PlanReply.{id_answer, move_answer, reached_from, share_answer}
+use Rattle.sr_check.specs.Answer.{AreTold, id_at, name_at}
+use Rattle.sr_check.specs.PlanReply.{id_answer, move_answer, price_answer, reached_from, share_answer}
 
 -- the text begins with this mark and this number in a line, and these bytes come after the line
 pub record HasNumber (text : List ℕ) (sign n : ℕ) (after : List ℕ) : Type 0 where
@@ -32,10 +33,11 @@ pub record HasMove (live : List Live) (entry : Stranded) (text : List ℕ) (c : 
   pub named : length (name_at live c) < 2 ^ 64
   pub begins : Begins text (move_answer (entry.id, name_at live c)) after
 
--- the text begins with this number of the consumer
-pub record HasShare (consumer : Live) (text : List ℕ) (n : ℕ) (after : List ℕ) : Type 0 where
-  pub small : n < 2 ^ 63
-  pub begins : Begins text (share_answer (consumer.name, n)) after
+-- the text begins with these prices of the consumer, one for each of its tiers
+pub record HasPrices (consumer : Live) (text prices after : List ℕ) : Type 0 where
+  pub each : length prices ≡ tier_count consumer
+  pub told : AreTold prices
+  pub begins : Begins text (price_answer (consumer.name, prices)) after
 
 -- the text begins with the id of the entry; or it does not, and nothing of it is read
 abbrev pub HasFlag : Stranded → List ℕ → Bool → List ℕ → Type 0
@@ -43,10 +45,11 @@ HasFlag entry text true after = Begins text (id_answer entry.id) after
 HasFlag entry text false after = (text ≡ after) × ((others : List ℕ) → Begins text (id_answer entry.id) others → ⊥)
 
 -- the text begins with what these keys have, one after another, which gives these values
-abbrev pub AreRead : {K V : Type 0} → (K → List ℕ → V → List ℕ → Type 0) → List K → List ℕ → List V → List ℕ → Type 0
+abbrev pub AreRead : {K V : Type 0} → (K → List ℕ → V → List ℕ → Type 0) → List K → List ℕ → List V → List ℕ
+    → Type 0
 AreRead Has [] text [] after = text ≡ after
-AreRead Has (key ∷ keys) text (value ∷ values) after = (between : List ℕ) × Has key text value between × AreRead Has keys
-    between values after
+AreRead Has (key ∷ keys) text (value ∷ values) after =
+    (between : List ℕ) × Has key text value between × AreRead Has keys between values after
 AreRead Has [] text (value ∷ values) after = ⊥
 AreRead Has (key ∷ keys) text [] after = ⊥
 
@@ -56,6 +59,12 @@ pub record HasArray {K V : Type 0} (Has : K → List ℕ → V → List ℕ
   pub items : List ℕ
   pub header : Begins text (array_header (length keys)) items
   pub read : AreRead Has keys items values after
+
+-- the text begins with an array of the prices of each consumer, which are these in turn
+pub record ArePrices (live : List Live) (text prices after : List ℕ) : Type 0 where
+  pub grouped : List (List ℕ)
+  pub shares : HasArray HasPrices live text grouped after
+  pub in_turn : prices ≡ flat_map (λ own. own) grouped
 
 -- the ids of the entries that are gone
 abbrev pub gone_ids : List (Id × Text) → Answer
@@ -68,7 +77,7 @@ pub record IsPlanText (shown : Shown) (text assign prices : List ℕ) (total : �
   pub gone_at : List ℕ
   pub cost : HasPart text (Int (pos total)) moves_at
   pub moves : HasArray (HasMove shown.live) shown.stranded moves_at assign prices_at
-  pub shares : HasArray HasShare shown.live prices_at prices gone_at
+  pub shares : ArePrices shown.live prices_at prices gone_at
   pub gone : Begins gone_at (gone_ids shown.gone) []
 
 -- the numbers from this one on that are flagged
@@ -89,7 +98,7 @@ pub record HasChosen (stranded : List Stranded) (text set after : List ℕ) : Ty
   pub ended : (string others : List ℕ) → HasPart after (Bulk string) others → ⊥
 
 -- the rooms of the consumers that some entry of the set is allowed
-abbrev pub rooms_answer : Transport → List ℕ → List Live → Answer
+abbrev pub rooms_answer : Tiered → List ℕ → List Live → Answer
 rooms_answer p set live = array_of (map share_answer (reached_from p set 0 live))
 
 -- after the word, the text is the shortage of this set

@@ -5,7 +5,7 @@ use Rattle.std.specs.List.{flat_map}
 use Rattle.sr_bytes.specs.Order.{comes_before}
 use Rattle.sr_group.specs.declared.consumer.Consumer.{Consumer}
 use Rattle.sr_group.specs.Group.{GroupState}
-use Rattle.sr_policy.specs.Rules.{Rules, Text}
+use Rattle.sr_policy.specs.Rules.{Rules, Text, has_tiers}
 use Rattle.sr_dash.specs.Board.{line, row_of}
 
 -- the name comes before all of these
@@ -27,4 +27,4 @@ merged (consumer ∷ consumers) names =
 
 -- the lines of these names
 abbrev pub lines_of : GroupState → ℕ → Rules → List Text → List ℕ
-lines_of group moment rules names = flat_map (λ name. line (row_of group moment rules name)) names
+lines_of group moment rules names = flat_map (λ name. line (has_tiers rules) (row_of group moment rules name)) names

@@ -32,6 +32,6 @@ returns c = λ reply word.
     let found = rw c.in-Ok.is at c.in_ok-set.ensures.found in
     let shows : IsShortage p set = subst (IsShortage p) c.as_slice.ensures.value (c.check_shortage.ensures.exact.0
     c.if-not-check_shortage.false) in
-    let count : c.places_of.result ≡ places_of p set = c.places_of.ensures.value ∙ ap (places_of p) c.as_slice-2.ensures.value in
-    shortage-shown c.args.snapshot.now p reply c.args.bytes.now set c.places_of.result c.in_ok-problem.ensures.ok word found
+    let count : c.places.result ≡ places_of p set = c.places.ensures.value ∙ ap (places_of p) c.as_slice-2.ensures.value in
+    shortage-shown c.args.snapshot.now p reply c.args.bytes.now set c.places.result c.in_ok-problem.ensures.ok word found
     shows count

@@ -59,7 +59,7 @@ returns-in_default-after_integer-clause-none c = λ set shows is.
     let roomy = subst (λ (ns : List ℕ). Begins rooms (answer ns) places) c.as_slice.ensures.value
     c.in-Some-after_rooms.ensures.found in
     let at : places ≡ known.places_at = Begins-one rooms places known.places_at (answer read) roomy known.rooms_are in
-    let count : c.places_of.result ≡ places_of p read = c.places_of.ensures.value ∙ ap (places_of p) c.as_slice-2.ensures.value in
+    let count : c.places.result ≡ places_of p read = c.places.ensures.value ∙ ap (places_of p) c.as_slice-2.ensures.value in
     let begins = subst (λ (t : List ℕ). Begins t (integer (pos (places_of p read))) []) (sym at) known.places_are in
     let last = subst (λ (n : ℕ). Begins places (integer (pos n)) []) (sym count) begins in
     c.in_default-after_integer.ensures.none [] last
@@ -81,11 +81,11 @@ returns-then-not-is_empty-clause-none c = λ set shows is.
     let roomy = subst (λ (ns : List ℕ). Begins rooms (answer ns) places) c.as_slice.ensures.value
     c.in-Some-after_rooms.ensures.found in
     let at : places ≡ known.places_at = Begins-one rooms places known.places_at (answer read) roomy known.rooms_are in
-    let count : c.places_of.result ≡ places_of p read = c.places_of.ensures.value ∙ ap (places_of p) c.as_slice-2.ensures.value in
+    let count : c.places.result ≡ places_of p read = c.places.ensures.value ∙ ap (places_of p) c.as_slice-2.ensures.value in
     let begins = subst (λ (t : List ℕ). Begins t (integer (pos (places_of p read))) []) (sym at) known.places_are in
     let last = subst (λ (n : ℕ). Begins places (integer (pos n)) []) (sym count) begins in
     let left = c.in-Some-after_integer.left.now in
-    let ended : left ≡ [] = Begins-one places left [] (integer (pos c.places_of.result)) c.in-Some-after_integer.ensures.found
+    let ended : left ≡ [] = Begins-one places left [] (integer (pos c.places.result)) c.in-Some-after_integer.ensures.found
     last in
     let yes : c.is_empty.result ≡ true = true-empty left c.is_empty.result c.is_empty.ensures ended in
     true≢false (sym yes ∙ c.if-not-is_empty.true)
@@ -159,14 +159,14 @@ returns-in_default-after_rooms-clause-same c = tt
 pub returns-in_default-after_rooms-clause-within : goal.returns-in_default-after_rooms-clause-within
 returns-in_default-after_rooms-clause-within c = tt
 
-pub places_of-requires : goal.places_of-requires
-places_of-requires c =
+pub places-requires : goal.places-requires
+places-requires c =
     subst (λ (set : List ℕ). All (λ i. i < c.args.problem.now.entries) set) (sym c.as_slice-2.ensures.value)
     (within-entries c.args.snapshot.now c.args.problem.now c.stranded.result.now
     c.in_ok-set.set.items c.requires c.stranded.ensures c.in_ok-set.ensures.within)
 
 pub after_integer-requires : goal.after_integer-requires
-after_integer-requires c = omega (arith, c.places_of.ensures.small)
+after_integer-requires c = omega (arith, c.places.ensures.small)
 
 pub returns-in_default-after_integer-clause-found : goal.returns-in_default-after_integer-clause-found
 returns-in_default-after_integer-clause-found c = tt
@@ -199,7 +199,7 @@ returns-clause-found c =
     let listed = subst (λ (s : List Stranded). Begins ids (flat (ids_of s set)) rooms) c.stranded.ensures c.in_ok-set.ensures.found in
     let roomy = subst (λ (ns : List ℕ). Begins rooms (rooms_answer p ns shown.live) places) c.as_slice.ensures.value
     c.in-Some-after_rooms.ensures.found in
-    let count : c.places_of.result ≡ places_of p set = c.places_of.ensures.value ∙ ap (places_of p) c.as_slice-2.ensures.value in
+    let count : c.places.result ≡ places_of p set = c.places.ensures.value ∙ ap (places_of p) c.as_slice-2.ensures.value in
     let ended : left ≡ [] = empty-true left c.is_empty.result c.is_empty.ensures c.if-not-is_empty.false in
     let begins = subst (λ (n : ℕ). Begins places (integer (pos n)) left) count c.in-Some-after_integer.ensures.found in
     let last = subst (λ (after : List ℕ). Begins places (integer (pos (places_of p set))) after) ended begins in

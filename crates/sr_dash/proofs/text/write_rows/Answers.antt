@@ -1,7 +1,7 @@
 use Rattle.std.proofs.Common.{rules, ◌≡◌, ◌++◌, ◌+◌, ◌<◌, ◌≤◌, List, ℕ, length, get_or, drop, ap, ◌∙◌, refl}
 use Rattle.std.proofs.lemmas.List.{drop_all}
 use Rattle.std.proofs.lemmas.Result.{on_ok_weaker}
-use Rattle.sr_policy.specs.Rules.{Text, consumers_of}
+use Rattle.sr_policy.specs.Rules.{Text, consumers_of, has_tiers}
 use Rattle.sr_dash.specs.Board as boards
 use Rattle.sr_dash.specs.steps.Names.{AreRising, lines_of, merged}
 use Rattle.sr_dash.proofs.NameLemmas.{AreRising-filter, AreRising-in_order, consumers-at, lines-next, merged-all}
@@ -16,16 +16,17 @@ loop-consumer-init c = record {
 
 pub loop-consumer-preserved : goal.loop-consumer-preserved
 loop-consumer-preserved c =
-    let consumers = c.args.group.now.shown.consumers in
+    let consumers = c.args.view.now.group.now.shown.consumers in
     let i = c.loop-consumer.consumer-index in
     let consumer = c.consumer-item.result in
     let named = c.loop-consumer.named.now in
-    let line_at : Text → List ℕ = λ name. boards.line (boards.row_of c.args.group.now.shown c.args.moment c.args.policy.now name) in
+    let line_at : Text → List ℕ = λ name. boards.line (has_tiers c.args.view.now.policy.now) (boards.row_of c.args.view.now.group.now.shown c.args.view.now.moment c.args.view.now.policy.now name) in
     let within : i < length consumers = search rules in
     let is : consumer ≡ get_or consumers i consumer = search rules in
     let here = consumers-at consumers i consumer within is in
     let wrote = rw c.names_before-before.ensures at c.in_ok-write_lines.ensures in
-    let next = lines-next line_at consumer (drop (i + 1) consumers) named c.loop-consumer.out.items c.write_lines.new.out.items c.write_line.new.out.items wrote c.in_ok-write_line.ensures in
+    let wrote_own : c.write_line.new.out.items ≡ c.write_lines.new.out.items ++ line_at consumer.name = rw c.requires at c.in_ok-write_line.ensures in
+    let next = lines-next line_at consumer (drop (i + 1) consumers) named c.loop-consumer.out.items c.write_lines.new.out.items c.write_line.new.out.items wrote wrote_own in
     record {
       lines = rw c.names_after-named.ensures (next ∙ (rw here at c.loop-consumer.invariant.lines));
       rising = rw c.names_after-named.ensures (AreRising-filter (λ other. comes_before consumer.name other) named c.loop-consumer.invariant.rising);
@@ -33,10 +34,10 @@ loop-consumer-preserved c =
 
 pub returns : goal.returns
 returns c =
-    let consumers = c.args.group.now.shown.consumers in
-    let names = consumers_of c.args.policy.now in
+    let consumers = c.args.view.now.group.now.shown.consumers in
+    let names = consumers_of c.args.view.now.policy.now in
     let named = c.loop-consumer.named.now in
-    let lines : List Text → List ℕ = lines_of c.args.group.now.shown c.args.moment c.args.policy.now in
+    let lines : List Text → List ℕ = lines_of c.args.view.now.group.now.shown c.args.view.now.moment c.args.view.now.policy.now in
     let past : length consumers ≤ c.loop-consumer.consumer-index = search rules in
     let none = drop_all c.loop-consumer.consumer-index consumers past in
     let rising : AreRising names = rw c.consumers-named.ensures.value at (AreRising-in_order c.consumers-named.result.now c.consumers-named.ensures.order) in

@@ -1,10 +1,16 @@
-use Rattle.std.proofs.Common.{◌≡◌, ◌++◌, length, drop, map}
-use Rattle.std.specs.List.{flat_map, zip}
+use Rattle.std.proofs.Common.{◌≡◌, ◌++◌, length}
+use Rattle.std.specs.List.{All, flat_map}
 use Rattle.sr_resp.specs.Reply.{array_header}
-use Rattle.sr_check.specs.PlanReply.{share_answer}
+use Rattle.sr_check.specs.Answer.{AreTold}
+use Rattle.sr_check.specs.PlanReply.{price_answer}
 use Rattle.sr_plan.proofs.reply.prices_reply.Given as goal
 
-abbrev pub invariant-loop-i : goal.invariant-loop-i
-invariant-loop-i l =
-    l.draft ++ flat_map share_answer (zip (map (λ consumer. consumer.name) (drop l.i l.live)) (drop l.i l.prices))
-    ≡ array_header (length l.live) ++ flat_map share_answer (zip (map (λ consumer. consumer.name) l.live) l.prices)
+abbrev pub invariant-loop-consumer : goal.invariant-loop-consumer
+invariant-loop-consumer l = record {
+  written : l.draft ++ flat_map price_answer l.prices
+      ≡ array_header (length l.initial.prices) ++ flat_map price_answer l.initial.prices;
+  told : All (λ own. AreTold own.1) l.prices;
+}
+
+abbrev pub decreases-loop-consumer : goal.decreases-loop-consumer
+decreases-loop-consumer l = length l.prices

@@ -1,4 +1,3 @@
-use Rattle.std.proofs.Common.{◌≡◌}
 use Rattle.sr_policy.proofs.ProblemLemmas.{found_are_rates, no_costs}
 use Rattle.sr_policy.proofs.costs.add_row.Goals as goal
 

@@ -1,4 +1,4 @@
-use Rattle.std.proofs.Common.{◌≡◌, ◌↔◌, Bool, true, List, All, IsTrue, ap, sym, ◌∙◌, rules}
+use Rattle.std.proofs.Common.{◌≡◌, ◌↔◌, Bool, true, List, All, IsTrue}
 use Rattle.sr_ids.specs.declared.id.Id.{Id}
 use Rattle.sr_policy.specs.declared.stranded.Stranded.{Stranded}
 use Rattle.sr_policy.specs.Rules.{Text}

@@ -1,6 +1,6 @@
 // That the definitions mean what they should: the limits of a problem, each with the number that is just taken and the one
 // that is just refused. No program asks for more.
-use sr_transport::Problem;
+use sr_transport::{Problem, Tier};
 use std::alloc::{AllocError, Global};
 use std::test::Fail;
 
@@ -24,9 +24,73 @@ const LIMITS: &[Limit] = &[
 /// Whether a problem of this size and with these rooms and costs is taken if it should be.
 fn is_right(alloc: Global, limit: Limit) -> Result<bool, AllocError> {
     let (_, consumers, room, entries, places, cost, want) = limit;
-    let rooms = vec![in alloc; room; consumers]?;
+    let mut tiers = Vec::new(alloc);
+    for consumer in 0..consumers {
+        tiers.push(Tier {
+            consumer,
+            room,
+            fee: 0,
+        })?;
+    }
     let costs = vec![in alloc; Some(cost); places]?;
-    Ok(Problem::new(rooms, entries, costs).is_some() == want)
+    Ok(Problem::new(tiers, consumers, entries, costs).is_some() == want)
+}
+
+/// Tiers of two consumers, each a consumer, a room and a fee, and whether they are taken.
+type Tiers = (&'static str, &'static [(usize, u64, u64)], bool);
+
+const TIERS: &[Tiers] = &[
+    ("one each", &[(0, 1, 0), (1, 1, 0)], true),
+    ("two and one", &[(0, 1, 0), (0, 1, 7), (1, 1, 0)], true),
+    ("one and two", &[(0, 1, 0), (1, 0, 0), (1, 1, 0)], true),
+    (
+        "a fee of 2 ^ 40",
+        &[(0, 1, 0), (0, 1, 1_099_511_627_776), (1, 1, 0)],
+        true,
+    ),
+    (
+        "a fee of one more",
+        &[(0, 1, 0), (0, 1, 1_099_511_627_777), (1, 1, 0)],
+        false,
+    ),
+    ("a first tier with a fee", &[(0, 1, 1), (1, 1, 0)], false),
+    (
+        "three of one",
+        &[(0, 1, 0), (0, 1, 1), (0, 1, 2), (1, 1, 0)],
+        false,
+    ),
+    ("none of the second", &[(0, 1, 0), (0, 1, 1)], false),
+    ("none of the first", &[(1, 1, 0)], false),
+    (
+        "the second before the first",
+        &[(1, 1, 0), (0, 1, 0)],
+        false,
+    ),
+    ("apart", &[(0, 1, 0), (1, 1, 0), (0, 1, 1)], false),
+    (
+        "a third consumer",
+        &[(0, 1, 0), (1, 1, 0), (2, 1, 0)],
+        false,
+    ),
+];
+
+#[test]
+fn tiers_are_one_or_two_each_in_order(rt: HostRuntime) -> Result<(), Fail> {
+    let alloc = rt.alloc();
+    for (name, tiers, want) in TIERS {
+        let tiers = tiers.iter().map(|(consumer, room, fee)| Tier {
+            consumer: *consumer,
+            room: *room,
+            fee: *fee,
+        });
+        let tiers = tiers.collect(alloc)?;
+        let costs = Vec::from_slice(alloc, &[Some(1), Some(1)])?;
+        assert!(rt;
+            Problem::new(tiers, 2, 1, costs).is_some() == *want,
+            "{name}"
+        );
+    }
+    Ok(())
 }
 
 #[test]

@@ -1,6 +1,6 @@
 use Rattle.std.proofs.Common.{◌≡◌, ℕ, ◌<◌, length, get_or, refl, ◌∙◌, inl, inr, arith}
 use Rattle.std.proofs.lemmas.List.{get_or_default}
-use Rattle.sr_transport.specs.Problem.{room_of}
+use Rattle.sr_transport.specs.plain.Problem.{room_of}
 use Rattle.sr_solver.specs.Labels.{label_at}
 use Rattle.sr_solver.proofs.PathLemmas.{mover_falls, shifting_more, shifted_last, put_in_room}
 use Rattle.sr_solver.proofs.path.shift.Goals as goal

@@ -1,5 +1,5 @@
 use Rattle.std.proofs.Common.{ℕ, ◌<◌, ◌≤◌}
-use Rattle.sr_transport.specs.Problem.{room_of}
+use Rattle.sr_transport.specs.plain.Problem.{room_of}
 use Rattle.sr_solver.proofs.placement.row_width.Given as goal
 
 abbrev pub invariant-loop-consumer : goal.invariant-loop-consumer

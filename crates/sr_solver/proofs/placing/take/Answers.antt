@@ -1,7 +1,7 @@
 use Rattle.std.proofs.Common.{◌≡◌, ◌<◌, length, get_or, sym, ap, ◌∙◌, arith}
 use Rattle.std.proofs.lemmas.Bool.{false≢true}
 use Rattle.std.proofs.lemmas.List.{get_or_default}
-use Rattle.sr_transport.proofs.LimitLemmas.{room_small}
+use Rattle.sr_transport.proofs.PlainLimitLemmas.{room_small}
 use Rattle.sr_solver.specs.Taker.{IsTaker}
 use Rattle.sr_solver.proofs.OfferLemmas.{prices_low}
 use Rattle.sr_solver.proofs.TakerLemmas.{placed_taken, loads_taken, taken_in_room}

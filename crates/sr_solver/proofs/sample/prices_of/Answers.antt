@@ -24,6 +24,7 @@ pub returns-in-Best : goal.returns-in-Best
 returns-in-Best c =
     (rw c.in-Best.is at c.in_ok-prices.ensures.solution).shown.one_each
     ∙ ap (λ p. length p.rooms) c.in-Some.ensures.value
+    ∙ ap length c.deref-in-loop.ensures.value
     ∙ c.in_ok-rooms.ensures
 
 pub returns-in_err-sample-in-Short : goal.returns-in_err-sample-in-Short

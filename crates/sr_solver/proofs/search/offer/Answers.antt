@@ -1,6 +1,6 @@
 use Rattle.std.proofs.Common.{arith, ◌≡◌, ℕ, Option, sym, ap, ◌∙◌}
 use Rattle.std.specs.Prelude.{unwrap_or}
-use Rattle.sr_transport.specs.Problem.{cost_of}
+use Rattle.sr_transport.specs.plain.Problem.{cost_of}
 use Rattle.sr_solver.proofs.SearchLemmas.{cost_at_small, cost_small}
 use Rattle.sr_solver.proofs.search.offer.Goals as goal
 

@@ -1,5 +1,5 @@
 use Rattle.std.proofs.Common.{ℕ, ◌<◌, get_or}
-use Rattle.sr_transport.specs.Problem.{cost_at}
+use Rattle.sr_transport.specs.plain.Problem.{cost_at}
 use Rattle.sr_solver.specs.Labels.{no_label, label_at}
 use Rattle.sr_solver.specs.Cutoff.{IsCutoff}
 use Rattle.sr_solver.specs.Offers.{IsOffered}

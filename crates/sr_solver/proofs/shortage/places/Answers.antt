@@ -1,5 +1,5 @@
 use Rattle.std.proofs.Common.{arith}
-use Rattle.sr_transport.proofs.LimitLemmas.{room_small}
+use Rattle.sr_transport.proofs.PlainLimitLemmas.{room_small}
 use Rattle.sr_solver.proofs.ShortageLemmas.{rooms_small}
 use Rattle.sr_solver.proofs.shortage.places.Goals as goal
 

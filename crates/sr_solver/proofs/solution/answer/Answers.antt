@@ -5,9 +5,6 @@ use Rattle.sr_solver.proofs.solution.answer.Goals as goal
 pub returns-in_err-placement-clause-solution : goal.returns-in_err-placement-clause-solution
 returns-in_err-placement-clause-solution c = IfOk-from_err _ _ c.from_residual.ensures.0
 
-pub returns-in_err-placement-clause-optimal : goal.returns-in_err-placement-clause-optimal
-returns-in_err-placement-clause-optimal c = IfOk-from_err _ _ c.from_residual.ensures.0
-
 pub returns-in_err-placement-clause-prices : goal.returns-in_err-placement-clause-prices
 returns-in_err-placement-clause-prices c = IfOk-from_err _ _ c.from_residual.ensures.0
 
@@ -20,9 +17,6 @@ best-requires c = (rw (c.if-taken-entries.true ∙ c.entries.ensures) at c.take_
 pub returns-then-taken-entries-clause-solution : goal.returns-then-taken-entries-clause-solution
 returns-then-taken-entries-clause-solution c = c.best.ensures.solution
 
-pub returns-then-taken-entries-clause-optimal : goal.returns-then-taken-entries-clause-optimal
-returns-then-taken-entries-clause-optimal c = c.best.ensures.optimal
-
 pub returns-then-taken-entries-clause-prices : goal.returns-then-taken-entries-clause-prices
 returns-then-taken-entries-clause-prices c = c.best.ensures.prices
 
@@ -34,9 +28,6 @@ finish-requires-clause-standing c = c.take_all-taken.ensures.standing
 
 pub returns-clause-solution : goal.returns-clause-solution
 returns-clause-solution c = c.finish.ensures.solution
-
-pub returns-clause-optimal : goal.returns-clause-optimal
-returns-clause-optimal c = c.finish.ensures.optimal
 
 pub returns-clause-prices : goal.returns-clause-prices
 returns-clause-prices c = c.finish.ensures.prices

@@ -1,4 +1,3 @@
-use Rattle.sr_transport.proofs.CallerLemmas.{prices_show_cheapest}
 use Rattle.sr_solver.proofs.SolvedLemmas.{placed_assignment, placed_best, placed_prices}
 use Rattle.sr_solver.proofs.solution.best.Goals as goal
 
@@ -10,11 +9,6 @@ pub returns-clause-solution : goal.returns-clause-solution
 returns-clause-solution c =
     placed_best c.args.problem.now c.args.assign.items c.args.prices.items c.sum_of_costs-total.result c.requires
     (rw c.deref.ensures.value at c.sum_of_costs-total.ensures.total) c.sum_of_costs-total.ensures.small
-
-pub returns-clause-optimal : goal.returns-clause-optimal
-returns-clause-optimal c =
-    let best = returns-clause-solution c in
-    (best.assignment, prices_show_cheapest c.args.problem.now c.args.assign.items c.args.prices.items best.assignment best.shown)
 
 pub returns-clause-prices : goal.returns-clause-prices
 returns-clause-prices c = placed_prices c.args.problem.now c.args.assign.items c.args.prices.items c.requires

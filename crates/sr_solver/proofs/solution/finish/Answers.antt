@@ -2,8 +2,7 @@ use Rattle.std.proofs.Common.{◌≡◌, ℕ, ◌*◌, ◌<◌, ◌≤◌, lengt
 use Rattle.std.proofs.lemmas.Bool.{false≢true}
 use Rattle.std.proofs.lemmas.Result.{IfOk-from_err}
 use Rattle.std.proofs.lemmas.List.{take_at}
-use Rattle.sr_transport.specs.Problem.{consumers}
-use Rattle.sr_transport.proofs.CallerLemmas.{shortage_excludes}
+use Rattle.sr_transport.specs.plain.Problem.{consumers}
 use Rattle.sr_solver.proofs.ShortageLemmas.{stuck_short_is}
 use Rattle.sr_solver.proofs.TableLemmas.{unknown_table}
 use Rattle.sr_solver.proofs.solution.finish.Goals as goal
@@ -37,15 +36,8 @@ returns-in_ok-set-in-Stuck-clause-solution c =
     (c.deref-in-Stuck.ensures.value ∙ take_at c.place_all.new.labels _ c.in_ok-labels.labels.len (omega arith))
     c.in_ok-set-in-Stuck.ensures
 
-pub returns-in_ok-set-in-Stuck-clause-optimal : goal.returns-in_ok-set-in-Stuck-clause-optimal
-returns-in_ok-set-in-Stuck-clause-optimal c =
-    shortage_excludes c.args.problem.now c.in_ok-set-in-Stuck.set.items (returns-in_ok-set-in-Stuck-clause-solution c)
-
 pub returns-in_err-table-clause-solution : goal.returns-in_err-table-clause-solution
 returns-in_err-table-clause-solution c = IfOk-from_err _ _ c.from_residual.ensures.0
-
-pub returns-in_err-table-clause-optimal : goal.returns-in_err-table-clause-optimal
-returns-in_err-table-clause-optimal c = IfOk-from_err _ _ c.from_residual.ensures.0
 
 pub returns-in_err-table-clause-prices : goal.returns-in_err-table-clause-prices
 returns-in_err-table-clause-prices c = IfOk-from_err _ _ c.from_residual.ensures.0
@@ -55,9 +47,6 @@ returns-in_err-table-clause-patient c = λ yes. IfOk-from_err _ _ c.from_residua
 
 pub returns-in_err-labels-clause-solution : goal.returns-in_err-labels-clause-solution
 returns-in_err-labels-clause-solution c = IfOk-from_err _ _ c.from_residual-in_err-labels.ensures.0
-
-pub returns-in_err-labels-clause-optimal : goal.returns-in_err-labels-clause-optimal
-returns-in_err-labels-clause-optimal c = IfOk-from_err _ _ c.from_residual-in_err-labels.ensures.0
 
 pub returns-in_err-labels-clause-prices : goal.returns-in_err-labels-clause-prices
 returns-in_err-labels-clause-prices c = IfOk-from_err _ _ c.from_residual-in_err-labels.ensures.0
@@ -83,9 +72,6 @@ best-requires c = c.in-Placed.ensures.placed
 pub returns-in_err-set-in-Stuck-clause-solution : goal.returns-in_err-set-in-Stuck-clause-solution
 returns-in_err-set-in-Stuck-clause-solution c = IfOk-from_err _ _ c.from_residual-in_err-set-in-Stuck.ensures.0
 
-pub returns-in_err-set-in-Stuck-clause-optimal : goal.returns-in_err-set-in-Stuck-clause-optimal
-returns-in_err-set-in-Stuck-clause-optimal c = IfOk-from_err _ _ c.from_residual-in_err-set-in-Stuck.ensures.0
-
 pub returns-in_err-set-in-Stuck-clause-prices : goal.returns-in_err-set-in-Stuck-clause-prices
 returns-in_err-set-in-Stuck-clause-prices c = IfOk-from_err _ _ c.from_residual-in_err-set-in-Stuck.ensures.0
 
@@ -94,9 +80,6 @@ returns-in_err-set-in-Stuck-clause-patient c = λ yes. IfOk-from_err _ _ c.from_
 
 pub returns-in-Placed-clause-solution : goal.returns-in-Placed-clause-solution
 returns-in-Placed-clause-solution c = c.best.ensures.solution
-
-pub returns-in-Placed-clause-optimal : goal.returns-in-Placed-clause-optimal
-returns-in-Placed-clause-optimal c = c.best.ensures.optimal
 
 pub returns-in-Placed-clause-prices : goal.returns-in-Placed-clause-prices
 returns-in-Placed-clause-prices c = c.best.ensures.prices

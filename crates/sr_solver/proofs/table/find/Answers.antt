@@ -1,8 +1,8 @@
 use Rattle.std.proofs.Common.{◌≡◌, ℕ, ◌+◌, ◌*◌, ◌<◌, Option, List, Fits, w64, length, get_or, refl, sym, ap, ◌∙◌, arith}
 use Rattle.std.specs.Prelude.{unwrap_or}
-use Rattle.sr_transport.specs.Problem.{Transport, IsWithinLimits, consumers, cost_of}
-use Rattle.sr_transport.specs.Assignment.{load}
-use Rattle.sr_transport.proofs.LimitLemmas.{cost_at_small, cost_small}
+use Rattle.sr_transport.specs.plain.Problem.{Transport, IsWithinLimits, consumers, cost_of}
+use Rattle.sr_transport.specs.plain.Assignment.{load}
+use Rattle.sr_transport.proofs.PlainLimitLemmas.{cost_at_small, cost_small}
 use Rattle.sr_solver.specs.Members.{AreMembers}
 use Rattle.sr_solver.specs.Table.{IsAt}
 use Rattle.sr_solver.proofs.TableLemmas.{lowered_is}

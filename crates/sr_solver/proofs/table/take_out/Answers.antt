@@ -1,5 +1,5 @@
 use Rattle.std.proofs.Common.{ℕ, ◌*◌, ◌<◌, get_or, refl, arith}
-use Rattle.sr_transport.specs.Problem.{consumers}
+use Rattle.sr_transport.specs.plain.Problem.{consumers}
 use Rattle.sr_solver.proofs.TableLemmas.{table_left, table_waiting}
 use Rattle.sr_solver.proofs.MembersLemmas.{row_of, members_left, members_waiting}
 use Rattle.sr_solver.proofs.table.take_out.Goals as goal

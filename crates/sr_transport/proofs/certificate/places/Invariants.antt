@@ -1,10 +1,9 @@
-use Rattle.std.proofs.Common.{◌≡◌}
+use Rattle.std.proofs.Common.{◌≡◌, cond}
+use Rattle.sr_transport.specs.Sum.{sum_below}
 use Rattle.sr_transport.specs.Problem.{room_of}
 use Rattle.sr_transport.specs.Certificate.{is_reached}
-use Rattle.std.specs.Prelude.{if◌then◌else◌}
-use Rattle.sr_transport.specs.Sum.{sum_below}
 use Rattle.sr_transport.proofs.certificate.places.Given as goal
 
 abbrev pub invariant-loop-consumer : goal.invariant-loop-consumer
 invariant-loop-consumer l =
-    l.places ≡ sum_below (λ c. if is_reached l.problem l.set c then room_of l.problem c else 0) l.consumer
+    l.places ≡ sum_below (λ c. cond (is_reached l.problem l.set c) (room_of l.problem c) 0) l.consumer
