@@ -121,6 +121,7 @@ given-refusals:
 given-plans:
 	@scripts/plans $(CHECKER) examples/plans/*.plan
 	@tests/plan_check.py $(CHECKER)
+	@tests/plans.py $(DRIVER) $(CHECKER)
 
 given-demo:
 	@scripts/demo $(SERVER) $(CHECKER) README.md
