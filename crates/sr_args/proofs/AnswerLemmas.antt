@@ -7,7 +7,8 @@ use Rattle.sr_args.specs.declared.fault.CallFault.TheVariants.{Unknown, Arity, S
 use Rattle.sr_args.specs.Place.{Word, HasNumbers, HasIds}
 use Rattle.sr_args.specs.Table.{IsHalfNamed}
 use Rattle.sr_args.specs.Form.{Reading, Values, places, Reads, Means}
-use Rattle.sr_args.specs.Command.{form_of, command_of, IsWellCounted, IsRead, places_of, IsCommand, IsCommandNamed, IsCommandCounted, Refuses, Answers}
+use Rattle.sr_args.specs.commands.{form_of, command_of}
+use Rattle.sr_args.specs.Command.{IsWellCounted, IsRead, places_of, IsCommand, IsCommandNamed, IsCommandCounted, Refuses, Answers}
 use Rattle.sr_args.specs.steps.Gives.{GivesCall, Gives}
 use Rattle.sr_args.proofs.FormLemmas.{Reads-one, Means-one, HasNumbers-from_means, HasIds-from_means}
 use Rattle.sr_args.proofs.NameLemmas.{IsNamed-one, operands-one, IsCut-unnamed}

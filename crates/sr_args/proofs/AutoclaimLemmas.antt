@@ -30,11 +30,11 @@ autoclaim-numbers key group consumer least_idle start written z choice i judged 
     (tt, (tt, (tt, ((z, i), (tt, HasNumbers-append (flat_map option_places written) [] (Choose-numbers written nothing (chosen_of choice) judged) tt)))))
 
 pub autoclaim-gives : (words : List Word) (key group consumer least_idle start : Word) (written : List Written) (named : ConsumerNamed) (z : ℤ) (from : Id) (choice : Choice) → Reads form words (autoclaim_reading key group consumer least_idle start written) → named.key ≡ key → named.group ≡ group → named.consumer ≡ consumer → IsInt least_idle z → IsStart start from → AreJudged written (Ok choice)
-    → GivesCall form call words (Xautoclaim named.key named.group named.consumer (to_z w64 (of_z w64 z)) from choice.count choice.just_ids)
+    → GivesCall form call words (Xautoclaim (record { key = named.key; group = named.group; consumer = named.consumer; least_idle = to_z w64 (of_z w64 z); start = from; count = choice.count; just_ids = choice.just_ids }))
 autoclaim-gives words key group consumer least_idle start written named z from choice reads same_key same_group same_consumer i spells judged = record {
   reading = autoclaim_reading key group consumer least_idle start written;
   reads = reads;
   values = (named.key, (named.group, (named.consumer, (z, (from, (chosen_of choice, tt))))));
   means = (same_key, (same_group, (same_consumer, (i, (spells, (judged, tt))))));
-  is = ap (λ (n : ℤ). Xautoclaim named.key named.group named.consumer n from choice.count choice.just_ids) (count-back least_idle z i);
+  is = ap (λ (n : ℤ). Xautoclaim (record { key = named.key; group = named.group; consumer = named.consumer; least_idle = n; start = from; count = choice.count; just_ids = choice.just_ids })) (count-back least_idle z i);
 }

@@ -15,7 +15,7 @@ use Rattle.sr_args.specs.declared.options.ValueFault.TheVariants as faults
 use Rattle.sr_args.specs.Place.{Word, Place, HasNumber, HasId, HasNumbers, HasIds}
 use Rattle.sr_args.specs.Options.{TrimReading, Written, count, no_make, make_key, ids_only, idle, since, deliveries, named_group, no_ack, block, trimming, count_place, sign_places, bound_place, limit_places, option_places, Chosen, nothing, IsBound, IsLimit, IsTrim, Sets, Choose}
 use Rattle.sr_args.specs.steps.Options.{AreJudged, IsJudged, GivesBound, GivesTrim, chosen_of, trim_operands}
-use Rattle.sr_args.specs.declared.call.TimeAsked.TheVariants as times
+use Rattle.sr_args.specs.declared.commands.xclaim.TimeAsked.TheVariants as times
 use Rattle.sr_args.specs.declared.number.CountRange.{CountRange}
 use Rattle.sr_args.specs.declared.number.CountRange.TheVariants.{Any, FromOne}
 use Rattle.sr_args.specs.Number.{IsInt, IsCount}
@@ -159,13 +159,9 @@ Sets-one (count range most) a b c s t = s.2 ∙ ap (λ (z : ℤ). record a { cou
 Sets-one (idle word) a b c s t = s.2 ∙ ap (λ (n : ℕ). record a { time = times.Idle n }) (IsNat-one word s.0 t.0 s.1 t.1) ∙ sym t.2
 Sets-one (since word) a b c s t = s.2 ∙ ap (λ (n : ℕ). record a { time = times.At n }) (IsNat-one word s.0 t.0 s.1 t.1) ∙ sym t.2
 Sets-one (deliveries word) a b c s t = s.2 ∙ ap (λ (n : ℕ). record a { delivered = Some n }) (IsNat-one word s.0 t.0 s.1 t.1) ∙ sym t.2
-Sets-one no_make a b c s t = s ∙ sym t
-Sets-one make_key a b c s t = s ∙ sym t
-Sets-one ids_only a b c s t = s ∙ sym t
-Sets-one (named_group group consumer) a b c s t = s ∙ sym t
-Sets-one no_ack a b c s t = s ∙ sym t
 Sets-one (block wait) a b c s t = s.2 ∙ ap (λ (n : ℕ). record a { block = Some n }) (IsNat-one wait s.0 t.0 s.1 t.1) ∙ sym t.2
 Sets-one (trimming r) a b c s t = s.2 ∙ ap (λ (trim : Trim). record a { trim = Some trim }) (IsTrim-one r s.0 t.0 s.1 t.1) ∙ sym t.2
+Sets-one o a b c s t = s ∙ sym t
 
 -- all of them
 pub Choose-numbers : (os : List Written) (a b : Chosen) → Choose os a b → HasNumbers (flat_map option_places os)

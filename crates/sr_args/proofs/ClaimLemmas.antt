@@ -159,11 +159,11 @@ pub claim-ids : (key group consumer least_idle : Word) (ids : List Word) (writte
 claim-ids key group consumer least_idle ids written h = HasIds-front (map (spelled strict_id) ids) (flat_map option_places written) h.1.1.1.1
 
 pub claim-gives : (words : List Word) (key group consumer least_idle : Word) (ids : List Word) (written : List Written) (named : ConsumerNamed) (z : ℤ) (list : List Id) (choice : Choice) → Reads form words (claim_reading key group consumer least_idle ids written) → named.key ≡ key → named.group ≡ group → named.consumer ≡ consumer → IsInt least_idle z → AreIds strict_id ids list → AreJudged written (Ok choice)
-    → GivesCall form call words (Xclaim named.key named.group named.consumer (to_z w64 (of_z w64 z)) list choice.time choice.delivered choice.just_ids)
+    → GivesCall form call words (Xclaim (record { key = named.key; group = named.group; consumer = named.consumer; least_idle = to_z w64 (of_z w64 z); ids = list; time = choice.time; count = choice.delivered; just_ids = choice.just_ids }))
 claim-gives words key group consumer least_idle ids written named z list choice reads same_key same_group same_consumer i are judged = record {
   reading = claim_reading key group consumer least_idle ids written;
   reads = reads;
   values = (named.key, (named.group, (named.consumer, (z, (list, chosen_of choice)))));
   means = (same_key, (same_group, (same_consumer, (i, (are, judged)))));
-  is = ap (λ (n : ℤ). Xclaim named.key named.group named.consumer n list choice.time choice.delivered choice.just_ids) (count-back least_idle z i);
+  is = ap (λ (n : ℤ). Xclaim (record { key = named.key; group = named.group; consumer = named.consumer; least_idle = n; ids = list; time = choice.time; count = choice.delivered; just_ids = choice.just_ids })) (count-back least_idle z i);
 }

@@ -14,7 +14,9 @@ use Rattle.sr_args.specs.declared.name.OptionName.TheVariants as options
 use Rattle.sr_args.specs.declared.name.TheConstants.{OPTIONS}
 use Rattle.sr_args.specs.Name.{IsSameName, option_text}
 use Rattle.sr_args.specs.Place.{Word}
-use Rattle.sr_args.specs.Table.{Row, row_of, Begins, IsCut, IsNamed}
+use Rattle.sr_args.specs.Row.{Row}
+use Rattle.sr_args.specs.Table.{Begins, IsCut, IsNamed}
+use Rattle.sr_args.specs.commands.{row_of}
 use Rattle.sr_args.specs.steps.Names.{IsOther, AreOther, IsFound, IsFoundAmong}
 
 -- words in small letters

@@ -9,6 +9,7 @@ use Rattle.sr_args.specs.declared.name.Measure.{Measure}
 use Rattle.sr_args.specs.declared.name.Measure.TheVariants as measures
 use Rattle.sr_args.specs.declared.name.OptionName.{OptionName}
 use Rattle.sr_args.specs.declared.name.OptionName.TheVariants.{Count, NoMkStream, MaxLen, MinId, Limit, MkStream, JustId, Idle, Time, RetryCount, Group, NoAck, Block, Force, LastId, Streams, Tries, Dead}
+use Rattle.sr_args.specs.declared.name.TheConstants.{OPTIONS}
 use Rattle.sr_args.specs.declared.name.Sign.{Sign}
 use Rattle.sr_args.specs.declared.name.Sign.TheVariants.{Exact, Nearly}
 use Rattle.sr_args.specs.declared.options.OptionKind.{OptionKind}
@@ -22,36 +23,18 @@ use Rattle.sr_args.specs.Place.{Word, Place, Range, int, nat, from_one, Stands, 
 use Rattle.sr_args.specs.Options.{TrimReading, Written, count, no_make, make_key, ids_only, idle, since, deliveries, named_group, no_ack, block, trimming, sign_places, bound_place, limit_places, count_place, first_name, operand_places, option_places, kind, is_of, IsTrimFit, IsOptionFit, AreOptionsFit, IsUnnamed, IsPast}
 use Rattle.sr_args.specs.steps.Options.{IsUnlimited, IsSigned, IsOptionEnd}
 
--- the option with this name in small letters
-abbrev option_at : List ℕ → Option OptionName
-option_at text =
-    cond (bytes_eq text (codes "count")) (Some Count)
-    (cond (bytes_eq text (codes "nomkstream")) (Some NoMkStream)
-    (cond (bytes_eq text (codes "maxlen")) (Some MaxLen)
-    (cond (bytes_eq text (codes "minid")) (Some MinId)
-    (cond (bytes_eq text (codes "limit")) (Some Limit)
-    (cond (bytes_eq text (codes "mkstream")) (Some MkStream)
-    (cond (bytes_eq text (codes "justid")) (Some JustId)
-    (cond (bytes_eq text (codes "idle")) (Some Idle)
-    (cond (bytes_eq text (codes "time")) (Some Time)
-    (cond (bytes_eq text (codes "retrycount")) (Some RetryCount)
-    (cond (bytes_eq text (codes "group")) (Some Group)
-    (cond (bytes_eq text (codes "noack")) (Some NoAck)
-    (cond (bytes_eq text (codes "block")) (Some Block)
-    (cond (bytes_eq text (codes "force")) (Some Force)
-    (cond (bytes_eq text (codes "lastid")) (Some LastId)
-    (cond (bytes_eq text (codes "streams")) (Some Streams)
-    (cond (bytes_eq text (codes "tries")) (Some Tries)
-    (cond (bytes_eq text (codes "dead")) (Some Dead)
-    None)))))))))))))))))
+-- the first of these options with this name in small letters
+abbrev option_among : List OptionName → List ℕ → Option OptionName
+option_among [] text = None
+option_among (name ∷ names) text = cond (bytes_eq (map to_ascii_lowercase (option_text name)) text) (Some name) (option_among names text)
 
-option_at-text : (name : OptionName) → option_at (map to_ascii_lowercase (option_text name)) ≡ Some name
-option_at-text Count = refl
-option_at-text name = refl
+option_among-text : (name : OptionName) → option_among OPTIONS (map to_ascii_lowercase (option_text name)) ≡ Some name
+option_among-text Count = refl
+option_among-text name = refl
 
 -- no word names two options
 pub name-one : (word : Word) (a b : OptionName) → IsSameName word (option_text a) → IsSameName word (option_text b) → a ≡ b
-name-one word a b p q = same_Some a b (sym (option_at-text a) ∙ ap option_at (sym p ∙ q) ∙ option_at-text b)
+name-one word a b p q = same_Some a b (sym (option_among-text a) ∙ ap (option_among OPTIONS) (sym p ∙ q) ∙ option_among-text b)
 
 -- no word is two signs
 abbrev sign_at : List ℕ → Option Sign

@@ -6,12 +6,12 @@ use Rattle.sr_args.specs.declared.number.CountRange.TheVariants.{Any, FromOne}
 use Rattle.sr_args.specs.declared.name.OptionName.{OptionName}
 use Rattle.sr_args.specs.declared.name.Measure.{Measure}
 use Rattle.sr_args.specs.declared.name.Sign.{Sign}
-use Rattle.sr_args.specs.declared.name.OptionName.TheVariants.{Group, NoMkStream, MkStream, JustId, NoAck}
+use Rattle.sr_args.specs.declared.name.OptionName.TheVariants.{Count, Idle, Time, RetryCount, Group, Block, MaxLen, MinId}
 use Rattle.sr_args.specs.declared.options.OptionKind.TheVariants as kinds
 use Rattle.sr_args.specs.declared.options.OptionSet.{OptionSet}
 use Rattle.sr_args.specs.Name.{measure_name}
 use Rattle.sr_args.specs.Place.{Word, Place, Stands, Fits, any}
-use Rattle.sr_args.specs.Options.{TrimReading, Written, no_make, make_key, ids_only, named_group, no_ack, trimming, sign_places, bound_place, limit_places, count_place, first_name, operand_places, kind, IsOptionFit}
+use Rattle.sr_args.specs.Options.{TrimReading, Written, count, idle, since, deliveries, named_group, block, trimming, sign_places, bound_place, limit_places, count_place, first_name, operand_places, kind, IsOptionFit}
 use Rattle.sr_args.specs.steps.Options.{Begins, BeginsNone, IsOptionEnd, IsOptionNamed, IsAny, IsSigned, IsLimitOf, IsUnlimitedAfter, IsTrimBy, IsTrimEnd, signed_places, trim_operands}
 use Rattle.sr_args.proofs.OptionLemmas.{same_trim, trim_with, kind_named, kind-from_name, measure-kind, measure_name-one, operands-one, Fits-texts}
 
@@ -115,23 +115,29 @@ BeginsNone-trimming set by words none other places r = no_trimming set by words 
 
 -- no word is left for an option that takes one
 abbrev is_bare : OptionName → Bool
-is_bare NoMkStream = true
-is_bare MkStream = true
-is_bare JustId = true
-is_bare NoAck = true
-is_bare name = false
+is_bare Count = false
+is_bare Idle = false
+is_bare Time = false
+is_bare RetryCount = false
+is_bare Group = false
+is_bare Block = false
+is_bare MaxLen = false
+is_bare MinId = false
+is_bare name = true
 
 no_bound : (sign : Option Sign) (place : Place) (ps qs : List Place) → Fits [] ((sign_places sign ++ (place ∷ ps)) ++ qs) → ⊥
 no_bound None place ps qs f = f
 no_bound (Some sign) place ps qs f = f
 
 no_word : (o : Written) (places : List Place) → is_bare (first_name o) ≡ false → Fits [] (operand_places o ++ places) → ⊥
-no_word no_make places takes f = cc
-no_word make_key places takes f = cc
-no_word ids_only places takes f = cc
-no_word no_ack places takes f = cc
+no_word (count range most) places takes f = f
+no_word (idle word) places takes f = f
+no_word (since word) places takes f = f
+no_word (deliveries word) places takes f = f
+no_word (named_group group consumer) places takes f = f
+no_word (block wait) places takes f = f
 no_word (trimming t) places takes f = no_bound t.sign (bound_place t.by t.bound) (limit_places t.limit) places f
-no_word o places takes f = f
+no_word o places takes f = cc
 
 pub BeginsNone-word : (set : OptionSet) (name : OptionName) (words : List Word) → words ≡ [] → is_bare name ≡ false → BeginsNone operand_places (IsOptionNamed set name) IsOptionEnd words
 BeginsNone-word set name words e takes other places r u f = no_word other places (ap is_bare r.name_is ∙ takes) (rw e at f)

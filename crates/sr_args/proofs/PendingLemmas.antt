@@ -3,7 +3,7 @@ use Rattle.std.proofs.Common.{◌≡◌, ℤ, List, [], ◌∷◌, Option, Some,
 use Rattle.std.specs.Prelude.{IfSome, IfNone}
 use Rattle.sr_ids.specs.declared.id.Id.{Id}
 use Rattle.sr_ids.specs.Spelling.{IsStart, IsEnd}
-use Rattle.sr_args.specs.declared.call.PendingAsked.{PendingAsked}
+use Rattle.sr_args.specs.declared.commands.xpending.PendingAsked.{PendingAsked}
 use Rattle.sr_args.specs.declared.name.OptionName.TheVariants as names
 use Rattle.sr_args.specs.Name.{IsSameName, option_text}
 use Rattle.sr_args.specs.Number.{IsInt}

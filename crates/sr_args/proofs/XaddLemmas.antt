@@ -3,7 +3,6 @@ use Rattle.std.proofs.Common.{◌≡◌, ◌≢◌, ℕ, ◌*◌, ◌%◌, ◌/�
 use Rattle.std.specs.List.{flat_map}
 use Rattle.sr_ids.specs.declared.spec.Spec.{Spec}
 use Rattle.sr_ids.specs.Spec.{IsSpec}
-use Rattle.sr_args.specs.declared.call.Call.TheVariants.{Xadd}
 use Rattle.sr_args.specs.declared.options.Choice.{Choice}
 use Rattle.sr_args.specs.declared.options.OptionSet.TheVariants as sets
 use Rattle.sr_args.specs.declared.options.ValueFault.{ValueFault}
@@ -100,6 +99,6 @@ xadd-bad_id words key written id fields choice r chosen none = (
       none last.0 last.1,
 )
 
-pub xadd-gives : (words : List Word) (key copy : Word) (written : List Written) (id : Word) (fields copied : List (Word × Word)) (choice : Choice) (spec : Spec) → Reads form words (key, (written, (id, fields))) → copy ≡ key → Choose written nothing (chosen_of choice) → IsSpec id spec → copied ≡ fields → GivesCall form call words (Xadd copy choice.add_makes choice.trim spec copied)
+pub xadd-gives : (words : List Word) (key copy : Word) (written : List Written) (id : Word) (fields copied : List (Word × Word)) (choice : Choice) (spec : Spec) → Reads form words (key, (written, (id, fields))) → copy ≡ key → Choose written nothing (chosen_of choice) → IsSpec id spec → copied ≡ fields → GivesCall form call words (call (copy, (chosen_of choice, (spec, copied))))
 xadd-gives words key copy written id fields copied choice spec r same chosen spells e =
     record { reading = (key, (written, (id, fields))); reads = r; values = (copy, (chosen_of choice, (spec, copied))); means = (same, (chosen, (spells, e))); is = refl }

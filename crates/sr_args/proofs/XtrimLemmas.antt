@@ -60,6 +60,6 @@ xtrim-reads words key rest word left by trim last e f same b none =
       fit = b.right.fit;
     }
 
-pub xtrim-gives : (words : List Word) (key copy : Word) (reading : TrimReading) (trim : Trim) → Reads form words (key, reading) → copy ≡ key → IsTrim reading trim → GivesCall form call words (Xtrim copy trim)
+pub xtrim-gives : (words : List Word) (key copy : Word) (reading : TrimReading) (trim : Trim) → Reads form words (key, reading) → copy ≡ key → IsTrim reading trim → GivesCall form call words (Xtrim (record { key = copy; trim = trim }))
 xtrim-gives words key copy reading trim r same is_trim =
     record { reading = (key, reading); reads = r; values = (copy, trim); means = (same, is_trim); is = refl }

@@ -7,6 +7,7 @@ pub mod Number
 pub mod Options
 pub mod Place
 pub mod Position
+pub mod Row
 pub mod Table
 pub mod commands
 pub mod steps

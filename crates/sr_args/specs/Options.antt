@@ -5,8 +5,8 @@ use Rattle.std.specs.Prelude.{◌≡◌, ◌≢◌, ◌⊎◌, ℕ, ℤ, List, [
 use Rattle.std.specs.Prelude.{Option, Some, None, Bool, true, false, All, ⊤}
 use Rattle.std.specs.Option.{option_or}
 use Rattle.sr_ids.specs.Spelling.{SpellsId}
-use Rattle.sr_args.specs.declared.call.TimeAsked.{TimeAsked}
-use Rattle.sr_args.specs.declared.call.TimeAsked.TheVariants as times
+use Rattle.sr_args.specs.declared.commands.xclaim.TimeAsked.{TimeAsked}
+use Rattle.sr_args.specs.declared.commands.xclaim.TimeAsked.TheVariants as times
 use Rattle.sr_args.specs.declared.call.Trim.{Trim}
 use Rattle.sr_args.specs.declared.call.TrimBy.{TrimBy}
 use Rattle.sr_args.specs.declared.call.TrimBy.TheVariants as bounds

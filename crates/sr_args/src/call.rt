@@ -1,6 +1,15 @@
-use crate::{Names, ReadAsked, Streams};
-use sr_bytes::{Fields, Name};
-use sr_ids::{Id, Ids, Spec};
+ghost use Rattle.std.specs.Prelude.{◌≡◌, ◌↔◌, IsTrue, IfOk};
+ghost use Rattle.sr_args.specs.Blocking.{block_of, without_block};
+
+use crate::Names;
+use crate::commands::{
+    Ping, Xack, Xadd, Xautoclaim, Xclaim, Xdel, XgroupCreate, XgroupCreateConsumer,
+    XgroupDelConsumer, XgroupDestroy, XgroupSetId, XinfoConsumers, XinfoGroups, XinfoStream, Xlen,
+    Xpending, Xrange, Xread, Xreadgroup, Xrevrange, Xtrim,
+};
+use sr_bytes::Name;
+use sr_ids::Id;
+use std::alloc::{AllocError, Global};
 
 /// What a trim leaves in a stream.
 ///
@@ -35,315 +44,151 @@ pub enum Position {
     At(Id),
 }
 
-/// When a claimed entry counts as delivered.
-///
-/// Source: Redis documentation, command XCLAIM.
-#[derive(Clone, Copy, PartialEq, Eq)]
-pub enum TimeAsked {
-    /// Now.
-    Now,
-    /// IDLE: that many milliseconds ago.
-    Idle(u64),
-    /// TIME: at this moment, in milliseconds since 1970.
-    At(u64),
-}
-
-/// Which pending entries XPENDING lists.
-///
-/// Source: Redis documentation, command XPENDING.
-#[derive(Drop)]
-pub struct PendingAsked {
-    /// IDLE: for how many milliseconds they are idle at least.
-    pub least_idle: Option<i64>,
-    pub start: Id,
-    pub end: Id,
-    /// How many at most.
-    pub count: i64,
-    /// Whose they are, if those of one consumer are wanted.
-    pub consumer: Option<Name>,
-}
-
 /// A command that acts on the keys of one server.
 ///
 /// Source: Redis documentation, the page of each command.
 pub enum Call {
-    /// PING, with the message to send back.
-    Ping {
-        message: Option<Name>,
-    },
-    /// XADD: an entry for the stream at a key.
-    Xadd {
-        key: Name,
-        /// Whether a missing key is made: not with NOMKSTREAM.
-        make: bool,
-        /// How the stream is trimmed after it.
-        trim: Option<Trim>,
-        id: Spec,
-        fields: Fields,
-    },
-    /// XTRIM: the oldest entries go.
-    Xtrim {
-        key: Name,
-        trim: Trim,
-    },
-    /// XDEL: the entries with these ids go.
-    Xdel {
-        key: Name,
-        ids: Ids,
-    },
-    /// XLEN: how many entries the stream at a key has.
-    Xlen {
-        key: Name,
-    },
-    /// XRANGE: the entries from one id to another, and how many are wanted at most.
-    Xrange {
-        key: Name,
-        start: Id,
-        end: Id,
-        count: Option<i64>,
-    },
-    /// XREVRANGE: the same entries, the last of them first.
-    Xrevrange {
-        key: Name,
-        end: Id,
-        start: Id,
-        count: Option<i64>,
-    },
-    /// XACK: the entries with these ids are no longer pending.
-    Xack {
-        key: Name,
-        group: Name,
-        ids: Ids,
-    },
-    /// XGROUP CREATE: a consumer group for the stream at a key.
-    XgroupCreate {
-        key: Name,
-        group: Name,
-        from: Position,
-        /// Whether a missing key is made: only with MKSTREAM.
-        make: bool,
-    },
-    /// XGROUP SETID: from where a consumer group reads on.
-    XgroupSetId {
-        key: Name,
-        group: Name,
-        from: Position,
-    },
-    /// XGROUP DESTROY: a consumer group goes.
-    XgroupDestroy {
-        key: Name,
-        group: Name,
-    },
-    /// XGROUP CREATECONSUMER: a consumer in a group.
-    XgroupCreateConsumer {
-        key: Name,
-        group: Name,
-        consumer: Name,
-    },
-    /// XGROUP DELCONSUMER: a consumer goes, with what is pending for it.
-    XgroupDelConsumer {
-        key: Name,
-        group: Name,
-        consumer: Name,
-    },
-    /// XINFO STREAM: what is known of the stream at a key.
-    XinfoStream {
-        key: Name,
-    },
-    /// XINFO GROUPS: its consumer groups.
-    XinfoGroups {
-        key: Name,
-    },
-    /// XINFO CONSUMERS: the consumers of a group.
-    XinfoConsumers {
-        key: Name,
-        group: Name,
-    },
-    /// XAUTOCLAIM: pending entries from an id on become the consumer's.
-    Xautoclaim {
-        key: Name,
-        group: Name,
-        consumer: Name,
-        /// For how many milliseconds they are idle at least.
-        least_idle: i64,
-        start: Id,
-        count: Option<i64>,
-        /// Whether their ids are replied, and not the entries.
-        just_ids: bool,
-    },
-    /// XCLAIM: the pending entries with these ids become the consumer's.
-    Xclaim {
-        key: Name,
-        group: Name,
-        consumer: Name,
-        /// For how many milliseconds they are idle at least.
-        least_idle: i64,
-        ids: Ids,
-        time: TimeAsked,
-        /// RETRYCOUNT: how often they count as delivered.
-        count: Option<u64>,
-        /// Whether their ids are replied, and not the entries.
-        just_ids: bool,
-    },
-    /// XREAD: the entries of streams after an id in each.
-    Xread {
-        /// How many entries of each stream are wanted at most.
-        count: Option<i64>,
-        /// BLOCK: how many milliseconds it waits for an entry, if it waits. 0 is without end.
-        block: Option<u64>,
-        streams: Streams<Position>,
-    },
-    /// XREADGROUP: new entries of streams for a consumer of a group, or what is pending for it.
-    Xreadgroup {
-        group: Name,
-        consumer: Name,
-        /// How many entries of each stream are wanted at most.
-        count: Option<i64>,
-        /// BLOCK: how many milliseconds it waits for an entry, if it waits. 0 is without end.
-        block: Option<u64>,
-        /// NOACK: whether new entries need no acknowledgement.
-        no_ack: bool,
-        streams: Streams<ReadAsked>,
-    },
-    /// XPENDING: what is pending in a group, in sum or as a list.
-    Xpending {
-        key: Name,
-        group: Name,
-        listing: Option<PendingAsked>,
-    },
+    Ping(Ping),
+    Xadd(Xadd),
+    Xtrim(Xtrim),
+    Xdel(Xdel),
+    Xlen(Xlen),
+    Xrange(Xrange),
+    Xrevrange(Xrevrange),
+    Xack(Xack),
+    XgroupCreate(XgroupCreate),
+    XgroupSetId(XgroupSetId),
+    XgroupDestroy(XgroupDestroy),
+    XgroupCreateConsumer(XgroupCreateConsumer),
+    XgroupDelConsumer(XgroupDelConsumer),
+    XinfoStream(XinfoStream),
+    XinfoGroups(XinfoGroups),
+    XinfoConsumers(XinfoConsumers),
+    Xautoclaim(Xautoclaim),
+    Xclaim(Xclaim),
+    Xpending(Xpending),
+    Xread(Xread),
+    Xreadgroup(Xreadgroup),
 }
 
 // A function of its own, so that a caller that lets go of one is proved without looking at its parts.
 impl Drop for Call {
     fn drop(self) {
         match self {
-            Call::Ping { message: _ } => {}
-            Call::Xadd {
-                key: _,
-                make: _,
-                trim: _,
-                id: _,
-                fields: _,
-            } => {}
-            Call::Xtrim { key: _, trim: _ } => {}
-            Call::Xdel { key: _, ids: _ } => {}
-            Call::Xlen { key: _ } => {}
-            Call::Xrange {
-                key: _,
-                start: _,
-                end: _,
-                count: _,
-            } => {}
-            Call::Xrevrange {
-                key: _,
-                end: _,
-                start: _,
-                count: _,
-            } => {}
-            Call::Xack {
-                key: _,
-                group: _,
-                ids: _,
-            } => {}
-            Call::XgroupCreate {
-                key: _,
-                group: _,
-                from: _,
-                make: _,
-            } => {}
-            Call::XgroupSetId {
-                key: _,
-                group: _,
-                from: _,
-            } => {}
-            Call::XgroupDestroy { key: _, group: _ } => {}
-            Call::XgroupCreateConsumer {
-                key: _,
-                group: _,
-                consumer: _,
-            } => {}
-            Call::XgroupDelConsumer {
-                key: _,
-                group: _,
-                consumer: _,
-            } => {}
-            Call::XinfoStream { key: _ } => {}
-            Call::XinfoGroups { key: _ } => {}
-            Call::XinfoConsumers { key: _, group: _ } => {}
-            Call::Xautoclaim {
-                key: _,
-                group: _,
-                consumer: _,
-                least_idle: _,
-                start: _,
-                count: _,
-                just_ids: _,
-            } => {}
-            Call::Xclaim {
-                key: _,
-                group: _,
-                consumer: _,
-                least_idle: _,
-                ids: _,
-                time: _,
-                count: _,
-                just_ids: _,
-            } => {}
-            Call::Xread {
-                count: _,
-                block: _,
-                streams: _,
-            } => {}
-            Call::Xreadgroup {
-                group: _,
-                consumer: _,
-                count: _,
-                block: _,
-                no_ack: _,
-                streams: _,
-            } => {}
-            Call::Xpending {
-                key: _,
-                group: _,
-                listing: _,
-            } => {}
+            Call::Ping(_) => {}
+            Call::Xadd(_) => {}
+            Call::Xtrim(_) => {}
+            Call::Xdel(_) => {}
+            Call::Xlen(_) => {}
+            Call::Xrange(_) => {}
+            Call::Xrevrange(_) => {}
+            Call::Xack(_) => {}
+            Call::XgroupCreate(_) => {}
+            Call::XgroupSetId(_) => {}
+            Call::XgroupDestroy(_) => {}
+            Call::XgroupCreateConsumer(_) => {}
+            Call::XgroupDelConsumer(_) => {}
+            Call::XinfoStream(_) => {}
+            Call::XinfoGroups(_) => {}
+            Call::XinfoConsumers(_) => {}
+            Call::Xautoclaim(_) => {}
+            Call::Xclaim(_) => {}
+            Call::Xpending(_) => {}
+            Call::Xread(_) => {}
+            Call::Xreadgroup(_) => {}
         }
     }
 }
 
 impl Call {
-    ghost use Rattle.std.specs.Prelude.{◌≡◌};
-    ghost use Rattle.sr_args.specs.Blocking.{without_block};
+    /// A copy of the call.
+    pub fn copy(&self, alloc: Global) -> Result<Call, AllocError>
+        ensures { IfOk result (λ copy. copy ≡ self.now) }
+    {
+        match self {
+            Call::Ping(call) => Ok(Call::Ping(call.copy(alloc)?)),
+            Call::Xadd(call) => Ok(Call::Xadd(call.copy(alloc)?)),
+            Call::Xtrim(call) => Ok(Call::Xtrim(call.copy(alloc)?)),
+            Call::Xdel(call) => Ok(Call::Xdel(call.copy(alloc)?)),
+            Call::Xlen(call) => Ok(Call::Xlen(call.copy(alloc)?)),
+            Call::Xrange(call) => Ok(Call::Xrange(call.copy(alloc)?)),
+            Call::Xrevrange(call) => Ok(Call::Xrevrange(call.copy(alloc)?)),
+            Call::Xack(call) => Ok(Call::Xack(call.copy(alloc)?)),
+            Call::XgroupCreate(call) => Ok(Call::XgroupCreate(call.copy(alloc)?)),
+            Call::XgroupSetId(call) => Ok(Call::XgroupSetId(call.copy(alloc)?)),
+            Call::XgroupDestroy(call) => Ok(Call::XgroupDestroy(call.copy(alloc)?)),
+            Call::XgroupCreateConsumer(call) => Ok(Call::XgroupCreateConsumer(call.copy(alloc)?)),
+            Call::XgroupDelConsumer(call) => Ok(Call::XgroupDelConsumer(call.copy(alloc)?)),
+            Call::XinfoStream(call) => Ok(Call::XinfoStream(call.copy(alloc)?)),
+            Call::XinfoGroups(call) => Ok(Call::XinfoGroups(call.copy(alloc)?)),
+            Call::XinfoConsumers(call) => Ok(Call::XinfoConsumers(call.copy(alloc)?)),
+            Call::Xautoclaim(call) => Ok(Call::Xautoclaim(call.copy(alloc)?)),
+            Call::Xclaim(call) => Ok(Call::Xclaim(call.copy(alloc)?)),
+            Call::Xpending(call) => Ok(Call::Xpending(call.copy(alloc)?)),
+            Call::Xread(call) => Ok(Call::Xread(call.copy(alloc)?)),
+            Call::Xreadgroup(call) => Ok(Call::Xreadgroup(call.copy(alloc)?)),
+        }
+    }
+
+    /// Whether the other call is the same command with the same parts.
+    pub fn equals(&self, other: &Call) -> bool
+        ensures { IsTrue result ↔ (self.now ≡ other.now) }
+    {
+        match self {
+            Call::Ping(call) => matches!(other, Call::Ping(other) if call.equals(other)),
+            Call::Xadd(call) => matches!(other, Call::Xadd(other) if call.equals(other)),
+            Call::Xtrim(call) => matches!(other, Call::Xtrim(other) if call.equals(other)),
+            Call::Xdel(call) => matches!(other, Call::Xdel(other) if call.equals(other)),
+            Call::Xlen(call) => matches!(other, Call::Xlen(other) if call.equals(other)),
+            Call::Xrange(call) => matches!(other, Call::Xrange(other) if call.equals(other)),
+            Call::Xrevrange(call) => matches!(other, Call::Xrevrange(other) if call.equals(other)),
+            Call::Xack(call) => matches!(other, Call::Xack(other) if call.equals(other)),
+            Call::XgroupCreate(call) =>
+                matches!(other, Call::XgroupCreate(other) if call.equals(other)),
+            Call::XgroupSetId(call) =>
+                matches!(other, Call::XgroupSetId(other) if call.equals(other)),
+            Call::XgroupDestroy(call) =>
+                matches!(other, Call::XgroupDestroy(other) if call.equals(other)),
+            Call::XgroupCreateConsumer(call) =>
+                matches!(other, Call::XgroupCreateConsumer(other) if call.equals(other)),
+            Call::XgroupDelConsumer(call) =>
+                matches!(other, Call::XgroupDelConsumer(other) if call.equals(other)),
+            Call::XinfoStream(call) =>
+                matches!(other, Call::XinfoStream(other) if call.equals(other)),
+            Call::XinfoGroups(call) =>
+                matches!(other, Call::XinfoGroups(other) if call.equals(other)),
+            Call::XinfoConsumers(call) =>
+                matches!(other, Call::XinfoConsumers(other) if call.equals(other)),
+            Call::Xautoclaim(call) =>
+                matches!(other, Call::Xautoclaim(other) if call.equals(other)),
+            Call::Xclaim(call) => matches!(other, Call::Xclaim(other) if call.equals(other)),
+            Call::Xpending(call) => matches!(other, Call::Xpending(other) if call.equals(other)),
+            Call::Xread(call) => matches!(other, Call::Xread(other) if call.equals(other)),
+            Call::Xreadgroup(call) =>
+                matches!(other, Call::Xreadgroup(other) if call.equals(other)),
+        }
+    }
+
+    /// For how many milliseconds the call waits for an entry, if it waits: 0 is without end.
+    ///
+    /// Source: Redis documentation, commands XREAD and XREADGROUP.
+    pub fn block(&self) -> Option<u64>
+        ensures { result ≡ block_of self.now }
+    {
+        match self {
+            Call::Xread(call) => call.block,
+            Call::Xreadgroup(call) => call.block,
+            _ => None,
+        }
+    }
 
     /// The same call, that does not wait. Takes no memory.
     pub fn without_block(self) -> Call
         ensures { result ≡ without_block self }
     {
         match self {
-            Call::Xread {
-                count,
-                block: _,
-                streams,
-            } => Call::Xread {
-                count,
-                block: None,
-                streams,
-            },
-            Call::Xreadgroup {
-                group,
-                consumer,
-                count,
-                block: _,
-                no_ack,
-                streams,
-            } => Call::Xreadgroup {
-                group,
-                consumer,
-                count,
-                block: None,
-                no_ack,
-                streams,
-            },
+            Call::Xread(call) => Call::Xread(call.without_block()),
+            Call::Xreadgroup(call) => Call::Xreadgroup(call.without_block()),
             call => call,
         }
     }

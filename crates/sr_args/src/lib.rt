@@ -1,11 +1,8 @@
 //! Commands: the words of a request read as the command that they write.
 #![tactic(auto)]
 
-mod blocking;
 mod call;
-mod commands;
-mod copy;
-mod equal;
+pub mod commands;
 mod fault;
 mod name;
 mod names;
@@ -13,11 +10,13 @@ mod number;
 mod options;
 mod read;
 mod reads;
+mod same;
 mod streams;
 mod table;
 mod value;
 
-pub use call::{Call, Command, PendingAsked, Position, TimeAsked, Trim, TrimBy};
+pub use call::{Call, Command, Position, Trim, TrimBy};
+pub use commands::{PendingAsked, TimeAsked};
 pub use fault::CallFault;
 pub(crate) use name::{Measure, OptionName, Sign};
 pub use names::Names;

@@ -1,6 +1,7 @@
-ghost use Rattle.std.specs.Prelude.{◌≡◌};
+ghost use Rattle.std.specs.Prelude.{◌≡◌, IfOk};
 
 use sr_bytes::Name;
+use std::alloc::{AllocError, Global};
 use std::marker::Model;
 
 /// Names in the order in which they are written.
@@ -30,5 +31,15 @@ impl Names {
         ensures { result.now ≡ self.now }
     {
         self.list.as_slice()
+    }
+}
+
+/// A copy of a name, if there is one.
+pub(crate) fn copy_name(alloc: Global, name: &Option<Name>) -> Result<Option<Name>, AllocError>
+    ensures { IfOk result (λ copy. copy ≡ name.now) }
+{
+    match name {
+        None => Ok(None),
+        Some(name) => Ok(Some(name.copy(alloc)?)),
     }
 }

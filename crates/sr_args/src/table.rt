@@ -1,9 +1,20 @@
-ghost use Rattle.std.specs.Prelude.{◌≡◌, ◌↔◌, IsTrue};
+ghost use Rattle.std.specs.Prelude.{◌≡◌, ◌↔◌, IsTrue, List};
 ghost use Rattle.std.specs.Option.{option_copied};
-ghost use Rattle.sr_args.specs.Table.{IsCounted, row_of};
+ghost use Rattle.sr_args.specs.Table.{IsCounted};
+ghost use Rattle.sr_args.specs.commands.{row_of, form_of, command_of};
+ghost use Rattle.sr_args.specs.declared.call.Call as calls;
+ghost use Rattle.sr_args.specs.Form.{Form, Values};
+ghost use Rattle.sr_args.specs.Place.{Word};
+ghost use Rattle.sr_args.specs.steps.Gives.{Gives};
 ghost use Rattle.sr_args.specs.steps.Names.{shown, IsMatch, IsFound, IsFoundAmong};
 
+use crate::commands::{
+    ping, recover, xack, xadd, xautoclaim, xclaim, xdel, xgroup, xinfo, xlen, xpending, xrange,
+    xread, xreadgroup, xtrim,
+};
+use crate::{Call, CallFault, Command};
 use sr_bytes::Unread;
+use std::alloc::Global;
 
 /// The commands, by name. Names ignore ASCII case.
 ///
@@ -66,163 +77,43 @@ const COMMANDS: [CommandName; 24] = [
 
 /// What the table says of a command.
 #[derive(Clone, Copy)]
-struct Row {
+pub(crate) struct Row {
     /// The first word of its name.
-    first: &'static [u8],
+    pub(crate) first: &'static [u8],
     /// The second word of a name of two.
-    second: Option<&'static [u8]>,
+    pub(crate) second: Option<&'static [u8]>,
     /// The fewest words that it takes, its name counted.
-    fewest: usize,
+    pub(crate) fewest: usize,
     /// The most words that it takes, if there is a bound.
-    most: Option<usize>,
+    pub(crate) most: Option<usize>,
 }
 
-/// The table: a row for each command, in the order in which the commands are declared.
+/// The table: the row of each command, in the order in which the commands are declared.
 const ROWS: &[Row] = &[
-    Row {
-        first: b"PING",
-        second: None,
-        fewest: 1,
-        most: Some(2),
-    },
-    Row {
-        first: b"XADD",
-        second: None,
-        fewest: 5,
-        most: None,
-    },
-    Row {
-        first: b"XTRIM",
-        second: None,
-        fewest: 4,
-        most: Some(7),
-    },
-    Row {
-        first: b"XDEL",
-        second: None,
-        fewest: 3,
-        most: None,
-    },
-    Row {
-        first: b"XLEN",
-        second: None,
-        fewest: 2,
-        most: Some(2),
-    },
-    Row {
-        first: b"XRANGE",
-        second: None,
-        fewest: 4,
-        most: Some(6),
-    },
-    Row {
-        first: b"XREVRANGE",
-        second: None,
-        fewest: 4,
-        most: Some(6),
-    },
-    Row {
-        first: b"XACK",
-        second: None,
-        fewest: 4,
-        most: None,
-    },
-    Row {
-        first: b"XGROUP",
-        second: Some(b"CREATE"),
-        fewest: 5,
-        most: Some(6),
-    },
-    Row {
-        first: b"XGROUP",
-        second: Some(b"SETID"),
-        fewest: 5,
-        most: Some(5),
-    },
-    Row {
-        first: b"XGROUP",
-        second: Some(b"DESTROY"),
-        fewest: 4,
-        most: Some(4),
-    },
-    Row {
-        first: b"XGROUP",
-        second: Some(b"CREATECONSUMER"),
-        fewest: 5,
-        most: Some(5),
-    },
-    Row {
-        first: b"XGROUP",
-        second: Some(b"DELCONSUMER"),
-        fewest: 5,
-        most: Some(5),
-    },
-    Row {
-        first: b"XINFO",
-        second: Some(b"STREAM"),
-        fewest: 3,
-        most: Some(3),
-    },
-    Row {
-        first: b"XINFO",
-        second: Some(b"GROUPS"),
-        fewest: 3,
-        most: Some(3),
-    },
-    Row {
-        first: b"XINFO",
-        second: Some(b"CONSUMERS"),
-        fewest: 4,
-        most: Some(4),
-    },
-    Row {
-        first: b"XAUTOCLAIM",
-        second: None,
-        fewest: 6,
-        most: Some(9),
-    },
-    Row {
-        first: b"XCLAIM",
-        second: None,
-        fewest: 6,
-        most: None,
-    },
-    Row {
-        first: b"XPENDING",
-        second: None,
-        fewest: 3,
-        most: Some(9),
-    },
-    Row {
-        first: b"XREAD",
-        second: None,
-        fewest: 4,
-        most: None,
-    },
-    Row {
-        first: b"XREADGROUP",
-        second: None,
-        fewest: 7,
-        most: None,
-    },
-    Row {
-        first: b"RECOVER.PLAN",
-        second: None,
-        fewest: 5,
-        most: None,
-    },
-    Row {
-        first: b"RECOVER.RUN",
-        second: None,
-        fewest: 5,
-        most: None,
-    },
-    Row {
-        first: b"RECOVER.BOARD",
-        second: None,
-        fewest: 3,
-        most: Some(3),
-    },
+    ping::ROW,
+    xadd::ROW,
+    xtrim::ROW,
+    xdel::ROW,
+    xlen::ROW,
+    xrange::XRANGE_ROW,
+    xrange::XREVRANGE_ROW,
+    xack::ROW,
+    xgroup::CREATE_ROW,
+    xgroup::SET_ID_ROW,
+    xgroup::DESTROY_ROW,
+    xgroup::CREATE_CONSUMER_ROW,
+    xgroup::DEL_CONSUMER_ROW,
+    xinfo::STREAM_ROW,
+    xinfo::GROUPS_ROW,
+    xinfo::CONSUMERS_ROW,
+    xautoclaim::ROW,
+    xclaim::ROW,
+    xpending::ROW,
+    xread::ROW,
+    xreadgroup::ROW,
+    recover::PLAN_ROW,
+    recover::RUN_ROW,
+    recover::BOARD_ROW,
 ];
 
 /// How words meet a name.
@@ -306,4 +197,51 @@ pub(crate) fn is_counted(command: CommandName, words: usize) -> bool
         return false;
     }
     row.most.is_none_or(|most| words <= most)
+}
+
+/// The command that the words after its name write.
+pub(crate) fn read_operands(
+    alloc: Global,
+    command: CommandName,
+    operands: Unread<'_>,
+) -> Result<Command, CallFault>
+    ensures { Gives (form_of command) (command_of command) operands.entry result }
+{
+    match command {
+        CommandName::Ping => asked(ping::read_ping(alloc, operands)),
+        CommandName::Xadd => asked(xadd::read_xadd(alloc, operands)),
+        CommandName::Xtrim => asked(xtrim::read_xtrim(alloc, operands)),
+        CommandName::Xdel => asked(xdel::read_xdel(alloc, operands)),
+        CommandName::Xlen => asked(xlen::read_xlen(alloc, operands)),
+        CommandName::Xrange => asked(xrange::read_xrange(alloc, operands)),
+        CommandName::Xrevrange => asked(xrange::read_xrevrange(alloc, operands)),
+        CommandName::Xack => asked(xack::read_xack(alloc, operands)),
+        CommandName::XgroupCreate => asked(xgroup::read_xgroup_create(alloc, operands)),
+        CommandName::XgroupSetId => asked(xgroup::read_xgroup_set_id(alloc, operands)),
+        CommandName::XgroupDestroy => asked(xgroup::read_xgroup_destroy(alloc, operands)),
+        CommandName::XgroupCreateConsumer => asked(xgroup::read_xgroup_create_consumer(
+            alloc, operands,
+        )),
+        CommandName::XgroupDelConsumer => asked(xgroup::read_xgroup_del_consumer(alloc, operands)),
+        CommandName::XinfoStream => asked(xinfo::read_xinfo_stream(alloc, operands)),
+        CommandName::XinfoGroups => asked(xinfo::read_xinfo_groups(alloc, operands)),
+        CommandName::XinfoConsumers => asked(xinfo::read_xinfo_consumers(alloc, operands)),
+        CommandName::Xautoclaim => asked(xautoclaim::read_xautoclaim(alloc, operands)),
+        CommandName::Xclaim => asked(xclaim::read_xclaim(alloc, operands)),
+        CommandName::Xpending => asked(xpending::read_xpending(alloc, operands)),
+        CommandName::Xread => asked(xread::read_xread(alloc, operands)),
+        CommandName::Xreadgroup => asked(xreadgroup::read_xreadgroup(alloc, operands)),
+        CommandName::RecoverPlan => recover::read_recover_plan(alloc, operands),
+        CommandName::RecoverRun => recover::read_recover_run(alloc, operands),
+        CommandName::RecoverBoard => recover::read_recover_board(alloc, operands),
+    }
+}
+
+/// The command that is a call, if its words are one.
+fn asked(read: Result<Call, CallFault>) -> Result<Command, CallFault>
+    ensures { (form : Form) (call : Values form → calls.Call) (words : List Word) → Gives form call words read →
+        Gives form (λ values. Command.Call (call values)) words result }
+{
+    let call = read?;
+    Ok(Command::Call(call))
 }

@@ -237,27 +237,9 @@ called-addressed old told session call answer new reply stepped out =
 -- ---- a call without BLOCK
 
 block_of-without_block : (call : Call) → block_of (without_block call) ≡ None
-block_of-without_block (calls.Ping message) = refl
-block_of-without_block (calls.Xadd key make trim id fields) = refl
-block_of-without_block (calls.Xtrim key trim) = refl
-block_of-without_block (calls.Xdel key ids) = refl
-block_of-without_block (calls.Xlen key) = refl
-block_of-without_block (calls.Xrange key start until count) = refl
-block_of-without_block (calls.Xrevrange key until start count) = refl
-block_of-without_block (calls.Xread count block streams) = refl
-block_of-without_block (calls.Xreadgroup group consumer count block no_ack streams) = refl
-block_of-without_block (calls.Xack key group ids) = refl
-block_of-without_block (calls.XgroupCreate key group from make) = refl
-block_of-without_block (calls.XgroupSetId key group from) = refl
-block_of-without_block (calls.XgroupDestroy key group) = refl
-block_of-without_block (calls.XgroupCreateConsumer key group consumer) = refl
-block_of-without_block (calls.XgroupDelConsumer key group consumer) = refl
-block_of-without_block (calls.XinfoStream key) = refl
-block_of-without_block (calls.XinfoGroups key) = refl
-block_of-without_block (calls.XinfoConsumers key group) = refl
-block_of-without_block (calls.Xpending key group listing) = refl
-block_of-without_block (calls.Xclaim key group consumer least_idle ids time count just_ids) = refl
-block_of-without_block (calls.Xautoclaim key group consumer least_idle start count just_ids) = refl
+block_of-without_block (calls.Xread call) = refl
+block_of-without_block (calls.Xreadgroup call) = refl
+block_of-without_block call = refl
 
 called-replies : (session moment : ℕ) (server : Server) (keys : Keys) (done : Answered) → (reply : ReplyParts) × ((called session moment server keys (outcome_of done)).out ≡ outs.Reply reply)
 called-replies session moment server keys (answers.Reply send keep) = (send, refl)

@@ -1,18 +1,14 @@
 -- What a command leads to: two equal replies.
 use Rattle.std.proofs.Common.{◌≡◌, ℕ, Bool, true, false, cond, List, Option, Some, None, Result, Ok, Err, refl}
 use Rattle.sr_args.specs.declared.call.Call.{Call}
-use Rattle.sr_args.specs.declared.call.Call.TheVariants.{Ping, Xadd, Xtrim, Xdel, Xlen, Xrange, Xrevrange, Xread, Xreadgroup, Xack}
-use Rattle.sr_args.specs.declared.call.Call.TheVariants.{XgroupCreate, XgroupSetId, XgroupDestroy, XgroupCreateConsumer, XgroupDelConsumer}
-use Rattle.sr_args.specs.declared.call.Call.TheVariants.{XinfoStream, XinfoGroups, XinfoConsumers}
-use Rattle.sr_args.specs.declared.call.Call.TheVariants.{Xpending, Xclaim, Xautoclaim}
+use Rattle.sr_args.specs.declared.call.Call.TheVariants as calls
+use Rattle.sr_args.specs.declared.commands.xadd.Xadd.{Xadd}
 use Rattle.sr_args.specs.declared.call.Position.{Position}
-use Rattle.sr_args.specs.declared.call.TimeAsked.TheVariants.{Now}
-use Rattle.sr_args.specs.declared.call.Trim.{Trim}
+use Rattle.sr_args.specs.declared.commands.xclaim.TimeAsked.TheVariants.{Now}
 use Rattle.sr_group.specs.Group.{GroupState}
 use Rattle.sr_group.specs.declared.claim.Claim.{Claim}
 use Rattle.sr_ids.specs.Id.{least_id}
 use Rattle.sr_ids.specs.declared.id.Id.{Id}
-use Rattle.sr_ids.specs.declared.spec.Spec.{Spec}
 use Rattle.sr_stream.specs.declared.fault.GivenFault.{GivenFault}
 use Rattle.sr_stream.specs.Given.{given_id}
 use Rattle.sr_stream.specs.Groups.{group_with, has_group}
@@ -41,18 +37,17 @@ twice-counts : (change : StreamState → StreamState) (count : StreamState → �
 twice-counts change count None = refl
 twice-counts change count (Some stream) = refl
 
-twice-added : (trim : Option Trim) (fields : List (List ℕ × List ℕ)) (stream : StreamState) (id : Result Id GivenFault) → IsTwice (added trim fields stream id).outcome
-twice-added trim fields stream (Err fault) = refl
-twice-added trim fields stream (Ok id) = refl
-
-twice-added_at : (moment : ℕ) (make : Bool) (trim : Option Trim) (spec : Spec) (fields : List (List ℕ × List ℕ)) (found : Option StreamState) → IsTwice (added_at moment make trim spec fields found).outcome
-twice-added_at moment make trim spec fields (Some stream) = twice-added trim fields stream (given_id stream.last moment spec)
-twice-added_at moment false trim spec fields None = refl
-twice-added_at moment true trim spec fields None = twice-added trim fields empty_stream (given_id least_id moment spec)
+twice-added : (call : Xadd) (stream : StreamState) (id : Result Id GivenFault) → IsTwice (added call stream id).outcome
+twice-added call stream (Err fault) = refl
+twice-added call stream (Ok id) = refl
 
 twice-cond : (test : Bool) (a b : Touched) → IsTwice a.outcome → IsTwice b.outcome → IsTwice (cond test a b).outcome
 twice-cond true a b first second = first
 twice-cond false a b first second = second
+
+twice-added_at : (moment : ℕ) (call : Xadd) (found : Option StreamState) → IsTwice (added_at moment call found).outcome
+twice-added_at moment call (Some stream) = twice-added call stream (given_id stream.last moment call.id)
+twice-added_at moment call None = twice-cond call.make _ _ (twice-added call empty_stream (given_id least_id moment call.id)) refl
 
 twice-xack : (group : List ℕ) (ids : List Id) (found : Option StreamState) → IsTwice (xack group ids found).outcome
 twice-xack group ids None = refl
@@ -108,31 +103,24 @@ twice-destroy group None = refl
 twice-destroy group (Some stream) = refl
 
 pub at_once-twice : (keys : Keys) (moment : ℕ) (call : Call) → IsTwice (at_once keys moment call).outcome
-at_once-twice keys moment (Ping message) = refl
-at_once-twice keys moment (Xadd key make trim spec fields) =
-    twice-cond (is_zero spec) _ _ refl (twice-added_at (in_63_bits moment) make trim spec fields (stream_at keys key))
-at_once-twice keys moment (Xtrim key trim) = twice-counts (trimmed trim) (trim_count trim) (stream_at keys key)
-at_once-twice keys moment (Xdel key ids) = twice-counts (without_ids ids) (deleted_count ids) (stream_at keys key)
-at_once-twice keys moment (Xlen key) = refl
-at_once-twice keys moment (Xrange key start end count) = refl
-at_once-twice keys moment (Xrevrange key end start count) = refl
-at_once-twice keys moment (Xread count block streams) = refl
-at_once-twice keys moment (Xreadgroup group consumer count block no_ack streams) = by (have_group group keys streams) refl
+at_once-twice keys moment (calls.Xadd call) =
+    twice-cond (is_zero call.id) _ _ refl (twice-added_at (in_63_bits moment) call (stream_at keys call.key))
+at_once-twice keys moment (calls.Xtrim call) = twice-counts (trimmed call.trim) (trim_count call.trim) (stream_at keys call.key)
+at_once-twice keys moment (calls.Xdel call) = twice-counts (without_ids call.ids) (deleted_count call.ids) (stream_at keys call.key)
+at_once-twice keys moment (calls.Xreadgroup call) = by (have_group call.group keys call.streams) refl
   where
-    by : (test : Bool) → have_group group keys streams ≡ test → IsTwice (xreadgroup (in_63_bits moment) group consumer (count_of count) no_ack streams keys).outcome
+    by : (test : Bool) → have_group call.group keys call.streams ≡ test → IsTwice (xreadgroup (in_63_bits moment) call.group call.consumer (count_of call.count) call.no_ack call.streams keys).outcome
     by true e = rw e refl
     by false e = rw e refl
-at_once-twice keys moment (Xack key group ids) = twice-xack group ids (stream_at keys key)
-at_once-twice keys moment (XgroupCreate key group from make) = twice-create group from make (stream_at keys key)
-at_once-twice keys moment (XgroupSetId key group from) = twice-set_id group from (stream_at keys key)
-at_once-twice keys moment (XgroupDestroy key group) = twice-destroy group (stream_at keys key)
-at_once-twice keys moment (XgroupCreateConsumer key group consumer) = twice-create_consumer (in_63_bits moment) group consumer (stream_at keys key)
-at_once-twice keys moment (XgroupDelConsumer key group consumer) = twice-del_consumer group consumer (stream_at keys key)
-at_once-twice keys moment (XinfoStream key) = refl
-at_once-twice keys moment (XinfoGroups key) = refl
-at_once-twice keys moment (XinfoConsumers key group) = refl
-at_once-twice keys moment (Xpending key group listing) = refl
-at_once-twice keys moment (Xclaim key group consumer least_idle ids time count just_ids) =
-    twice-xclaim (in_63_bits moment) consumer (claim_of least_idle time count just_ids) group ids (stream_at keys key)
-at_once-twice keys moment (Xautoclaim key group consumer least_idle start count just_ids) =
-    twice-xautoclaim (in_63_bits moment) consumer (claim_of least_idle Now None just_ids) group start (count_or_100 count) (stream_at keys key)
+at_once-twice keys moment (calls.Xack call) = twice-xack call.group call.ids (stream_at keys call.key)
+at_once-twice keys moment (calls.XgroupCreate call) = twice-create call.group call.from call.make (stream_at keys call.key)
+at_once-twice keys moment (calls.XgroupSetId call) = twice-set_id call.group call.from (stream_at keys call.key)
+at_once-twice keys moment (calls.XgroupDestroy call) = twice-destroy call.group (stream_at keys call.key)
+at_once-twice keys moment (calls.XgroupCreateConsumer call) = twice-create_consumer (in_63_bits moment) call.group call.consumer (stream_at keys call.key)
+at_once-twice keys moment (calls.XgroupDelConsumer call) = twice-del_consumer call.group call.consumer (stream_at keys call.key)
+at_once-twice keys moment (calls.Xclaim call) =
+    twice-xclaim (in_63_bits moment) call.consumer (claim_of call.least_idle call.time call.count call.just_ids) call.group call.ids (stream_at keys call.key)
+at_once-twice keys moment (calls.Xautoclaim call) =
+    twice-xautoclaim (in_63_bits moment) call.consumer (claim_of call.least_idle Now None call.just_ids) call.group call.start (count_or_100 call.count) (stream_at keys call.key)
+-- the others only read
+at_once-twice keys moment call = refl

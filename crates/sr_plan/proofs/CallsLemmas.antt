@@ -4,7 +4,7 @@ use Rattle.std.proofs.lemmas.Bool.{eqb-true, eqb-false}
 use Rattle.std.proofs.lemmas.List.{drop_all, drop_more}
 use Rattle.sr_args.specs.declared.call.Call.{Call}
 use Rattle.sr_args.specs.declared.call.Call.TheVariants.{Xclaim}
-use Rattle.sr_args.specs.declared.call.TimeAsked.TheVariants.{Now}
+use Rattle.sr_args.specs.declared.commands.xclaim.TimeAsked.TheVariants.{Now}
 use Rattle.sr_ids.specs.declared.id.Id.{Id}
 use Rattle.sr_policy.specs.declared.live.Live.{Live}
 use Rattle.sr_policy.specs.declared.stranded.Stranded.{Stranded}
@@ -45,10 +45,10 @@ no_call key group name n (id ∷ ids) calls count none = absurd (omega (arith, c
 
 -- and with some it is this one
 pub one_call : (key group name k g m : Text) (n : ℕ) (ids list : List Id) (old new : List Call) → n ≡ length ids → (n == 0) ≡ false
-    → k ≡ key → g ≡ group → m ≡ name → list ≡ ids → new ≡ old ++ Xclaim k g m (pos 0) list Now None true ∷ []
+    → k ≡ key → g ≡ group → m ≡ name → list ≡ ids → new ≡ old ++ Xclaim (record { key = k; group = g; consumer = m; least_idle = pos 0; ids = list; time = Now; count = None; just_ids = true }) ∷ []
     → new ≡ old ++ claim_call key group name ids
 one_call key group name k g m n [] list old new count some a b d e added = absurd (eqb-false n 0 some count)
 one_call key group name k g m n (id ∷ ids) list old new count some a b d e added =
-    let whole : Text → Text → Text → List Id → List Call = λ x y z l. old ++ Xclaim x y z (pos 0) l Now None true ∷ [] in
+    let whole : Text → Text → Text → List Id → List Call = λ x y z l. old ++ Xclaim (record { key = x; group = y; consumer = z; least_idle = pos 0; ids = l; time = Now; count = None; just_ids = true }) ∷ [] in
     added ∙ ap (λ (x : Text). whole x g m list) a ∙ ap (λ (y : Text). whole key y m list) b ∙ ap (λ (z : Text). whole key group z list) d
     ∙ ap (whole key group name) e

@@ -5,7 +5,7 @@ use Rattle.std.specs.Prelude.{ℕ, ◌+◌, ◌==◌, pos, List, [], ◌∷◌, 
 use Rattle.std.specs.List.{zip}
 use Rattle.sr_args.specs.declared.call.Call.{Call}
 use Rattle.sr_args.specs.declared.call.Call.TheVariants.{Xclaim}
-use Rattle.sr_args.specs.declared.call.TimeAsked.TheVariants.{Now}
+use Rattle.sr_args.specs.declared.commands.xclaim.TimeAsked.TheVariants.{Now}
 use Rattle.sr_ids.specs.declared.id.Id.{Id}
 use Rattle.sr_policy.specs.declared.live.Live.{Live}
 use Rattle.sr_policy.specs.Rules.{Text}
@@ -19,7 +19,16 @@ ids_for ids assign c = map (λ move. move.0) (filter (λ move. move.1 == c) (zip
 -- XCLAIM key group consumer 0 id .. JUSTID; no call for a consumer that gets nothing
 abbrev pub claim_call : Text → Text → Text → List Id → List Call
 claim_call key group name [] = []
-claim_call key group name (id ∷ ids) = Xclaim key group name (pos 0) (id ∷ ids) Now None true ∷ []
+claim_call key group name (id ∷ ids) = Xclaim (record {
+  key = key;
+  group = group;
+  consumer = name;
+  least_idle = pos 0;
+  ids = id ∷ ids;
+  time = Now;
+  count = None;
+  just_ids = true;
+}) ∷ []
 
 -- the calls for the consumers from number c on, in byte order of their names
 abbrev pub calls_from : Shown → List ℕ → ℕ → List Live → List Call

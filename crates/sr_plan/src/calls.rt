@@ -1,6 +1,7 @@
 ghost use Rattle.std.specs.Prelude.{◌≡◌, ◌++◌, length, map, IfOk, OnOk};
 ghost use Rattle.sr_plan.specs.Calls.{ids_for, claim_call, calls_from};
 
+use sr_args::commands::Xclaim;
 use sr_args::{Call, TimeAsked};
 use sr_bytes::Name;
 use sr_ids::{Id, Ids};
@@ -60,7 +61,7 @@ fn add_call(
     if ids.is_empty() {
         return Ok(());
     }
-    let call = Call::Xclaim {
+    let call = Call::Xclaim(Xclaim {
         key: snapshot.key().copy(alloc)?,
         group: snapshot.group().copy(alloc)?,
         consumer: consumer.copy(alloc)?,
@@ -69,7 +70,7 @@ fn add_call(
         time: TimeAsked::Now,
         count: None,
         just_ids: true,
-    };
+    });
     calls.push(call)?;
     Ok(())
 }

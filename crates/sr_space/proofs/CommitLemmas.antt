@@ -1,12 +1,13 @@
 -- What a plan's calls of XCLAIM leave of the keys, carried out one after another: one change of the group that they name.
-use Rattle.std.proofs.Common.{◌≡◌, ℕ, ℤ, ◌+◌, ◌^◌, ◌<◌, Bool, true, false, cond, List, [], ◌∷◌, ◌++◌, Option, Some, None, nat_eq, length, get_or, take, IfSome, filter, refl, ap, sym, ◌∙◌, append-nil}
+use Rattle.std.proofs.Common.{◌≡◌, ℕ, ℤ, ◌+◌, ◌^◌, ◌<◌, Bool, true, false, cond, List, [], ◌∷◌, ◌++◌, Option, Some, None, nat_eq, length, get_or, take, IfSome, filter, pos, refl, ap, sym, ◌∙◌, append-nil}
 use Rattle.std.specs.Cmp.Lexicographic.{pointwise, bytes_decides}
 use Rattle.std.specs.List.{All}
 use Rattle.std.proofs.lemmas.List.Elements.{All-append, All-cons, All-head, All-nil, All-tail, All-weaker, filter-append}
 use Rattle.std.proofs.lemmas.List.{take_more}
 use Rattle.sr_args.specs.declared.call.Call.{Call}
-use Rattle.sr_args.specs.declared.call.Call.TheVariants.{Xclaim}
-use Rattle.sr_args.specs.declared.call.TimeAsked.{TimeAsked}
+use Rattle.sr_args.specs.declared.call.Call.TheVariants as calls
+use Rattle.sr_args.specs.declared.commands.xclaim.TimeAsked.TheVariants.{Now}
+use Rattle.sr_args.specs.declared.commands.xclaim.Xclaim.{Xclaim}
 use Rattle.sr_bytes.specs.Order.{comes_before}
 use Rattle.sr_entries.specs.declared.entry.Entry.{Entry}
 use Rattle.sr_group.specs.declared.claim.Claim.{Claim}
@@ -108,17 +109,17 @@ with_stream-same (k ∷ keys) key stream found = by (with_stream-same keys key s
 
 module _ (moment : ℕ) (key : Key) (name : List ℕ) where
   -- a call leaves the stream that the call alone makes of it
-  at_once-xclaim : (keys : Keys) (stream : StreamState) (consumer : List ℕ) (least_idle : ℤ) (ids : List Id) (time : TimeAsked) (count : Option ℕ) (just_ids : Bool) → stream_at keys key ≡ Some stream
-      → (at_once keys moment (Xclaim key name consumer least_idle ids time count just_ids)).keys ≡ with_stream keys key (stream_after moment (Xclaim key name consumer least_idle ids time count just_ids ∷ []) name stream)
-  at_once-xclaim keys stream consumer least_idle ids time count just_ids there = rw there (by (group_with name stream.groups))
+  at_once-xclaim : (keys : Keys) (stream : StreamState) (claim : Xclaim) → stream_at keys key ≡ Some stream
+      → (at_once keys moment (calls.Xclaim (record claim { key = key; group = name }))).keys ≡ with_stream keys key (stream_after moment (calls.Xclaim (record claim { key = key; group = name }) ∷ []) name stream)
+  at_once-xclaim keys stream claim there = rw there (by (group_with name stream.groups))
     where
-      by : (found : Option GroupState) → left_at keys key (at_group NoGroup (claimed (in_63_bits moment) consumer (claim_of least_idle time count just_ids) ids) name stream found).written
-          ≡ with_stream keys key (with_claims moment (Xclaim key name consumer least_idle ids time count just_ids ∷ []) name stream found)
+      by : (found : Option GroupState) → left_at keys key (at_group NoGroup (claimed (in_63_bits moment) claim.consumer (claim_of claim.least_idle claim.time claim.count claim.just_ids) claim.ids) name stream found).written
+          ≡ with_stream keys key (with_claims moment (calls.Xclaim (record claim { key = key; group = name }) ∷ []) name stream found)
       by None = sym (with_stream-same keys key stream there)
       by (Some group) = refl
 
   at_once-claim : (keys : Keys) (stream : StreamState) (call : Call) → IsClaimIn key name call → stream_at keys key ≡ Some stream → (at_once keys moment call).keys ≡ with_stream keys key (stream_after moment (call ∷ []) name stream)
-  at_once-claim keys stream call claim there = rw claim.is (at_once-xclaim keys stream claim.consumer claim.least_idle claim.ids claim.time claim.count claim.just_ids there)
+  at_once-claim keys stream call claim there = rw claim.is (at_once-xclaim keys stream claim.claim there)
 
   at_once-missing : (keys : Keys) (call : Call) → IsClaimIn key name call → stream_at keys key ≡ None → (at_once keys moment call).keys ≡ keys
   at_once-missing keys call claim none = rw (claim.is, none) refl
@@ -175,7 +176,7 @@ module _ (moment : ℕ) (key : Key) (name : List ℕ) where
 claim_call-in : (key group name : Text) (ids : List Id) → All (IsClaimIn key group) (claim_call key group name ids)
 claim_call-in key group name [] = All-nil (IsClaimIn key group)
 claim_call-in key group name (id ∷ ids) =
-    All-cons (IsClaimIn key group) _ [] (record { consumer = name; least_idle = _; ids = id ∷ ids; time = _; count = _; just_ids = _; is = refl }) (All-nil (IsClaimIn key group))
+    All-cons (IsClaimIn key group) _ [] (record { claim = record { key = key; group = group; consumer = name; least_idle = pos 0; ids = id ∷ ids; time = Now; count = None; just_ids = true }; is = refl }) (All-nil (IsClaimIn key group))
 
 calls_from-in : (shown : Shown) (assign : List ℕ) (c : ℕ) (live : List Live) → All (IsClaimIn shown.key shown.group) (calls_from shown assign c live)
 calls_from-in shown assign c [] = All-nil (IsClaimIn shown.key shown.group)
@@ -219,10 +220,10 @@ module _ (moment : ℕ) (calls : List Call) (name : List ℕ) (stream : StreamSt
 -- ---- calls as moves
 
 -- a call of XCLAIM and the move with the same parts
-pub claim-move : (key : Key) (name consumer : List ℕ) (least_idle : ℤ) (ids : List Id) (time : TimeAsked) (count : Option ℕ) (just_ids : Bool) (call : Call) (claim : Claim) (move : MoveState)
-    → call ≡ Xclaim key name consumer least_idle ids time count just_ids → claim ≡ claim_of least_idle time count just_ids → IfSome claim.count (λ n. n < 2 ^ 63) → move ≡ record { claimer = consumer; claim = claim; ids = ids } → IsMoveOf call move
-claim-move key name consumer least_idle ids time count just_ids call claim move is asked counts made =
-    rw (is, made) (record { same = λ moment entries group. ap (λ (c : Claim). group_after_claim c consumer (in_63_bits moment) entries ids group) asked; count = counts })
+pub claim-move : (asked : Xclaim) (call : Call) (claim : Claim) (move : MoveState) → call ≡ calls.Xclaim asked → claim ≡ claim_of asked.least_idle asked.time asked.count asked.just_ids
+    → IfSome claim.count (λ n. n < 2 ^ 63) → move ≡ record { claimer = asked.consumer; claim = claim; ids = asked.ids } → IsMoveOf call move
+claim-move asked call claim move is same counts made =
+    rw (is, made) (record { same = λ moment entries group. ap (λ (c : Claim). group_after_claim c asked.consumer (in_63_bits moment) entries asked.ids group) same; count = counts })
 
 AreMovesOf-push : (calls : List Call) (moves : List MoveState) (call : Call) (move : MoveState) → AreMovesOf calls moves → IsMoveOf call move → AreMovesOf (calls ++ call ∷ []) (moves ++ move ∷ [])
 AreMovesOf-push [] [] call move are is = (is, tt)

@@ -1,15 +1,15 @@
 -- What XPENDING writes, line by line.
-use Rattle.std.proofs.Common.{◌≡◌, ℕ, suc, ◌+◌, ◌<◌, ◌≤◌, add-one, drop, drop-cons, get_or, List, [], ◌∷◌, ◌++◌, length, map, refl, ap, sym, ◌∙◌, append_assoc}
+use Rattle.std.proofs.Common.{◌≡◌, ℕ, suc, ◌+◌, ◌^◌, ◌<◌, ◌≤◌, add-one, drop, drop-cons, get_or, List, [], ◌∷◌, ◌++◌, length, map, refl, ap, sym, ◌∙◌, append_assoc}
 use Rattle.std.specs.List.{All, flat_map}
 use Rattle.std.proofs.lemmas.List.{drop_all, get_or-map}
-use Rattle.std.proofs.lemmas.List.Elements.{All-filter, All-tail, All-take}
+use Rattle.std.proofs.lemmas.List.Elements.{All-filter, All-head, All-tail, All-take}
 use Rattle.sr_pending.specs.declared.nack.Nack.{Nack}
 use Rattle.sr_pending.specs.Pending.{IsCountable, owned_by}
 use Rattle.sr_group.specs.declared.consumer.Consumer.{Consumer}
 use Rattle.sr_group.specs.Group.{counts_of}
 use Rattle.sr_resp.specs.Reply.{Answer, Part, IsReply, array_header, array_of}
 use Rattle.sr_resp.proofs.CallerLemmas.{IsReply-array_of_map}
-use Rattle.sr_args.specs.declared.call.PendingAsked.{PendingAsked}
+use Rattle.sr_args.specs.declared.commands.xpending.PendingAsked.{PendingAsked}
 use Rattle.sr_space.specs.commands.Xpending.{at_least_0, listing_of, nack_answer, share_of, shares_of}
 use Rattle.sr_space.proofs.ArrayLemmas.{HasLeft, left-after, left-none, map-written}
 
@@ -34,6 +34,11 @@ module _ (moment : ℕ) where
       joined : now ++ flat_map (nack_answer moment) left ≡ array_header (length all) ++ flat_map (nack_answer moment) all
       joined = ap (λ (l : List Part). l ++ flat_map (nack_answer moment) left) added ∙ append_assoc draft (nack_answer moment nack) (flat_map (nack_answer moment) left)
           ∙ ap (λ (l : List Nack). draft ++ flat_map (nack_answer moment) l) (sym next) ∙ is.written
+
+  -- the next entry's count can be told
+  pub listing-count : (all old left : List Nack) (nack : Nack) (draft : List Part) → IsListing moment all old draft → old ≡ nack ∷ left
+      → nack.count < 2 ^ 63
+  listing-count all old left nack draft is next = (All-head IsCountable nack left (rw next at is.countable)).1
 
   pub listing-ended : (all left : List Nack) (draft : List Part) → IsListing moment all left draft → left ≡ [] → draft ≡ array_of (map (nack_answer moment) all)
   listing-ended all left draft is none = map-written (nack_answer moment) all left draft none is.written

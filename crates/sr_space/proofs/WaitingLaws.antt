@@ -6,6 +6,8 @@ use Rattle.std.specs.Cmp.Lexicographic.{pointwise, bytes_decides}
 use Rattle.sr_args.specs.declared.call.Call.{Call}
 use Rattle.sr_args.specs.declared.call.Call.TheVariants as calls
 use Rattle.sr_args.specs.declared.call.Position.{Position}
+use Rattle.sr_args.specs.declared.commands.xread.Xread.{Xread}
+use Rattle.sr_args.specs.declared.commands.xreadgroup.Xreadgroup.{Xreadgroup}
 use Rattle.sr_args.specs.declared.reads.ReadAsked.{ReadAsked}
 use Rattle.sr_args.specs.declared.reads.ReadAsked.TheVariants as asked
 use Rattle.sr_args.specs.Blocking.{block_of}
@@ -50,19 +52,17 @@ null-nothing : (listed : List Answer) → (reply_of (listed_or_null listed) ≡ 
 null-nothing [] = (λ e. refl, λ e. refl)
 null-nothing (answer ∷ answers) = (λ e. cc, λ e. cc)
 
-pub null-read : (keys : Keys) (moment : ℕ) (count : Option ℤ) (block : Option ℕ) (streams : List (Key × Position))
-    → ((at_once keys moment (calls.Xread count block streams)).outcome ≡ reply_of null_array) ↔ (finds_nothing keys moment (calls.Xread count block streams) ≡ true)
-null-read keys moment count block streams = null-nothing (read_streams count keys streams)
+pub null-read : (keys : Keys) (moment : ℕ) (read : Xread) → ((at_once keys moment (calls.Xread read)).outcome ≡ reply_of null_array) ↔ (finds_nothing keys moment (calls.Xread read) ≡ true)
+null-read keys moment read = null-nothing (read_streams read.count keys read.streams)
 
 null-grouped : (there : Bool) (keys after : Keys) (listed : List Answer)
     → ((cond there (let found : Executed = record { keys = after; outcome = reply_of (listed_or_null listed) } in found) (unchanged keys (error_reply errors.NoGroup))).outcome ≡ reply_of null_array) ↔ ((there && is_nothing listed) ≡ true)
 null-grouped true keys after listed = null-nothing listed
 null-grouped false keys after listed = (λ e. cc, λ e. cc)
 
-pub null-read_group : (keys : Keys) (moment : ℕ) (group consumer : List ℕ) (count : Option ℤ) (block : Option ℕ) (no_ack : Bool) (streams : List (Key × ReadAsked))
-    → ((at_once keys moment (calls.Xreadgroup group consumer count block no_ack streams)).outcome ≡ reply_of null_array) ↔ (finds_nothing keys moment (calls.Xreadgroup group consumer count block no_ack streams) ≡ true)
-null-read_group keys moment group consumer count block no_ack streams =
-    null-grouped (have_group group keys streams) keys (after_reads (in_63_bits moment) group consumer (count_of count) no_ack keys streams) (listed_of_all (in_63_bits moment) group consumer (count_of count) no_ack keys streams)
+pub null-read_group : (keys : Keys) (moment : ℕ) (read : Xreadgroup) → ((at_once keys moment (calls.Xreadgroup read)).outcome ≡ reply_of null_array) ↔ (finds_nothing keys moment (calls.Xreadgroup read) ≡ true)
+null-read_group keys moment read =
+    null-grouped (have_group read.group keys read.streams) keys (after_reads (in_63_bits moment) read.group read.consumer (count_of read.count) read.no_ack keys read.streams) (listed_of_all (in_63_bits moment) read.group read.consumer (count_of read.count) read.no_ack keys read.streams)
 
 -- ---- a read that waits finds nothing at the keys that it left
 
@@ -175,13 +175,17 @@ module _ (name : List ℕ) (keys now : Keys) (alike : (key : Key) → IsReadAlik
       ∙ ap (λ (b : Bool). lists_stream name stream.1 (stream_at keys stream.0) || b) (still-listed streams)
 
 module _ (keys : Keys) (moment later : ℕ) where
-  still-read : (count : Option ℤ) (block : Option ℕ) (streams : List (Key × Position)) → is_nothing (read_streams count keys streams) ≡ true → is_nothing (read_streams count keys (map (fixed_position keys) streams)) ≡ true
-  still-read count block streams none = ap (λ (l : List Answer). is_nothing l) (fixed-read count keys streams) ∙ none
+  still-read : (read : Xread) → is_nothing (read_streams read.count keys read.streams) ≡ true → is_nothing (read_streams read.count keys (map (fixed_position keys) read.streams)) ≡ true
+  still-read read none = ap (λ (l : List Answer). is_nothing l) (fixed-read read.count keys read.streams) ∙ none
 
-  still-grouped : (group consumer : List ℕ) (count : Option ℤ) (block : Option ℕ) (no_ack : Bool) (streams : List (Key × ReadAsked))
-      → finds_nothing keys moment (calls.Xreadgroup group consumer count block no_ack streams) ≡ true
-      → finds_nothing (at_once keys moment (calls.Xreadgroup group consumer count block no_ack streams)).keys later (calls.Xreadgroup group consumer count None no_ack streams) ≡ true
-  still-grouped group consumer count block no_ack streams none =
+  still-grouped : (read : Xreadgroup) → finds_nothing keys moment (calls.Xreadgroup read) ≡ true
+      → finds_nothing (at_once keys moment (calls.Xreadgroup read)).keys later (calls.Xreadgroup (record read { block = None })) ≡ true
+  still-grouped read none =
+      let group = read.group in
+      let consumer = read.consumer in
+      let count = read.count in
+      let no_ack = read.no_ack in
+      let streams = read.streams in
       let listed = listed_of_all (in_63_bits moment) group consumer (count_of count) no_ack keys streams in
       let parts = both (have_group group keys streams) (is_nothing listed) none in
       let now = after_reads (in_63_bits moment) group consumer (count_of count) no_ack keys streams in
@@ -193,27 +197,9 @@ module _ (keys : Keys) (moment later : ℕ) where
       rw parts.0 (rw (there, still) refl)
 
   still-nothing : (call : Call) → finds_nothing keys moment call ≡ true → finds_nothing (at_once keys moment call).keys later (waiting_as keys call) ≡ true
-  still-nothing (calls.Xread count block streams) none = still-read count block streams none
-  still-nothing (calls.Xreadgroup group consumer count block no_ack streams) none = still-grouped group consumer count block no_ack streams none
-  still-nothing (calls.Ping message) none = cc
-  still-nothing (calls.Xadd key make trim spec fields) none = cc
-  still-nothing (calls.Xtrim key trim) none = cc
-  still-nothing (calls.Xdel key ids) none = cc
-  still-nothing (calls.Xlen key) none = cc
-  still-nothing (calls.Xrange key start end count) none = cc
-  still-nothing (calls.Xrevrange key end start count) none = cc
-  still-nothing (calls.Xack key group ids) none = cc
-  still-nothing (calls.XgroupCreate key group from make) none = cc
-  still-nothing (calls.XgroupSetId key group from) none = cc
-  still-nothing (calls.XgroupDestroy key group) none = cc
-  still-nothing (calls.XgroupCreateConsumer key group consumer) none = cc
-  still-nothing (calls.XgroupDelConsumer key group consumer) none = cc
-  still-nothing (calls.XinfoStream key) none = cc
-  still-nothing (calls.XinfoGroups key) none = cc
-  still-nothing (calls.XinfoConsumers key group) none = cc
-  still-nothing (calls.Xpending key group listing) none = cc
-  still-nothing (calls.Xclaim key group consumer least_idle ids time count just_ids) none = cc
-  still-nothing (calls.Xautoclaim key group consumer least_idle start count just_ids) none = cc
+  still-nothing (calls.Xread read) none = still-read read none
+  still-nothing (calls.Xreadgroup read) none = still-grouped read none
+  still-nothing call none = cc
 
   never-blocked : (again : Call) (deadline : Option ℕ) (outcome : Answered) → outcome_of outcome ≡ outcomes.Blocked again deadline → ⊥
   never-blocked again deadline (answers.Reply send keep) e = cc

@@ -5,6 +5,7 @@ use Rattle.sr_args.specs.Different.{AreDifferent}
 use Rattle.sr_args.specs.declared.call.Call.{Call}
 use Rattle.sr_args.specs.declared.call.Call.TheVariants as calls
 use Rattle.sr_args.specs.declared.call.Position.{Position}
+use Rattle.sr_args.specs.declared.commands.xread.Xread.{Xread}
 use Rattle.sr_args.specs.declared.call.Position.TheVariants.{At}
 use Rattle.sr_args.specs.declared.reads.ReadAsked.{ReadAsked}
 use Rattle.sr_args.specs.declared.reads.ReadAsked.TheVariants as asked
@@ -109,25 +110,7 @@ pub waits-at : (keys : Keys) (item : Key × Position) (key : Key) (id : Id) → 
 waits-at keys (key, from) now id same is = ap (λ (k : Key). (k, At id)) same ∙ ap (λ (i : Id). (key, At i)) is
 
 -- another call than XREAD waits as it does without BLOCK
-pub without-waits : (keys : Keys) (call : Call) → ((count : Option ℤ) (block : Option ℕ) (streams : List (Key × Position)) → call ≡ calls.Xread count block streams → ⊥) → without_block call ≡ waiting_as keys call
-without-waits keys (calls.Xread count block streams) other = absurd (other count block streams refl)
-without-waits keys (calls.Xreadgroup group consumer count block no_ack streams) other = refl
-without-waits keys (calls.Ping message) other = refl
-without-waits keys (calls.Xadd key make trim spec fields) other = refl
-without-waits keys (calls.Xtrim key trim) other = refl
-without-waits keys (calls.Xdel key ids) other = refl
-without-waits keys (calls.Xlen key) other = refl
-without-waits keys (calls.Xrange key start end count) other = refl
-without-waits keys (calls.Xrevrange key end start count) other = refl
-without-waits keys (calls.Xack key group ids) other = refl
-without-waits keys (calls.XgroupCreate key group from make) other = refl
-without-waits keys (calls.XgroupSetId key group from) other = refl
-without-waits keys (calls.XgroupDestroy key group) other = refl
-without-waits keys (calls.XgroupCreateConsumer key group consumer) other = refl
-without-waits keys (calls.XgroupDelConsumer key group consumer) other = refl
-without-waits keys (calls.XinfoStream key) other = refl
-without-waits keys (calls.XinfoGroups key) other = refl
-without-waits keys (calls.XinfoConsumers key group) other = refl
-without-waits keys (calls.Xpending key group listing) other = refl
-without-waits keys (calls.Xclaim key group consumer least_idle ids time count just_ids) other = refl
-without-waits keys (calls.Xautoclaim key group consumer least_idle start count just_ids) other = refl
+pub without-waits : (keys : Keys) (call : Call) → ((read : Xread) → call ≡ calls.Xread read → ⊥) → without_block call ≡ waiting_as keys call
+without-waits keys (calls.Xread read) other = absurd (other read refl)
+without-waits keys (calls.Xreadgroup read) other = refl
+without-waits keys call other = refl

@@ -31,29 +31,11 @@ is_nothing (x ∷ xs) = false
 
 -- the call is a read, and finds nothing. A read whose key or group is missing has an answer: the refusal.
 abbrev pub finds_nothing : Keys → ℕ → Call → Bool
-finds_nothing keys moment (calls.Xread count block streams) = is_nothing (read_streams count keys streams)
-finds_nothing keys moment (calls.Xreadgroup group consumer count block no_ack streams) =
-    have_group group keys streams
-    && is_nothing (listed_of_all (in_63_bits moment) group consumer (count_of count) no_ack keys streams)
-finds_nothing keys moment (calls.Ping message) = false
-finds_nothing keys moment (calls.Xadd key make trim spec fields) = false
-finds_nothing keys moment (calls.Xtrim key trim) = false
-finds_nothing keys moment (calls.Xdel key ids) = false
-finds_nothing keys moment (calls.Xlen key) = false
-finds_nothing keys moment (calls.Xrange key start end count) = false
-finds_nothing keys moment (calls.Xrevrange key end start count) = false
-finds_nothing keys moment (calls.Xack key group ids) = false
-finds_nothing keys moment (calls.XgroupCreate key group from make) = false
-finds_nothing keys moment (calls.XgroupSetId key group from) = false
-finds_nothing keys moment (calls.XgroupDestroy key group) = false
-finds_nothing keys moment (calls.XgroupCreateConsumer key group consumer) = false
-finds_nothing keys moment (calls.XgroupDelConsumer key group consumer) = false
-finds_nothing keys moment (calls.XinfoStream key) = false
-finds_nothing keys moment (calls.XinfoGroups key) = false
-finds_nothing keys moment (calls.XinfoConsumers key group) = false
-finds_nothing keys moment (calls.Xpending key group listing) = false
-finds_nothing keys moment (calls.Xclaim key group consumer least_idle ids time count just_ids) = false
-finds_nothing keys moment (calls.Xautoclaim key group consumer least_idle start count just_ids) = false
+finds_nothing keys moment (calls.Xread call) = is_nothing (read_streams call.count keys call.streams)
+finds_nothing keys moment (calls.Xreadgroup call) =
+    have_group call.group keys call.streams
+    && is_nothing (listed_of_all (in_63_bits moment) call.group call.consumer (count_of call.count) call.no_ack keys call.streams)
+finds_nothing keys moment call = false
 
 -- a stream that is read after `$`: after the last id that it has given now
 abbrev pub fixed_position : Keys → Key × Position → Key × Position
@@ -61,30 +43,10 @@ fixed_position keys (key, from) = (key, At (read_from from (stream_at keys key))
 
 -- the call as which a read waits: without BLOCK, and each `$` the last id at the call
 abbrev pub waiting_as : Keys → Call → Call
-waiting_as keys (calls.Xread count block streams) = calls.Xread count None (map (fixed_position keys) streams)
-waiting_as keys (calls.Xreadgroup group consumer count block no_ack streams) =
-    calls.Xreadgroup group consumer count None no_ack streams
-waiting_as keys (calls.Ping message) = calls.Ping message
-waiting_as keys (calls.Xadd key make trim spec fields) = calls.Xadd key make trim spec fields
-waiting_as keys (calls.Xtrim key trim) = calls.Xtrim key trim
-waiting_as keys (calls.Xdel key ids) = calls.Xdel key ids
-waiting_as keys (calls.Xlen key) = calls.Xlen key
-waiting_as keys (calls.Xrange key start end count) = calls.Xrange key start end count
-waiting_as keys (calls.Xrevrange key end start count) = calls.Xrevrange key end start count
-waiting_as keys (calls.Xack key group ids) = calls.Xack key group ids
-waiting_as keys (calls.XgroupCreate key group from make) = calls.XgroupCreate key group from make
-waiting_as keys (calls.XgroupSetId key group from) = calls.XgroupSetId key group from
-waiting_as keys (calls.XgroupDestroy key group) = calls.XgroupDestroy key group
-waiting_as keys (calls.XgroupCreateConsumer key group consumer) = calls.XgroupCreateConsumer key group consumer
-waiting_as keys (calls.XgroupDelConsumer key group consumer) = calls.XgroupDelConsumer key group consumer
-waiting_as keys (calls.XinfoStream key) = calls.XinfoStream key
-waiting_as keys (calls.XinfoGroups key) = calls.XinfoGroups key
-waiting_as keys (calls.XinfoConsumers key group) = calls.XinfoConsumers key group
-waiting_as keys (calls.Xpending key group listing) = calls.Xpending key group listing
-waiting_as keys (calls.Xclaim key group consumer least_idle ids time count just_ids) =
-    calls.Xclaim key group consumer least_idle ids time count just_ids
-waiting_as keys (calls.Xautoclaim key group consumer least_idle start count just_ids) =
-    calls.Xautoclaim key group consumer least_idle start count just_ids
+waiting_as keys (calls.Xread call) =
+    calls.Xread (record call { block = None; streams = map (fixed_position keys) call.streams })
+waiting_as keys (calls.Xreadgroup call) = calls.Xreadgroup (record call { block = None })
+waiting_as keys call = call
 
 -- until when a read waits that blocks for this many milliseconds: 0 has no end, nor has what lies after the greatest moment
 abbrev pub deadline_of : ℕ → ℕ → Option ℕ

@@ -5,6 +5,7 @@ use crate::bounds::in_63_bits;
 use crate::commands::xread::any_after;
 use crate::commands::xreadgroup::{have_group, lists_any};
 use crate::{Answered, Space};
+use sr_args::commands::Xread;
 use sr_args::{Call, Position, Streams};
 use sr_bytes::Name;
 use sr_ids::Id;
@@ -35,33 +36,15 @@ impl Space {
         ensures { (moment : ℕ) → result ≡ not (finds_nothing self.now moment call.now) }
     {
         match call {
-            Call::Xread { streams, .. } => any_after(self, streams.as_slice()),
-            Call::Xreadgroup { group, streams, .. } => {
-                let streams = streams.as_slice();
-                if !have_group(self, group, streams) {
+            Call::Xread(read) => any_after(self, read.streams.as_slice()),
+            Call::Xreadgroup(read) => {
+                let streams = read.streams.as_slice();
+                if !have_group(self, &read.group, streams) {
                     return true;
                 }
-                lists_any(self, group, streams)
+                lists_any(self, &read.group, streams)
             }
-            Call::Ping { .. }
-            | Call::Xadd { .. }
-            | Call::Xtrim { .. }
-            | Call::Xdel { .. }
-            | Call::Xlen { .. }
-            | Call::Xrange { .. }
-            | Call::Xrevrange { .. }
-            | Call::Xack { .. }
-            | Call::XgroupCreate { .. }
-            | Call::XgroupSetId { .. }
-            | Call::XgroupDestroy { .. }
-            | Call::XgroupCreateConsumer { .. }
-            | Call::XgroupDelConsumer { .. }
-            | Call::XinfoStream { .. }
-            | Call::XinfoGroups { .. }
-            | Call::XinfoConsumers { .. }
-            | Call::Xpending { .. }
-            | Call::Xclaim { .. }
-            | Call::Xautoclaim { .. } => true,
+            _ => true,
         }
     }
 
@@ -115,13 +98,13 @@ impl Space {
         ensures { IfOk result (λ again. again ≡ waiting_as self.now call.now) }
     {
         match call {
-            Call::Xread { count, streams, .. } => {
-                let list = self.fixed(alloc, streams.as_slice())?;
-                Ok(Call::Xread {
-                    count: *count,
+            Call::Xread(read) => {
+                let list = self.fixed(alloc, read.streams.as_slice())?;
+                Ok(Call::Xread(Xread {
+                    count: read.count,
                     block: None,
                     streams: Streams::new(list),
-                })
+                }))
             }
             _ => {
                 let again = call.copy(alloc)?;

@@ -79,24 +79,14 @@ fn move_of(call: &Call) -> Move<'_>
     requires { IsClaim call.now }
     ensures { IsMoveOf call.now result }
 {
-    let Call::Xclaim {
-        key: _,
-        group: _,
-        consumer,
-        least_idle,
-        ids,
-        time,
-        count,
-        just_ids,
-    } = call
-    else {
+    let Call::Xclaim(claim) = call else {
         unreachable!()
     };
     let asked = ClaimAsked {
-        least_idle: *least_idle,
-        time: *time,
-        count: *count,
-        just_ids: *just_ids,
+        least_idle: claim.least_idle,
+        time: claim.time,
+        count: claim.count,
+        just_ids: claim.just_ids,
     };
-    Move::new(consumer, claim_as(asked), ids.as_slice())
+    Move::new(&claim.consumer, claim_as(asked), claim.ids.as_slice())
 }

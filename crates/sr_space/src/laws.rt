@@ -1,8 +1,8 @@
-ghost use Rattle.std.specs.Prelude.{◌≡◌, ◌≢◌, ◌↔◌, ℕ, ℤ, Bool, IsTrue, List, Option, Some, true, IsSome};
-ghost use Rattle.sr_args.specs.declared.call.Call as calls;
-ghost use Rattle.sr_args.specs.declared.call.Call.TheVariants as reads;
-ghost use Rattle.sr_args.specs.declared.call.Position as positions;
-ghost use Rattle.sr_args.specs.declared.reads.ReadAsked as asked;
+ghost use Rattle.std.specs.Prelude.{◌≡◌, ◌≢◌, ◌↔◌, ℕ, IsTrue, List, Option, Some, IsSome};
+ghost use Rattle.sr_args.specs.declared.call.Call.{Call};
+ghost use Rattle.sr_args.specs.declared.call.Call.TheVariants as calls;
+ghost use Rattle.sr_args.specs.declared.commands.xread.Xread.{Xread};
+ghost use Rattle.sr_args.specs.declared.commands.xreadgroup.Xreadgroup.{Xreadgroup};
 ghost use Rattle.sr_resp.specs.declared.code.ErrCode as codes;
 ghost use Rattle.sr_resp.specs.Reply.{error_reply, null_array};
 ghost use Rattle.sr_stream.specs.Stream.{StreamState, IsStream};
@@ -22,52 +22,49 @@ pub fn one_stream_changes()
 
 /// Law: if the entries of each stream rise up to its last id, they do so after each command. Calling this has no effect.
 pub fn streams_stay_sound()
-    ensures { (keys : Keys) (moment : ℕ) (call : calls.Call) →
+    ensures { (keys : Keys) (moment : ℕ) (call : Call) →
         AreStreams keys → AreStreams (at_once keys moment call).keys }
 {}
 
 /// Law: an error reply changes no key. Calling this has no effect.
 pub fn errors_change_nothing()
-    ensures { (keys : Keys) (moment : ℕ) (call : calls.Call) (code : codes.ErrCode) →
+    ensures { (keys : Keys) (moment : ℕ) (call : Call) (code : codes.ErrCode) →
         (at_once keys moment call).outcome ≡ reply_of (error_reply code) → (at_once keys moment call).keys ≡ keys }
 {}
 
 /// Law: no command takes a key away. Calling this has no effect.
 pub fn keys_stay()
-    ensures { (keys : Keys) (moment : ℕ) (call : calls.Call) (key : Key) →
+    ensures { (keys : Keys) (moment : ℕ) (call : Call) (key : Key) →
         IsSome (stream_at keys key) → IsSome (stream_at (at_once keys moment call).keys key) }
 {}
 
 /// Law: with NOACK, a read of new entries changes no pending list. Calling this has no effect.
 pub fn noack_keeps_pending()
-    ensures { (keys : Keys) (moment : ℕ) (group consumer : List ℕ) (count : Option ℤ) (block : Option ℕ)
-        (streams : List (Key × asked.ReadAsked)) (key : Key) (name : List ℕ) → AskForNew streams
-        → pending_at (at_once keys moment (reads.Xreadgroup group consumer count block true streams)).keys key name
-        ≡ pending_at keys key name }
+    ensures { (keys : Keys) (moment : ℕ) (read : Xreadgroup) (key : Key) (name : List ℕ) → IsTrue read.no_ack
+        → AskForNew read.streams
+        → pending_at (at_once keys moment (calls.Xreadgroup read)).keys key name ≡ pending_at keys key name }
 {}
 
 /// Law: a call leaves the keys that it leaves at once, whether it waits or not. Calling this has no effect.
 pub fn waiting_leaves_the_same()
-    ensures { (keys : Keys) (moment : ℕ) (call : calls.Call) →
+    ensures { (keys : Keys) (moment : ℕ) (call : Call) →
         (executed keys moment call).keys ≡ (at_once keys moment call).keys }
 {}
 
 /// Law: a read that finds nothing replies the null array, and no other read does. Calling this has no effect.
 pub fn nothing_is_the_null_array()
-    ensures xread { (keys : Keys) (moment : ℕ) (count : Option ℤ) (block : Option ℕ)
-        (streams : List (Key × positions.Position)) →
-        let call = reads.Xread count block streams in
+    ensures xread { (keys : Keys) (moment : ℕ) (read : Xread) →
+        let call = calls.Xread read in
         ((at_once keys moment call).outcome ≡ reply_of null_array) ↔ IsTrue (finds_nothing keys moment call) }
-    ensures xreadgroup { (keys : Keys) (moment : ℕ) (group consumer : List ℕ) (count : Option ℤ) (block : Option ℕ)
-        (no_ack : Bool) (streams : List (Key × asked.ReadAsked)) →
-        let call = reads.Xreadgroup group consumer count block no_ack streams in
+    ensures xreadgroup { (keys : Keys) (moment : ℕ) (read : Xreadgroup) →
+        let call = calls.Xreadgroup read in
         ((at_once keys moment call).outcome ≡ reply_of null_array) ↔ IsTrue (finds_nothing keys moment call) }
 {}
 
 /// Law: a read that waits finds nothing at the keys that it left, so it is not served at once. Calling this has no
 /// effect.
 pub fn waiting_finds_nothing()
-    ensures { (keys : Keys) (moment later : ℕ) (call again : calls.Call) (deadline : Option ℕ) →
+    ensures { (keys : Keys) (moment later : ℕ) (call again : Call) (deadline : Option ℕ) →
         (executed keys moment call).outcome ≡ outcomes.Blocked again deadline →
         IsTrue (finds_nothing (executed keys moment call).keys later again) }
 {}

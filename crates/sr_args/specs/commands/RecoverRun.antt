@@ -1,12 +1,16 @@
 -- RECOVER.RUN key group [TRIES number] DEAD consumer [consumer ..]
 -- Source: docs/COMMANDS.md, RECOVER.RUN.
 
-use Rattle.std.specs.Prelude.{ℕ, true, unwrap_or}
+use Rattle.std.specs.Prelude.{ℕ, true, unwrap_or, [], ◌∷◌, codes, None}
 use Rattle.sr_args.specs.declared.call.Command.{Command}
 use Rattle.sr_args.specs.declared.call.Command.TheVariants as asked
 use Rattle.sr_args.specs.declared.name.OptionName.TheVariants as names
 use Rattle.sr_args.specs.Place.{tries}
 use Rattle.sr_args.specs.Form.{Form, text, before, texts_after, Values}
+use Rattle.sr_args.specs.Row.{Row}
+
+abbrev pub row : Row
+row = record { name = codes "RECOVER.RUN" ∷ []; fewest = 5; most = None }
 
 -- how many rounds a recovery makes at most if TRIES does not say
 abbrev pub usual_tries : ℕ

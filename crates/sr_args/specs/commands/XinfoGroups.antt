@@ -1,12 +1,17 @@
 -- XINFO GROUPS key
 -- Source: Redis documentation, command XINFO GROUPS.
 
+use Rattle.std.specs.Prelude.{[], ◌∷◌, codes, Some}
 use Rattle.sr_args.specs.declared.call.Call.{Call}
 use Rattle.sr_args.specs.declared.call.Call.TheVariants as calls
 use Rattle.sr_args.specs.Form.{Form, end, text, Values}
+use Rattle.sr_args.specs.Row.{Row}
+
+abbrev pub row : Row
+row = record { name = codes "XINFO" ∷ codes "GROUPS" ∷ []; fewest = 3; most = Some 3 }
 
 abbrev pub form : Form
 form = text end
 
 abbrev pub call : Values form → Call
-call (key, nothing_more) = calls.XinfoGroups key
+call (key, nothing_more) = calls.XinfoGroups (record { key = key })

@@ -1,13 +1,17 @@
 -- XPENDING key group [[IDLE number] start end count [consumer]]
 -- Source: Redis documentation, command XPENDING.
 
-use Rattle.std.specs.Prelude.{Option, Some, None}
+use Rattle.std.specs.Prelude.{Option, Some, None, [], ◌∷◌, codes}
 use Rattle.sr_args.specs.declared.call.Call.{Call}
 use Rattle.sr_args.specs.declared.call.Call.TheVariants as calls
-use Rattle.sr_args.specs.declared.call.PendingAsked.{PendingAsked}
+use Rattle.sr_args.specs.declared.commands.xpending.PendingAsked.{PendingAsked}
 use Rattle.sr_args.specs.declared.name.OptionName.TheVariants as names
 use Rattle.sr_args.specs.Place.{int, range_start, range_end}
 use Rattle.sr_args.specs.Form.{Form, text, number, id, optional_text, before, maybe, Values}
+use Rattle.sr_args.specs.Row.{Row}
+
+abbrev pub row : Row
+row = record { name = codes "XPENDING" ∷ []; fewest = 3; most = Some 9 }
 
 -- [IDLE number] start end count [consumer]
 abbrev pub listing : Form
@@ -25,4 +29,4 @@ asked_if None = None
 asked_if (Some values) = Some (asked values)
 
 abbrev pub call : Values form → Call
-call (key, (group, values)) = calls.Xpending key group (asked_if values)
+call (key, (group, values)) = calls.Xpending (record { key = key; group = group; listing = asked_if values })

@@ -9,11 +9,13 @@ use Rattle.sr_args.specs.declared.table.NameMatch.TheVariants as matches
 use Rattle.sr_args.specs.declared.table.Found.{Found}
 use Rattle.sr_args.specs.declared.table.Found.TheVariants as found
 use Rattle.sr_args.specs.Place.{Word}
-use Rattle.sr_args.specs.Table.{Row, row, row_of, Begins, IsCut, IsNamed, IsHalfNamed}
+use Rattle.sr_args.specs.Row.{Row}
+use Rattle.sr_args.specs.Table.{Begins, IsCut, IsNamed, IsHalfNamed}
+use Rattle.sr_args.specs.commands.{row_of}
 
 -- what a row of the code's table says
 abbrev pub shown : declared.Row → Row
-shown r = row (r.first.now ∷ option_to_list (option_copied r.second)) r.fewest r.most
+shown r = record { name = r.first.now ∷ option_to_list (option_copied r.second); fewest = r.fewest; most = r.most }
 
 -- the words neither begin with the name nor are cut from it
 pub record IsOther (name words : List Word) : Type 0 where

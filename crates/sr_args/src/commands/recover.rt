@@ -10,10 +10,35 @@ ghost use Rattle.sr_args.specs.steps.Rounds.{dead_form, dead_of, rounds_form, ro
 use crate::commands::named::read_group;
 use crate::number::read_tries;
 use crate::options::is_named;
+use crate::table::Row;
 use crate::value::{copy_word, number_word};
 use crate::{CallFault, Command, Names, OptionName};
 use sr_bytes::Unread;
 use std::alloc::{AllocError, Global};
+
+/// What the table says of RECOVER.PLAN.
+pub(crate) const PLAN_ROW: Row = Row {
+    first: b"RECOVER.PLAN",
+    second: None,
+    fewest: 5,
+    most: None,
+};
+
+/// What the table says of RECOVER.RUN.
+pub(crate) const RUN_ROW: Row = Row {
+    first: b"RECOVER.RUN",
+    second: None,
+    fewest: 5,
+    most: None,
+};
+
+/// What the table says of RECOVER.BOARD.
+pub(crate) const BOARD_ROW: Row = Row {
+    first: b"RECOVER.BOARD",
+    second: None,
+    fewest: 3,
+    most: Some(3),
+};
 
 /// How many rounds a recovery makes at most if TRIES does not say.
 const USUAL_TRIES: u64 = 3;

@@ -1,4 +1,4 @@
-ghost use Rattle.std.specs.Prelude.{◌≡◌, List, IfSome, IfNone, IfOk};
+ghost use Rattle.std.specs.Prelude.{◌≡◌, List, IfSome, IfNone, IfOk, ◌↔◌, IsTrue};
 ghost use Rattle.sr_args.specs.Form.{Reading, Reads};
 ghost use Rattle.sr_args.specs.Options.{Written};
 ghost use Rattle.sr_args.specs.commands.Xadd as xadd_form;
@@ -7,11 +7,63 @@ ghost use Rattle.sr_args.specs.steps.Options.{AreJudged};
 ghost use Rattle.sr_args.specs.steps.Pairs.{pairs_of};
 
 use crate::options::{Choice, OptionSet, ValueFault, read_options};
+use crate::same::{same_fields, same_spec, same_trim_asked};
+use crate::table::Row;
 use crate::value::copy_word;
-use crate::{Call, CallFault};
-use sr_bytes::{Fields, Unread, room_of};
-use sr_ids::parse_spec;
+use crate::{Call, CallFault, Trim};
+use sr_bytes::{Fields, Name, Unread, room_of};
+use sr_ids::{Spec, parse_spec};
 use std::alloc::{AllocError, Global};
+
+/// What the table says of XADD.
+pub(crate) const ROW: Row = Row {
+    first: b"XADD",
+    second: None,
+    fewest: 5,
+    most: None,
+};
+
+/// XADD: an entry for the stream at a key.
+///
+/// Source: Redis documentation, command XADD.
+#[derive(Drop)]
+pub struct Xadd {
+    pub key: Name,
+    /// Whether a missing key is made: not with NOMKSTREAM.
+    pub make: bool,
+    /// How the stream is trimmed after it.
+    pub trim: Option<Trim>,
+    pub id: Spec,
+    pub fields: Fields,
+}
+
+impl Xadd {
+    /// A copy with the same parts.
+    pub(crate) fn copy(&self, alloc: Global) -> Result<Xadd, AllocError>
+        ensures { IfOk result (λ copy. copy ≡ self.now) }
+    {
+        let key = self.key.copy(alloc)?;
+        let fields = self.fields.copy(alloc)?;
+        Ok(Xadd {
+            key,
+            make: self.make,
+            trim: self.trim,
+            id: self.id,
+            fields,
+        })
+    }
+
+    /// Whether the other has the same parts.
+    pub(crate) fn equals(&self, other: &Xadd) -> bool
+        ensures { IsTrue result ↔ (self.now ≡ other.now) }
+    {
+        self.key == other.key
+            && self.make == other.make
+            && same_trim_asked(self.trim, other.trim)
+            && same_spec(self.id, other.id)
+            && same_fields(&self.fields, &other.fields)
+    }
+}
 
 /// The words of XADD, in their places, and what its options ask for.
 #[derive(Drop)]
@@ -36,13 +88,13 @@ pub(crate) fn read_xadd(alloc: Global, words: Unread<'_>) -> Result<Call, CallFa
     };
     let key = copy_word(alloc, read.key)?;
     let fields = copy_fields(alloc, read.fields)?;
-    Ok(Call::Xadd {
+    Ok(Call::Xadd(Xadd {
         key,
         make: choice.add_makes,
         trim: choice.trim,
         id,
         fields,
-    })
+    }))
 }
 
 /// The words of XADD: the key, options in any order, the id, and fields with their values.

@@ -1,4 +1,4 @@
-ghost use Rattle.std.specs.Prelude.{◌≡◌, List, IfSome, IfNone};
+ghost use Rattle.std.specs.Prelude.{◌≡◌, List, IfSome, IfNone, ◌↔◌, IsTrue, IfOk};
 ghost use Rattle.sr_args.specs.Form.{Reading, Reads};
 ghost use Rattle.sr_args.specs.Options.{Written};
 ghost use Rattle.sr_args.specs.commands.Xautoclaim as xautoclaim_form;
@@ -9,10 +9,69 @@ ghost use Rattle.sr_args.specs.steps.Options.{AreJudged};
 use crate::commands::named::{ConsumerWords, consumer_words, copy_consumer};
 use crate::number::read_int;
 use crate::options::{Choice, OptionSet, ValueFault, read_options};
+use crate::same::{same_count, same_id};
+use crate::table::Row;
 use crate::{Call, CallFault};
-use sr_bytes::Unread;
-use sr_ids::parse_start;
-use std::alloc::Global;
+use sr_bytes::{Name, Unread};
+use sr_ids::{Id, parse_start};
+use std::alloc::{AllocError, Global};
+
+/// What the table says of XAUTOCLAIM.
+pub(crate) const ROW: Row = Row {
+    first: b"XAUTOCLAIM",
+    second: None,
+    fewest: 6,
+    most: Some(9),
+};
+
+/// XAUTOCLAIM: pending entries from an id on become the consumer's.
+///
+/// Source: Redis documentation, command XAUTOCLAIM.
+#[derive(Drop)]
+pub struct Xautoclaim {
+    pub key: Name,
+    pub group: Name,
+    pub consumer: Name,
+    /// For how many milliseconds they are idle at least.
+    pub least_idle: i64,
+    pub start: Id,
+    pub count: Option<i64>,
+    /// Whether their ids are replied, and not the entries.
+    pub just_ids: bool,
+}
+
+impl Xautoclaim {
+    /// A copy with the same parts.
+    pub(crate) fn copy(&self, alloc: Global) -> Result<Xautoclaim, AllocError>
+        ensures { IfOk result (λ copy. copy ≡ self.now) }
+    {
+        let key = self.key.copy(alloc)?;
+        let group = self.group.copy(alloc)?;
+        let consumer = self.consumer.copy(alloc)?;
+        Ok(Xautoclaim {
+            key,
+            group,
+            consumer,
+            least_idle: self.least_idle,
+            start: self.start,
+            count: self.count,
+            just_ids: self.just_ids,
+        })
+    }
+
+    /// Whether the other has the same parts.
+    pub(crate) fn equals(&self, other: &Xautoclaim) -> bool
+        ensures { IsTrue result ↔ (self.now ≡ other.now) }
+    {
+        self.key == other.key
+            && self.group == other.group
+            && self.consumer == other.consumer
+            && self.least_idle == other.least_idle
+            && same_id(self.start, other.start)
+            && same_count(self.count, other.count)
+            && self.just_ids == other.just_ids
+    }
+}
 
 /// The words of XAUTOCLAIM, in their places, and what its options ask for.
 #[derive(Clone, Copy)]
@@ -38,7 +97,7 @@ pub(crate) fn read_xautoclaim(alloc: Global, words: Unread<'_>) -> Result<Call, 
         return Err(CallFault::BadId);
     };
     let named = copy_consumer(alloc, read.named)?;
-    Ok(Call::Xautoclaim {
+    Ok(Call::Xautoclaim(Xautoclaim {
         key: named.key,
         group: named.group,
         consumer: named.consumer,
@@ -46,7 +105,7 @@ pub(crate) fn read_xautoclaim(alloc: Global, words: Unread<'_>) -> Result<Call, 
         start,
         count: choice.count,
         just_ids: choice.just_ids,
-    })
+    }))
 }
 
 /// The words of XAUTOCLAIM: the key, the group, the consumer, a number, an id, and options in any order.

@@ -1,4 +1,4 @@
-ghost use Rattle.std.specs.Prelude.{◌≡◌, ◌↔◌, ◌+◌, List, ◌∷◌, length, take, IsTrue, IfSome, IfNone};
+ghost use Rattle.std.specs.Prelude.{◌≡◌, ◌↔◌, ◌+◌, List, ◌∷◌, length, take, IsTrue, IfSome, IfNone, IfOk};
 ghost use Rattle.sr_args.specs.Place.{Word};
 ghost use Rattle.sr_args.specs.Form.{Reading, Reads, AreNoneOf};
 ghost use Rattle.sr_args.specs.Options.{Written, IsUnnamed};
@@ -10,10 +10,88 @@ ghost use Rattle.sr_args.specs.steps.Options.{AreJudged};
 use crate::commands::named::{ConsumerWords, consumer_words, copy_consumer};
 use crate::number::read_int;
 use crate::options::{Choice, OptionSet, ValueFault, is_named, names_option, read_options};
+use crate::same::{same_ids, same_number};
+use crate::table::Row;
 use crate::value::{are_first_ids, copy_first_ids};
 use crate::{Call, CallFault, OptionName};
-use sr_bytes::Unread;
-use std::alloc::Global;
+use sr_bytes::{Name, Unread};
+use sr_ids::Ids;
+use std::alloc::{AllocError, Global};
+
+/// What the table says of XCLAIM.
+pub(crate) const ROW: Row = Row {
+    first: b"XCLAIM",
+    second: None,
+    fewest: 6,
+    most: None,
+};
+
+/// When a claimed entry counts as delivered.
+///
+/// Source: Redis documentation, command XCLAIM.
+#[derive(Clone, Copy, PartialEq, Eq)]
+pub enum TimeAsked {
+    /// Now.
+    Now,
+    /// IDLE: that many milliseconds ago.
+    Idle(u64),
+    /// TIME: at this moment, in milliseconds since 1970.
+    At(u64),
+}
+
+/// XCLAIM: the pending entries with these ids become the consumer's.
+///
+/// Source: Redis documentation, command XCLAIM.
+#[derive(Drop)]
+pub struct Xclaim {
+    pub key: Name,
+    pub group: Name,
+    pub consumer: Name,
+    /// For how many milliseconds they are idle at least.
+    pub least_idle: i64,
+    pub ids: Ids,
+    pub time: TimeAsked,
+    /// RETRYCOUNT: how often they count as delivered.
+    pub count: Option<u64>,
+    /// Whether their ids are replied, and not the entries.
+    pub just_ids: bool,
+}
+
+impl Xclaim {
+    /// A copy with the same parts.
+    pub(crate) fn copy(&self, alloc: Global) -> Result<Xclaim, AllocError>
+        ensures { IfOk result (λ copy. copy ≡ self.now) }
+    {
+        let key = self.key.copy(alloc)?;
+        let group = self.group.copy(alloc)?;
+        let consumer = self.consumer.copy(alloc)?;
+        let ids = self.ids.copy(alloc)?;
+        Ok(Xclaim {
+            key,
+            group,
+            consumer,
+            least_idle: self.least_idle,
+            ids,
+            time: self.time,
+            count: self.count,
+            just_ids: self.just_ids,
+        })
+    }
+
+    /// Whether the other has the same parts.
+    pub(crate) fn equals(&self, other: &Xclaim) -> bool
+        ensures { IsTrue result ↔ (self.now ≡ other.now) }
+    {
+        self.key == other.key
+            && self.group == other.group
+            && self.consumer == other.consumer
+            && self.least_idle == other.least_idle
+            && same_ids(&self.ids, &other.ids)
+            && same_time(self.time, other.time)
+            && same_number(self.count, other.count)
+            && self.just_ids == other.just_ids
+    }
+}
 
 /// The words of XCLAIM, in their places, and what its options ask for.
 #[derive(Drop)]
@@ -43,7 +121,7 @@ pub(crate) fn read_xclaim(alloc: Global, words: Unread<'_>) -> Result<Call, Call
     }
     let ids = copy_first_ids(alloc, read.from_ids, read.ids)?;
     let named = copy_consumer(alloc, read.named)?;
-    Ok(Call::Xclaim {
+    Ok(Call::Xclaim(Xclaim {
         key: named.key,
         group: named.group,
         consumer: named.consumer,
@@ -52,7 +130,7 @@ pub(crate) fn read_xclaim(alloc: Global, words: Unread<'_>) -> Result<Call, Call
         time: choice.time,
         count: choice.delivered,
         just_ids: choice.just_ids,
-    })
+    }))
 }
 
 /// The words of XCLAIM: the key, the group, the consumer, a number, ids, and options in any order.
@@ -113,4 +191,11 @@ fn skip_ids(words: &mut Unread<'_>) -> usize
         words.next();
     }
     all - words.len()
+}
+
+/// Whether two times are the same.
+fn same_time(a: TimeAsked, b: TimeAsked) -> bool
+    ensures { IsTrue result ↔ (a ≡ b) }
+{
+    a == b
 }

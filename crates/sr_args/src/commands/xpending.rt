@@ -1,4 +1,4 @@
-ghost use Rattle.std.specs.Prelude.{◌≡◌, ℤ, Option, IfSome, IfNone, IfOk};
+ghost use Rattle.std.specs.Prelude.{◌≡◌, ℤ, Option, IfSome, IfNone, IfOk, ◌↔◌, IsTrue};
 ghost use Rattle.std.specs.Option.{option_copied};
 ghost use Rattle.sr_args.specs.Form.{Reading, Reads, maybe, named_places};
 ghost use Rattle.sr_args.specs.Place.{int};
@@ -8,12 +8,100 @@ ghost use Rattle.sr_args.specs.steps.Numbers.{IsAnyWord};
 ghost use Rattle.sr_args.specs.steps.Options.{Begins, BeginsNone};
 ghost use Rattle.sr_args.specs.steps.Pending.{listing_reading, IsBeforeStart, IsPastIdle, IsMaybeInt};
 
+use crate::names::copy_name;
 use crate::number::read_int;
+use crate::same::{same_count, same_id, same_name};
+use crate::table::Row;
 use crate::value::{copy_word, number_word};
-use crate::{Call, CallFault, OptionName, PendingAsked};
+use crate::{Call, CallFault, OptionName};
 use sr_bytes::{Name, Unread};
-use sr_ids::{parse_end, parse_start};
+use sr_ids::{Id, parse_end, parse_start};
 use std::alloc::{AllocError, Global};
+
+/// What the table says of XPENDING.
+pub(crate) const ROW: Row = Row {
+    first: b"XPENDING",
+    second: None,
+    fewest: 3,
+    most: Some(9),
+};
+
+/// Which pending entries XPENDING lists.
+///
+/// Source: Redis documentation, command XPENDING.
+#[derive(Drop)]
+pub struct PendingAsked {
+    /// IDLE: for how many milliseconds they are idle at least.
+    pub least_idle: Option<i64>,
+    pub start: Id,
+    pub end: Id,
+    /// How many at most.
+    pub count: i64,
+    /// Whose they are, if those of one consumer are wanted.
+    pub consumer: Option<Name>,
+}
+
+impl PendingAsked {
+    /// A copy with the same parts.
+    fn copy(&self, alloc: Global) -> Result<PendingAsked, AllocError>
+        ensures { IfOk result (λ copy. copy ≡ self.now) }
+    {
+        let consumer = copy_name(alloc, &self.consumer)?;
+        Ok(PendingAsked {
+            least_idle: self.least_idle,
+            start: self.start,
+            end: self.end,
+            count: self.count,
+            consumer,
+        })
+    }
+
+    /// Whether the same pending entries are listed.
+    pub fn equals(&self, other: &PendingAsked) -> bool
+        ensures { IsTrue result ↔ (self.now ≡ other.now) }
+    {
+        same_count(self.least_idle, other.least_idle)
+            && same_id(self.start, other.start)
+            && same_id(self.end, other.end)
+            && self.count == other.count
+            && same_name(&self.consumer, &other.consumer)
+    }
+}
+
+/// XPENDING: what is pending in a group, in sum or as a list.
+///
+/// Source: Redis documentation, command XPENDING.
+#[derive(Drop)]
+pub struct Xpending {
+    pub key: Name,
+    pub group: Name,
+    pub listing: Option<PendingAsked>,
+}
+
+impl Xpending {
+    /// A copy with the same parts.
+    pub(crate) fn copy(&self, alloc: Global) -> Result<Xpending, AllocError>
+        ensures { IfOk result (λ copy. copy ≡ self.now) }
+    {
+        let key = self.key.copy(alloc)?;
+        let group = self.group.copy(alloc)?;
+        let listing = copy_listing(alloc, &self.listing)?;
+        Ok(Xpending {
+            key,
+            group,
+            listing,
+        })
+    }
+
+    /// Whether the other has the same parts.
+    pub(crate) fn equals(&self, other: &Xpending) -> bool
+        ensures { IsTrue result ↔ (self.now ≡ other.now) }
+    {
+        self.key == other.key
+            && self.group == other.group
+            && same_listing(&self.listing, &other.listing)
+    }
+}
 
 /// The words of a listing, in their places.
 #[derive(Clone, Copy)]
@@ -38,11 +126,11 @@ pub(crate) fn read_xpending(alloc: Global, mut words: Unread<'_>) -> Result<Call
     let listing = read_maybe_listing(alloc, words)?;
     let key = copy_word(alloc, key)?;
     let group = copy_word(alloc, group)?;
-    Ok(Call::Xpending {
+    Ok(Call::Xpending(Xpending {
         key,
         group,
         listing,
-    })
+    }))
 }
 
 /// `[[IDLE number] start end count [consumer]]`
@@ -138,5 +226,29 @@ fn copy_maybe_word(alloc: Global, word: Option<&[u8]>) -> Result<Option<Name>, A
     match word {
         None => Ok(None),
         Some(word) => Ok(Some(copy_word(alloc, word)?)),
+    }
+}
+
+/// A copy of what is listed, if anything is.
+fn copy_listing(
+    alloc: Global,
+    listing: &Option<PendingAsked>,
+) -> Result<Option<PendingAsked>, AllocError>
+    ensures { IfOk result (λ copy. copy ≡ listing.now) }
+{
+    match listing {
+        None => Ok(None),
+        Some(listing) => Ok(Some(listing.copy(alloc)?)),
+    }
+}
+
+/// Whether the same pending entries are listed, or none.
+fn same_listing(a: &Option<PendingAsked>, b: &Option<PendingAsked>) -> bool
+    ensures { IsTrue result ↔ (a.now ≡ b.now) }
+{
+    match (a, b) {
+        (Some(a), Some(b)) => a.equals(b),
+        (None, None) => true,
+        _ => false,
     }
 }

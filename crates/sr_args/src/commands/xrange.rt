@@ -1,4 +1,4 @@
-ghost use Rattle.std.specs.Prelude.{◌≡◌, List, IfSome, IfNone};
+ghost use Rattle.std.specs.Prelude.{◌≡◌, List, IfSome, IfNone, ◌↔◌, IsTrue, IfOk};
 ghost use Rattle.sr_args.specs.Place.{IdForm, IdOf, Spells, HasId, spelled};
 ghost use Rattle.sr_args.specs.Options.{Written};
 ghost use Rattle.sr_args.specs.Form.{Reading, Reads};
@@ -9,11 +9,101 @@ ghost use Rattle.sr_args.specs.steps.Options.{AreJudged};
 ghost use Rattle.sr_args.specs.steps.Ranges.{range_form, range_reading, spelling_of, id_at, asked_of};
 
 use crate::options::{Choice, OptionSet, ValueFault, read_options};
+use crate::same::{same_count, same_id};
+use crate::table::Row;
 use crate::value::copy_word;
 use crate::{Call, CallFault};
 use sr_bytes::{Name, Unread};
 use sr_ids::{Id, parse_end, parse_start};
-use std::alloc::Global;
+use std::alloc::{AllocError, Global};
+
+/// What the table says of XRANGE.
+pub(crate) const XRANGE_ROW: Row = Row {
+    first: b"XRANGE",
+    second: None,
+    fewest: 4,
+    most: Some(6),
+};
+
+/// XRANGE: the entries from one id to another, and how many are wanted at most.
+///
+/// Source: Redis documentation, command XRANGE.
+#[derive(Drop)]
+pub struct Xrange {
+    pub key: Name,
+    pub start: Id,
+    pub end: Id,
+    pub count: Option<i64>,
+}
+
+impl Xrange {
+    /// A copy with the same parts.
+    pub(crate) fn copy(&self, alloc: Global) -> Result<Xrange, AllocError>
+        ensures { IfOk result (λ copy. copy ≡ self.now) }
+    {
+        let key = self.key.copy(alloc)?;
+        Ok(Xrange {
+            key,
+            start: self.start,
+            end: self.end,
+            count: self.count,
+        })
+    }
+
+    /// Whether the other has the same parts.
+    pub(crate) fn equals(&self, other: &Xrange) -> bool
+        ensures { IsTrue result ↔ (self.now ≡ other.now) }
+    {
+        self.key == other.key
+            && same_id(self.start, other.start)
+            && same_id(self.end, other.end)
+            && same_count(self.count, other.count)
+    }
+}
+
+/// What the table says of XREVRANGE.
+pub(crate) const XREVRANGE_ROW: Row = Row {
+    first: b"XREVRANGE",
+    second: None,
+    fewest: 4,
+    most: Some(6),
+};
+
+/// XREVRANGE: the same entries, the last of them first.
+///
+/// Source: Redis documentation, command XREVRANGE.
+#[derive(Drop)]
+pub struct Xrevrange {
+    pub key: Name,
+    pub end: Id,
+    pub start: Id,
+    pub count: Option<i64>,
+}
+
+impl Xrevrange {
+    /// A copy with the same parts.
+    pub(crate) fn copy(&self, alloc: Global) -> Result<Xrevrange, AllocError>
+        ensures { IfOk result (λ copy. copy ≡ self.now) }
+    {
+        let key = self.key.copy(alloc)?;
+        Ok(Xrevrange {
+            key,
+            end: self.end,
+            start: self.start,
+            count: self.count,
+        })
+    }
+
+    /// Whether the other has the same parts.
+    pub(crate) fn equals(&self, other: &Xrevrange) -> bool
+        ensures { IsTrue result ↔ (self.now ≡ other.now) }
+    {
+        self.key == other.key
+            && same_id(self.end, other.end)
+            && same_id(self.start, other.start)
+            && same_count(self.count, other.count)
+    }
+}
 
 /// The words of XRANGE or of XREVRANGE, in their places.
 #[derive(Clone, Copy)]
@@ -46,12 +136,12 @@ pub(crate) fn read_xrange(alloc: Global, words: Unread<'_>) -> Result<Call, Call
     ensures { Gives xrange_form.form xrange_form.call words.entry result }
 {
     let asked = read_range(alloc, words, Bound::Start, Bound::End)?;
-    Ok(Call::Xrange {
+    Ok(Call::Xrange(Xrange {
         key: asked.key,
         start: asked.first,
         end: asked.second,
         count: asked.count,
-    })
+    }))
 }
 
 /// `XREVRANGE key end start [COUNT int]`
@@ -59,12 +149,12 @@ pub(crate) fn read_xrevrange(alloc: Global, words: Unread<'_>) -> Result<Call, C
     ensures { Gives xrevrange_form.form xrevrange_form.call words.entry result }
 {
     let asked = read_range(alloc, words, Bound::End, Bound::Start)?;
-    Ok(Call::Xrevrange {
+    Ok(Call::Xrevrange(Xrevrange {
         key: asked.key,
         end: asked.first,
         start: asked.second,
         count: asked.count,
-    })
+    }))
 }
 
 /// `key id id [COUNT int]`, where the ids are these ends of a range.

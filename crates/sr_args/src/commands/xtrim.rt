@@ -1,4 +1,4 @@
-ghost use Rattle.std.specs.Prelude.{IfSome, IfNone};
+ghost use Rattle.std.specs.Prelude.{IfSome, IfNone, ◌≡◌, ◌↔◌, IsTrue, IfOk};
 ghost use Rattle.sr_args.specs.declared.name.Measure as measures;
 ghost use Rattle.sr_args.specs.Name.{IsSameName, measure_name, option_text};
 ghost use Rattle.sr_args.specs.Form.{Reading, Reads};
@@ -8,10 +8,49 @@ ghost use Rattle.sr_args.specs.steps.Options.{trim_reading};
 
 use crate::name::option_named;
 use crate::options::{TrimWords, read_trim, trim_words};
+use crate::same::same_trim;
+use crate::table::Row;
 use crate::value::copy_word;
-use crate::{Call, CallFault, Measure, OptionName};
-use sr_bytes::Unread;
-use std::alloc::Global;
+use crate::{Call, CallFault, Measure, OptionName, Trim};
+use sr_bytes::{Name, Unread};
+use std::alloc::{AllocError, Global};
+
+/// What the table says of XTRIM.
+pub(crate) const ROW: Row = Row {
+    first: b"XTRIM",
+    second: None,
+    fewest: 4,
+    most: Some(7),
+};
+
+/// XTRIM: the oldest entries go.
+///
+/// Source: Redis documentation, command XTRIM.
+#[derive(Drop)]
+pub struct Xtrim {
+    pub key: Name,
+    pub trim: Trim,
+}
+
+impl Xtrim {
+    /// A copy with the same parts.
+    pub(crate) fn copy(&self, alloc: Global) -> Result<Xtrim, AllocError>
+        ensures { IfOk result (λ copy. copy ≡ self.now) }
+    {
+        let key = self.key.copy(alloc)?;
+        Ok(Xtrim {
+            key,
+            trim: self.trim,
+        })
+    }
+
+    /// Whether the other has the same parts.
+    pub(crate) fn equals(&self, other: &Xtrim) -> bool
+        ensures { IsTrue result ↔ (self.now ≡ other.now) }
+    {
+        self.key == other.key && same_trim(self.trim, other.trim)
+    }
+}
 
 /// The words of XTRIM, in their places.
 #[derive(Clone, Copy)]
@@ -29,7 +68,7 @@ pub(crate) fn read_xtrim(alloc: Global, words: Unread<'_>) -> Result<Call, CallF
     };
     let trim = read_trim(read.trim)?;
     let key = copy_word(alloc, read.key)?;
-    Ok(Call::Xtrim { key, trim })
+    Ok(Call::Xtrim(Xtrim { key, trim }))
 }
 
 /// The words of XTRIM: the key, and a trim.

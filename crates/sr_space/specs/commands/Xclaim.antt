@@ -6,8 +6,8 @@ use Rattle.std.specs.List.{flat_map}
 use Rattle.std.specs.Option.{option_map}
 use Rattle.sr_ids.specs.declared.id.Id.{Id}
 use Rattle.sr_ids.specs.Spelling.{spelling}
-use Rattle.sr_args.specs.declared.call.TimeAsked.{TimeAsked}
-use Rattle.sr_args.specs.declared.call.TimeAsked.TheVariants as asked
+use Rattle.sr_args.specs.declared.commands.xclaim.TimeAsked.{TimeAsked}
+use Rattle.sr_args.specs.declared.commands.xclaim.TimeAsked.TheVariants as asked
 use Rattle.sr_entries.specs.declared.entry.Entry.{Entry}
 use Rattle.sr_entries.specs.Entries.{entry_with}
 use Rattle.sr_group.specs.declared.claim.Claim.{Claim}

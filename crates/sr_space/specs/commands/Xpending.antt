@@ -3,7 +3,7 @@
 
 use Rattle.std.specs.Prelude.{ℕ, zero, suc, ℤ, List, [], ◌∷◌, length, map, take, Option, Some, None, pos, negsuc, decimal}
 use Rattle.std.specs.List.{flat_map}
-use Rattle.sr_args.specs.declared.call.PendingAsked.{PendingAsked}
+use Rattle.sr_args.specs.declared.commands.xpending.PendingAsked.{PendingAsked}
 use Rattle.sr_group.specs.declared.consumer.Consumer.{Consumer}
 use Rattle.sr_group.specs.Group.{GroupState, idle_at, idle_for}
 use Rattle.sr_ids.specs.declared.id.Id.{Id}

@@ -2,8 +2,8 @@
 
 use Rattle.std.specs.Prelude.{⊤, ◌≡◌, ℕ, ℤ, List, [], ◌∷◌, Option, Some, None, Bool, fold}
 use Rattle.sr_args.specs.declared.call.Call.{Call}
-use Rattle.sr_args.specs.declared.call.Call.TheVariants.{Xclaim}
-use Rattle.sr_args.specs.declared.call.TimeAsked.{TimeAsked}
+use Rattle.sr_args.specs.declared.call.Call.TheVariants as calls
+use Rattle.sr_args.specs.declared.commands.xclaim.Xclaim.{Xclaim}
 use Rattle.sr_entries.specs.declared.entry.Entry.{Entry}
 use Rattle.sr_group.specs.Claim.{HasCount, MoveState, after_move, group_after_claim}
 use Rattle.sr_group.specs.Group.{GroupState}
@@ -16,13 +16,8 @@ use Rattle.sr_space.specs.commands.Xclaim.{claim_of}
 
 -- the call is one of XCLAIM, in the group of this name at this key
 pub record IsClaimIn (key : Key) (name : List ℕ) (call : Call) : Type 0 where
-  pub consumer : List ℕ
-  pub least_idle : ℤ
-  pub ids : List Id
-  pub time : TimeAsked
-  pub count : Option ℕ
-  pub just_ids : Bool
-  pub is : call ≡ Xclaim key name consumer least_idle ids time count just_ids
+  pub claim : Xclaim
+  pub is : call ≡ calls.Xclaim (record claim { key = key; group = name })
 
 -- the call is one of XCLAIM
 abbrev pub IsClaim : Call → Type 0
@@ -30,8 +25,8 @@ IsClaim call = (key : Key) × ((name : List ℕ) × IsClaimIn key name call)
 
 -- a group after a call of XCLAIM in it; no other call changes it here
 abbrev pub group_after : ℕ → List Entry → GroupState → Call → GroupState
-group_after moment entries group (Xclaim key name consumer least_idle ids time count just_ids) =
-    group_after_claim (claim_of least_idle time count just_ids) consumer (in_63_bits moment) entries ids group
+group_after moment entries group (calls.Xclaim claim) = group_after_claim
+    (claim_of claim.least_idle claim.time claim.count claim.just_ids) claim.consumer (in_63_bits moment) entries claim.ids group
 group_after moment entries group call = group
 
 -- the move does what the call does

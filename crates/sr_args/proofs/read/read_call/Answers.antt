@@ -1,9 +1,12 @@
 use Rattle.std.proofs.Common.{inl, inr, length, Err, refl}
 use Rattle.std.proofs.lemmas.Bool.{false≢true}
-use Rattle.sr_args.specs.declared.fault.CallFault.TheVariants.{Arity}
+use Rattle.sr_args.specs.declared.fault.CallFault.TheVariants.{Arity, Unknown}
+use Rattle.sr_args.specs.declared.table.CommandName.{CommandName}
 use Rattle.sr_args.specs.Table.{IsCounted, IsHalfNamed, IsNamed}
 use Rattle.sr_args.specs.Command.{IsWellCounted, Refuses}
 use Rattle.sr_args.proofs.AnswerLemmas.{Answers-from_gives, Answers-only, IsCommand-from_answers, Refuses-from_answers}
+use Rattle.sr_args.specs.commands.{row_of}
+use Rattle.sr_args.specs.steps.Names.{IsOther}
 use Rattle.sr_args.proofs.read.read_call.Goals as goal
 
 pub returns-else-not-is_counted-clause-ok : goal.returns-else-not-is_counted-clause-ok
@@ -56,3 +59,10 @@ returns-in-HalfNamed-clause-only c = λ answer n other.
     let half : IsHalfNamed words = rw c.unread.ensures at c.in-HalfNamed.ensures in
     let refused : Refuses words Arity = inr half in
     Answers-only words (Err Arity) answer refused n other
+
+pub returns-in-Unknown-clause-only : goal.returns-in-Unknown-clause-only
+returns-in-Unknown-clause-only c = λ answer n other.
+    let words = c.args.words.now in
+    let others : (command : CommandName) → IsOther (row_of command).name words = rw c.unread.ensures at c.in-Unknown.ensures in
+    let refused : Refuses words Unknown = (λ named. (others named.name).unnamed named.operands named.named, λ half. (others half.0).uncut half.1) in
+    Answers-only words (Err Unknown) answer refused n other

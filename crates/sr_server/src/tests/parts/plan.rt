@@ -3,6 +3,7 @@
 use crate::tests::run::records::snapshot_of;
 use crate::tests::run::rows::Line;
 use crate::tests::run::{TWO, book_under};
+use sr_args::commands::Xclaim;
 use sr_args::{Call, TimeAsked};
 use sr_book::Book;
 use sr_bytes::Name;
@@ -39,16 +40,18 @@ fn is(name: &Name, text: &str) -> bool {
 /// Whether a call claims the entry with this moment for a consumer, at once and with JUSTID.
 fn is_claim(call: &Call, name: &str, ms: u64) -> bool {
     match call {
-        Call::Xclaim {
-            key,
-            group,
-            consumer,
-            least_idle: 0,
-            ids,
-            time: TimeAsked::Now,
-            count: None,
-            just_ids: true,
-        } => is(key, "s")
+        Call::Xclaim(
+            Xclaim {
+                key,
+                group,
+                consumer,
+                least_idle: 0,
+                ids,
+                time: TimeAsked::Now,
+                count: None,
+                just_ids: true,
+            },
+        ) => is(key, "s")
             && is(group, "g")
             && is(consumer, name)
             && ids.as_slice() == [Id { ms, seq: 1 }].as_slice(),

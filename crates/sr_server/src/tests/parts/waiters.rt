@@ -1,5 +1,6 @@
 // What no program does and no clause says: that reads are copied while there is memory.
 use sr_args::Call;
+use sr_args::commands::Ping;
 use sr_waiters::Waiters;
 use std::alloc::{AllocError, Global};
 use std::hash::RandomState;
@@ -9,7 +10,7 @@ use std::test::Fail;
 fn wait(waiters: &mut Waiters, session: u64) -> Result<(), AllocError> {
     waiters.reserve(1)?;
     if !waiters.has(session) {
-        waiters.join(session, Call::Ping { message: None }, None);
+        waiters.join(session, Call::Ping(Ping { message: None }), None);
     }
     Ok(())
 }

@@ -282,7 +282,7 @@ fn made<L: Ledger, R: AllocGlobal + Wait>(
     call: &Call,
 ) -> Result<Receipt, SeatFault> {
     match call {
-        Call::Xadd { .. } => add(rt, shared, seat, moment, session, call),
+        Call::Xadd(_) => add(rt, shared, seat, moment, session, call),
         _ => shared.exchange(rt, rt.alloc(), seat, moment, session, call),
     }
 }

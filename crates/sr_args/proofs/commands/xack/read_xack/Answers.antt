@@ -13,7 +13,7 @@ use Rattle.sr_args.proofs.commands.xack.read_xack.Goals as goal
 reads : (words after rest : List Word) (key group : Word) → words ≡ key ∷ after → after ≡ group ∷ rest → rest ≢ [] → Reads form words (key, (group, rest))
 reads words after rest key group d e some = record { fits = rw d (refl, (rw e (refl, Fits-ids strict_id rest))); fit = some }
 
-gives : (words after rest : List Word) (key group key′ group′ : Word) (list : List Id) → words ≡ key ∷ after → after ≡ group ∷ rest → rest ≢ [] → AreIds strict_id rest list → key′ ≡ key → group′ ≡ group → GivesCall form call words (Xack key′ group′ list)
+gives : (words after rest : List Word) (key group key′ group′ : Word) (list : List Id) → words ≡ key ∷ after → after ≡ group ∷ rest → rest ≢ [] → AreIds strict_id rest list → key′ ≡ key → group′ ≡ group → GivesCall form call words (Xack (record { key = key′; group = group′; ids = list }))
 gives words after rest key group key′ group′ list d e some p same_key same_group = record {
   reading = (key, (group, rest));
   reads = reads words after rest key group d e some;

@@ -1,6 +1,5 @@
 use Rattle.std.proofs.Common.{Ok, Err, refl}
 use Rattle.std.proofs.lemmas.Result.{err_from_is_err_and}
-use Rattle.sr_args.specs.declared.call.Call.TheVariants.{Xadd}
 use Rattle.sr_args.specs.steps.Options.{AreJudged}
 use Rattle.sr_args.specs.steps.Pairs.{pairs_of}
 use Rattle.sr_args.proofs.XaddLemmas.{Gives-from_options, xadd-bad_id, xadd-gives}
@@ -29,7 +28,7 @@ returns-in_err-key c =
     let choice = c.in_ok-choice.choice in
     let spec = c.in-Some-parse_spec.id in
     let judged : AreJudged found.0 (Ok c.in_ok-choice.choice) = rw c.in_ok-choice.was at found.1 in
-    rw (p.1, p.2) (Xadd read.key.now choice.add_makes choice.trim spec (pairs_of read.fields), xadd-gives c.args.words read.key.now read.key.now found.0 read.id.now (pairs_of read.fields) (pairs_of read.fields) choice spec found.2 refl judged c.in-Some-parse_spec.ensures.found refl)
+    rw (p.1, p.2) (_, xadd-gives c.args.words read.key.now read.key.now found.0 read.id.now (pairs_of read.fields) (pairs_of read.fields) choice spec found.2 refl judged c.in-Some-parse_spec.ensures.found refl)
 
 pub returns-in_err-fields : goal.returns-in_err-fields
 returns-in_err-fields c =
@@ -39,7 +38,7 @@ returns-in_err-fields c =
     let choice = c.in_ok-choice.choice in
     let spec = c.in-Some-parse_spec.id in
     let judged : AreJudged found.0 (Ok c.in_ok-choice.choice) = rw c.in_ok-choice.was at found.1 in
-    rw (p.1, p.2) (Xadd read.key.now choice.add_makes choice.trim spec (pairs_of read.fields), xadd-gives c.args.words read.key.now read.key.now found.0 read.id.now (pairs_of read.fields) (pairs_of read.fields) choice spec found.2 refl judged c.in-Some-parse_spec.ensures.found refl)
+    rw (p.1, p.2) (_, xadd-gives c.args.words read.key.now read.key.now found.0 read.id.now (pairs_of read.fields) (pairs_of read.fields) choice spec found.2 refl judged c.in-Some-parse_spec.ensures.found refl)
 
 pub returns : goal.returns
 returns c =

@@ -13,7 +13,7 @@ use Rattle.sr_args.proofs.commands.xdel.read_xdel.Goals as goal
 reads : (words rest : List Word) (key : Word) → words ≡ key ∷ rest → rest ≢ [] → Reads form words (key, rest)
 reads words rest key e some = record { fits = rw e (refl, Fits-ids strict_id rest); fit = some }
 
-gives : (words rest : List Word) (key copy : Word) (list : List Id) → words ≡ key ∷ rest → rest ≢ [] → AreIds strict_id rest list → copy ≡ key → GivesCall form call words (Xdel copy list)
+gives : (words rest : List Word) (key copy : Word) (list : List Id) → words ≡ key ∷ rest → rest ≢ [] → AreIds strict_id rest list → copy ≡ key → GivesCall form call words (Xdel (record { key = copy; ids = list }))
 gives words rest key copy list e some p same =
     record { reading = (key, rest); reads = reads words rest key e some; values = (copy, list); means = (same, p); is = refl }
 
@@ -42,7 +42,7 @@ returns-in_err-ids c =
     let some : rest ≢ [] = λ e. false≢true (c.if-is_empty.ensures.1 e) in
     let spelled : HasIds (map (spelled strict_id) rest) = (rw c.again.ensures at c.if-not-are_ids.ensures).0 refl in
     let list = AreIds-exist strict_id rest spelled in
-    rw (p.1, p.2) (Xdel key list.0, gives c.args.words rest key key list.0 c.in-Some.ensures.some some list.1 refl)
+    rw (p.1, p.2) (Xdel (record { key = key; ids = list.0 }), gives c.args.words rest key key list.0 c.in-Some.ensures.some some list.1 refl)
 
 pub returns-in_err-key : goal.returns-in_err-key
 returns-in_err-key c =
@@ -50,7 +50,7 @@ returns-in_err-key c =
     let rest = c.next.new.self in
     let key = c.in-Some.key.now in
     let some : rest ≢ [] = λ e. false≢true (c.if-is_empty.ensures.1 e) in
-    rw (p.1, p.2) (Xdel key c.in_ok-ids.ids, gives c.args.words rest key key c.in_ok-ids.ids c.in-Some.ensures.some some c.in_ok-ids.ensures refl)
+    rw (p.1, p.2) (Xdel (record { key = key; ids = c.in_ok-ids.ids }), gives c.args.words rest key key c.in_ok-ids.ids c.in-Some.ensures.some some c.in_ok-ids.ensures refl)
 
 pub returns : goal.returns
 returns c =

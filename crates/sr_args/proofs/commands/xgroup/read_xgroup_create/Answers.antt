@@ -14,7 +14,7 @@ use Rattle.sr_args.specs.steps.Options.{AreJudged, chosen_of}
 use Rattle.sr_args.proofs.ChoiceLemmas.{HasNumbers-append, Choose-numbers}
 use Rattle.sr_args.proofs.commands.xgroup.read_xgroup_create.Goals as goal
 
-gives : (words : List Word) (key group word key′ group′ : Word) (written : List Written) (from : Position) (choice : Choice) → Reads form words (key, (group, (word, (written, tt)))) → SpellsPosition word from → AreJudged written (Ok choice) → key′ ≡ key → group′ ≡ group → GivesCall form call words (XgroupCreate key′ group′ from choice.create_makes)
+gives : (words : List Word) (key group word key′ group′ : Word) (written : List Written) (from : Position) (choice : Choice) → Reads form words (key, (group, (word, (written, tt)))) → SpellsPosition word from → AreJudged written (Ok choice) → key′ ≡ key → group′ ≡ group → GivesCall form call words (XgroupCreate (record { key = key′; group = group′; from = from; make = choice.create_makes }))
 gives words key group word key′ group′ written from choice reads spells judged same_key same_group = record {
   reading = (key, (group, (word, (written, tt))));
   reads = reads;

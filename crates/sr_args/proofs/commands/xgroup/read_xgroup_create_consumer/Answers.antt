@@ -10,7 +10,7 @@ use Rattle.sr_args.proofs.GivesLemmas.{made_call, made_fault}
 use Rattle.sr_args.proofs.commands.xgroup.read_xgroup_create_consumer.Goals as goal
 
 abbrev pub call_for : ConsumerNamed → Call
-call_for named = XgroupCreateConsumer named.key named.group named.consumer
+call_for named = XgroupCreateConsumer (record { key = named.key; group = named.group; consumer = named.consumer })
 
 same : (values : Values form) → call values ≡ call_for (consumer_of values)
 same values = refl

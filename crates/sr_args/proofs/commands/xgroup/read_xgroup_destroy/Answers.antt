@@ -10,7 +10,7 @@ use Rattle.sr_args.proofs.GivesLemmas.{made_call, made_fault}
 use Rattle.sr_args.proofs.commands.xgroup.read_xgroup_destroy.Goals as goal
 
 abbrev pub call_for : GroupNamed → Call
-call_for named = XgroupDestroy named.key named.group
+call_for named = XgroupDestroy (record { key = named.key; group = named.group })
 
 same : (values : Values form) → call values ≡ call_for (group_of values)
 same values = refl

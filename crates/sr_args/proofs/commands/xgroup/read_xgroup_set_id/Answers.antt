@@ -12,7 +12,7 @@ use Rattle.sr_args.proofs.commands.xgroup.read_xgroup_set_id.Goals as goal
 reads : (words after rest left : List Word) (key group word : Word) → words ≡ key ∷ after → after ≡ group ∷ rest → rest ≡ word ∷ left → left ≡ [] → Reads form words (key, (group, (word, tt)))
 reads words after rest left key group word d e f g = record { fits = rw d (refl, (rw e (refl, (rw f (refl, (rw g tt)))))); fit = tt }
 
-gives : (words : List Word) (key group word key′ group′ : Word) (from : Position) → Reads form words (key, (group, (word, tt))) → SpellsPosition word from → key′ ≡ key → group′ ≡ group → GivesCall form call words (XgroupSetId key′ group′ from)
+gives : (words : List Word) (key group word key′ group′ : Word) (from : Position) → Reads form words (key, (group, (word, tt))) → SpellsPosition word from → key′ ≡ key → group′ ≡ group → GivesCall form call words (XgroupSetId (record { key = key′; group = group′; from = from }))
 gives words key group word key′ group′ from reads spells same_key same_group =
     record { reading = (key, (group, (word, tt))); reads = reads; values = (key′, (group′, (from, tt))); means = (same_key, (same_group, (spells, tt))); is = refl }
 

@@ -10,7 +10,7 @@ use Rattle.sr_args.proofs.GivesLemmas.{made_call, made_fault}
 use Rattle.sr_args.proofs.commands.xinfo.read_xinfo_consumers.Goals as goal
 
 abbrev pub call_for : GroupNamed → Call
-call_for named = XinfoConsumers named.key named.group
+call_for named = XinfoConsumers (record { key = named.key; group = named.group })
 
 same : (values : Values form) → call values ≡ call_for (group_of values)
 same values = refl

@@ -10,7 +10,7 @@ use Rattle.sr_args.proofs.GivesLemmas.{made_call, made_fault}
 use Rattle.sr_args.proofs.commands.xinfo.read_xinfo_groups.Goals as goal
 
 abbrev pub call_for : Word → Call
-call_for named = XinfoGroups named
+call_for named = XinfoGroups (record { key = named })
 
 same : (values : Values form) → call values ≡ call_for (key_of values)
 same values = refl

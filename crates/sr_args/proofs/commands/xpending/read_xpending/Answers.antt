@@ -2,7 +2,7 @@ use Rattle.std.proofs.Common.{◌≡◌, Option, refl}
 use Rattle.std.proofs.lemmas.Result.{err_from_is_err_and}
 use Rattle.sr_args.specs.declared.call.Call.{Call}
 use Rattle.sr_args.specs.declared.call.Call.TheVariants.{Xpending}
-use Rattle.sr_args.specs.declared.call.PendingAsked.{PendingAsked}
+use Rattle.sr_args.specs.declared.commands.xpending.PendingAsked.{PendingAsked}
 use Rattle.sr_args.specs.Place.{Word}
 use Rattle.sr_args.specs.Form.{maybe, Values}
 use Rattle.sr_args.specs.commands.Xpending.{listing, asked_if, call}
@@ -10,7 +10,7 @@ use Rattle.sr_args.proofs.GivesLemmas.{in_group_call, in_group_fault}
 use Rattle.sr_args.proofs.commands.xpending.read_xpending.Goals as goal
 
 abbrev made : Word → Word → Option PendingAsked → Call
-made key group wanted = Xpending key group wanted
+made key group wanted = Xpending (record { key = key; group = group; listing = wanted })
 
 same : (key group : Word) (values : Values (maybe listing)) → call (key, (group, values)) ≡ made key group (asked_if values)
 same key group values = refl

@@ -11,7 +11,7 @@ use Rattle.sr_args.proofs.GivesLemmas.{made_call, made_fault}
 use Rattle.sr_args.proofs.commands.xrange.read_xrange.Goals as goal
 
 abbrev pub call_for : Asked → Call
-call_for asked = Xrange asked.key asked.first asked.second asked.count
+call_for asked = Xrange (record { key = asked.key; start = asked.first; end = asked.second; count = asked.count })
 
 same : (values : Values form) → call values ≡ call_for (asked_of Start End values)
 same values = refl

@@ -11,7 +11,7 @@ use Rattle.sr_args.proofs.GivesLemmas.{made_call, made_fault}
 use Rattle.sr_args.proofs.commands.xrange.read_xrevrange.Goals as goal
 
 abbrev pub call_for : Asked → Call
-call_for asked = Xrevrange asked.key asked.first asked.second asked.count
+call_for asked = Xrevrange (record { key = asked.key; end = asked.first; start = asked.second; count = asked.count })
 
 same : (values : Values form) → call values ≡ call_for (asked_of End Start values)
 same values = refl

@@ -19,7 +19,7 @@ use Rattle.sr_args.proofs.StreamsLemmas.{enough-keys, zipped}
 use Rattle.sr_args.proofs.commands.xread.read_xread.Goals as goal
 
 -- the call of these words
-gives : (words : List Word) (written : List Written) (keys ids : List Word) (from : List Position) (choice : Choice) → Reads form words (streams_reading sets.Xread position written keys ids) → AreIds position ids from → AreJudged written (Ok choice) → GivesCall form call words (Xread choice.count choice.block (zip keys from))
+gives : (words : List Word) (written : List Written) (keys ids : List Word) (from : List Position) (choice : Choice) → Reads form words (streams_reading sets.Xread position written keys ids) → AreIds position ids from → AreJudged written (Ok choice) → GivesCall form call words (Xread (record { count = choice.count; block = choice.block; streams = zip keys from }))
 gives words written keys ids from choice reads are judged = record {
   reading = streams_reading sets.Xread position written keys ids;
   reads = reads;

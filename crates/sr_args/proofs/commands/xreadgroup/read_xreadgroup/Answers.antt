@@ -20,7 +20,7 @@ use Rattle.sr_args.proofs.StreamsLemmas.{enough-keys, zipped}
 use Rattle.sr_args.proofs.commands.xreadgroup.read_xreadgroup.Goals as goal
 
 -- the call of these words
-gives : (words : List Word) (written : List Written) (keys ids : List Word) (group consumer : Word) (asked : List ReadAsked) (choice : Choice) → Reads form words (grouped_reading sets.Xreadgroup read_id written keys ids) → group_in written ≡ Some (group, consumer) → AreIds read_id ids asked → AreJudged written (Ok choice) → GivesCall form call words (Xreadgroup group consumer choice.count choice.block choice.no_ack (zip keys asked))
+gives : (words : List Word) (written : List Written) (keys ids : List Word) (group consumer : Word) (asked : List ReadAsked) (choice : Choice) → Reads form words (grouped_reading sets.Xreadgroup read_id written keys ids) → group_in written ≡ Some (group, consumer) → AreIds read_id ids asked → AreJudged written (Ok choice) → GivesCall form call words (Xreadgroup (record { group = group; consumer = consumer; count = choice.count; block = choice.block; no_ack = choice.no_ack; streams = zip keys asked }))
 gives words written keys ids group consumer asked choice reads named are judged = record {
   reading = grouped_reading sets.Xreadgroup read_id written keys ids;
   reads = reads;

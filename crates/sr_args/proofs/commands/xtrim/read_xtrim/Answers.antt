@@ -9,7 +9,7 @@ pub returns-in_err-key : goal.returns-in_err-key
 returns-in_err-key c =
     let p = err_from_is_err_and c.from_residual-in_err-key.result c.from_residual-in_err-key.ensures.1 in
     let read = c.in-Some.read in
-    rw (p.1, p.2) (Xtrim read.key.now c.in_ok-trim.trim, xtrim-gives c.args.words read.key.now read.key.now (trim_reading read.trim) c.in_ok-trim.trim c.in-Some.ensures.found refl c.in_ok-trim.ensures)
+    rw (p.1, p.2) (Xtrim (record { key = read.key.now; trim = c.in_ok-trim.trim }), xtrim-gives c.args.words read.key.now read.key.now (trim_reading read.trim) c.in_ok-trim.trim c.in-Some.ensures.found refl c.in_ok-trim.ensures)
 
 pub returns : goal.returns
 returns c =

@@ -3,7 +3,7 @@ use Rattle.std.proofs.lemmas.Result.{err_from_is_err_and}
 use Rattle.sr_args.specs.declared.call.Command.TheVariants.{Call}
 use Rattle.sr_args.specs.steps.Gives.{Gives}
 use Rattle.sr_args.proofs.GivesLemmas.{made_fault}
-use Rattle.sr_args.proofs.read.asked.Goals as goal
+use Rattle.sr_args.proofs.table.asked.Goals as goal
 
 pub returns-in_err-call : goal.returns-in_err-call
 returns-in_err-call c =

@@ -1,31 +1,9 @@
-//! The parts of calls: whether two are the same.
+//! Whether two parts of calls are the same.
 ghost use Rattle.std.specs.Prelude.{◌≡◌, ◌↔◌, IsTrue};
 
-use crate::{PendingAsked, Position, ReadAsked, Streams, TimeAsked, Trim};
+use crate::{Position, ReadAsked, Streams, Trim};
 use sr_bytes::{Fields, Name, Pairs};
 use sr_ids::{Id, Ids, Spec};
-
-/// Whether both names equal the other two.
-pub(crate) fn same_two(first: &Name, second: &Name, its_first: &Name, its_second: &Name) -> bool
-    ensures { IsTrue result ↔ ((first.now ≡ its_first.now) × (second.now ≡ its_second.now)) }
-{
-    first == its_first && second == its_second
-}
-
-/// Whether all three names equal the other three.
-pub(crate) fn same_three(
-    first: &Name,
-    second: &Name,
-    third: &Name,
-    its_first: &Name,
-    its_second: &Name,
-    its_third: &Name,
-) -> bool
-    ensures { IsTrue result ↔ ((first.now ≡ its_first.now) × (second.now ≡ its_second.now)
-        × (third.now ≡ its_third.now)) }
-{
-    same_two(first, second, its_first, its_second) && third == its_third
-}
 
 /// Whether two names are the same, or neither is there.
 pub(crate) fn same_name(a: &Option<Name>, b: &Option<Name>) -> bool
@@ -59,13 +37,6 @@ pub(crate) fn same_id(a: Id, b: Id) -> bool
     a == b
 }
 
-/// Whether the same part of a stream is wanted: its first id, its last, and how many entries at most.
-pub(crate) fn same_range(a: (Id, Id, Option<i64>), b: (Id, Id, Option<i64>)) -> bool
-    ensures { IsTrue result ↔ (a ≡ b) }
-{
-    same_id(a.0, b.0) && same_id(a.1, b.1) && same_count(a.2, b.2)
-}
-
 /// Whether two trims are the same.
 pub(crate) fn same_trim(a: Trim, b: Trim) -> bool
     ensures { IsTrue result ↔ (a ≡ b) }
@@ -75,13 +46,6 @@ pub(crate) fn same_trim(a: Trim, b: Trim) -> bool
 
 /// Whether two trims are the same, or neither is there.
 pub(crate) fn same_trim_asked(a: Option<Trim>, b: Option<Trim>) -> bool
-    ensures { IsTrue result ↔ (a ≡ b) }
-{
-    a == b
-}
-
-/// Whether two times are the same.
-pub(crate) fn same_time(a: TimeAsked, b: TimeAsked) -> bool
     ensures { IsTrue result ↔ (a ≡ b) }
 {
     a == b
@@ -151,13 +115,20 @@ pub(crate) fn same_group_streams(a: &Streams<ReadAsked>, b: &Streams<ReadAsked>)
     a.as_slice() == b.as_slice()
 }
 
-/// Whether the same pending entries are listed, or none.
-pub(crate) fn same_listing(a: &Option<PendingAsked>, b: &Option<PendingAsked>) -> bool
-    ensures { IsTrue result ↔ (a.now ≡ b.now) }
-{
-    match (a, b) {
-        (Some(a), Some(b)) => a.equals(b),
-        (None, None) => true,
-        _ => false,
+impl Streams<Position> {
+    /// Whether the same is read of the same streams, in the same order.
+    pub fn equals(&self, other: &Streams<Position>) -> bool
+        ensures { IsTrue result ↔ (self.now ≡ other.now) }
+    {
+        same_streams(self, other)
+    }
+}
+
+impl Streams<ReadAsked> {
+    /// Whether a consumer reads the same of the same streams, in the same order.
+    pub fn equals(&self, other: &Streams<ReadAsked>) -> bool
+        ensures { IsTrue result ↔ (self.now ≡ other.now) }
+    {
+        same_group_streams(self, other)
     }
 }

@@ -1,5 +1,5 @@
 use Rattle.std.proofs.Common.{◌≡◌, ◌↔◌, length}
-use Rattle.sr_args.proofs.equal.parts.same_pairs.Given as goal
+use Rattle.sr_args.proofs.same.same_pairs.Given as goal
 
 abbrev pub invariant-loop-field : goal.invariant-loop-field
 invariant-loop-field l = (l.initial.left ≡ l.initial.right) ↔ (l.left ≡ l.right)

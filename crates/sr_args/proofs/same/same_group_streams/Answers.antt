@@ -1,6 +1,6 @@
 use Rattle.std.proofs.lemmas.Slice.Eq.{slice_eq-Decides}
 use Rattle.sr_args.proofs.EqualLemmas.{read_decides}
-use Rattle.sr_args.proofs.equal.parts.same_group_streams.Goals as goal
+use Rattle.sr_args.proofs.same.same_group_streams.Goals as goal
 
 pub returns : goal.returns
 returns c = slice_eq-Decides read_decides c.args.a.now c.args.b.now c.eq.result (cc)

@@ -1,4 +1,4 @@
-use Rattle.sr_args.proofs.read.read_operands.Goals as goal
+use Rattle.sr_args.proofs.table.read_operands.Goals as goal
 
 pub returns-in-Ping : goal.returns-in-Ping
 returns-in-Ping c = rw c.in-Ping.is (c.asked.ensures _ _ c.args.operands c.read_ping.ensures)
