@@ -198,14 +198,14 @@ bench-net:
 	@cd crates/sr_server && rt run -- --stdio < /dev/null
 	@python3 bench/net.py $(SERVER)
 
-# Times the solver on the families of problems of docs/BENCH.md, without and with tiers. It goes by turns with LEMON's network simplex if its headers are installed
-# (Debian: liblemon-dev), and alone if not.
+# Times the solver on the families of problems of docs/BENCH.md, without and with tiers. It goes by turns with LEMON's network simplex if its
+# headers are installed (Debian: liblemon-dev), and alone if not.
 bench-solver:
 	@cd crates/bench_solver && rt run -- < stdin > /dev/null
 	@if echo "#include <lemon/network_simplex.h>" | $(CXX) -E -x c++ - > /dev/null 2>&1; then \
 	    $(CXX) -O3 -o crates/bench_solver/out/lemon bench/lemon.cpp \
 	        && for tiers in '' 0 37 40; do \
-            python3 bench/turns.py crates/bench_solver/out/bench_solver crates/bench_solver/out/lemon 5 $$tiers || exit 1; done; \
+	            python3 bench/turns.py crates/bench_solver/out/bench_solver crates/bench_solver/out/lemon 5 $$tiers || exit 1; done; \
 	else echo 'LEMON is not installed (Debian: liblemon-dev)'; \
 	    python3 bench/families.py | crates/bench_solver/out/bench_solver; fi
 
