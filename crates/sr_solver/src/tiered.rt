@@ -6,7 +6,7 @@ ghost use Rattle.sr_transport.specs.Solved.{IsSolution, IsOptimal, HasSmallPrice
 ghost use Rattle.sr_solver.specs.Takers.{takers_of};
 
 use crate::solution::solve_columns;
-use sr_transport::{Columns, Problem, Solved, Tier};
+use sr_transport::{Problem, Solved, Tier};
 use std::alloc::{AllocError, Global};
 
 /// Solves a transportation problem: gives a cheapest assignment with prices that show it, or entries for which there
@@ -41,8 +41,7 @@ fn solve_by_tier(
     ensures optimal { IfOk result (IsOptimal problem.now) }
     ensures prices { IfOk result HasSmallPrices }
 {
-    problem.sound();
-    let columns = Columns::new(rooms, problem.entries(), charges).unwrap();
+    let columns = problem.by_tier(rooms, charges);
     let solved = solve_columns(alloc, &columns)?;
     Ok(by_consumer(problem, solved))
 }

@@ -48,11 +48,19 @@ impl<'a> Columns<'a> {
         if !is_within_limits(rooms, entries, costs) {
             return None;
         }
-        Some(Columns {
+        Some(Columns::of(rooms, entries, costs))
+    }
+
+    /// The problem of lists that are known to be within the limits, which are not read.
+    pub(crate) fn of(rooms: &'a [u64], entries: usize, costs: &'a [Option<u64>]) -> Columns<'a>
+        requires { IsWithinLimits rooms.now entries costs.now }
+        ensures { result ≡ record { rooms = rooms.now; entries = entries; costs = costs.now } }
+    {
+        Columns {
             rooms,
             entries,
             costs,
-        })
+        }
     }
 
     /// How many consumers there are.
