@@ -14,11 +14,13 @@ returns-in_err-add_row c = IfOk-from_err _ _ c.from_residual.ensures.0
 
 pub loop-entry-preserved : goal.loop-entry-preserved
 loop-entry-preserved c =
-    row_added (costs_of c.args.snapshot.now) c.stranded-entries.result.now c.loop-entry.entry-index c.entry-item.result _ _
+    row_added (costs_of c.args.snapshot.now) c.stranded-entries.result.now c.loop-entry.entry-index
+    c.entry-item.result _ _
     c.loop-entry-test.true c.entry-item.is c.loop-entry.invariant c.in_ok-add_row.ensures
 
 pub returns : goal.returns
 returns c =
     c.loop-entry.invariant
-    ∙ ap (flat_map (costs_of c.args.snapshot.now)) (take_all c.loop-entry.entry-index c.stranded-entries.result.now (omega arith))
+    ∙ ap (flat_map (costs_of c.args.snapshot.now))
+    (take_all c.loop-entry.entry-index c.stranded-entries.result.now (omega arith))
     ∙ ap (flat_map (costs_of c.args.snapshot.now)) c.stranded-entries.ensures

@@ -16,13 +16,18 @@ loop-class-preserved c =
     elim c.match-as_table.branch [
       | in-Some-as_table+in_ok-numbers-in-Some-as_table w ↦
           w.numbers-is ∙ w.in_ok-numbers-in-Some-as_table.ensures.value
-          ∙ ap numbers_of (table_found _ c.as_table.result _ w.in-Some-as_table.numbers c.as_table.ensures w.in-Some-as_table.is)
+          ∙ ap numbers_of
+          (table_found _ c.as_table.result _ w.in-Some-as_table.numbers c.as_table.ensures w.in-Some-as_table.is)
       | in-None-as_table w ↦
-          w.numbers-is ∙ w.none-numbers.ensures ∙ ap numbers_of (no_table _ c.as_table.result _ c.as_table.ensures w.in-None-as_table.is)
+          w.numbers-is ∙ w.none-numbers.ensures
+          ∙ ap numbers_of (no_table _ c.as_table.result _ c.as_table.ensures w.in-None-as_table.is)
     ] in
-    rates_more c.args.classes.now.entries c.loop-class.class-iterator c.next.new.self c.in-Some.class.now c.in-Some.value.now
-    c.loop-class.rates.items c.push.new.self.items _ _ c.in-Some.ensures.steps (c.in_ok-name_of.ensures ∙ c.as_str.ensures.value)
+    rates_more c.args.classes.now.entries c.loop-class.class-iterator c.next.new.self c.in-Some.class.now
+    c.in-Some.value.now
+    c.loop-class.rates.items c.push.new.self.items _ _ c.in-Some.ensures.steps
+    (c.in_ok-name_of.ensures ∙ c.as_str.ensures.value)
     counted c.loop-class.invariant c.in_ok-push.ensures.items
 
 pub returns : goal.returns
-returns c = rates_all c.args.classes.now.entries c.loop-class.class-iterator c.loop-class.rates.items c.in-None.ensures.steps.0 c.loop-class.invariant
+returns c = rates_all c.args.classes.now.entries c.loop-class.class-iterator c.loop-class.rates.items
+    c.in-None.ensures.steps.0 c.loop-class.invariant

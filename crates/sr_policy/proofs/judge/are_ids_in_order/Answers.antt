@@ -8,8 +8,10 @@ use Rattle.sr_policy.specs.Snapshot.{Shown, AreIdsInOrder, AreInOrder}
 use Rattle.sr_policy.proofs.judge.are_ids_in_order.Goals as goal
 
 -- where the ids of the stranded entries rise, those of the gone ones decide
-gone_decide : (s : Shown) (a b : Bool) (stranded : List Stranded) (gone : List (Id × Text)) → stranded ≡ s.stranded → gone ≡ s.gone
-    → a ≡ true → (IsTrue a ↔ AreInOrder (λ x y. IsBelow x.id y.id) stranded) → (IsTrue b ↔ AreInOrder (λ x y. IsBelow x.0 y.0) gone)
+gone_decide : (s : Shown) (a b : Bool) (stranded : List Stranded) (gone : List (Id × Text)) → stranded ≡ s.stranded
+    → gone ≡ s.gone
+    → a ≡ true → (IsTrue a ↔ AreInOrder (λ x y. IsBelow x.id y.id) stranded)
+    → (IsTrue b ↔ AreInOrder (λ x y. IsBelow x.0 y.0) gone)
     → (IsTrue b ↔ AreIdsInOrder s)
 gone_decide s a b stranded gone same_stranded same_gone holds first second =
     let first_here = rw same_stranded at first in
@@ -30,4 +32,6 @@ returns-then-are_entries_rising c =
 
 pub returns-else-are_entries_rising : goal.returns-else-are_entries_rising
 returns-else-are_entries_rising c =
-    rw (← c.parts.view_is) (none_rise _ c.are_entries_rising.result _ c.as_slice.ensures.value c.if-are_entries_rising.false c.are_entries_rising.ensures)
+    rw (← c.parts.view_is)
+    (none_rise _ c.are_entries_rising.result _ c.as_slice.ensures.value c.if-are_entries_rising.false
+    c.are_entries_rising.ensures)

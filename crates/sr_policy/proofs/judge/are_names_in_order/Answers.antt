@@ -15,20 +15,34 @@ pub returns-then-are_live_rising : goal.returns-then-are_live_rising
 returns-then-are_live_rising c =
     let dead = rw c.as_slice.ensures.value at c.are_names_rising.ensures in
     let classes = rw c.as_slice-then-are_live_rising.ensures.value at c.are_classes_rising.ensures in
-    let two : IsTrue c.if-are_names_rising.value ↔ (AreInOrder ComesBefore c.parts.inside.dead.items × AreInOrder (λ a b. ComesBefore a.name b.name) c.parts.inside.live.items) =
+    let two : IsTrue c.if-are_names_rising.value
+    ↔ (AreInOrder ComesBefore c.parts.inside.dead.items
+    × AreInOrder (λ a b. ComesBefore a.name b.name) c.parts.inside.live.items) =
     elim c.if-are_names_rising.branch [
-      | then-are_names_rising w ↦ both _ _ _ dead (rw w.as_slice-then-are_names_rising.ensures.value at w.are_live_rising.ensures) w.if-are_names_rising.true w.value-is
+      | then-are_names_rising w ↦ both _ _ _ dead
+          (rw w.as_slice-then-are_names_rising.ensures.value at w.are_live_rising.ensures)
+          w.if-are_names_rising.true w.value-is
       | else-are_names_rising w ↦ only _ _ dead w.if-are_names_rising.false w.value-is
     ] in
     let before = two.0 c.if-are_live_rising.true in
-    rw (← c.parts.view_is) (λ h. record { dead = before.0; live = before.1; rates = classes.0 h }, λ all. classes.1 all.rates)
+    rw (← c.parts.view_is) (
+      λ h. record { dead = before.0; live = before.1; rates = classes.0 h },
+      λ all. classes.1 all.rates,
+    )
 
 pub returns-else-are_live_rising : goal.returns-else-are_live_rising
 returns-else-are_live_rising c =
     let dead = rw c.as_slice.ensures.value at c.are_names_rising.ensures in
-    let two : IsTrue c.if-are_names_rising.value ↔ (AreInOrder ComesBefore c.parts.inside.dead.items × AreInOrder (λ a b. ComesBefore a.name b.name) c.parts.inside.live.items) =
+    let two : IsTrue c.if-are_names_rising.value
+    ↔ (AreInOrder ComesBefore c.parts.inside.dead.items
+    × AreInOrder (λ a b. ComesBefore a.name b.name) c.parts.inside.live.items) =
     elim c.if-are_names_rising.branch [
-      | then-are_names_rising w ↦ both _ _ _ dead (rw w.as_slice-then-are_names_rising.ensures.value at w.are_live_rising.ensures) w.if-are_names_rising.true w.value-is
+      | then-are_names_rising w ↦ both _ _ _ dead
+          (rw w.as_slice-then-are_names_rising.ensures.value at w.are_live_rising.ensures)
+          w.if-are_names_rising.true w.value-is
       | else-are_names_rising w ↦ only _ _ dead w.if-are_names_rising.false w.value-is
     ] in
-    rw (← c.parts.view_is) (λ h. absurd (false≢true (sym c.if-are_live_rising.false ∙ h)), λ all. two.1 (all.dead, all.live))
+    rw (← c.parts.view_is) (
+      λ h. absurd (false≢true (sym c.if-are_live_rising.false ∙ h)),
+      λ all. two.1 (all.dead, all.live),
+    )

@@ -18,8 +18,10 @@ returns-in_err-push c = IfOk-from_err _ _ c.from_residual-in_err-push.ensures.0
 
 pub loop-name-preserved : goal.loop-name-preserved
 loop-name-preserved c =
-    value_added (λ pair. pair.0) c.args.pairs.now c.loop-name.name-index c.loop-name-item.result _ [] _ _ c.loop-name-test.true
+    value_added (λ pair. pair.0) c.args.pairs.now c.loop-name.name-index c.loop-name-item.result _ [] _ _
+    c.loop-name-test.true
     (c.in_ok-copy.ensures ∙ ap (λ pair. pair.0) c.loop-name-item.is) c.loop-name.invariant c.in_ok-push.ensures.items
 
 pub returns : goal.returns
-returns c = c.loop-name.invariant ∙ ap (map (λ pair. pair.0)) (take_all c.loop-name.name-index c.args.pairs.now (omega arith))
+returns c =
+    c.loop-name.invariant ∙ ap (map (λ pair. pair.0)) (take_all c.loop-name.name-index c.args.pairs.now (omega arith))

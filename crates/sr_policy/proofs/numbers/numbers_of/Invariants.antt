@@ -4,4 +4,5 @@ use Rattle.sr_policy.specs.File.{numbers_of}
 use Rattle.sr_policy.proofs.numbers.numbers_of.Given as goal
 
 abbrev pub invariant-loop-key : goal.invariant-loop-key
-invariant-loop-key l = l.pairs.items ++ numbers_of (members_view l.key-iterator) ≡ numbers_of (members_view l.table.entries)
+invariant-loop-key l =
+    l.pairs.items ++ numbers_of (members_view l.key-iterator) ≡ numbers_of (members_view l.table.entries)
