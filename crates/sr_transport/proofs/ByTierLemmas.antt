@@ -88,7 +88,8 @@ pub tier_small : (tiers : List Tier) (t : ℕ) → All IsSmallTier tiers → IsS
 tier_small tiers t small =
     elim (cases_lt t (length tiers)) [
       | inl lt ↦ small t no_tier lt
-      | inr past ↦ subst IsSmallTier (sym (get_or_past tiers t no_tier past)) (record { room = omega arith; fee = omega arith })
+      | inr past ↦
+          subst IsSmallTier (sym (get_or_past tiers t no_tier past)) (record { room = omega arith; fee = omega arith })
     ]
 
 with_fee : (fee : ℕ) (cost : Option ℕ) → fee ≤ greatest_fee → IfSome cost (λ n. n ≤ greatest_cost)
@@ -100,7 +101,8 @@ pub charge_at_small : (p : Tiered) (i t : ℕ) → IsWithinLimits p.tiers p.take
     → IfSome (charge_at p i t) (λ n. n ≤ greatest_charge)
 charge_at_small p i t limits =
     let tier = tier_at p.tiers t in
-    with_fee tier.fee (cost_at p i tier.consumer) (tier_small p.tiers t limits.small_tiers).fee (cost_at_small p i tier.consumer limits)
+    with_fee tier.fee (cost_at p i tier.consumer) (tier_small p.tiers t limits.small_tiers).fee
+    (cost_at_small p i tier.consumer limits)
 
 some_small : (charge : Option ℕ) → IfSome charge (λ n. n ≤ greatest_charge) → unwrap_or charge 0 ≤ greatest_charge
 some_small None small = omega arith
@@ -123,10 +125,12 @@ by_tier-within p limits =
           ∙ ap (λ n. n * length p.tiers) (length-range_with_len 0 p.entries)
           ∙ ap (λ n. p.entries * n) (sym (columns-length p));
       small_rooms =
-          All-map (λ room. room ≤ greatest_room) (λ (tier : Tier). tier.room) p.tiers (λ t d lt. (limits.small_tiers t d lt).room);
+          All-map (λ room. room ≤ greatest_room) (λ (tier : Tier). tier.room) p.tiers
+          (λ t d lt. (limits.small_tiers t d lt).room);
       small_costs =
           rows_all small (charges_of p) rows
-          (λ i. All-map small (charge_at p i) (range_with_len 0 (length p.tiers)) (λ k d lt. charge_at_small p i _ limits));
+          (λ i. All-map small (charge_at p i) (range_with_len 0 (length p.tiers))
+          (λ k d lt. charge_at_small p i _ limits));
     }
 
 -- the tiers of the entries, by index
@@ -144,7 +148,8 @@ charge_is_some fee (Some n) some = some
 pub charged : (p : Tiered) (i c t : ℕ) → (tier_at p.tiers t).consumer ≡ c → IsSome (cost_at p i c)
     → IsSome (charge_at p i t)
 charged p i c t own some =
-    charge_is_some (tier_at p.tiers t).fee (cost_at p i (tier_at p.tiers t).consumer) (subst (λ x. IsSome (cost_at p i x)) (sym own) some)
+    charge_is_some (tier_at p.tiers t).fee (cost_at p i (tier_at p.tiers t).consumer)
+    (subst (λ x. IsSome (cost_at p i x)) (sym own) some)
 
 -- an entry of a placement is charged in its tier
 pub tier_of-charged : (p : Tiered) (xs : List ℕ) (i : ℕ) → AreTiers p.takers p.tiers → IsPlacement p xs → i < length xs
@@ -160,7 +165,8 @@ tier_allowed p xs i are assigned lt =
     let entry : i < p.entries = omega (arith, assigned.every) in
     subst (plain.IsAllowed (by_tier p) i) (sym (tiers_of-at p xs i lt)) (
       omega (arith, columns-length p, own.within),
-      subst (λ (o : Option ℕ). IsSome o) (sym (cost_at-by_tier p i t entry own.within)) (tier_of-charged p xs i are assigned.placement lt),
+      subst (λ (o : Option ℕ). IsSome o) (sym (cost_at-by_tier p i t entry own.within))
+          (tier_of-charged p xs i are assigned.placement lt),
     )
 
 -- the tiers of an assignment are an assignment to the columns
@@ -185,21 +191,24 @@ total_of-by_tier p xs are assigned =
     ap (sum_below costs) (tiers_of-length p xs)
     ∙ sum_below-same costs charged (length xs) (λ i lt.
     ap (plain.cost_of (by_tier p) i) (tiers_of-at p xs i lt)
-    ∙ cost_of-by_tier p i (tier_of p xs i) (omega (arith, assigned.every)) (tier_of-own p xs i are assigned.placement lt).within)
+    ∙ cost_of-by_tier p i (tier_of p xs i) (omega (arith, assigned.every))
+    (tier_of-own p xs i are assigned.placement lt).within)
 
 -- a tier that is least among the tiers is least among the columns, and the other way round
 least-by_tier : (p : Tiered) (prices : List ℕ) (i t : ℕ) → i < p.entries → t < length p.tiers → IsLeast p prices i t
     → plain_certificate.IsLeast (by_tier p) prices i t
 least-by_tier p prices i t entry tier least u allowed =
     let other : u < length p.tiers = omega (arith, columns-length p, allowed.0) in
-    let some : IsSome (charge_at p i u) = subst (λ (o : Option ℕ). IsSome o) (cost_at-by_tier p i u entry other) allowed.1 in
+    let some : IsSome (charge_at p i u) =
+    subst (λ (o : Option ℕ). IsSome o) (cost_at-by_tier p i u entry other) allowed.1 in
     omega (arith, least u other some, cost_of-by_tier p i t entry tier, cost_of-by_tier p i u entry other)
 
 least-from_by_tier : (p : Tiered) (prices : List ℕ) (i t : ℕ) → i < p.entries → t < length p.tiers
     → plain_certificate.IsLeast (by_tier p) prices i t → IsLeast p prices i t
 least-from_by_tier p prices i t entry tier least u other some =
     let column : u < length (by_tier p).rooms = omega (arith, columns-length p) in
-    let charge : IsSome (plain.cost_at (by_tier p) i u) = subst (λ (o : Option ℕ). IsSome o) (sym (cost_at-by_tier p i u entry other)) some in
+    let charge : IsSome (plain.cost_at (by_tier p) i u) =
+    subst (λ (o : Option ℕ). IsSome o) (sym (cost_at-by_tier p i u entry other)) some in
     omega (arith, least u (column, charge), cost_of-by_tier p i t entry tier, cost_of-by_tier p i u entry other)
 
 -- prices that show an assignment cheapest show its tiers cheapest in the columns
@@ -247,7 +256,8 @@ any_same f g P (i ∷ set) same all =
 reached-by_tier : (p : Tiered) (set : List ℕ) (t : ℕ) → All (λ i. i < p.entries) set → t < length p.tiers
     → plain_certificate.is_reached (by_tier p) set t ≡ is_reached p set (tier_at p.tiers t).consumer
 reached-by_tier p set t entries lt =
-    any_same (λ i. is_some (plain.cost_at (by_tier p) i t)) (λ i. is_some (cost_at p i (tier_at p.tiers t).consumer)) (λ i. i < p.entries) set
+    any_same (λ i. is_some (plain.cost_at (by_tier p) i t)) (λ i. is_some (cost_at p i (tier_at p.tiers t).consumer))
+    (λ i. i < p.entries) set
     (λ i entry. ap (λ (o : Option ℕ). is_some o) (cost_at-by_tier p i t entry lt)
     ∙ charge_shows (tier_at p.tiers t).fee (cost_at p i (tier_at p.tiers t).consumer))
     entries

@@ -38,7 +38,8 @@ shortage_excludes p set shortage xs assigned =
     λ k lt. list_any_at (λ i. is_some (cost_at p i (get_or xs (get_or set k 0) 0))) set k 0 lt
     (assigned.placement.allowed (get_or set k 0) (entry_in k lt)).1 in
     let many = plain.rising_places-le (is_reached p set) xs set shortage.rising entry_in reached in
-    let few = plain.reached_within (is_reached p set) (room_of p) (consumers p) xs (placed_below p xs assigned.placement) assigned.placement.in_room in
+    let few = plain.reached_within (is_reached p set) (room_of p) (consumers p) xs
+    (placed_below p xs assigned.placement) assigned.placement.in_room in
     omega (arith, many, few, shortage.too_few)
 
 -- the places of a set
@@ -56,5 +57,6 @@ pub total_within : (p : Tiered) (xs : List ℕ) → IsWithinLimits p.tiers p.tak
 total_within p xs limits few =
     omega (
       arith,
-      sum_below-le_most (λ i. charge_of p i (tier_of p xs i)) greatest_charge (length xs) (λ i lt. charge_small p i (tier_of p xs i) limits),
+      sum_below-le_most (λ i. charge_of p i (tier_of p xs i)) greatest_charge (length xs)
+          (λ i lt. charge_small p i (tier_of p xs i) limits),
     )

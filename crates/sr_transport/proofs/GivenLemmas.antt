@@ -44,10 +44,12 @@ given_more p xs given new k is lt within more =
       sized = ap length more ∙ length-set given x next ∙ is.sized;
       each = λ c taker. ap (λ l. get_or l c 0) more ∙ elim (cases_eq x c) [
         | inl own ↦
-            let same : get_or (set given x next) c 0 ≡ next = ap (λ i. get_or (set given x next) i 0) (sym own) ∙ get_or-set_same given x next 0 within in
+            let same : get_or (set given x next) c 0 ≡ next =
+            ap (λ i. get_or (set given x next) i 0) (sym own) ∙ get_or-set_same given x next 0 within in
             let before : get_or given x 0 ≡ load (take k xs) c = ap (λ i. get_or given i 0) own ∙ is.each c taker in
             omega (arith, same, before, load-more_own xs k c lt own)
         | inr other ↦
-            get_or-set_other given x c next 0 (λ e. other (sym e)) ∙ is.each c taker ∙ sym (load-more_other xs k c lt other)
+            get_or-set_other given x c next 0 (λ e. other (sym e)) ∙ is.each c taker
+            ∙ sym (load-more_other xs k c lt other)
       ];
     }

@@ -22,7 +22,8 @@ pub placed_below : (p : Transport) (xs : List ℕ) → IsPlacement p xs → All 
 placed_below p xs placement = All-from_get_or (λ x. x < consumers p) xs 0 (λ i lt. (placement.allowed i lt).0)
 
 -- the prices of the consumers of a placement sum to no more than those of the shown one
-prices_within : (p : Transport) (xs prices other : List ℕ) → IsPlacement p xs → ShowsCheapest p xs prices → IsPlacement p other
+prices_within : (p : Transport) (xs prices other : List ℕ) → IsPlacement p xs → ShowsCheapest p xs prices
+    → IsPlacement p other
     → sum_by (λ c. get_or prices c 0) other ≤ sum_by (λ c. get_or prices c 0) xs
 prices_within p xs prices other placement shows placed =
     let price : ℕ → ℕ = λ c. get_or prices c 0 in
@@ -36,13 +37,16 @@ prices_within p xs prices other placement shows placed =
     omega (arith, here, there, sum_below-le (λ c. price c * load other c) (λ c. price c * load xs c) (consumers p) each)
 
 -- prices that show an assignment show that no other costs less
-pub prices_show_cheapest : (p : Transport) (xs prices : List ℕ) → IsAssignment p xs → ShowsCheapest p xs prices → IsCheapest p xs
+pub prices_show_cheapest : (p : Transport) (xs prices : List ℕ) → IsAssignment p xs → ShowsCheapest p xs prices
+    → IsCheapest p xs
 prices_show_cheapest p xs prices assignment shows other assigned =
     let price : ℕ → ℕ = λ c. get_or prices c 0 in
     let cost : List ℕ → ℕ → ℕ = λ ys i. cost_of p i (get_or ys i 0) in
     let each : (i : ℕ) → i < length xs → cost xs i + price (get_or xs i 0) ≤ cost other i + price (get_or other i 0) =
-    λ i lt. shows.least i lt (get_or other i 0) (assigned.placement.allowed i (omega (arith, assignment.every, assigned.every))) in
-    let sums = sum_below-le_pairs (cost xs) (λ i. price (get_or xs i 0)) (cost other) (λ i. price (get_or other i 0)) (length xs) each in
+    λ i lt. shows.least i lt (get_or other i 0)
+    (assigned.placement.allowed i (omega (arith, assignment.every, assigned.every))) in
+    let sums = sum_below-le_pairs (cost xs) (λ i. price (get_or xs i 0)) (cost other) (λ i. price (get_or other i 0))
+    (length xs) each in
     let within = prices_within p xs prices other assignment.placement shows assigned.placement in
     let same : length other ≡ length xs = omega (arith, assignment.every, assigned.every) in
     let here = sum_by_below price xs in
@@ -50,7 +54,8 @@ prices_show_cheapest p xs prices assignment shows other assigned =
     rw same (omega (arith, sums, within, here, there))
 
 -- a longer front of a list has no fewer elements that pass
-count_by-take_within : (test : ℕ → Bool) (xs : List ℕ) (m n : ℕ) → m ≤ n → count_by test (take m xs) ≤ count_by test (take n xs)
+count_by-take_within : (test : ℕ → Bool) (xs : List ℕ) (m n : ℕ) → m ≤ n
+    → count_by test (take m xs) ≤ count_by test (take n xs)
 count_by-take_within test xs m n le =
     rw (take-take m n xs le) at (sum_by-take-le (λ x. cond (test x) 1 0) (take n xs) m)
 
@@ -89,7 +94,8 @@ rising_places-le test xs set rising within passes =
     ]
 
 -- no more entries are at the consumers that are reached than these have room for
-pub reached_within : (reached : ℕ → Bool) (room : ℕ → ℕ) (n : ℕ) (xs : List ℕ) → All (λ x. x < n) xs → ((c : ℕ) → c < n → load xs c ≤ room c)
+pub reached_within : (reached : ℕ → Bool) (room : ℕ → ℕ) (n : ℕ) (xs : List ℕ) → All (λ x. x < n) xs
+    → ((c : ℕ) → c < n → load xs c ≤ room c)
     → count_by reached xs ≤ sum_below (λ c. cond (reached c) (room c) 0) n
 reached_within reached room n xs below in_room =
     let weight : ℕ → ℕ = λ c. cond (reached c) 1 0 in
@@ -107,5 +113,6 @@ shortage_excludes p set shortage xs assignment =
     λ k lt. list_any_at (λ i. is_some (cost_at p i (get_or xs (get_or set k 0) 0))) set k 0 lt
     (assignment.placement.allowed (get_or set k 0) (entry_in k lt)).1 in
     let many = rising_places-le (is_reached p set) xs set shortage.rising entry_in reached in
-    let few = reached_within (is_reached p set) (room_of p) (consumers p) xs (placed_below p xs assignment.placement) assignment.placement.in_room in
+    let few = reached_within (is_reached p set) (room_of p) (consumers p) xs
+    (placed_below p xs assignment.placement) assignment.placement.in_room in
     omega (arith, many, few, shortage.too_few)

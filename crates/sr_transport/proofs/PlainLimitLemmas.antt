@@ -11,7 +11,8 @@ use Rattle.sr_transport.specs.plain.Problem.{Transport, IsWithinLimits, consumer
 use Rattle.sr_transport.specs.plain.Certificate.{is_reached}
 use Rattle.sr_transport.proofs.SumLemmas.{sum_below-le_most}
 
-pub room_small : (p : Transport) (c : ℕ) → IsWithinLimits p.rooms p.entries p.costs → c < consumers p → room_of p c ≤ greatest_room
+pub room_small : (p : Transport) (c : ℕ) → IsWithinLimits p.rooms p.entries p.costs → c < consumers p
+    → room_of p c ≤ greatest_room
 room_small p c limits lt = limits.small_rooms c 0 lt
 
 counted_small : (counted : Bool) (room most : ℕ) → room ≤ most → cond counted room 0 ≤ most
@@ -30,12 +31,16 @@ some_small : (cost : Option ℕ) → IfSome cost (λ c. c ≤ greatest_charge) �
 some_small None small = omega arith
 some_small (Some c) small = small
 
-pub cost_at_small : (p : Transport) → IsWithinLimits p.rooms p.entries p.costs → (i c : ℕ) → IfSome (cost_at p i c) (λ n. n ≤ greatest_charge)
+pub cost_at_small : (p : Transport) → IsWithinLimits p.rooms p.entries p.costs → (i c : ℕ)
+    → IfSome (cost_at p i c) (λ n. n ≤ greatest_charge)
 cost_at_small p limits i c =
     elim (cases_lt (i * length p.rooms + c) (length p.costs)) [
-      | inl lt ↦ All-get_or (λ cost. IfSome cost (λ n. n ≤ greatest_charge)) p.costs (i * length p.rooms + c) None lt limits.small_costs
-      | inr past ↦ let none : cost_at p i c ≡ None = get_or_past p.costs (i * length p.rooms + c) None past in rw none tt
+      | inl lt ↦ All-get_or (λ cost. IfSome cost (λ n. n ≤ greatest_charge)) p.costs
+          (i * length p.rooms + c) None lt limits.small_costs
+      | inr past ↦
+          let none : cost_at p i c ≡ None = get_or_past p.costs (i * length p.rooms + c) None past in rw none tt
     ]
 
-pub cost_small : (p : Transport) → IsWithinLimits p.rooms p.entries p.costs → (i c : ℕ) → cost_of p i c ≤ greatest_charge
+pub cost_small : (p : Transport) → IsWithinLimits p.rooms p.entries p.costs → (i c : ℕ)
+    → cost_of p i c ≤ greatest_charge
 cost_small p limits i c = some_small (cost_at p i c) (cost_at_small p limits i c)

@@ -36,7 +36,8 @@ pub sum_by-take_at : {X : Type 0} (w : X → ℕ) (d : X) (xs : List X) (n : ℕ
     → sum_by w (take n xs) ≡ sum_below (λ i. w (get_or xs i d)) n
 sum_by-take_at w d xs zero le = refl
 sum_by-take_at w d xs (suc n) le =
-    let more : sum_by w (take (n + 1) xs) ≡ sum_by w (take n xs) + w (get_or xs n d) = sum_by_more w xs n d (omega arith) in
+    let more : sum_by w (take (n + 1) xs) ≡ sum_by w (take n xs) + w (get_or xs n d) =
+    sum_by_more w xs n d (omega arith) in
     let next : n + 1 ≡ suc n = omega arith in
     omega (arith, rw next at more, sum_by-take_at w d xs n (omega arith))
 
@@ -120,7 +121,8 @@ sum_at who w n c = sum_below (λ t. cond (who t == c) (w t) 0) n
 
 term_at_own : (who w : ℕ → ℕ) (counts : ℕ → Bool) (n c : ℕ) → c ≡ who n
     → cond (counts c) (cond (who n == c) (w n) 0) 0 ≡ cond (counts (who n)) (w n) 0
-term_at_own who w counts n c own = rw own (ap (λ b. cond (counts (who n)) (cond b (w n) 0) 0) (eq-eqb (who n) (who n) refl))
+term_at_own who w counts n c own =
+    rw own (ap (λ b. cond (counts (who n)) (cond b (w n) 0) 0) (eq-eqb (who n) (who n) refl))
 
 term_at_other : (who w : ℕ → ℕ) (counts : ℕ → Bool) (n c : ℕ) → (c ≡ who n → ⊥)
     → cond (counts c) (cond (who n == c) (w n) 0) 0 ≡ 0
@@ -130,13 +132,15 @@ term_at_other who w counts n c other =
 -- terms that count by whose they are, summed for each of these
 pub sum_below-grouped : (who w : ℕ → ℕ) (counts : ℕ → Bool) (n m : ℕ) → ((t : ℕ) → t < n → who t < m)
     → sum_below (λ t. cond (counts (who t)) (w t) 0) n ≡ sum_below (λ c. cond (counts c) (sum_at who w n c) 0) m
-sum_below-grouped who w counts zero m within = sym (sum_below-zero (λ c. cond (counts c) 0 0) m (λ c l. cond-none (counts c)))
+sum_below-grouped who w counts zero m within =
+    sym (sum_below-zero (λ c. cond (counts c) 0 0) m (λ c l. cond-none (counts c)))
 sum_below-grouped who w counts (suc n) m within =
     let so_far : ℕ → ℕ = λ c. cond (counts c) (sum_at who w n c) 0 in
     let last : ℕ → ℕ = λ c. cond (counts c) (cond (who n == c) (w n) 0) 0 in
     let all : ℕ → ℕ = λ c. cond (counts c) (sum_at who w (suc n) c) 0 in
     let split : sum_below all m ≡ sum_below (λ c. so_far c + last c) m =
-    sum_below-same all (λ c. so_far c + last c) m (λ c l. cond-plus (counts c) (sum_at who w n c) (cond (who n == c) (w n) 0)) in
+    sum_below-same all (λ c. so_far c + last c) m
+    (λ c l. cond-plus (counts c) (sum_at who w n c) (cond (who n == c) (w n) 0)) in
     let one : sum_below last m ≡ last (who n) =
     sum_below-one last (who n) m (within n (omega arith)) (λ c l. term_at_other who w counts n c) in
     omega (
@@ -154,7 +158,8 @@ load-cons_same x xs c e = sum_by-cons (λ y. cond (y == c) 1 0) x xs ∙ ap (λ 
 
 load-cons_other : (x : ℕ) (xs : List ℕ) (c : ℕ) → (x ≡ c → ⊥) → load (x ∷ xs) c ≡ load xs c
 load-cons_other x xs c ne =
-    let other : load (x ∷ xs) c ≡ 0 + load xs c = sum_by-cons (λ y. cond (y == c) 1 0) x xs ∙ ap (λ b. cond b 1 0 + load xs c) (ne_eqb x c ne) in
+    let other : load (x ∷ xs) c ≡ 0 + load xs c =
+    sum_by-cons (λ y. cond (y == c) 1 0) x xs ∙ ap (λ b. cond b 1 0 + load xs c) (ne_eqb x c ne) in
     omega (arith, other)
 
 below_first : (w : ℕ → ℕ) (x : ℕ) (xs : List ℕ) (n : ℕ) → n ≤ x

@@ -21,7 +21,8 @@ no_tier = record { consumer = 0; room = 0; fee = 0 }
 pub tier_is : (takers : ℕ) (tiers : List Tier) (t c : ℕ) → AreTiers takers tiers → t < length tiers
     → (tier_at tiers t).consumer ≡ c
     → (t ≡ first_in tiers c) ⊎ (t ≡ first_in tiers c + 1)
-tier_is takers tiers t c are lt own = subst (λ x. (t ≡ first_in tiers x) ⊎ (t ≡ first_in tiers x + 1)) own (are.near t lt).1
+tier_is takers tiers t c are lt own =
+    subst (λ x. (t ≡ first_in tiers x) ⊎ (t ≡ first_in tiers x + 1)) own (are.near t lt).1
 
 -- the room that tier t has for consumer c
 abbrev pub room_in : List Tier → ℕ → ℕ → ℕ
@@ -70,7 +71,8 @@ room_of-tiers p c are lt =
     let here = room_in-own p.tiers c a first.own in
     elim (cases_lt (a + 1) (length p.tiers)) [
       | inl more ↦
-          let two = sum_below-two (room_in p.tiers c) a (length p.tiers) more (λ t. elsewhere p.takers p.tiers c t are) in
+          let two =
+          sum_below-two (room_in p.tiers c) a (length p.tiers) more (λ t. elsewhere p.takers p.tiers c t are) in
           omega (arith, room_of-sum p c, two, here)
       | inr last ↦
           let none = room_in-past p.tiers c (a + 1) last in
@@ -119,7 +121,8 @@ tier_for-own p c k are lt room =
     elim (cases_lt k (tier_at p.tiers a).room) [
       | inl in_first ↦
           let first = are.first c lt in
-          subst (IsTierOf p.tiers c) (sym (tier_for-first p c k in_first)) (record { within = first.here; own = first.own })
+          subst (IsTierOf p.tiers c) (sym (tier_for-first p c k in_first))
+          (record { within = first.here; own = first.own })
       | inr beyond ↦
           let own = room_in_is_own p.tiers c (a + 1) (omega (arith, room_of-tiers p c are lt)) in
           subst (IsTierOf p.tiers c) (sym (tier_for-next p c k beyond)) (record { within = own.0; own = own.1 })
@@ -176,7 +179,8 @@ tier_of-is p xs k c own = ap (λ x. tier_for p x (load (take k xs) x)) own
 -- of the first k entries, as many are in the first tier of consumer c as it has room for
 first_upto : (p : Tiered) (xs : List ℕ) (c k : ℕ) → AreTiers p.takers p.tiers → IsPlacement p xs → c < p.takers
     → k ≤ length xs
-    → load (tiers_upto p xs k) (first_in p.tiers c) ≡ min (load (take k xs) c) (tier_at p.tiers (first_in p.tiers c)).room
+    → load (tiers_upto p xs k) (first_in p.tiers c)
+    ≡ min (load (take k xs) c) (tier_at p.tiers (first_in p.tiers c)).room
 first_upto p xs c zero are placed lt le = omega arith
 first_upto p xs c (suc k) are placed lt le =
     let a = first_in p.tiers c in
@@ -190,7 +194,8 @@ first_upto p xs c (suc k) are placed lt le =
           let more = load-more_own xs k c within own in
           elim (cases_lt (load (take k xs) c) room) [
             | inl in_first ↦
-                let one = tier-more_own p xs k a (tier_of-is p xs k c own ∙ tier_for-first p c (load (take k xs) c) in_first) in
+                let one = tier-more_own p xs k a
+                (tier_of-is p xs k c own ∙ tier_for-first p c (load (take k xs) c) in_first) in
                 omega (arith, before, more, one)
             | inr beyond ↦
                 let second = tier_of-is p xs k c own ∙ tier_for-next p c (load (take k xs) c) beyond in
@@ -200,14 +205,16 @@ first_upto p xs c (suc k) are placed lt le =
       | inr other ↦
           let same = load-more_other xs k c within other in
           let none = tier-more_other p xs k a
-          (other_tier p.tiers (get_or xs k 0) c (tier_of p xs k) a (tier_of-own p xs k are placed within) (are.first c lt).own other) in
+          (other_tier p.tiers (get_or xs k 0) c (tier_of p xs k) a (tier_of-own p xs k are placed within)
+          (are.first c lt).own other) in
           omega (arith, before, same, none)
     ])
 
 -- and as many as are beyond that in the next, if it is the consumer's own
 next_upto : (p : Tiered) (xs : List ℕ) (c k : ℕ) → AreTiers p.takers p.tiers → IsPlacement p xs → c < p.takers
     → (tier_at p.tiers (first_in p.tiers c + 1)).consumer ≡ c → k ≤ length xs
-    → load (tiers_upto p xs k) (first_in p.tiers c + 1) ≡ load (take k xs) c - (tier_at p.tiers (first_in p.tiers c)).room
+    → load (tiers_upto p xs k) (first_in p.tiers c + 1)
+    ≡ load (take k xs) c - (tier_at p.tiers (first_in p.tiers c)).room
 next_upto p xs c zero are placed lt second le = omega arith
 next_upto p xs c (suc k) are placed lt second le =
     let a = first_in p.tiers c in
@@ -225,13 +232,15 @@ next_upto p xs c (suc k) are placed lt second le =
                 let none = tier-more_other p xs k (a + 1) (λ e. omega (arith, first)) in
                 omega (arith, before, more, none)
             | inr beyond ↦
-                let one = tier-more_own p xs k (a + 1) (tier_of-is p xs k c own ∙ tier_for-next p c (load (take k xs) c) beyond) in
+                let one = tier-more_own p xs k (a + 1)
+                (tier_of-is p xs k c own ∙ tier_for-next p c (load (take k xs) c) beyond) in
                 omega (arith, before, more, one)
           ]
       | inr other ↦
           let same = load-more_other xs k c within other in
           let none = tier-more_other p xs k (a + 1)
-          (other_tier p.tiers (get_or xs k 0) c (tier_of p xs k) (a + 1) (tier_of-own p xs k are placed within) second other) in
+          (other_tier p.tiers (get_or xs k 0) c (tier_of p xs k) (a + 1)
+          (tier_of-own p xs k are placed within) second other) in
           omega (arith, before, same, none)
     ])
 
@@ -278,7 +287,8 @@ tier_in_room p xs t are placed lt =
 pub load-at_first : (p : Tiered) (xs : List ℕ) (t : ℕ) → AreTiers p.takers p.tiers → IsPlacement p xs
     → t < length p.tiers
     → t ≡ first_in p.tiers (tier_at p.tiers t).consumer
-    → load (tiers_of p xs) t ≡ min (load xs (tier_at p.tiers t).consumer) (tier_at p.tiers (first_in p.tiers (tier_at p.tiers t).consumer)).room
+    → load (tiers_of p xs) t
+    ≡ min (load xs (tier_at p.tiers t).consumer) (tier_at p.tiers (first_in p.tiers (tier_at p.tiers t).consumer)).room
 load-at_first p xs t are placed lt first =
     ap (load (tiers_of p xs)) first ∙ load-first p xs (tier_at p.tiers t).consumer are placed (are.near t lt).0
 
@@ -286,7 +296,8 @@ load-at_first p xs t are placed lt first =
 pub load-at_next : (p : Tiered) (xs : List ℕ) (t : ℕ) → AreTiers p.takers p.tiers → IsPlacement p xs
     → t < length p.tiers
     → (t ≡ first_in p.tiers (tier_at p.tiers t).consumer → ⊥)
-    → load (tiers_of p xs) t ≡ load xs (tier_at p.tiers t).consumer - (tier_at p.tiers (first_in p.tiers (tier_at p.tiers t).consumer)).room
+    → load (tiers_of p xs) t
+    ≡ load xs (tier_at p.tiers t).consumer - (tier_at p.tiers (first_in p.tiers (tier_at p.tiers t).consumer)).room
 load-at_next p xs t are placed lt other =
     let c = (tier_at p.tiers t).consumer in
     let near = are.near t lt in
@@ -294,5 +305,6 @@ load-at_next p xs t are placed lt other =
       | inl first ↦ absurd (other first)
       | inr second ↦ second
     ] in
-    let own : (tier_at p.tiers (first_in p.tiers c + 1)).consumer ≡ c = sym (ap (λ u. (tier_at p.tiers u).consumer) next) in
+    let own : (tier_at p.tiers (first_in p.tiers c + 1)).consumer ≡ c =
+    sym (ap (λ u. (tier_at p.tiers u).consumer) next) in
     ap (load (tiers_of p xs)) next ∙ load-next p xs c are placed near.0 own

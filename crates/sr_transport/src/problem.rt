@@ -54,7 +54,12 @@ impl Model for Problem {
 
     ghost Value = { Tiered };
 
-    ghost view = { λ p. record { tiers = p.tiers.items; takers = p.consumers; entries = p.entries; costs = p.costs.items } };
+    ghost view = { λ p. record {
+      tiers = p.tiers.items;
+      takers = p.consumers;
+      entries = p.entries;
+      costs = p.costs.items;
+    } };
 
     ghost invariant = { λ p. IsWithinLimits p.tiers.items p.consumers p.entries p.costs.items };
 }
@@ -155,8 +160,8 @@ impl Problem {
         Some(cost + place.fee)
     }
 
-    /// The problem without tiers that has a column for each tier. `rooms` are the rooms of the tiers, and `charges` what
-    /// each entry is charged in each tier, row by entry; neither list is read.
+    /// The problem without tiers that has a column for each tier. `rooms` are the rooms of the tiers, and `charges` is
+    /// what each entry is charged in each tier, row by entry; neither list is read.
     pub fn by_tier<'a>(&self, rooms: &'a [u64], charges: &'a [Option<u64>]) -> Columns<'a>
         requires rooms { rooms.now ≡ (by_tier self.now).rooms }
         requires charges { charges.now ≡ (by_tier self.now).costs }

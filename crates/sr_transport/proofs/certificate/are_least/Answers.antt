@@ -19,7 +19,8 @@ is_least-requires-clause-tier c =
     let xs = c.args.assign.now in
     let entry : ℕ = c.loop-entry.entry in
     let placed = c.requires.assignment.placement in
-    let tier = given_tier p xs c.loop-entry.given entry c.give.result c.tier_for-tier.result c.loop-entry.invariant.given
+    let tier =
+    given_tier p xs c.loop-entry.given entry c.give.result c.tier_for-tier.result c.loop-entry.invariant.given
     (placed.allowed entry (omega arith)).0 c.give.ensures.had c.tier_for-tier.ensures in
     omega (arith, tier, (tier_of-own p xs entry c.sound.ensures.are_tiers placed (omega arith)).within)
 
@@ -29,9 +30,11 @@ is_least-requires-clause-allowed c =
     let xs = c.args.assign.now in
     let entry : ℕ = c.loop-entry.entry in
     let placed = c.requires.assignment.placement in
-    let tier = given_tier p xs c.loop-entry.given entry c.give.result c.tier_for-tier.result c.loop-entry.invariant.given
+    let tier =
+    given_tier p xs c.loop-entry.given entry c.give.result c.tier_for-tier.result c.loop-entry.invariant.given
     (placed.allowed entry (omega arith)).0 c.give.ensures.had c.tier_for-tier.ensures in
-    subst (λ t. IsSome (charge_at p entry t)) (sym tier) (tier_of-charged p xs entry c.sound.ensures.are_tiers placed (omega arith))
+    subst (λ t. IsSome (charge_at p entry t)) (sym tier)
+    (tier_of-charged p xs entry c.sound.ensures.are_tiers placed (omega arith))
 
 pub loop-entry-preserved : goal.loop-entry-preserved
 loop-entry-preserved c =
@@ -41,7 +44,8 @@ loop-entry-preserved c =
     let entry : ℕ = c.loop-entry.entry in
     let taker = (c.requires.assignment.placement.allowed entry (omega arith)).0 in
     let is = c.loop-entry.invariant.given in
-    let tier = given_tier p xs c.loop-entry.given entry c.give.result c.tier_for-tier.result is taker c.give.ensures.had c.tier_for-tier.ensures in
+    let tier = given_tier p xs c.loop-entry.given entry c.give.result c.tier_for-tier.result is taker c.give.ensures.had
+    c.tier_for-tier.ensures in
     let here = subst (IsLeast p prices entry) tier (c.is_least.ensures.0 c.if-not-is_least.false) in
     record {
       given = given_more p xs c.loop-entry.given c.give.new.given entry is (omega arith)

@@ -11,7 +11,8 @@ overflow_add-places c =
     let set = c.args.set.now in
     let consumer = c.loop-consumer.consumer in
     let all = places_within p set c.sound.ensures c.requires in
-    let front = sum_below-front_le (λ c'. cond (is_reached p set c') (room_of p c') 0) (suc consumer) (consumers p) (omega arith) in
+    let front = sum_below-front_le (λ c'. cond (is_reached p set c') (room_of p c') 0) (suc consumer)
+    (consumers p) (omega arith) in
     let here : cond (is_reached p set consumer) (room_of p consumer) 0 ≡ room_of p consumer =
     ap (λ b. cond b (room_of p consumer) 0) (sym c.is_reached.ensures ∙ c.if-is_reached.true) in
     omega (arith, all, front, here)

@@ -22,7 +22,8 @@ known : (p : Tiered) (xs : List ℕ) (tiers : List Tier) (t first many in_first 
     → IsRead p xs tiers t first many in_first
     → IsKnown p xs t first many in_first
 known p xs tiers t first many in_first read =
-    let own : (tier_at tiers t).consumer ≡ (tier_at p.tiers t).consumer = ap (λ ts. (tier_at ts t).consumer) read.tiers_are in
+    let own : (tier_at tiers t).consumer ≡ (tier_at p.tiers t).consumer =
+    ap (λ ts. (tier_at ts t).consumer) read.tiers_are in
     let first_is : first ≡ first_in p.tiers (tier_at p.tiers t).consumer = read.first_is ∙ ap (first_in p.tiers) own in
     record {
       first_is = first_is;
@@ -49,7 +50,8 @@ pub bounds-tiers-first : goal.bounds-tiers-first
 bounds-tiers-first c =
     let p = c.args.problem.now in
     let read = (tier_at c.tiers-tiers.result.now c.args.tier).consumer in
-    let own : read ≡ (tier_at p.tiers c.args.tier).consumer = ap (λ ts. (tier_at ts c.args.tier).consumer) c.tiers-tiers.ensures in
+    let own : read ≡ (tier_at p.tiers c.args.tier).consumer =
+    ap (λ ts. (tier_at ts c.args.tier).consumer) c.tiers-tiers.ensures in
     let are = c.sound.ensures.are_tiers in
     let first = are.first read (omega (arith, own, (are.near c.args.tier c.requires.tier).0)) in
     omega (arith, c.first_tier-first.ensures, ap length c.tiers-tiers.ensures, first.here)
@@ -67,7 +69,8 @@ returns-then-tier-first c =
       many_are = c.load_of-load.ensures;
       least_is = c.min-in_first.ensures;
     }) in
-    load_first p xs c.args.tier first many in_first c.sound.ensures.are_tiers c.requires.assignment.placement c.requires.tier is c.if-tier-first.true
+    load_first p xs c.args.tier first many in_first c.sound.ensures.are_tiers c.requires.assignment.placement
+    c.requires.tier is c.if-tier-first.true
 
 pub returns-else-tier-first : goal.returns-else-tier-first
 returns-else-tier-first c =
@@ -82,4 +85,5 @@ returns-else-tier-first c =
       many_are = c.load_of-load.ensures;
       least_is = c.min-in_first.ensures;
     }) in
-    load_next p xs c.args.tier first many in_first c.sound.ensures.are_tiers c.requires.assignment.placement c.requires.tier is c.if-tier-first.false
+    load_next p xs c.args.tier first many in_first c.sound.ensures.are_tiers c.requires.assignment.placement
+    c.requires.tier is c.if-tier-first.false

@@ -14,7 +14,8 @@ charged : (charge read : Option ℕ) (found : ℕ) → read ≡ charge → read 
 charged charge read found is some = ap (λ (o : Option ℕ). unwrap_or o 0) (sym is ∙ some)
 
 pub loop-entry-init : goal.loop-entry-init
-loop-entry-init c = record { given = given_none c.args.problem.now c.args.assign.now c.sound.ensures.consumers; sum = refl }
+loop-entry-init c =
+    record { given = given_none c.args.problem.now c.args.assign.now c.sound.ensures.consumers; sum = refl }
 
 pub charge-requires-clause-tier : goal.charge-requires-clause-tier
 charge-requires-clause-tier c =
@@ -22,7 +23,8 @@ charge-requires-clause-tier c =
     let xs = c.args.assign.now in
     let entry : ℕ = c.loop-entry.entry in
     let placed = c.requires.placement in
-    let tier = given_tier p xs c.loop-entry.given entry c.give.result c.tier_for-tier.result c.loop-entry.invariant.given
+    let tier =
+    given_tier p xs c.loop-entry.given entry c.give.result c.tier_for-tier.result c.loop-entry.invariant.given
     (placed.allowed entry (omega arith)).0 c.give.ensures.had c.tier_for-tier.ensures in
     omega (arith, tier, (tier_of-own p xs entry c.sound.ensures.are_tiers placed (omega arith)).within)
 
@@ -32,7 +34,8 @@ unwrap-total-requires c =
     let xs = c.args.assign.now in
     let entry : ℕ = c.loop-entry.entry in
     let placed = c.requires.placement in
-    let tier = given_tier p xs c.loop-entry.given entry c.give.result c.tier_for-tier.result c.loop-entry.invariant.given
+    let tier =
+    given_tier p xs c.loop-entry.given entry c.give.result c.tier_for-tier.result c.loop-entry.invariant.given
     (placed.allowed entry (omega arith)).0 c.give.ensures.had c.tier_for-tier.ensures in
     subst (λ (o : Option ℕ). IsSome o) (sym (c.charge.ensures ∙ ap (charge_at p entry) tier))
     (tier_of-charged p xs entry c.sound.ensures.are_tiers placed (omega arith))
@@ -42,8 +45,10 @@ overflow_add-total c =
     let p = c.args.problem.now in
     let xs = c.args.assign.now in
     let entry : ℕ = c.loop-entry.entry in
-    let here = charged (charge_at p entry c.tier_for-tier.result) c.charge.result c.unwrap-total.result c.charge.ensures c.unwrap-total.ensures in
-    let so_far = sum_below-le_most (λ i. charge_of p i (tier_of p xs i)) greatest_charge entry (λ i lt. charge_small p i (tier_of p xs i) c.sound.ensures) in
+    let here = charged (charge_at p entry c.tier_for-tier.result) c.charge.result c.unwrap-total.result c.charge.ensures
+    c.unwrap-total.ensures in
+    let so_far = sum_below-le_most (λ i. charge_of p i (tier_of p xs i)) greatest_charge entry
+    (λ i lt. charge_small p i (tier_of p xs i) c.sound.ensures) in
     omega (
       arith,
       here,
@@ -61,13 +66,16 @@ loop-entry-preserved c =
     let entry : ℕ = c.loop-entry.entry in
     let taker = (c.requires.placement.allowed entry (omega arith)).0 in
     let is = c.loop-entry.invariant.given in
-    let tier = given_tier p xs c.loop-entry.given entry c.give.result c.tier_for-tier.result is taker c.give.ensures.had c.tier_for-tier.ensures in
+    let tier = given_tier p xs c.loop-entry.given entry c.give.result c.tier_for-tier.result is taker c.give.ensures.had
+    c.tier_for-tier.ensures in
     let here =
-    charged (charge_at p entry c.tier_for-tier.result) c.charge.result c.unwrap-total.result c.charge.ensures c.unwrap-total.ensures in
+    charged (charge_at p entry c.tier_for-tier.result) c.charge.result c.unwrap-total.result c.charge.ensures
+    c.unwrap-total.ensures in
     record {
       given = given_more p xs c.loop-entry.given c.give.new.given entry is (omega arith)
           (omega (arith, is.sized, c.sound.ensures.consumers)) c.give.ensures.more;
-      sum = sum_below_more (λ i. charge_of p i (tier_of p xs i)) entry c.loop-entry.total c.unwrap-total.result c.loop-entry.invariant.sum
+      sum = sum_below_more (λ i. charge_of p i (tier_of p xs i)) entry c.loop-entry.total c.unwrap-total.result
+          c.loop-entry.invariant.sum
           (ap (charge_of p entry) (sym tier) ∙ here);
     }
 

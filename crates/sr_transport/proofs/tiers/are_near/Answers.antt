@@ -10,4 +10,5 @@ loop-number-preserved c =
 
 pub returns : goal.returns
 returns c =
-    each (IsOneOfTwo c.args.consumers c.args.tiers.now) c.loop-number.number (length c.args.tiers.now) (omega arith) c.loop-number.invariant
+    each (IsOneOfTwo c.args.consumers c.args.tiers.now) c.loop-number.number (length c.args.tiers.now)
+    (omega arith) c.loop-number.invariant

@@ -20,7 +20,8 @@ is_one takers tiers t first tier here is taker one = (
 one_is : (takers : ℕ) (tiers : List Tier) (t first : ℕ) (tier : Tier) → tier_at tiers t ≡ tier
     → first ≡ first_in tiers tier.consumer
     → IsOneOfTwo takers tiers t → (t ≡ first) ⊎ (t ≡ first + 1)
-one_is takers tiers t first tier here is near = subst (λ n. (t ≡ n) ⊎ (t ≡ n + 1)) (begins tiers t first tier here is) near.1
+one_is takers tiers t first tier here is near =
+    subst (λ n. (t ≡ n) ⊎ (t ≡ n + 1)) (begins tiers t first tier here is) near.1
 
 not_first : (t first : ℕ) → (t ≡ first → ⊥) → (t ≡ first) ⊎ (t ≡ first + 1) → t ≡ first + 1
 not_first t first other (inl same) = absurd (other same)
@@ -30,7 +31,8 @@ pub returns-then-number-first : goal.returns-then-number-first
 returns-then-number-first c =
     let tiers = c.args.tiers.now in
     let first = c.first_in-first.result in (
-      λ same. is_one c.args.consumers tiers c.args.number first c.args.tier c.requires c.first_in-first.ensures.value (omega arith) (inl (omega arith)),
+      λ same. is_one c.args.consumers tiers c.args.number first c.args.tier c.requires c.first_in-first.ensures.value
+          (omega arith) (inl (omega arith)),
       λ near. eq-eqb c.args.number first (omega arith),
     )
 
@@ -38,8 +40,10 @@ pub returns-else-number-first : goal.returns-else-number-first
 returns-else-number-first c =
     let tiers = c.args.tiers.now in
     let first = c.first_in-first.result in (
-      λ same. is_one c.args.consumers tiers c.args.number first c.args.tier c.requires c.first_in-first.ensures.value (omega arith)
+      λ same. is_one c.args.consumers tiers c.args.number first c.args.tier c.requires c.first_in-first.ensures.value
+          (omega arith)
           (inr (eqb-true c.args.number (first + 1) same)),
       λ near. eq-eqb c.args.number (first + 1) (not_first c.args.number first c.if-number-first.false
-          (one_is c.args.consumers tiers c.args.number first c.args.tier c.requires c.first_in-first.ensures.value near)),
+          (one_is c.args.consumers tiers c.args.number first c.args.tier c.requires
+          c.first_in-first.ensures.value near)),
     )

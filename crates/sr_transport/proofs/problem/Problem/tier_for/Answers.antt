@@ -3,4 +3,9 @@ use Rattle.sr_transport.proofs.problem.Problem.tier_for.Goals as goal
 
 pub bounds-tiers-first : goal.bounds-tiers-first
 bounds-tiers-first c =
-    omega (arith, c.first_tier-first.ensures, ap length c.tiers.ensures, (c.sound.ensures.are_tiers.first c.args.consumer c.requires).here)
+    omega (
+      arith,
+      c.first_tier-first.ensures,
+      ap length c.tiers.ensures,
+      (c.sound.ensures.are_tiers.first c.args.consumer c.requires).here,
+    )
