@@ -1,5 +1,6 @@
 -- A consumer is closed, and its entries are offered to one consumer after another.
-use Rattle.std.proofs.Common.{◌≡◌, ℕ, ◌+◌, ◌<◌, ◌⊎◌, true, false, List, length, get_or, Option, sym, ap, ◌∙◌, inl, inr, arith}
+use Rattle.std.proofs.Common.{◌≡◌, ℕ, ◌+◌, ◌<◌, ◌⊎◌, true, false, List, length, get_or, Option, sym, ap, ◌∙◌, inl, inr}
+use Rattle.std.proofs.Common.{arith}
 use Rattle.std.proofs.Math.ListN.{set, length-set}
 use Rattle.std.proofs.lemmas.Bool.{cases_eq}
 use Rattle.std.proofs.lemmas.List.{get_or-set_same, get_or-set_other}
@@ -62,11 +63,13 @@ closing_search p k xs prices cutoff old new t search nearest full closing =
     λ dist base i c w. (omega (arith, w.0, (closing.same c).hops), omega (arith, w.1, (closing.same c).dist)) in
     record {
       one_each = closing.every ∙ search.one_each;
-      way = λ c lt up. way_kept p k xs prices old new c (closing.same c) (λ x was. (closing.same x, closing.kept x was)) (search.way c lt (above c up));
+      way = λ c lt up. way_kept p k xs prices old new c (closing.same c) (λ x was. (closing.same x, closing.kept x was))
+          (search.way c lt (above c up));
       long = λ c lt up. omega (arith, search.long c lt (above c up), (closing.same c).dist, (closing.same c).hops);
       few = λ c lt up. omega (arith, search.few c lt (above c up), (closing.same c).hops, closing.fewer);
       few_closed = λ c lt now. elim (closing.back c now) [
-        | inl e ↦ rw e (omega (arith, search.few t nearest.consumer nearest.reached, (closing.same t).hops, closing.fewer))
+        | inl e ↦
+            rw e (omega (arith, search.few t nearest.consumer nearest.reached, (closing.same t).hops, closing.fewer))
         | inr was ↦ omega (arith, search.few_closed c lt was, (closing.same c).hops, closing.fewer)
       ];
       reached = λ c lt now. elim (closing.back c now) [
@@ -78,14 +81,30 @@ closing_search p k xs prices cutoff old new t search nearest full closing =
         | inr was ↦ search.full c lt was
       ];
       nearer = λ c d lt ltd now not_now up. elim (closing.back c now) [
-        | inl e ↦ rw e (omega (arith, nearest.least d ltd (above d up) (closing.still d not_now), (closing.same t).dist, (closing.same d).dist))
+        | inl e ↦
+            rw e (omega (
+              arith,
+              nearest.least d ltd (above d up) (closing.still d not_now),
+              (closing.same t).dist,
+              (closing.same d).dist,
+            ))
         | inr was ↦
-            omega (arith, search.nearer c d lt ltd was (closing.still d not_now) (above d up), (closing.same c).dist, (closing.same d).dist)
+            omega (
+              arith,
+              search.nearer c d lt ltd was (closing.still d not_now) (above d up),
+              (closing.same c).dist,
+              (closing.same d).dist,
+            )
       ];
       latest = λ c lt now ltt. elim (closing.back c now) [
         | inl e ↦ rw e (omega arith)
         | inr was ↦
-            omega (arith, search.nearer c t lt ltt was nearest.not_closed nearest.reached, (closing.same c).dist, (closing.same t).dist)
+            omega (
+              arith,
+              search.nearer c t lt ltt was nearest.not_closed nearest.reached,
+              (closing.same c).dist,
+              (closing.same t).dist,
+            )
       ];
       new_offered = λ c allowed. within 0 0 k c (search.new_offered c allowed);
       offered = λ i c lt now upto allowed. elim (closing.back (get_or xs i 0) now) [
@@ -103,7 +122,8 @@ closing_search p k xs prices cutoff old new t search nearest full closing =
     }
 
 -- before its entries are offered to the first consumer
-pub closed_start : (p : Transport) (k : ℕ) (xs prices : List ℕ) (cutoff : Option ℕ) (old : List Label) (t : ℕ) (label : Label)
+pub closed_start : (p : Transport) (k : ℕ) (xs prices : List ℕ) (cutoff : Option ℕ) (old : List Label)
+    (t : ℕ) (label : Label)
     → IsRound p k xs prices cutoff old → IsNearest p old t → load xs t ≡ room_of p t
     → IsSameWay (label_at old t) label → label.closed ≡ true
     → IsClosed p k xs prices cutoff old (set old t label) t 0

@@ -1,5 +1,6 @@
 -- The cutoff of a search: what lies beyond it, how it falls, and what it comes to in the end.
-use Rattle.std.proofs.Common.{◌≡◌, ℕ, ◌+◌, ◌<◌, ◌≤◌, Bool, true, false, List, length, Option, Some, None, refl, inl, inr, arith}
+use Rattle.std.proofs.Common.{◌≡◌, ℕ, ◌+◌, ◌<◌, ◌≤◌, Bool, true, false, List, length, Option, Some, None, refl, inl}
+use Rattle.std.proofs.Common.{inr, arith}
 use Rattle.std.specs.Prelude.{IfSome}
 use Rattle.std.proofs.Math.ListN.{set}
 use Rattle.std.proofs.lemmas.List.{get_or-set_same, get_or-set_other}
@@ -55,7 +56,8 @@ search_cut p k xs prices old new labels t upto later search = record {
 }
 
 -- a cutoff is small
-pub cutoff_small : (p : Transport) (xs : List ℕ) (labels : List Label) (n : ℕ) (cutoff : Option ℕ) → IsCutoff p xs labels n cutoff
+pub cutoff_small : (p : Transport) (xs : List ℕ) (labels : List Label) (n : ℕ) (cutoff : Option ℕ)
+    → IsCutoff p xs labels n cutoff
     → IfSome cutoff (λ d. d ≤ greatest_way)
 cutoff_small p xs labels n None is = tt
 cutoff_small p xs labels n (Some dist) is = is.0
@@ -71,12 +73,17 @@ cutoff_kept p xs old new m n (Some dist) le near is =
     let within : IsRoomWithin p xs old dist c = is.1.2 in
     let now = near c is.1.1 within.reached in (
       is.0,
-      (c, omega (arith, is.1.1, le), record { reached = now.0; near = omega (arith, now.1, within.near); room = within.room }),
+      (
+        c,
+        omega (arith, is.1.1, le),
+        record { reached = now.0; near = omega (arith, now.1, within.near); room = within.room },
+      ),
     )
 
 -- what it becomes once a consumer has a label
 pub cutoff_cut : (p : Transport) (xs loads : List ℕ) (labels : List Label) (n c : ℕ) (old new : Option ℕ)
-    → AreLoads p xs loads → c < n → c < consumers p → (0 < (label_at labels c).hops → (label_at labels c).dist ≤ greatest_way)
+    → AreLoads p xs loads → c < n → c < consumers p
+    → (0 < (label_at labels c).hops → (label_at labels c).dist ≤ greatest_way)
     → IsCut p loads c (label_at labels c) old new → IsCutoff p xs labels n old → IsCutoff p xs labels n new
 cutoff_cut p xs loads labels n c old new counted lt ltc small cut is =
     elim cut [
@@ -87,7 +94,11 @@ cutoff_cut p xs loads labels n c old new counted lt ltc small cut is =
             (
               c,
               lt,
-              record { reached = fallen.reached; near = omega arith; room = omega (arith, fallen.room, counted.each c ltc) },
+              record {
+                reached = fallen.reached;
+                near = omega arith;
+                room = omega (arith, fallen.room, counted.each c ltc);
+              },
             ),
           )
     ]
@@ -100,20 +111,24 @@ cutoff_more p xs loads labels label n old new counted lt ltc small cut is =
     let here : label_at (set labels n label) n ≡ label = get_or-set_same labels n label no_label lt in
     cutoff_cut p xs loads (set labels n label) (n + 1) n old new counted (omega arith) ltc (rw here small) (rw here cut)
     (cutoff_kept p xs labels (set labels n label) n (n + 1) old (omega arith)
-    (λ c before up. rw (get_or-set_other labels n c label no_label (λ e. omega (arith, before, e))) (up, omega arith)) is)
+    (λ c before up. rw (get_or-set_other labels n c label no_label (λ e. omega (arith, before, e)))
+    (up, omega arith)) is)
 
 -- a consumer with room is open, so that the nearest open one is no farther than the cutoff
 room_open : (p : Transport) (k : ℕ) (xs prices : List ℕ) (cutoff : Option ℕ) (labels : List Label) (dist c : ℕ)
-    → IsRound p k xs prices cutoff labels → c < consumers p → IsRoomWithin p xs labels dist c → (b : Bool) → (label_at labels c).closed ≡ b
+    → IsRound p k xs prices cutoff labels → c < consumers p → IsRoomWithin p xs labels dist c → (b : Bool)
+    → (label_at labels c).closed ≡ b
     → b ≡ false
-room_open p k xs prices cutoff labels dist c search lt within true closed = absurd (omega (arith, search.full c lt closed, within.room))
+room_open p k xs prices cutoff labels dist c search lt within true closed =
+    absurd (omega (arith, search.full c lt closed, within.room))
 room_open p k xs prices cutoff labels dist c search lt within false closed = refl
 
 pub cutoff_nearest : (p : Transport) (k : ℕ) (xs prices : List ℕ) (cutoff : Option ℕ) (labels : List Label) (near : ℕ)
     → IsRound p k xs prices cutoff labels → IsCutoff p xs labels (consumers p) cutoff → IsNearest p labels near
     → IsRound p k xs prices (Some (label_at labels near).dist) labels
 cutoff_nearest p k xs prices None labels near search is nearest =
-    search_cut p k xs prices None (Some (label_at labels near).dist) labels (consumers p) (consumers p) (λ base sum beyond. absurd beyond) search
+    search_cut p k xs prices None (Some (label_at labels near).dist) labels (consumers p) (consumers p)
+    (λ base sum beyond. absurd beyond) search
 cutoff_nearest p k xs prices (Some dist) labels near search is nearest =
     let c : ℕ = is.1.0 in
     let within : IsRoomWithin p xs labels dist c = is.1.2 in

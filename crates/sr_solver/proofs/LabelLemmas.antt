@@ -1,5 +1,6 @@
 -- Labels: what an offer leaves, how many are open, and what stays of a way.
-use Rattle.std.proofs.Common.{◌≡◌, ℕ, suc, ◌+◌, ◌<◌, ◌≤◌, ◌⊎◌, Bool, true, false, not, cond, List, [], ◌∷◌, length, get_or, Option, Some, None, refl, ap, ◌∙◌, inl, inr, arith}
+use Rattle.std.proofs.Common.{◌≡◌, ℕ, suc, ◌+◌, ◌<◌, ◌≤◌, ◌⊎◌, Bool, true, false, not, cond, List, [], ◌∷◌, length}
+use Rattle.std.proofs.Common.{get_or, Option, Some, None, refl, ap, ◌∙◌, inl, inr, arith}
 use Rattle.std.specs.Prelude.{IsSome, unwrap_or}
 use Rattle.std.proofs.Math.ListN.{set}
 use Rattle.std.proofs.lemmas.Bool.{false≢true}
@@ -43,7 +44,8 @@ open_count_same (x ∷ xs) [] e same = absurd (omega arith)
 open_count_same (x ∷ xs) (y ∷ ys) e same =
     let one : Label → ℕ = λ l. cond (not l.closed) 1 0 in
     let first : one x ≡ one y = ap (λ b. cond (not b) 1 0) (same 0 (omega arith)) in
-    let rest : open_count xs ≡ open_count ys = open_count_same xs ys (omega arith) (λ c lt. same (suc c) (omega arith)) in
+    let rest : open_count xs ≡ open_count ys =
+    open_count_same xs ys (omega arith) (λ c lt. same (suc c) (omega arith)) in
     omega (arith, sum_by-cons one x xs, sum_by-cons one y ys, first, rest)
 
 -- one open label more or less

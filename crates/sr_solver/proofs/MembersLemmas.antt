@@ -1,5 +1,6 @@
 -- The rows of members: an entry that is taken out, and one that is added.
-use Rattle.std.proofs.Common.{◌≡◌, ℕ, ◌+◌, ◌*◌, ◌^◌, ◌<◌, ◌≤◌, ◌==◌, ◌⊎◌, cond, List, length, get_or, take, ◌++◌, Option, refl, sym, ap, ◌∙◌, inl, inr, arith}
+use Rattle.std.proofs.Common.{◌≡◌, ℕ, ◌+◌, ◌*◌, ◌^◌, ◌<◌, ◌≤◌, ◌==◌, ◌⊎◌, cond, List, length, get_or, take, ◌++◌}
+use Rattle.std.proofs.Common.{Option, refl, sym, ap, ◌∙◌, inl, inr, arith}
 use Rattle.std.proofs.Math.ListN.{set, length-set}
 use Rattle.std.proofs.lemmas.Bool.{cases_eq, cases_lt}
 use Rattle.std.proofs.Math.Nat.{mul-le-mul_left}
@@ -32,7 +33,8 @@ record IsFallen (row : ℕ) (old mid : List ℕ) (last : ℕ) : Type 0 where
   here : get_or mid row 0 ≡ last
   others : (q : ℕ) → (q ≡ row → ⊥) → get_or mid q 0 ≡ get_or old q 0
 
-fallen : (row : ℕ) (old : List ℕ) (last : ℕ) → row < length old → last + 1 ≡ get_or old row 0 → IsFallen row old (set old row last) last
+fallen : (row : ℕ) (old : List ℕ) (last : ℕ) → row < length old → last + 1 ≡ get_or old row 0
+    → IsFallen row old (set old row last) last
 fallen row old last lt count = record {
   length = length-set old row last;
   count = count;
@@ -45,7 +47,8 @@ last_removed : (row entry : ℕ) (old mid : List ℕ) (last : ℕ) → IsFallen 
     → IsListed old row (get_or old row 0) entry → AreApart old row (get_or old row 0)
     → ((j : ℕ) → j < last → get_or mid (row + 1 + j) 0 ≡ entry → ⊥) → IsRemoved row entry old mid
 last_removed row entry old mid last fall listed apart passed =
-    let same : (j : ℕ) → get_or mid (row + 1 + j) 0 ≡ get_or old (row + 1 + j) 0 = λ j. fall.others (row + 1 + j) (λ e. omega arith) in
+    let same : (j : ℕ) → get_or mid (row + 1 + j) 0 ≡ get_or old (row + 1 + j) 0 =
+    λ j. fall.others (row + 1 + j) (λ e. omega arith) in
     let at_last : get_or old (row + 1 + last) 0 ≡ entry =
     elim (cases_lt listed.0 last) [
       | inl early ↦ absurd (passed listed.0 early (same listed.0 ∙ listed.2))
@@ -72,12 +75,14 @@ last_removed row entry old mid last fall listed apart passed =
 
 -- it is found before
 place_removed : (row entry : ℕ) (old mid : List ℕ) (last place : ℕ) → IsFallen row old mid last
-    → row + get_or old row 0 < length old → AreApart old row (get_or old row 0) → place < last → get_or mid (row + 1 + place) 0 ≡ entry
+    → row + get_or old row 0 < length old → AreApart old row (get_or old row 0) → place < last
+    → get_or mid (row + 1 + place) 0 ≡ entry
     → IsRemoved row entry old (set mid (row + 1 + place) (get_or mid (row + 1 + last) 0))
 place_removed row entry old mid last place fall room apart early found =
     let x : ℕ = get_or mid (row + 1 + last) 0 in
     let new : List ℕ = set mid (row + 1 + place) x in
-    let same : (j : ℕ) → get_or mid (row + 1 + j) 0 ≡ get_or old (row + 1 + j) 0 = λ j. fall.others (row + 1 + j) (λ e. omega arith) in
+    let same : (j : ℕ) → get_or mid (row + 1 + j) 0 ≡ get_or old (row + 1 + j) 0 =
+    λ j. fall.others (row + 1 + j) (λ e. omega arith) in
     let in_list : row + 1 + place < length mid = omega (arith, fall.length, fall.count, room, early) in
     let here : get_or new (row + 1 + place) 0 ≡ x = get_or-set_same mid (row + 1 + place) x 0 in_list in
     let other : (q : ℕ) → (q ≡ row + 1 + place → ⊥) → get_or new q 0 ≡ get_or mid q 0 =
@@ -101,13 +106,17 @@ place_removed row entry old mid last place fall room apart early found =
       kept = λ j lt ne. elim (cases_eq j last) [
         | inl e ↦ (place, omega (arith, head), here ∙ same last ∙ ap (λ k. get_or old (row + 1 + k) 0) (sym e))
         | inr before ↦
-            let not_there : j ≡ place → ⊥ = λ e. ne (sym (same j) ∙ ap (λ k. get_or mid (row + 1 + k) 0) e ∙ found) in
-            (j, omega (arith, lt, fall.count, head, before), other (row + 1 + j) (λ e. not_there (omega arith)) ∙ same j)
+            let not_there : j ≡ place → ⊥ = λ e. ne (sym (same j) ∙ ap (λ k. get_or mid (row + 1 + k) 0) e ∙ found) in (
+              j,
+              omega (arith, lt, fall.count, head, before),
+              other (row + 1 + j) (λ e. not_there (omega arith)) ∙ same j,
+            )
       ];
       gone = λ j lt is. elim (cases_eq j place) [
         | inl e ↦ apart place last early (omega (arith, fall.count)) (was ∙ sym is ∙ moved j e)
         | inr ne ↦
-            apart_at old row (get_or old row 0) j place apart (omega (arith, lt, head, fall.count)) (omega (arith, early, fall.count)) ne
+            apart_at old row (get_or old row 0) j place apart (omega (arith, lt, head, fall.count))
+            (omega (arith, early, fall.count)) ne
             (sym (kept_at j ne) ∙ is ∙ sym was)
       ];
       apart = λ j k lt below is.
@@ -115,11 +124,13 @@ place_removed row entry old mid last place fall room apart early found =
           let ltk : k < last = omega (arith, below, head) in
           elim (cases_eq j place) [
             | inl e ↦
-                apart_at old row (get_or old row 0) last k apart last_in (omega (arith, ltk, last_in)) (λ x. omega (arith, x, ltk))
+                apart_at old row (get_or old row 0) last k apart last_in (omega (arith, ltk, last_in))
+                (λ x. omega (arith, x, ltk))
                 (sym (moved j e) ∙ is ∙ kept_at k (λ x. omega (arith, x, e, lt)))
             | inr ne ↦ elim (cases_eq k place) [
               | inl e ↦
-                  apart_at old row (get_or old row 0) j last apart (omega (arith, lt, ltk, last_in)) last_in (λ x. omega (arith, x, lt, ltk))
+                  apart_at old row (get_or old row 0) j last apart (omega (arith, lt, ltk, last_in)) last_in
+                  (λ x. omega (arith, x, lt, ltk))
                   (sym (kept_at j ne) ∙ is ∙ moved k e)
               | inr far ↦ apart j k lt (omega (arith, ltk, last_in)) (sym (kept_at j ne) ∙ is ∙ kept_at k far)
             ]
@@ -132,8 +143,10 @@ pub removed_last : (row entry : ℕ) (old mid : List ℕ) (last : ℕ) → mid �
 removed_last row entry old mid last is lt count listed apart passed =
     last_removed row entry old mid last (rw is (fallen row old last lt count)) listed apart passed
 
-pub removed_at : (row entry : ℕ) (old mid : List ℕ) (last place : ℕ) → mid ≡ set old row last → row + get_or old row 0 < length old
-    → last + 1 ≡ get_or old row 0 → AreApart old row (get_or old row 0) → place < last → get_or mid (row + 1 + place) 0 ≡ entry
+pub removed_at : (row entry : ℕ) (old mid : List ℕ) (last place : ℕ) → mid ≡ set old row last
+    → row + get_or old row 0 < length old
+    → last + 1 ≡ get_or old row 0 → AreApart old row (get_or old row 0) → place < last
+    → get_or mid (row + 1 + place) 0 ≡ entry
     → IsRemoved row entry old (set mid (row + 1 + place) (get_or mid (row + 1 + last) 0))
 removed_at row entry old mid last place is room count apart early found =
     place_removed row entry old mid last place (rw is (fallen row old last (omega arith) count)) room apart early found
@@ -170,7 +183,11 @@ members_left p w xs i old new every lti within members removed =
     let from : ℕ = get_or xs i 0 in
     let nowhere : List ℕ = set xs i (consumers p) in
     let loads : (c : ℕ) → c < consumers p → load nowhere c + cond (from == c) 1 0 ≡ load xs c =
-    λ c lt. omega (arith, load-set xs i (consumers p) c (omega (arith, every)), one_at_other (consumers p) c (λ e. omega (arith, e, lt))) in
+    λ c lt. omega (
+      arith,
+      load-set xs i (consumers p) c (omega (arith, every)),
+      one_at_other (consumers p) c (λ e. omega (arith, e, lt)),
+    ) in
     let before : get_or old (from * w) 0 ≡ load xs from = members.counted from within in
     let after : load nowhere from + 1 ≡ load xs from = omega (arith, loads from within, one_at_same from from refl) in
     let now : get_or new (from * w) 0 ≡ load nowhere from = omega (arith, removed.count, before, after) in
@@ -194,7 +211,8 @@ members_left p w xs i old new every lti within members removed =
       fits = λ c lt. omega (arith, loads c lt, members.fits c lt);
       stands = λ c j lt ltj. elim (cases_eq c from) [
         | inl e ↦
-            let below : j < get_or new (from * w) 0 = (let l : j < load nowhere from = rw (← e) ltj in omega (arith, now, l)) in
+            let below : j < get_or new (from * w) 0 =
+            (let l : j < load nowhere from = rw (← e) ltj in omega (arith, now, l)) in
             let was = removed.from j below in
             let stood : IsAt xs p.entries from (get_or old (from * w + 1 + was.0) 0) =
             members.stands from was.0 within (omega (arith, was.1, before)) in
@@ -203,7 +221,8 @@ members_left p w xs i old new every lti within members removed =
             let same : get_or new (c * w + (1 + j)) 0 ≡ get_or old (c * w + (1 + j)) 0 =
             elsewhere c (1 + j) (omega (arith, ltj, other c lt ne, members.fits c lt)) ne in
             let plain : c * w + (1 + j) ≡ c * w + 1 + j = omega arith in
-            let stood : IsAt xs p.entries c (get_or old (c * w + 1 + j) 0) = members.stands c j lt (omega (arith, ltj, other c lt ne)) in
+            let stood : IsAt xs p.entries c (get_or old (c * w + 1 + j) 0) =
+            members.stands c j lt (omega (arith, ltj, other c lt ne)) in
             rw (rw plain at same) (stood, λ is. ne (sym stood.1 ∙ ap (λ k. get_or xs k 0) is))
       ];
       apart = λ c lt. elim (cases_eq c from) [
@@ -213,14 +232,16 @@ members_left p w xs i old new every lti within members removed =
             λ x ltx.
             let plain : c * w + (1 + x) ≡ c * w + 1 + x = omega arith in
             rw plain at (elsewhere c (1 + x) (omega (arith, ltx, other c lt ne, members.fits c lt)) ne) in
-            members.apart c lt j k ltk (omega (arith, below, other c lt ne)) (sym (same j (omega (arith, ltk, below))) ∙ is ∙ same k below)
+            members.apart c lt j k ltk (omega (arith, below, other c lt ne))
+            (sym (same j (omega (arith, ltk, below))) ∙ is ∙ same k below)
       ];
       each = λ c k lt at.
           let was = members.each c k lt at.0 in
           elim (cases_eq c from) [
             | inl e ↦
                 let listed : IsListed old (from * w) (load xs from) k = rw (← e) was in
-                let kept = removed.kept listed.0 (omega (arith, listed.1, before)) (λ same. at.1 (sym listed.2 ∙ same)) in
+                let kept =
+                removed.kept listed.0 (omega (arith, listed.1, before)) (λ same. at.1 (sym listed.2 ∙ same)) in
                 rw e (kept.0, omega (arith, kept.1, now), kept.2 ∙ listed.2)
             | inr ne ↦
                 let same : get_or new (c * w + (1 + was.0)) 0 ≡ get_or old (c * w + (1 + was.0)) 0 =
@@ -248,7 +269,8 @@ members_waiting p w xs i old every lti nowhere members =
       counted = λ c lt. members.counted c lt ∙ sym (loads c lt);
       fits = λ c lt. omega (arith, loads c lt, members.fits c lt);
       stands = λ c j lt ltj.
-          let stood : IsAt xs p.entries c (get_or old (c * w + 1 + j) 0) = members.stands c j lt (omega (arith, loads c lt, ltj)) in
+          let stood : IsAt xs p.entries c (get_or old (c * w + 1 + j) 0) =
+          members.stands c j lt (omega (arith, loads c lt, ltj)) in
           (stood, λ is. omega (arith, stood.1, ap (λ k. get_or xs k 0) is, lt, nowhere));
       apart = λ c lt j k ltk below. members.apart c lt j k ltk (omega (arith, loads c lt, below));
       each = λ c k lt at.
@@ -268,8 +290,11 @@ room_for_one p w xs i c every lti lt wide room =
       load-set xs i c c (omega (arith, every)),
       one_at_other (consumers p) c (λ e. omega (arith, e, lt)),
       one_at_same c c refl,
-    ) in
-    (more, wide.enough c (load (set xs i c) c) lt room (omega (arith, load_fits (set xs i c) c, length-set xs i c, every)))
+    ) in (
+      more,
+      wide.enough c (load (set xs i c) c) lt room
+          (omega (arith, load_fits (set xs i c) c, length-set xs i c, every)),
+    )
 
 -- the members once entry i has come to consumer c
 pub members_come : (p : Transport) (w : ℕ) (xs : List ℕ) (i c row count : ℕ) (old : List ℕ)
@@ -285,7 +310,8 @@ members_come p w xs i c row count old every lti ltc wide room members is_row is_
     let mid : List ℕ = set old (row + 1 + count) i in
     let new : List ℕ = set mid row (count + 1) in
     let length_mid : length mid ≡ length old = length-set old (row + 1 + count) i in
-    let head : get_or new row 0 ≡ count + 1 = get_or-set_same mid row (count + 1) 0 (omega (arith, length_mid, row_within, one.1)) in
+    let head : get_or new row 0 ≡ count + 1 =
+    get_or-set_same mid row (count + 1) 0 (omega (arith, length_mid, row_within, one.1)) in
     let at_end : get_or new (row + 1 + count) 0 ≡ i =
     get_or-set_other mid row (row + 1 + count) (count + 1) 0 (λ e. omega arith)
     ∙ get_or-set_same old (row + 1 + count) i 0 (omega (arith, row_within, is_load, one.0, one.1)) in
@@ -322,7 +348,8 @@ members_come p w xs i c row count old every lti ltc wide room members is_row is_
             let plain : d * w + 0 ≡ d * w = omega arith in
             (rw plain at zero_more) ∙ members.counted d lt ∙ sym (other d lt ne)
       ];
-      fits = λ d lt. elim (cases_eq d c) [ inl e ↦ rw e one.1 | inr ne ↦ omega (arith, other d lt ne, members.fits d lt) ];
+      fits =
+          λ d lt. elim (cases_eq d c) [ inl e ↦ rw e one.1 | inr ne ↦ omega (arith, other d lt ne, members.fits d lt) ];
       stands = λ d j lt ltj. elim (cases_eq d c) [
         | inl e ↦
             let below : j < count + 1 = omega (arith, ltj, ap (λ x. load (set xs i c) x) e, loads) in
@@ -332,7 +359,8 @@ members_come p w xs i c row count old every lti ltc wide room members is_row is_
               | inl last ↦
                   let is : get_or new (row + 1 + j) 0 ≡ i = ap (λ k. get_or new (row + 1 + k) 0) last ∙ at_end in
                   rw is (lti, get_or-set_same xs i c 0 (omega (arith, every)))
-              | inr before ↦ rw (kept_here j (omega (arith, below, before))) (still c (get_or old (row + 1 + j) 0) (stood_here j (omega (arith, below, before))))
+              | inr before ↦ rw (kept_here j (omega (arith, below, before)))
+                  (still c (get_or old (row + 1 + j) 0) (stood_here j (omega (arith, below, before))))
             ]
             )
             )
@@ -340,7 +368,8 @@ members_come p w xs i c row count old every lti ltc wide room members is_row is_
             let kept : get_or new (d * w + (1 + j)) 0 ≡ get_or old (d * w + (1 + j)) 0 =
             elsewhere d (1 + j) (omega (arith, ltj, other d lt ne, members.fits d lt)) ne in
             let plain : d * w + (1 + j) ≡ d * w + 1 + j = omega arith in
-            rw (rw plain at kept) (still d (get_or old (d * w + 1 + j) 0) (members.stands d j lt (omega (arith, ltj, other d lt ne))))
+            rw (rw plain at kept)
+            (still d (get_or old (d * w + 1 + j) 0) (members.stands d j lt (omega (arith, ltj, other d lt ne))))
       ];
       apart = λ d lt. elim (cases_eq d c) [
         | inl e ↦ rw e (rw (← is_row) (rw loads (λ j k ltk below is.
@@ -353,11 +382,13 @@ members_come p w xs i c row count old every lti ltc wide room members is_row is_
                   apart_here j k ltk lt_count (sym (kept_here j ltj) ∙ is ∙ kept_here k lt_count)
             ])))
         | inr ne ↦ λ j k ltk below is.
-            let same_there : (x : ℕ) → x < load (set xs i c) d → get_or new (d * w + 1 + x) 0 ≡ get_or old (d * w + 1 + x) 0 =
+            let same_there : (x : ℕ) → x < load (set xs i c) d
+            → get_or new (d * w + 1 + x) 0 ≡ get_or old (d * w + 1 + x) 0 =
             λ x ltx.
             let plain : d * w + (1 + x) ≡ d * w + 1 + x = omega arith in
             rw plain at (elsewhere d (1 + x) (omega (arith, ltx, other d lt ne, members.fits d lt)) ne) in
-            members.apart d lt j k ltk (omega (arith, below, other d lt ne)) (sym (same_there j (omega (arith, ltk, below))) ∙ is ∙ same_there k below)
+            members.apart d lt j k ltk (omega (arith, below, other d lt ne))
+            (sym (same_there j (omega (arith, ltk, below))) ∙ is ∙ same_there k below)
       ];
       each = λ d k lt at. elim (cases_eq d c) [
         | inl e ↦
@@ -367,7 +398,8 @@ members_come p w xs i c row count old every lti ltc wide room members is_row is_
               | inl new_one ↦ (count, omega (arith, loads), at_end ∙ sym new_one)
               | inr ne ↦
                   let stood : get_or xs k 0 ≡ c = sym (get_or-set_other xs i k c 0 ne) ∙ at.1 ∙ e in
-                  let was : IsListed old row (load nowhere c) k = rw is_row (members.each c k ltc ((at.0, stood), ne)) in
+                  let was : IsListed old row (load nowhere c) k =
+                  rw is_row (members.each c k ltc ((at.0, stood), ne)) in
                   let kept : get_or new (row + 1 + was.0) 0 ≡ get_or old (row + 1 + was.0) 0 =
                   same (row + 1 + was.0) (λ e. omega arith) (λ e. omega (arith, was.1, is_load)) in
                   (was.0, omega (arith, was.1, is_load, loads), kept ∙ was.2)
@@ -376,7 +408,8 @@ members_come p w xs i c row count old every lti ltc wide room members is_row is_
             )
         | inr ne ↦
             let moved : k ≡ i → ⊥ =
-            λ e. ne (sym at.1 ∙ ap (λ j. get_or (set xs i c) j 0) e ∙ get_or-set_same xs i c 0 (omega (arith, every))) in
+            λ e. ne (sym at.1 ∙ ap (λ j. get_or (set xs i c) j 0) e
+            ∙ get_or-set_same xs i c 0 (omega (arith, every))) in
             let stood : get_or xs k 0 ≡ d = sym (get_or-set_other xs i k c 0 moved) ∙ at.1 in
             let was = members.each d k lt ((at.0, stood), moved) in
             let kept : get_or new (d * w + (1 + was.0)) 0 ≡ get_or old (d * w + (1 + was.0)) 0 =
@@ -402,7 +435,8 @@ seen_more p xs members row n i a b old new limits ltb lti stands is known lowere
         | inr ne ↦ inr (seen.0, (seen.1.0, omega (arith, seen.1.1, ne), seen.1.2))
       ];
     } in
-    known_lowered p (IsSeen p xs members row n a) (IsSeen p xs members row (n + 1) a) a b i old new limits come ltb known lowered
+    known_lowered p (IsSeen p xs members row n a)
+    (IsSeen p xs members row (n + 1) a) a b i old new limits come ltb known lowered
 
 -- all members were looked at
 pub seen_all : (p : Transport) (w : ℕ) (xs members : List ℕ) (row n a b : ℕ) (known : Option Bound) → a < consumers p

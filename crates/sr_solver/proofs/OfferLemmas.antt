@@ -1,5 +1,6 @@
 -- One consumer more is asked whether an entry of the closed one comes nearer.
-use Rattle.std.proofs.Common.{◌≡◌, ℕ, ◌+◌, ◌*◌, ◌<◌, ◌≤◌, ◌⊎◌, true, false, List, length, get_or, Option, Some, None, refl, sym, ap, ◌∙◌, inl, inr, arith}
+use Rattle.std.proofs.Common.{◌≡◌, ℕ, ◌+◌, ◌*◌, ◌<◌, ◌≤◌, ◌⊎◌, true, false, List, length, get_or, Option, Some, None}
+use Rattle.std.proofs.Common.{refl, sym, ap, ◌∙◌, inl, inr, arith}
 use Rattle.std.specs.Prelude.{IfSome}
 use Rattle.sr_transport.specs.Limits.{greatest_charge, greatest_price, most_tiers}
 use Rattle.sr_solver.specs.Limits.{greatest_way, greatest_bound}
@@ -22,11 +23,13 @@ use Rattle.sr_solver.proofs.SearchLemmas.{cost_small}
 use Rattle.sr_solver.specs.Search.{IsClosed}
 
 -- what the table tells of an entry at t: it comes no nearer to consumer b
-skip_at : (p : Transport) (prices : List ℕ) (at : ℕ → Type 0) (t b : ℕ) (cutoff : Option ℕ) (labels : List Label) (known : Option Bound)
+skip_at : (p : Transport) (prices : List ℕ) (at : ℕ → Type 0) (t b : ℕ) (cutoff : Option ℕ) (labels : List Label)
+    (known : Option Bound)
     → IsKnown p at t b known
     → IsNoNearer known (label_at labels t) (get_or prices t 0) (label_at labels b) (get_or prices b 0) cutoff
     → (i : ℕ) → at i → IsAllowed p i b
-    → ((label_at labels b).closed ≡ true) ⊎ IsCovered p prices cutoff labels (label_at labels t).dist (priced p prices i t) i b
+    → ((label_at labels b).closed ≡ true)
+    ⊎ IsCovered p prices cutoff labels (label_at labels t).dist (priced p prices i t) i b
 skip_at p prices at t b cutoff labels None known far i here allowed = absurd (known i here allowed)
 skip_at p prices at t b cutoff labels (Some bound) known far i here allowed =
     let below = known.below i here allowed in
@@ -34,14 +37,17 @@ skip_at p prices at t b cutoff labels (Some bound) known far i here allowed =
       | inl closed ↦ inl closed
       | inr (inl near) ↦ inr (inl (near.0, omega (arith, near.1, below)))
       | inr (inr beyond) ↦ inr (inr (
-          beyond_more cutoff (greatest_charge + get_or prices t 0) ((label_at labels t).dist + (bound.low + get_or prices b 0))
+          beyond_more cutoff (greatest_charge + get_or prices t 0)
+          ((label_at labels t).dist + (bound.low + get_or prices b 0))
           (priced p prices i t) ((label_at labels t).dist + priced p prices i b) (omega (arith, below)) beyond
           ))
     ]
 
-pub asked_far : (p : Transport) (k : ℕ) (xs prices : List ℕ) (t b q : ℕ) (cutoff : Option ℕ) (labels : List Label) (table : List (Option Bound))
+pub asked_far : (p : Transport) (k : ℕ) (xs prices : List ℕ) (t b q : ℕ) (cutoff : Option ℕ) (labels : List Label)
+    (table : List (Option Bound))
     → k ≤ p.entries → t < consumers p → b < consumers p → q ≡ t * consumers p + b → IsTable p xs table
-    → IsNoNearer (get_or table q None) (label_at labels t) (get_or prices t 0) (label_at labels b) (get_or prices b 0) cutoff
+    → IsNoNearer (get_or table q None) (label_at labels t) (get_or prices t 0) (label_at labels b)
+    (get_or prices b 0) cutoff
     → IsAsked p k xs prices cutoff t b labels labels
 asked_far p k xs prices t b q cutoff labels table le ltt ltb is_pair table_is far =
     let known : IsKnown p (IsAt xs p.entries t) t b (get_or table q None) = rw is_pair (table_is.each t b ltt ltb) in
@@ -51,7 +57,8 @@ asked_far p k xs prices t b q cutoff labels table le ltt ltb is_pair table_is fa
           record {
             same = refl;
             no_nearer = λ i lti stands allowed.
-                skip_at p prices (IsAt xs p.entries t) t b cutoff labels (get_or table q None) known far i (omega arith, stands) allowed;
+                skip_at p prices (IsAt xs p.entries t) t b cutoff labels (get_or table q None) known far i
+                (omega arith, stands) allowed;
           }
           );
       others = λ d ne. refl;
@@ -86,41 +93,44 @@ pub asked_mover : (p : Transport) (k : ℕ) (xs prices : List ℕ) (t b i : ℕ)
     → IsOfferedAt p prices (offer_of p prices cutoff old t i) b old new
     → IsAsked p k xs prices cutoff t b old new
 asked_mover p k xs prices t b i cutoff old new placed le ltt mover offered =
-    let least : (j : ℕ) → j < k → get_or xs j 0 ≡ t → IsAllowed p j b → cost_of p i b + cost_of p j t ≤ cost_of p j b + cost_of p i t =
+    let least : (j : ℕ) → j < k → get_or xs j 0 ≡ t → IsAllowed p j b
+    → cost_of p i b + cost_of p j t ≤ cost_of p j b + cost_of p i t =
     λ j lt stands allowed. mover.least j (omega arith, stands) allowed in
     record {
       one_each = offered.one_each;
-      here = elim (offered_split (cost_at p i b) (get_or prices b 0) (offer_of p prices cutoff old t i) (label_at old b) (label_at new b) offered.here) [
-        | inl left ↦ inl (
-            record {
-              same = left.same;
-              no_nearer = λ j lt stands allowed. elim (left.no_nearer mover.allowed.1) [
-                | inl closed ↦ inl closed
-                | inr (inl near) ↦ inr (inl (near.0, omega (arith, near.1, least j lt stands allowed)))
-                | inr (inr beyond) ↦ inr (inr (
-                    beyond_more cutoff (priced p prices i t) ((label_at old t).dist + priced p prices i b) (priced p prices j t)
-                    ((label_at old t).dist + priced p prices j b) (omega (arith, least j lt stands allowed)) beyond
-                    ))
-              ];
-            }
-            )
-        | inr changed ↦
-            let taken = changed.taken in
-            let same : (label_at new b).mover ≡ i = taken.mover in
-            inr (
-            record {
-              earlier = rw same (placed_at p k xs prices t i placed ltt mover.stands);
-              stands = rw same mover.stands.1;
-              allowed = rw same mover.allowed;
-              was_open = taken.not_closed;
-              still_open = taken.still_open;
-              hops = taken.hops;
-              dist = rw same taken.dist;
-              nearer = taken.nearer;
-              least = rw same least;
-            }
-            )
-      ];
+      here = elim (offered_split (cost_at p i b) (get_or prices b 0) (offer_of p prices cutoff old t i) (label_at old b)
+          (label_at new b) offered.here) [
+            | inl left ↦ inl (
+                record {
+                  same = left.same;
+                  no_nearer = λ j lt stands allowed. elim (left.no_nearer mover.allowed.1) [
+                    | inl closed ↦ inl closed
+                    | inr (inl near) ↦ inr (inl (near.0, omega (arith, near.1, least j lt stands allowed)))
+                    | inr (inr beyond) ↦ inr (inr (
+                        beyond_more cutoff (priced p prices i t) ((label_at old t).dist + priced p prices i b)
+                        (priced p prices j t)
+                        ((label_at old t).dist + priced p prices j b) (omega (arith, least j lt stands allowed)) beyond
+                        ))
+                  ];
+                }
+                )
+            | inr changed ↦
+                let taken = changed.taken in
+                let same : (label_at new b).mover ≡ i = taken.mover in
+                inr (
+                record {
+                  earlier = rw same (placed_at p k xs prices t i placed ltt mover.stands);
+                  stands = rw same mover.stands.1;
+                  allowed = rw same mover.allowed;
+                  was_open = taken.not_closed;
+                  still_open = taken.still_open;
+                  hops = taken.hops;
+                  dist = rw same taken.dist;
+                  nearer = taken.nearer;
+                  least = rw same least;
+                }
+                )
+          ];
       others = offered.others;
     }
 
@@ -157,7 +167,8 @@ offering p k xs prices t b cutoff old new asked =
     }
 
 -- a consumer that is within reach stays so
-within_kept : (p : Transport) (k : ℕ) (xs prices : List ℕ) (t : ℕ) (old new : List Label) → IsOffering p k xs prices t old new
+within_kept : (p : Transport) (k : ℕ) (xs prices : List ℕ) (t : ℕ) (old new : List Label)
+    → IsOffering p k xs prices t old new
     → (dist base j c : ℕ) → IsWithin p prices old dist base j c → IsWithin p prices new dist base j c
 within_kept p k xs prices t old new offering dist base j c within =
     elim (offering.at c) [
@@ -176,7 +187,8 @@ covered_kept p k xs prices t cutoff old new offering dist base j c covered =
       | inr beyond ↦ inr beyond
     ]
 
--- a consumer that was asked is within the reach of each entry at t that it is allowed, or that one comes no nearer than the cutoff
+-- a consumer that was asked is within the reach of each entry at t that it is allowed, or that one comes no nearer than
+-- the cutoff
 covered_asked : (p : Transport) (k : ℕ) (xs prices : List ℕ) (cutoff : Option ℕ) (old new : List Label) (t b : ℕ)
     → IsPlaced p k xs prices → IsSearch p k xs prices cutoff old t b → t < consumers p → (label_at old t).closed ≡ true
     → IsAsked p k xs prices cutoff t b old new → IsOffering p k xs prices t old new
@@ -201,7 +213,8 @@ covered_asked p k xs prices cutoff old new t b placed search ltt closed asked of
 -- one consumer more was asked
 ask_search : (p : Transport) (k : ℕ) (xs prices : List ℕ) (cutoff : Option ℕ) (old new : List Label) (t b : ℕ)
     → IsPlaced p k xs prices → IsSearch p k xs prices cutoff old t b → t < consumers p → (label_at old t).closed ≡ true
-    → IsAsked p k xs prices cutoff t b old new → IsOffering p k xs prices t old new → IsSearch p k xs prices cutoff new t (b + 1)
+    → IsAsked p k xs prices cutoff t b old new → IsOffering p k xs prices t old new
+    → IsSearch p k xs prices cutoff new t (b + 1)
 ask_search p k xs prices cutoff old new t b placed search ltt closed asked offering =
     let same : (c : ℕ) → label_at new c ≡ label_at old c → IsSameWay (label_at old c) (label_at new c) =
     λ c e. same_way (label_at old c) (label_at new c) e in
@@ -230,7 +243,12 @@ ask_search p k xs prices cutoff old new t b placed search ltt closed asked offer
       ];
       long = λ c lt up. elim (offering.at c) [
         | inl left ↦
-            omega (arith, search.long c lt (omega (arith, up, (same c left).hops)), (same c left).hops, (same c left).dist)
+            omega (
+              arith,
+              search.long c lt (omega (arith, up, (same c left).hops)),
+              (same c left).hops,
+              (same c left).dist,
+            )
         | inr fresh ↦
             omega (
               arith,
@@ -246,8 +264,17 @@ ask_search p k xs prices cutoff old new t b placed search ltt closed asked offer
         | inr fresh ↦ omega (arith, search.few_closed t ltt closed, fresh.hops, offering.count)
       ];
       few_closed = λ c lt now.
-          omega (arith, search.few_closed c lt (offering.back c now), (kept_same c (offering.back c now)).hops, offering.count);
-      reached = λ c lt now. omega (arith, search.reached c lt (offering.back c now), (kept_same c (offering.back c now)).hops);
+          omega (
+            arith,
+            search.few_closed c lt (offering.back c now),
+            (kept_same c (offering.back c now)).hops,
+            offering.count,
+          );
+      reached = λ c lt now. omega (
+        arith,
+        search.reached c lt (offering.back c now),
+        (kept_same c (offering.back c now)).hops,
+      );
       full = λ c lt now. search.full c lt (offering.back c now);
       nearer = λ c d lt ltd now not_now up.
           let was = offering.back c now in
@@ -274,7 +301,8 @@ ask_search p k xs prices cutoff old new t b placed search ltt closed asked offer
           let from = kept_same (get_or xs j 0) was in
           let before : (get_or xs j 0 ≡ t → c < b)
           → IsCovered p prices cutoff new (label_at old (get_or xs j 0)).dist (priced p prices j (get_or xs j 0)) j c =
-          λ early. covered_kept p k xs prices t cutoff old new offering (label_at old (get_or xs j 0)).dist (priced p prices j (get_or xs j 0)) j c
+          λ early. covered_kept p k xs prices t cutoff old new offering (label_at old (get_or xs j 0)).dist
+          (priced p prices j (get_or xs j 0)) j c
           (search.offered j c lt was early allowed) in
           rw from.dist (
           elim (cases_eq (get_or xs j 0) t) [
@@ -282,7 +310,8 @@ ask_search p k xs prices cutoff old new t b placed search ltt closed asked offer
             | inl stands ↦ elim (cases_eq c b) [
               | inr ne ↦ before (λ h. omega (arith, upto h, ne))
               | inl e ↦
-                  let far = covered_asked p k xs prices cutoff old new t b placed search ltt closed asked offering j lt stands (rw (← e) allowed) in
+                  let far = covered_asked p k xs prices cutoff old new t b placed search ltt closed asked offering j lt
+                  stands (rw (← e) allowed) in
                   rw stands (rw e far)
             ]
           ]
@@ -290,7 +319,8 @@ ask_search p k xs prices cutoff old new t b placed search ltt closed asked offer
     }
 
 -- what the loop over the consumers keeps
-pub closed_ask : (p : Transport) (k : ℕ) (xs prices : List ℕ) (cutoff : Option ℕ) (old before after : List Label) (t b : ℕ)
+pub closed_ask : (p : Transport) (k : ℕ) (xs prices : List ℕ) (cutoff : Option ℕ)
+    (old before after : List Label) (t b : ℕ)
     → IsPlaced p k xs prices → t < consumers p
     → IsClosed p k xs prices cutoff old before t b
     → IsAsked p k xs prices cutoff t b before after
@@ -304,7 +334,8 @@ closed_ask p k xs prices cutoff old before after t b placed ltt closed asked =
     }
 
 -- what the cutoff becomes
-pub closed_cut : (p : Transport) (k : ℕ) (xs prices : List ℕ) (cutoff next : Option ℕ) (old now : List Label) (t upto : ℕ)
+pub closed_cut : (p : Transport) (k : ℕ) (xs prices : List ℕ) (cutoff next : Option ℕ)
+    (old now : List Label) (t upto : ℕ)
     → IsNoLater cutoff next → IsClosed p k xs prices cutoff old now t upto → IsClosed p k xs prices next old now t upto
 closed_cut p k xs prices cutoff next old now t upto later closed = record {
   search = search_cut p k xs prices cutoff next now t upto later closed.search;
@@ -348,7 +379,8 @@ way_small p k xs prices cutoff labels t upto placed le search c lt up =
     )
 
 -- the prices as they were read
-pub prices_low : (p : Transport) (k : ℕ) (xs prices read : List ℕ) → IsPlaced p k xs prices → k < p.entries → read ≡ prices
+pub prices_low : (p : Transport) (k : ℕ) (xs prices read : List ℕ) → IsPlaced p k xs prices → k < p.entries
+    → read ≡ prices
     → (c : ℕ) → c < consumers p → get_or read c 0 ≤ greatest_way
 prices_low p k xs prices read placed lt same c ltc =
     let low : get_or prices c 0 ≤ greatest_price = price_small p k xs prices placed (omega arith) c ltc in
@@ -361,7 +393,8 @@ stands_allowed p k xs prices t placed ltt i at =
     rw at.1 at (placed.placed i (placed_at p k xs prices t i placed ltt at))
 
 -- and costs least there
-pub stands_least : (p : Transport) (k : ℕ) (xs prices read : List ℕ) (t i : ℕ) → IsPlaced p k xs prices → t < consumers p
+pub stands_least : (p : Transport) (k : ℕ) (xs prices read : List ℕ) (t i : ℕ) → IsPlaced p k xs prices
+    → t < consumers p
     → read ≡ prices → IsAt xs p.entries t i → IsLeast p read i t
 stands_least p k xs prices read t i placed ltt same at =
     rw same (rw at.1 at (placed.least i (placed_at p k xs prices t i placed ltt at)))
@@ -377,7 +410,8 @@ pub pair_within : (p : Transport) (a b n : ℕ) → n ≡ consumers p → a < co
 pair_within p a b n same lta ltb = rw same (mul-add-lt a (consumers p) b (consumers p) lta ltb)
 
 -- and its number is small
-pub pair_small : (p : Transport) (a b n : ℕ) → IsWithinLimits p.rooms p.entries p.costs → n ≡ consumers p → a < consumers p → b < consumers p
+pub pair_small : (p : Transport) (a b n : ℕ) → IsWithinLimits p.rooms p.entries p.costs → n ≡ consumers p
+    → a < consumers p → b < consumers p
     → a * n + b < most_tiers * most_tiers
 pair_small p a b n limits same lta ltb =
     omega (
@@ -394,7 +428,8 @@ pub bound_small : (p : Transport) (xs : List ℕ) (a b q : ℕ) (table : List (O
 bound_small p xs a b q table table_is lta ltb is_pair =
     rw is_pair (known_small p (IsAt xs p.entries a) a b _ (table_is.each a b lta ltb))
 
-pub cutoff_asked : (p : Transport) (k : ℕ) (xs prices loads : List ℕ) (cutoff next : Option ℕ) (old before after : List Label) (t b : ℕ)
+pub cutoff_asked : (p : Transport) (k : ℕ) (xs prices loads : List ℕ) (cutoff next : Option ℕ)
+    (old before after : List Label) (t b : ℕ)
     → IsPlaced p k xs prices → k ≤ p.entries → AreLoads p xs loads → b < consumers p
     → IsClosed p k xs prices cutoff old after t (b + 1) → IsAsked p k xs prices cutoff t b before after
     → IsCut p loads b (label_at after b) cutoff next

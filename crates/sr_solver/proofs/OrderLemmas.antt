@@ -1,5 +1,6 @@
 -- An answer of a problem whose entries stand in another order is one of the problem.
-use Rattle.std.proofs.Common.{◌≡◌, ℕ, zero, suc, ◌+◌, ◌*◌, ◌<◌, ◌≤◌, ◌==◌, ◌≢◌, cond, List, [], ◌∷◌, ◌++◌, length, length-append, get_or, Bool, refl, sym, ap, ◌∙◌, inl, inr, arith, eq-eqb, Option, None}
+use Rattle.std.proofs.Common.{◌≡◌, ℕ, zero, suc, ◌+◌, ◌*◌, ◌<◌, ◌≤◌, ◌==◌, ◌≢◌, cond, List, [], ◌∷◌, ◌++◌, length}
+use Rattle.std.proofs.Common.{length-append, get_or, Bool, refl, sym, ap, ◌∙◌, inl, inr, arith, eq-eqb, Option, None}
 use Rattle.sr_transport.specs.Limits.{greatest_charge}
 use Rattle.std.specs.Prelude.{unwrap_or, IfSome}
 use Rattle.std.specs.List.{All, sum_by}
@@ -28,7 +29,8 @@ numbers_at zero i d lt = absurd (omega arith)
 numbers_at (suc n) i d lt =
     elim (cases_lt i n) [
       | inl earlier ↦
-          get_or_append_left (numbers_below n) (n ∷ []) d i (omega (arith, earlier, length-numbers_below n)) ∙ numbers_at n i d earlier
+          get_or_append_left (numbers_below n) (n ∷ []) d i (omega (arith, earlier, length-numbers_below n))
+          ∙ numbers_at n i d earlier
       | inr later ↦
           let same : i ≡ n = omega arith in
           rw same (get_or_at (numbers_below n) n [] d n (length-numbers_below n))
@@ -46,16 +48,20 @@ pub order_below : (n : ℕ) (order : List ℕ) → IsOrder n order → All (λ i
 order_below n order is = All-permutation (λ i. i < n) (numbers_below n) order is (range_all (λ i. i < n) n (λ i lt. lt))
 
 -- what holds at each place of the order holds of each number
-order_each : (P : ℕ → Type 0) (n : ℕ) (order : List ℕ) → IsOrder n order → ((k : ℕ) → k < n → P (get_or order k 0)) → (i : ℕ) → i < n → P i
+order_each : (P : ℕ → Type 0) (n : ℕ) (order : List ℕ) → IsOrder n order → ((k : ℕ) → k < n → P (get_or order k 0))
+    → (i : ℕ) → i < n → P i
 order_each P n order is each i lt =
-    let all : All P (numbers_below n) = All-permutation P order (numbers_below n) (IsPermutation-sym (numbers_below n) order is)
+    let all : All P (numbers_below n) =
+    All-permutation P order (numbers_below n) (IsPermutation-sym (numbers_below n) order is)
     (All-from_get_or P order 0 (λ k l. each k (omega (arith, l, order_length n order is)))) in
     rw (numbers_at n i 0 lt) at (All-get_or P (numbers_below n) i 0 (omega (arith, lt, length-numbers_below n)) all)
 
 -- a sum in the order is the sum
-order_sum : (f : ℕ → ℕ) (n : ℕ) (order : List ℕ) → IsOrder n order → sum_below (λ k. f (get_or order k 0)) n ≡ sum_below f n
+order_sum : (f : ℕ → ℕ) (n : ℕ) (order : List ℕ) → IsOrder n order
+    → sum_below (λ k. f (get_or order k 0)) n ≡ sum_below f n
 order_sum f n order is =
-    let in_order : sum_by f order ≡ sum_below (λ k. f (get_or order k 0)) n = rw (order_length n order is) at (sum_by_below f order) in
+    let in_order : sum_by f order ≡ sum_below (λ k. f (get_or order k 0)) n =
+    rw (order_length n order is) at (sum_by_below f order) in
     let rising : sum_by f (numbers_below n) ≡ sum_below (λ k. f (get_or (numbers_below n) k 0)) n =
     rw (length-numbers_below n) at (sum_by_below f (numbers_below n)) in
     let plain : sum_below (λ k. f (get_or (numbers_below n) k 0)) n ≡ sum_below f n =
@@ -69,7 +75,8 @@ eqb_flips x y = elim (cases_eq x y) [
 ]
 
 -- no number stands at two places
-pub order_apart : (n : ℕ) (order : List ℕ) → IsOrder n order → (j k : ℕ) → j < k → k < n → get_or order j 0 ≢ get_or order k 0
+pub order_apart : (n : ℕ) (order : List ℕ) → IsOrder n order → (j k : ℕ) → j < k → k < n
+    → get_or order j 0 ≢ get_or order k 0
 order_apart n order is j k lt below same =
     let e : ℕ → ℕ → Bool = λ x y. x == y in
     let distinct = IsDistinct-IsPermutation e eqb_flips (numbers_below n) order is
@@ -82,14 +89,16 @@ order_apart n order is j k lt below same =
 
 length-row_below : (p : Transport) (i n : ℕ) → length (row_below p i n) ≡ n
 length-row_below p i zero = refl
-length-row_below p i (suc n) = omega (arith, length-append (row_below p i n) (cost_at p i n ∷ []), length-row_below p i n)
+length-row_below p i (suc n) =
+    omega (arith, length-append (row_below p i n) (cost_at p i n ∷ []), length-row_below p i n)
 
 row_at : (p : Transport) (i n c : ℕ) → c < n → get_or (row_below p i n) c None ≡ cost_at p i c
 row_at p i zero c lt = absurd (omega arith)
 row_at p i (suc n) c lt =
     elim (cases_lt c n) [
       | inl earlier ↦
-          get_or_append_left (row_below p i n) (cost_at p i n ∷ []) None c (omega (arith, earlier, length-row_below p i n)) ∙ row_at p i n c earlier
+          get_or_append_left (row_below p i n) (cost_at p i n ∷ []) None c
+          (omega (arith, earlier, length-row_below p i n)) ∙ row_at p i n c earlier
       | inr later ↦
           let same : c ≡ n = omega arith in
           rw same (get_or_at (row_below p i n) (cost_at p i n) [] None n (length-row_below p i n))
@@ -111,7 +120,8 @@ pub row_is : (p : Transport) (i : ℕ) (row : List (Option ℕ)) → length row 
     → ((c : ℕ) → c < consumers p → get_or row c None ≡ cost_at p i c) → row ≡ row_below p i (consumers p)
 row_is p i row every each =
     list_same row (row_below p i (consumers p)) None (every ∙ sym (length-row_below p i (consumers p)))
-    (λ c lt. let below : c < consumers p = omega (arith, lt, every) in each c below ∙ sym (row_at p i (consumers p) c below))
+    (λ c lt. let below : c < consumers p = omega (arith, lt, every) in each c below
+    ∙ sym (row_at p i (consumers p) c below))
 
 pub rows_more : (p : Transport) (order : List ℕ) (k : ℕ)
     → rows_below p order (k + 1) ≡ rows_below p order k ++ row_below p (get_or order k 0) (consumers p)
@@ -135,7 +145,12 @@ rows_at p order (suc n) k c lt ltc =
     elim (cases_lt k n) [
       | inl earlier ↦
           get_or_append_left (rows_below p order n) row None (k * consumers p + c)
-          (omega (arith, length-rows_below p order n, mul-add-lt k (consumers p) c n earlier ltc, mul_comm (consumers p) n))
+          (omega (
+            arith,
+            length-rows_below p order n,
+            mul-add-lt k (consumers p) c n earlier ltc,
+            mul_comm (consumers p) n,
+          ))
           ∙ rows_at p order n k c earlier ltc
       | inr later ↦
           let same : k ≡ n = omega arith in
@@ -144,7 +159,8 @@ rows_at p order (suc n) k c lt ltc =
     ]
 
 -- a cost in the order
-pub order_cost : (p q : Transport) (order : List ℕ) → IsReordered p q order → (k c : ℕ) → k < p.entries → c < consumers p
+pub order_cost : (p q : Transport) (order : List ℕ) → IsReordered p q order → (k c : ℕ) → k < p.entries
+    → c < consumers p
     → cost_at q k c ≡ cost_at p (get_or order k 0) c
 order_cost p q order re k c lt ltc =
     ap (λ r. get_or q.costs (k * length r + c) None) re.rooms
@@ -165,7 +181,8 @@ same_load order ys xs n c is every_y every_x renamed =
     let one : ℕ → ℕ = λ x. cond (x == c) 1 0 in
     let here : sum_by one xs ≡ sum_below (λ i. one (get_or xs i 0)) n = rw every_x at (sum_by_below one xs) in
     let there : sum_by one ys ≡ sum_below (λ i. one (get_or ys i 0)) n = rw every_y at (sum_by_below one ys) in
-    let each = sum_below-same (λ k. one (get_or xs (get_or order k 0) 0)) (λ k. one (get_or ys k 0)) n (λ k l. ap one (renamed k l)) in
+    let each = sum_below-same (λ k. one (get_or xs (get_or order k 0) 0)) (λ k. one (get_or ys k 0)) n
+    (λ k l. ap one (renamed k l)) in
     omega (arith, here, there, each, order_sum (λ i. one (get_or xs i 0)) n order is)
 
 pub renamed_assignment : (p q : Transport) (order ys xs : List ℕ) → IsOrder p.entries order → IsReordered p q order
@@ -192,7 +209,8 @@ renamed_assignment p q order ys xs is re every renamed assigned =
     }
 
 pub renamed_shows : (p q : Transport) (order ys xs prices : List ℕ) → IsOrder p.entries order → IsReordered p q order
-    → length xs ≡ p.entries → IsRenamed order ys xs p.entries → IsAssignment q ys → ShowsCheapest q ys prices → ShowsCheapest p xs prices
+    → length xs ≡ p.entries → IsRenamed order ys xs p.entries → IsAssignment q ys → ShowsCheapest q ys prices
+    → ShowsCheapest p xs prices
 renamed_shows p q order ys xs prices is re every renamed assigned shows =
     let every_y : length ys ≡ p.entries = assigned.every ∙ re.entries in
     record {
@@ -205,8 +223,10 @@ renamed_shows p q order ys xs prices is re every renamed assigned shows =
           rw (renamed k l) (λ c allowed.
           omega (
             arith,
-            shows.least k in_y c
-                (omega (arith, allowed.0, same_consumers p q order re), rw (order_cost p q order re k c l allowed.0) allowed.1),
+            shows.least k in_y c (
+              omega (arith, allowed.0, same_consumers p q order re),
+              rw (order_cost p q order re k c l allowed.0) allowed.1,
+            ),
             order_cost_of p q order re k (get_or ys k 0) l is_consumer,
             order_cost_of p q order re k c l allowed.0,
           )))
@@ -225,7 +245,8 @@ pub renamed_total : (p q : Transport) (order ys xs : List ℕ) → IsOrder p.ent
 renamed_total p q order ys xs is re every renamed assigned =
     let every_y : length ys ≡ p.entries = assigned.every ∙ re.entries in
     let cost : ℕ → ℕ = λ i. cost_of p i (get_or xs i 0) in
-    let each : sum_below (λ k. cost_of q k (get_or ys k 0)) p.entries ≡ sum_below (λ k. cost (get_or order k 0)) p.entries =
+    let each : sum_below (λ k. cost_of q k (get_or ys k 0)) p.entries ≡ sum_below (λ k. cost
+    (get_or order k 0)) p.entries =
     sum_below-same (λ k. cost_of q k (get_or ys k 0)) (λ k. cost (get_or order k 0)) p.entries
     (λ k l.
     let in_y : k < length ys = omega (arith, l, every_y) in
@@ -240,26 +261,37 @@ row_small : (p : Transport) → IsWithinLimits p.rooms p.entries p.costs → (i 
     → All (λ cost. IfSome cost (λ c. c ≤ greatest_charge)) (row_below p i n)
 row_small p limits i zero lt le = All-nil (λ cost. IfSome cost (λ c. c ≤ greatest_charge))
 row_small p limits i (suc n) lt le =
-    All-push (λ cost. IfSome cost (λ c. c ≤ greatest_charge)) (row_below p i n) (cost_at p i n) (row_small p limits i n lt (omega arith))
+    All-push (λ cost. IfSome cost (λ c. c ≤ greatest_charge)) (row_below p i n) (cost_at p i n)
+    (row_small p limits i n lt (omega arith))
     (All-get_or (λ cost. IfSome cost (λ c. c ≤ greatest_charge)) p.costs (i * consumers p + n) None
-    (omega (arith, limits.pairs, mul-add-lt i (consumers p) n p.entries lt (omega arith), mul_comm (consumers p) p.entries)) limits.small_costs)
+    (omega (
+      arith,
+      limits.pairs,
+      mul-add-lt i (consumers p) n p.entries lt (omega arith),
+      mul_comm (consumers p) p.entries,
+    )) limits.small_costs)
 
-rows_small : (p : Transport) → IsWithinLimits p.rooms p.entries p.costs → (order : List ℕ) → IsOrder p.entries order → (n : ℕ) → n ≤ p.entries
+rows_small : (p : Transport) → IsWithinLimits p.rooms p.entries p.costs → (order : List ℕ) → IsOrder p.entries order
+    → (n : ℕ) → n ≤ p.entries
     → All (λ cost. IfSome cost (λ c. c ≤ greatest_charge)) (rows_below p order n)
 rows_small p limits order is zero le = All-nil (λ cost. IfSome cost (λ c. c ≤ greatest_charge))
 rows_small p limits order is (suc n) le =
-    All-append (λ cost. IfSome cost (λ c. c ≤ greatest_charge)) (rows_below p order n) (row_below p (get_or order n 0) (consumers p))
+    All-append (λ cost. IfSome cost (λ c. c ≤ greatest_charge)) (rows_below p order n)
+    (row_below p (get_or order n 0) (consumers p))
     (rows_small p limits order is n (omega arith))
     (row_small p limits (get_or order n 0) (consumers p)
-    (All-get_or (λ i. i < p.entries) order n 0 (omega (arith, order_length p.entries order is)) (order_below p.entries order is)) (omega arith))
+    (All-get_or (λ i. i < p.entries) order n 0 (omega (arith, order_length p.entries order is))
+    (order_below p.entries order is)) (omega arith))
 
 pub is_reordered : (p q : Transport) (order rooms : List ℕ) (entries : ℕ) (costs rows : List (Option ℕ))
-    → q ≡ record { rooms = rooms; entries = entries; costs = costs } → rooms ≡ p.rooms → entries ≡ p.entries → costs ≡ rows
+    → q ≡ record { rooms = rooms; entries = entries; costs = costs } → rooms ≡ p.rooms → entries ≡ p.entries
+    → costs ≡ rows
     → rows ≡ rows_below p order p.entries → IsReordered p q order
 is_reordered p q order rooms entries costs rows same same_rooms same_entries same_costs are_rows =
     rw same (record { rooms = same_rooms; entries = same_entries; costs = same_costs ∙ are_rows })
 
-pub reordered_limits : (p : Transport) (order : List ℕ) (costs : List (Option ℕ)) → IsWithinLimits p.rooms p.entries p.costs
+pub reordered_limits : (p : Transport) (order : List ℕ) (costs : List (Option ℕ))
+    → IsWithinLimits p.rooms p.entries p.costs
     → IsOrder p.entries order → costs ≡ rows_below p order p.entries → IsWithinLimits p.rooms p.entries costs
 reordered_limits p order costs limits is same =
     rw same (record {
@@ -271,32 +303,40 @@ reordered_limits p order costs limits is same =
     })
 
 -- the limits of the costs as they are given
-pub given_limits : (p : Transport) (rooms : List ℕ) (entries : ℕ) (costs rows : List (Option ℕ)) → rooms ≡ p.rooms → entries ≡ p.entries
+pub given_limits : (p : Transport) (rooms : List ℕ) (entries : ℕ) (costs rows : List (Option ℕ)) → rooms ≡ p.rooms
+    → entries ≡ p.entries
     → costs ≡ rows → IsWithinLimits p.rooms p.entries rows → IsWithinLimits rooms entries costs
-given_limits p rooms entries costs rows same_rooms same_entries same_costs limits = rw (same_rooms, same_entries, same_costs) limits
+given_limits p rooms entries costs rows same_rooms same_entries same_costs limits =
+    rw (same_rooms, same_entries, same_costs) limits
 
 -- a number in the order
 pub order_at : (n : ℕ) (order : List ℕ) → IsOrder n order → (k : ℕ) → k < n → get_or order k 0 < n
-order_at n order is k lt = All-get_or (λ i. i < n) order k 0 (omega (arith, lt, order_length n order is)) (order_below n order is)
+order_at n order is k lt =
+    All-get_or (λ i. i < n) order k 0 (omega (arith, lt, order_length n order is)) (order_below n order is)
 
 -- one more is renamed
-pub renamed_more : (n : ℕ) (order ys xs : List ℕ) (place : ℕ) → IsOrder n order → length xs ≡ n → place < n → IsRenamed order ys xs place
+pub renamed_more : (n : ℕ) (order ys xs : List ℕ) (place : ℕ) → IsOrder n order → length xs ≡ n → place < n
+    → IsRenamed order ys xs place
     → IsRenamed order ys (set xs (get_or order place 0) (get_or ys place 0)) (place + 1)
 renamed_more n order ys xs place is every lt renamed k below =
     elim (cases_lt k place) [
       | inl earlier ↦
-          get_or-set_other xs (get_or order place 0) (get_or order k 0) (get_or ys place 0) 0 (order_apart n order is k place earlier lt)
+          get_or-set_other xs (get_or order place 0) (get_or order k 0) (get_or ys place 0) 0
+          (order_apart n order is k place earlier lt)
           ∙ renamed k earlier
       | inr later ↦
           let same : k ≡ place = omega arith in
-          rw same (get_or-set_same xs (get_or order place 0) (get_or ys place 0) 0 (omega (arith, every, order_at n order is place lt)))
+          rw same (get_or-set_same xs (get_or order place 0) (get_or ys place 0) 0
+          (omega (arith, every, order_at n order is place lt)))
     ]
 
 -- the same of the whole answer, where the lists are known by equations
-pub renamed_solution : (p q : Transport) (order ys zs first orders assigns xs prices : List ℕ) (total : ℕ) → IsOrder p.entries order
+pub renamed_solution : (p q : Transport) (order ys zs first orders assigns xs prices : List ℕ) (total : ℕ)
+    → IsOrder p.entries order
     → IsReordered p q first → first ≡ order → orders ≡ order → assigns ≡ ys → xs ≡ zs → length zs ≡ length assigns
     → IsRenamed orders assigns zs (length assigns) → IsBest q ys prices total → IsBest p xs prices total
-renamed_solution p q order ys zs first orders assigns xs prices total is re_first same_first same_orders same_assigns same_xs many renamed_all best =
+renamed_solution p q order ys zs first orders assigns xs prices total is re_first same_first same_orders same_assigns
+    same_xs many renamed_all best =
     let re : IsReordered p q order = rw same_first at re_first in
     let every_y : length ys ≡ p.entries = best.assignment.every ∙ re.entries in
     let every : length zs ≡ p.entries = many ∙ (ap length same_assigns ∙ every_y) in

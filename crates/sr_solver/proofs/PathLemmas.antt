@@ -1,5 +1,6 @@
 -- A move of the entries along a path.
-use Rattle.std.proofs.Common.{◌≡◌, ℕ, ◌+◌, ◌<◌, ◌≤◌, ◌==◌, ◌⊎◌, Bool, false, cond, List, length, get_or, refl, ap, ◌∙◌, inl, inr, arith, eq-eqb}
+use Rattle.std.proofs.Common.{◌≡◌, ℕ, ◌+◌, ◌<◌, ◌≤◌, ◌==◌, ◌⊎◌, Bool, false, cond, List, length, get_or, refl, ap, ◌∙◌}
+use Rattle.std.proofs.Common.{inl, inr, arith, eq-eqb}
 use Rattle.std.proofs.Math.ListN.{set, length-set}
 use Rattle.std.proofs.lemmas.Bool.{cases_eq, ne_eqb}
 use Rattle.std.proofs.lemmas.List.{get_or-set_same, get_or-set_other}
@@ -60,7 +61,8 @@ still_more : (labels : List Label) (k end : ℕ) (old new : List ℕ) (place i f
     → (j : ℕ) → (label_at labels (get_or old j 0)).hops < (label_at labels from).hops
     → get_or (set new i place) j 0 ≡ get_or old j 0
 still_more labels k end old new place i from fewer is_from shifting j below =
-    let here : (label_at labels from).hops ≡ (label_at labels (get_or old i 0)).hops = ap (λ x. (label_at labels x).hops) is_from in
+    let here : (label_at labels from).hops ≡ (label_at labels (get_or old i 0)).hops =
+    ap (λ x. (label_at labels x).hops) is_from in
     elim (cases_eq j i) [
       | inl same ↦
           let there : (label_at labels (get_or old j 0)).hops ≡ (label_at labels (get_or old i 0)).hops =
@@ -74,7 +76,8 @@ still_more labels k end old new place i from fewer is_from shifting j below =
 pub shifting_more : (labels : List Label) (k end : ℕ) (old new : List ℕ) (place : ℕ)
     → ArePaths labels k old → IsShifting labels k end old new place
     → ((label_at labels place).mover ≡ k → ⊥)
-    → IsShifting labels k end old (set new (label_at labels place).mover place) (get_or new (label_at labels place).mover 0)
+    → IsShifting labels k end old (set new (label_at labels place).mover place)
+    (get_or new (label_at labels place).mover 0)
 shifting_more labels k end old new place paths shifting not_new =
     let mover : ℕ = (label_at labels place).mover in
     let step : IsStep labels k place (get_or old mover 0) = paths.step place shifting.consumer shifting.reached in
@@ -118,7 +121,8 @@ shifted_last labels k end old new place paths shifting is_new =
     }
 
 -- before the first move
-pub shifting_none : (labels : List Label) (k end : ℕ) (old : List ℕ) → end < length labels → 0 < (label_at labels end).hops
+pub shifting_none : (labels : List Label) (k end : ℕ) (old : List ℕ) → end < length labels
+    → 0 < (label_at labels end).hops
     → IsShifting labels k end old old end
 shifting_none labels k end old lt reached = record {
   every = refl;

@@ -1,5 +1,6 @@
 -- At the start no entry stands anywhere. Then one more is placed: the prices rise, and the entries move along the path.
-use Rattle.std.proofs.Common.{◌≡◌, ℕ, ◌+◌, ◌*◌, ◌<◌, ◌≤◌, ◌⊎◌, Bool, true, false, List, length, get_or, Option, Some, refl, sym, ap, ◌∙◌, subst, inl, inr, arith}
+use Rattle.std.proofs.Common.{◌≡◌, ℕ, ◌+◌, ◌*◌, ◌<◌, ◌≤◌, ◌⊎◌, Bool, true, false, List, length, get_or, Option, Some}
+use Rattle.std.proofs.Common.{refl, sym, ap, ◌∙◌, subst, inl, inr, arith}
 use Rattle.sr_transport.specs.Limits.{greatest_rise, most_tiers}
 use Rattle.std.proofs.lemmas.Bool.{cases_eq, cases_lt, false≢true}
 use Rattle.std.proofs.Math.ListN.{set, length-set, replicate}
@@ -22,10 +23,12 @@ use Rattle.sr_solver.proofs.LabelLemmas.{open_count-above}
 -- where each entry stands past the last consumer, no consumer has a load
 load_nowhere : (n top c : ℕ) → c < top → load (replicate n top) c ≡ 0
 load_nowhere n top c lt =
-    sum_by-replicate (λ x. one_at x c) n top ∙ ap (λ k. n * k) (one_at_other top c (λ e. omega (arith, e, lt))) ∙ omega arith
+    sum_by-replicate (λ x. one_at x c) n top ∙ ap (λ k. n * k) (one_at_other top c (λ e. omega (arith, e, lt)))
+    ∙ omega arith
 
 -- and no entry stands at any
-none_at : (p : Transport) (i c : ℕ) → i < p.entries → c < consumers p → get_or (replicate p.entries (consumers p)) i 0 ≡ c → ⊥
+none_at : (p : Transport) (i c : ℕ) → i < p.entries → c < consumers p
+    → get_or (replicate p.entries (consumers p)) i 0 ≡ c → ⊥
 none_at p i c lt ltc at = omega (arith, ltc, at, get_or-replicate p.entries i (consumers p) 0 lt)
 
 none_placed : (p : Transport) → IsWithinLimits p.rooms p.entries p.costs
@@ -48,7 +51,8 @@ none_loads p = record {
   each = λ c lt. get_or-replicate {A = ℕ} (consumers p) c 0 0 lt ∙ sym (load_nowhere p.entries (consumers p) c lt);
 }
 
-none_members : (p : Transport) (w : ℕ) → AreWide p w → AreMembers p w (replicate p.entries (consumers p)) (replicate (consumers p * w) 0)
+none_members : (p : Transport) (w : ℕ) → AreWide p w
+    → AreMembers p w (replicate p.entries (consumers p)) (replicate (consumers p * w) 0)
 none_members p w wide =
     let none : (c : ℕ) → c < consumers p → load (replicate p.entries (consumers p)) c ≡ 0 =
     λ c lt. load_nowhere p.entries (consumers p) c lt in
@@ -101,7 +105,8 @@ end_near p k xs prices labels end placed found =
 -- the closed consumers are no farther than the end of the path
 pub closed_near : (p : Transport) (k : ℕ) (xs prices : List ℕ) (labels : List Label) (end : ℕ)
     → IsEnd p k xs prices labels end
-    → (c : ℕ) → c < consumers p → (label_at labels c).closed ≡ true → (label_at labels c).dist ≤ (label_at labels end).dist
+    → (c : ℕ) → c < consumers p → (label_at labels c).closed ≡ true
+    → (label_at labels c).dist ≤ (label_at labels end).dist
 closed_near p k xs prices labels end found c lt closed =
     found.search.nearer c end lt found.nearest.consumer closed found.nearest.not_closed found.nearest.reached
 
@@ -151,10 +156,12 @@ are_paths p k xs prices cutoff labels lt placed search =
     }
 
 -- what is known where the path was found, and the prices rose
-record IsRising (p : Transport) (k : ℕ) (xs prices : List ℕ) (labels : List Label) (end : ℕ) (raised : List ℕ) : Type 0 where
+record IsRising (p : Transport) (k : ℕ) (xs prices : List ℕ) (labels : List Label) (end : ℕ)
+    (raised : List ℕ) : Type 0 where
   placed : IsPlaced p k xs prices
   found : IsEnd p k xs prices labels end
-  rise : (c : ℕ) → c < consumers p → IsRaised (label_at labels end).dist (label_at labels c) (get_or prices c 0) (get_or raised c 0)
+  rise : (c : ℕ) → c < consumers p
+      → IsRaised (label_at labels end).dist (label_at labels c) (get_or prices c 0) (get_or raised c 0)
 
 -- no price falls
 no_price_falls : (p : Transport) (k : ℕ) (xs prices : List ℕ) (labels : List Label) (end : ℕ) (raised : List ℕ)
@@ -195,7 +202,8 @@ least_raised p k xs prices labels end raised rising dist base i x lt reach tight
       | inl closed ↦ omega (arith, far, tight, (rising.rise x lt).closed closed)
       | inr at_end ↦
           let is_open : (label_at labels x).closed ≡ false = rw at_end rising.found.nearest.not_closed in
-          let here : (label_at labels x).dist ≡ (label_at labels end).dist = ap (λ z. (label_at labels z).dist) at_end in
+          let here : (label_at labels x).dist ≡ (label_at labels end).dist =
+          ap (λ z. (label_at labels z).dist) at_end in
           omega (arith, far, tight, here, (rising.rise x lt).stays is_open)
     ]
 
@@ -210,14 +218,17 @@ least_moved p k xs prices labels end raised rising i x lt mover way passed =
       | inl first ↦
           let new : i ≡ k = sym mover ∙ first.mover in
           rw new (
-          least_raised p k xs prices labels end raised rising 0 0 k x lt (λ c allowed. inl (rising.found.search.new_offered c allowed)) (omega (arith, first.dist)) passed
+          least_raised p k xs prices labels end raised rising 0 0 k x lt
+          (λ c allowed. inl (rising.found.search.new_offered c allowed)) (omega (arith, first.dist)) passed
           )
       | inr next ↦
           let earlier : i < k = omega (arith, mover, next.earlier) in
           let closed : (label_at labels (get_or xs i 0)).closed ≡ true = rw (← mover) next.closed in
-          let tight : (label_at labels x).dist + priced p prices i (get_or xs i 0) ≡ (label_at labels (get_or xs i 0)).dist + priced p prices i x =
+          let tight : (label_at labels x).dist + priced p prices i (get_or xs i 0) ≡ (label_at labels
+          (get_or xs i 0)).dist + priced p prices i x =
           rw (← mover) next.dist in
-          least_raised p k xs prices labels end raised rising (label_at labels (get_or xs i 0)).dist (priced p prices i (get_or xs i 0)) i x lt
+          least_raised p k xs prices labels end raised rising (label_at labels (get_or xs i 0)).dist
+          (priced p prices i (get_or xs i 0)) i x lt
           (λ c allowed. rising.found.search.offered i c earlier closed (λ e. allowed.0) allowed) tight passed
     ]
 
@@ -228,8 +239,10 @@ least_stays p k xs prices labels end raised rising i lti =
     let lt = (rising.placed.placed i lti).0 in
     elim (cases_bool (label_at labels (get_or xs i 0)).closed) [
       | inl closed ↦
-          least_raised p k xs prices labels end raised rising (label_at labels (get_or xs i 0)).dist (priced p prices i (get_or xs i 0)) i
-          (get_or xs i 0) lt (λ c allowed. rising.found.search.offered i c lti closed (λ e. allowed.0) allowed) refl (inl closed)
+          least_raised p k xs prices labels end raised rising (label_at labels (get_or xs i 0)).dist
+          (priced p prices i (get_or xs i 0)) i
+          (get_or xs i 0) lt (λ c allowed. rising.found.search.offered i c lti closed (λ e. allowed.0) allowed) refl
+          (inl closed)
       | inr is_open ↦
           λ c allowed.
           omega (
@@ -251,7 +264,8 @@ filled_raised p k xs prices labels end raised rising c lt above =
         λ e. false≢true (sym rising.found.nearest.not_closed ∙ ap (λ x. (label_at labels x).closed) e ∙ closed),
       )
       | inr is_open ↦
-          let full : load xs c ≡ room_of p c = rising.placed.filled c lt (omega (arith, above, (rising.rise c lt).stays is_open)) in
+          let full : load xs c ≡ room_of p c =
+          rising.placed.filled c lt (omega (arith, above, (rising.rise c lt).stays is_open)) in
           let other : end ≡ c → ⊥ =
           λ e. let room : load xs c < room_of p c = rw (← e) rising.found.room in omega (arith, full, room) in
           (full, other)
@@ -324,7 +338,12 @@ placed_more p k xs prices labels end raised new placed found ltk rise shifted =
           omega (arith, loads c lt, one_at_other end c full.1, full.0);
       low = λ c lt. elim (cases_bool (label_at labels c).closed) [
         | inl closed ↦
-            omega (arith, (rising.rise c lt).closed closed, placed.low c lt, end_near p k xs prices labels end placed found)
+            omega (
+              arith,
+              (rising.rise c lt).closed closed,
+              placed.low c lt,
+              end_near p k xs prices labels end placed found,
+            )
         | inr is_open ↦ omega (arith, (rising.rise c lt).stays is_open, placed.low c lt)
       ];
     }
@@ -338,7 +357,8 @@ loads_more p k xs prices loads labels end new counted found shifted =
     record {
       one_each = length-set loads end (get_or loads end 0 + 1) ∙ counted.one_each;
       each = λ c lt.
-          let load_at : load new c ≡ load xs c + one_at end c = shifted.loads c (omega (arith, lt, found.search.one_each)) in
+          let load_at : load new c ≡ load xs c + one_at end c =
+          shifted.loads c (omega (arith, lt, found.search.one_each)) in
           elim (cases_eq c end) [
             | inl e ↦
                 let here : get_or (set loads end (get_or loads end 0 + 1)) c 0 ≡ get_or loads end 0 + 1 =

@@ -90,7 +90,8 @@ started_round p k xs prices cutoff labels limits started =
 pub offered_more : (p : Transport) (k n : ℕ) (prices : List ℕ) (labels : List Label) (label : Label) → n < length labels
     → ((c : ℕ) → c < n → IsOffered (cost_at p k c) (get_or prices c 0) (first_offer k) no_label (label_at labels c))
     → IsOffered (cost_at p k n) (get_or prices n 0) (first_offer k) no_label label
-    → (c : ℕ) → c < n + 1 → IsOffered (cost_at p k c) (get_or prices c 0) (first_offer k) no_label (label_at (set labels n label) c)
+    → (c : ℕ) → c < n + 1
+    → IsOffered (cost_at p k c) (get_or prices c 0) (first_offer k) no_label (label_at (set labels n label) c)
 offered_more p k n prices labels label lt each offered c ltc =
     elim (cases_eq c n) [
       | inl e ↦ rw e (rw (get_or-set_same labels n label no_label lt) offered)
@@ -100,7 +101,8 @@ offered_more p k n prices labels label lt each offered c ltc =
 -- its way there is short
 pub first_small : (p : Transport) (k c : ℕ) (prices : List ℕ) (label : Label) → IsWithinLimits p.rooms p.entries p.costs
     → get_or prices c 0 ≤ greatest_price → c < consumers p
-    → IsOffered (cost_at p k c) (get_or prices c 0) (first_offer k) no_label label → 0 < label.hops → label.dist ≤ greatest_way
+    → IsOffered (cost_at p k c) (get_or prices c 0) (first_offer k) no_label label → 0 < label.hops
+    → label.dist ≤ greatest_way
 first_small p k c prices label limits low lt offered above =
     let first = ((fresh p k prices label c lt offered).reached above).1 in
     omega (arith, first.dist, low, cost_small p limits k c)

@@ -1,5 +1,6 @@
 -- Where no path ends at a consumer with room, the new entry and the entries at closed consumers have too few places.
-use Rattle.std.proofs.Common.{◌≡◌, ℕ, zero, suc, ◌+◌, ◌*◌, ◌<◌, ◌≤◌, ◌⊎◌, Bool, true, false, cond, List, [], ◌∷◌, ◌++◌, length, get_or, refl, ap, ◌∙◌, inl, inr, arith, length-append, append-nil}
+use Rattle.std.proofs.Common.{◌≡◌, ℕ, zero, suc, ◌+◌, ◌*◌, ◌<◌, ◌≤◌, ◌⊎◌, Bool, true, false, cond, List, [], ◌∷◌, ◌++◌}
+use Rattle.std.proofs.Common.{length, get_or, refl, ap, ◌∙◌, inl, inr, arith, length-append, append-nil}
 use Rattle.std.specs.Prelude.{is_some}
 use Rattle.std.specs.List.{All, Any}
 use Rattle.std.specs.List.Sorted.{IsStrictlyIncreasing}
@@ -22,13 +23,15 @@ use Rattle.sr_solver.specs.Search.{IsStuck}
 use Rattle.sr_solver.specs.Shortage.{stranded_below}
 
 -- one more, above all of a rising list
-rising_push : (xs : List ℕ) (y : ℕ) → IsStrictlyIncreasing xs → All (λ x. x < y) xs → IsStrictlyIncreasing (xs ++ y ∷ [])
+rising_push : (xs : List ℕ) (y : ℕ) → IsStrictlyIncreasing xs → All (λ x. x < y) xs
+    → IsStrictlyIncreasing (xs ++ y ∷ [])
 rising_push xs y rising below k lt =
     let short : k + 1 < length xs + 1 = omega (arith, lt, length-append xs (y ∷ [])) in
     let front : get_or (xs ++ y ∷ []) k 0 ≡ get_or xs k 0 = get_or_append_left xs (y ∷ []) 0 k (omega arith) in
     elim (cases_lt (k + 1) (length xs)) [
       | inl within ↦
-          let next : get_or (xs ++ y ∷ []) (k + 1) 0 ≡ get_or xs (k + 1) 0 = get_or_append_left xs (y ∷ []) 0 (k + 1) within in
+          let next : get_or (xs ++ y ∷ []) (k + 1) 0 ≡ get_or xs (k + 1) 0 =
+          get_or_append_left xs (y ∷ []) 0 (k + 1) within in
           omega (arith, front, next, rising k within)
       | inr past ↦
           let next : get_or (xs ++ y ∷ []) (k + 1) 0 ≡ y = get_or_push xs y 0 (k + 1) (omega arith) in
@@ -69,11 +72,13 @@ stranded_are labels xs zero = All-nil (IsStranded labels xs 0)
 stranded_are labels xs (suc n) =
     let b : Bool = (label_at labels (get_or xs n 0)).closed in
     All-append (IsStranded labels xs (suc n)) (stranded_below labels xs n) (cond b (n ∷ []) [])
-    (All-weaker (IsStranded labels xs n) (IsStranded labels xs (suc n)) (λ i h. (omega (arith, h.0), h.1)) (stranded_below labels xs n) (stranded_are labels xs n))
+    (All-weaker (IsStranded labels xs n) (IsStranded labels xs (suc n)) (λ i h. (omega (arith, h.0), h.1))
+    (stranded_below labels xs n) (stranded_are labels xs n))
     (all_if (IsStranded labels xs (suc n)) b n (λ closed. (omega arith, closed)))
 
 -- they rise
-rising_if : (b : Bool) (xs : List ℕ) (n : ℕ) → IsStrictlyIncreasing xs → All (λ i. i < n) xs → IsStrictlyIncreasing (xs ++ cond b (n ∷ []) [])
+rising_if : (b : Bool) (xs : List ℕ) (n : ℕ) → IsStrictlyIncreasing xs → All (λ i. i < n) xs
+    → IsStrictlyIncreasing (xs ++ cond b (n ∷ []) [])
 rising_if true xs n rising below = rising_push xs n rising below
 rising_if false xs n rising below = rw append-nil rising
 
@@ -81,7 +86,8 @@ stranded_rise : (labels : List Label) (xs : List ℕ) (n : ℕ) → IsStrictlyIn
 stranded_rise labels xs zero = λ k lt. absurd (omega arith)
 stranded_rise labels xs (suc n) =
     rising_if (label_at labels (get_or xs n 0)).closed (stranded_below labels xs n) n (stranded_rise labels xs n)
-    (All-weaker (IsStranded labels xs n) (λ i. i < n) (λ i h. h.0) (stranded_below labels xs n) (stranded_are labels xs n))
+    (All-weaker (IsStranded labels xs n) (λ i. i < n) (λ i h. h.0) (stranded_below labels xs n)
+    (stranded_are labels xs n))
 
 -- terms of 0 add nothing
 sum_below_still : (f : ℕ → ℕ) (m n : ℕ) → m ≤ n → ((i : ℕ) → m ≤ i → i < n → f i ≡ 0) → sum_below f n ≡ sum_below f m
@@ -90,7 +96,11 @@ sum_below_still f m (suc n) le none =
     elim (cases_eq m (suc n)) [
       | inl same ↦ rw same refl
       | inr ne ↦
-          omega (arith, none n (omega arith) (omega arith), sum_below_still f m n (omega arith) (λ i lei lti. none i lei (omega arith)))
+          omega (
+            arith,
+            none n (omega arith) (omega arith),
+            sum_below_still f m n (omega arith) (λ i lei lti. none i lei (omega arith)),
+          )
     ]
 
 -- no label past the last is closed
@@ -104,7 +114,8 @@ past_once labels c past =
 stranded_held : (p : Transport) (k : ℕ) (xs prices : List ℕ) (labels : List Label) → IsStuck p k xs prices labels
     → length (stranded_below labels xs k) ≡ sum_below (λ c. once labels c * load xs c) (consumers p)
 stranded_held p k xs prices labels stuck =
-    let nowhere : once labels (consumers p) ≡ 0 = past_once labels (consumers p) (omega (arith, stuck.search.one_each)) in
+    let nowhere : once labels (consumers p) ≡ 0 =
+    past_once labels (consumers p) (omega (arith, stuck.search.one_each)) in
     let waits : (i : ℕ) → k ≤ i → i < length xs → once labels (get_or xs i 0) ≡ 0 =
     λ i le lt. ap (once labels) (stuck.waiting i le (omega (arith, lt, stuck.every))) ∙ nowhere in
     let within : All (λ x. x < suc (consumers p)) xs =
@@ -154,10 +165,12 @@ stuck_short p k xs prices labels stuck =
     let are : All (IsStranded labels xs k) before = stranded_are labels xs k in
     let member : All (λ i. (i ≡ k) ⊎ IsStranded labels xs k i) set =
     All-push (λ i. (i ≡ k) ⊎ IsStranded labels xs k i) before k
-    (All-weaker (IsStranded labels xs k) (λ i. (i ≡ k) ⊎ IsStranded labels xs k i) (λ i h. inr h) before are) (inl refl) in
+    (All-weaker (IsStranded labels xs k) (λ i. (i ≡ k) ⊎ IsStranded labels xs k i) (λ i h. inr h) before are)
+    (inl refl) in
     let closed : (c : ℕ) → c < consumers p → is_reached p set c ≡ true → (label_at labels c).closed ≡ true =
     λ c lt reached.
-    let found : Any (λ i. is_some (cost_at p i c) ≡ true) set = Any-from_list_any (λ i. is_some (cost_at p i c)) set reached in
+    let found : Any (λ i. is_some (cost_at p i c) ≡ true) set =
+    Any-from_list_any (λ i. is_some (cost_at p i c)) set reached in
     let i : ℕ = found.1 in
     let at : get_or set found.0 i ≡ i = found.3 in
     reached_closed p k xs prices labels stuck i c
@@ -166,15 +179,19 @@ stuck_short p k xs prices labels stuck =
     sum_below-le (λ c. cond (is_reached p set c) (room_of p c) 0) (λ c. once labels c * load xs c) (consumers p)
     (λ c lt. places_held p k xs prices labels stuck c lt (is_reached p set c) (closed c lt)) in
     record {
-      rising = rising_push before k (stranded_rise labels xs k) (All-weaker (IsStranded labels xs k) (λ i. i < k) (λ i h. h.0) before are);
+      rising = rising_push before k (stranded_rise labels xs k)
+          (All-weaker (IsStranded labels xs k) (λ i. i < k) (λ i h. h.0) before are);
       entries = All-push (λ i. i < p.entries) before k
-          (All-weaker (IsStranded labels xs k) (λ i. i < p.entries) (λ i h. omega (arith, h.0, stuck.entry)) before are) stuck.entry;
+          (All-weaker (IsStranded labels xs k) (λ i. i < p.entries)
+          (λ i h. omega (arith, h.0, stuck.entry)) before are) stuck.entry;
       too_few = omega (arith, places, stranded_held p k xs prices labels stuck, length-append before (k ∷ []));
     }
 
 -- the same, where the lists are known by equations
-pub stuck_short_is : (p : Transport) (k : ℕ) (xs prices : List ℕ) (labels : List Label) (ys : List ℕ) (others : List Label) (set : List ℕ)
-    → IsStuck p k xs prices labels → ys ≡ xs → others ≡ labels → set ≡ stranded_below others ys k ++ k ∷ [] → IsShortage p set
+pub stuck_short_is : (p : Transport) (k : ℕ) (xs prices : List ℕ) (labels : List Label) (ys : List ℕ)
+    (others : List Label) (set : List ℕ)
+    → IsStuck p k xs prices labels → ys ≡ xs → others ≡ labels → set ≡ stranded_below others ys k ++ k ∷ []
+    → IsShortage p set
 stuck_short_is p k xs prices labels ys others set stuck same_xs same_labels is_set =
     rw is_set (rw same_xs (rw same_labels (stuck_short p k xs prices labels stuck)))
 
@@ -204,7 +221,8 @@ all_are_short p set few is =
             arith,
             few,
             length-numbers_below p.entries,
-            sum_below-le (λ c. cond (is_reached p (numbers_below p.entries) c) (room_of p c) 0) (room_of p) (consumers p)
+            sum_below-le (λ c. cond (is_reached p (numbers_below p.entries) c) (room_of p c) 0)
+                (room_of p) (consumers p)
                 (λ c lt. reached_room (is_reached p (numbers_below p.entries) c) (room_of p c)),
           );
     }

@@ -25,7 +25,8 @@ placed_shows p xs prices placed = record {
 }
 
 -- none of which is too great
-pub placed_prices : (p : Transport) (xs prices : List ℕ) → IsPlaced p p.entries xs prices → All (λ price. price ≤ greatest_price) prices
+pub placed_prices : (p : Transport) (xs prices : List ℕ) → IsPlaced p p.entries xs prices
+    → All (λ price. price ≤ greatest_price) prices
 placed_prices p xs prices placed =
     All-from_get_or (λ price. price ≤ greatest_price) prices 0
     (λ c lt. omega (arith, placed.low c (omega (arith, lt, placed.one_each)), placed.limits.few_entries))

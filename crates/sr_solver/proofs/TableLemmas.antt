@@ -1,5 +1,6 @@
 -- The table of bounds: what an entry that leaves or comes makes of it, and what a bound tells.
-use Rattle.std.proofs.Common.{◌≡◌, ℕ, ◌+◌, ◌*◌, ◌<◌, ◌≤◌, ◌⊎◌, List, length, get_or, Option, Some, None, refl, sym, ap, ◌∙◌, inl, inr, arith, false}
+use Rattle.std.proofs.Common.{◌≡◌, ℕ, ◌+◌, ◌*◌, ◌<◌, ◌≤◌, ◌⊎◌, List, length, get_or, Option, Some, None, refl, sym, ap}
+use Rattle.std.proofs.Common.{◌∙◌, inl, inr, arith, false}
 use Rattle.sr_transport.specs.Limits.{greatest_charge}
 use Rattle.std.specs.Prelude.{IsSome, IsSomeAnd, IfSome, unwrap_or}
 use Rattle.std.specs.Option.{is_some}
@@ -10,7 +11,8 @@ use Rattle.std.proofs.lemmas.Bool.{cases_eq, cases_lt, false≢true}
 use Rattle.std.proofs.lemmas.List.{get_or-set_same, get_or-set_other}
 use Rattle.sr_transport.specs.plain.Problem.{Transport, IsWithinLimits, consumers, cost_at, cost_of, IsAllowed}
 use Rattle.sr_solver.specs.declared.table.Bound.{Bound}
-use Rattle.sr_solver.specs.Table.{unknown, IsUnknown, IsAt, IsTight, IsKnown, IsTableOf, IsTable, IsWithout, IsBest, IsLowered, IsRowChanged, IsApart, IsLeastMore}
+use Rattle.sr_solver.specs.Table.{unknown, IsUnknown, IsAt, IsTight, IsKnown, IsTableOf, IsTable, IsWithout, IsBest}
+use Rattle.sr_solver.specs.Table.{IsLowered, IsRowChanged, IsApart, IsLeastMore}
 use Rattle.sr_solver.proofs.SearchLemmas.{cost_small}
 
 -- the rows of two consumers are apart
@@ -26,16 +28,19 @@ rows_apart n a c b lt ne =
     ]
 
 -- one place more of a row
-row_step : (n a i : ℕ) (to : ℕ → Option Bound → Option Bound → Type 0) (old new : List (Option Bound)) (x : Option Bound)
+row_step : (n a i : ℕ) (to : ℕ → Option Bound → Option Bound → Type 0) (old new : List (Option Bound))
+    (x : Option Bound)
     → IsRowChanged n a i to old new → a * n + i < length new → to i (get_or new (a * n + i) None) x
     → IsRowChanged n a (i + 1) to old (set new (a * n + i) x)
 row_step n a i to old new x changed lt step =
-    let same : get_or new (a * n + i) None ≡ get_or old (a * n + i) None = changed.others (a * n + i) (inr (omega arith)) in
+    let same : get_or new (a * n + i) None ≡ get_or old (a * n + i) None =
+    changed.others (a * n + i) (inr (omega arith)) in
     record {
       one_each = length-set new (a * n + i) x ∙ changed.one_each;
       row = λ b ltb. elim (cases_eq b i) [
         | inl e ↦ rw e (rw (get_or-set_same new (a * n + i) x None lt) (rw (← same) step))
-        | inr ne ↦ rw (get_or-set_other new (a * n + i) (a * n + b) x None (λ e. ne (omega arith))) (changed.row b (omega arith))
+        | inr ne ↦ rw (get_or-set_other new (a * n + i) (a * n + b) x None (λ e. ne (omega arith)))
+            (changed.row b (omega arith))
       ];
       others = λ q out.
           let out' : (q < a * n) ⊎ (a * n + i ≤ q) = elim out [ inl low ↦ inl low | inr high ↦ inr (omega arith) ] in
@@ -43,7 +48,8 @@ row_step n a i to old new x changed lt step =
           get_or-set_other new (a * n + i) q x None ne ∙ changed.others q out';
     }
 
-pub row_more : (n a i q : ℕ) (to : ℕ → Option Bound → Option Bound → Type 0) (old new : List (Option Bound)) (x : Option Bound)
+pub row_more : (n a i q : ℕ) (to : ℕ → Option Bound → Option Bound → Type 0) (old new : List (Option Bound))
+    (x : Option Bound)
     → IsRowChanged n a i to old new → a < n → i < n → length old ≡ n * n → q ≡ a * n + i → to i (get_or new q None) x
     → IsRowChanged n a (i + 1) to old (set new q x)
 row_more n a i q to old new x changed lta lti every is step =
@@ -52,13 +58,16 @@ row_more n a i q to old new x changed lta lti every is step =
 
 -- the same, where nothing changes there
 pub row_stays : (n a i q : ℕ) (to : ℕ → Option Bound → Option Bound → Type 0) (old new : List (Option Bound))
-    → IsRowChanged n a i to old new → q ≡ a * n + i → to i (get_or new q None) (get_or new q None) → IsRowChanged n a (i + 1) to old new
+    → IsRowChanged n a i to old new → q ≡ a * n + i → to i (get_or new q None) (get_or new q None)
+    → IsRowChanged n a (i + 1) to old new
 row_stays n a i q to old new changed is step =
-    let same : get_or new (a * n + i) None ≡ get_or old (a * n + i) None = changed.others (a * n + i) (inr (omega arith)) in
+    let same : get_or new (a * n + i) None ≡ get_or old (a * n + i) None =
+    changed.others (a * n + i) (inr (omega arith)) in
     record {
       one_each = changed.one_each;
       row = λ b ltb. elim (cases_eq b i) [
-        | inl e ↦ rw e (let here : to i (get_or new (a * n + i) None) (get_or new (a * n + i) None) = rw is at step in rw (← same) here)
+        | inl e ↦ rw e (let here : to i (get_or new (a * n + i) None)
+            (get_or new (a * n + i) None) = rw is at step in rw (← same) here)
         | inr ne ↦ changed.row b (omega arith)
       ];
       others = λ x out. changed.others x (elim out [ inl low ↦ inl low | inr high ↦ inr (omega arith) ]);
@@ -70,19 +79,22 @@ pub lowered_is : (i here here' : ℕ) (there there' : Option ℕ) (old new : Opt
 lowered_is i here here' there there' old new is_here is_there lowered = rw is_here (rw is_there lowered)
 
 -- an entry that may not go there changes nothing
-pub lowered_not : (i here : ℕ) (there : Option ℕ) (known : Option Bound) → is_some there ≡ false → IsLowered i here there known known
+pub lowered_not : (i here : ℕ) (there : Option ℕ) (known : Option Bound) → is_some there ≡ false
+    → IsLowered i here there known known
 lowered_not i here None known not_allowed = refl
 lowered_not i here (Some cost) known not_allowed = absurd (false≢true (sym not_allowed))
 
 -- a table of nothing but bounds that hold for any entries
-unknown_holds : (p : Transport) (at : ℕ → Type 0) (a b : ℕ) → IsWithinLimits p.rooms p.entries p.costs → IsKnown p at a b (Some unknown)
+unknown_holds : (p : Transport) (at : ℕ → Type 0) (a b : ℕ) → IsWithinLimits p.rooms p.entries p.costs
+    → IsKnown p at a b (Some unknown)
 unknown_holds p at a b limits = record {
   small = omega arith;
   below = λ i here allowed. omega (arith, cost_small p limits i a);
   best = λ k is. absurd (cc is);
 }
 
-pub unknown_table : (p : Transport) (xs : List ℕ) (n : ℕ) (table : List (Option Bound)) → IsWithinLimits p.rooms p.entries p.costs
+pub unknown_table : (p : Transport) (xs : List ℕ) (n : ℕ) (table : List (Option Bound))
+    → IsWithinLimits p.rooms p.entries p.costs
     → n ≡ consumers p * consumers p → length table ≡ n → IsUnknown n table → IsTable p xs table
 unknown_table p xs n table limits is long blank = record {
   each_pair = long ∙ is;
@@ -117,7 +129,8 @@ known_same p at at' a b (Some bound) to from known = record {
 known_without : (p : Transport) (at at' : ℕ → Type 0) (a b i : ℕ) (old new : Option Bound)
     → ((j : ℕ) → at j → (j ≡ i → ⊥) → at' j) → ((j : ℕ) → at' j → at j)
     → IsKnown p at a b old → IsWithout i old new → IsKnown p at' a b new
-known_without p at at' a b i None new to from known without = rw without (λ j here allowed. known j (from j here) allowed)
+known_without p at at' a b i None new to from known without =
+    rw without (λ j here allowed. known j (from j here) allowed)
 known_without p at at' a b i (Some old) None to from known without = absurd without
 known_without p at at' a b i (Some old) (Some new) to from known without = record {
   small = omega (arith, known.small, without.0);
@@ -173,11 +186,13 @@ known_still p at at' a b i (Some old) come known below = record {
 
 -- the new best is no more than any bound before
 low_falls : (p : Transport) (at : ℕ → Type 0) (a b i low : ℕ) (old : Option Bound)
-    → low + cost_of p i a ≡ cost_of p i b + greatest_charge → IfSome old (λ bound. cost_of p i b + greatest_charge ≤ bound.low + cost_of p i a)
+    → low + cost_of p i a ≡ cost_of p i b + greatest_charge
+    → IfSome old (λ bound. cost_of p i b + greatest_charge ≤ bound.low + cost_of p i a)
     → IsKnown p at a b old
     → (j : ℕ) → at j → IsAllowed p j b → low + cost_of p j a ≤ cost_of p j b + greatest_charge
 low_falls p at a b i low None tight lower known j here allowed = absurd (known j here allowed)
-low_falls p at a b i low (Some old) tight lower known j here allowed = omega (arith, tight, lower, known.below j here allowed)
+low_falls p at a b i low (Some old) tight lower known j here allowed =
+    omega (arith, tight, lower, known.below j here allowed)
 
 known_best : (p : Transport) (at at' : ℕ → Type 0) (a b i : ℕ) (old new : Option Bound)
     → IsWithinLimits p.rooms p.entries p.costs → HasCome at at' i → IsAllowed p i b
@@ -215,7 +230,8 @@ table_left p xs i old new table changed = record {
   each_pair = changed.one_each ∙ table.each_pair;
   each = λ a b lta ltb. elim (cases_eq a (get_or xs i 0)) [
     | inl e ↦
-        known_without p (IsAt xs p.entries a) (IsApart (IsAt xs p.entries) i a) a b i _ _ (λ j here ne. (here, ne)) (λ j here. here.0)
+        known_without p (IsAt xs p.entries a) (IsApart (IsAt xs p.entries) i a) a b i _ _ (λ j here ne. (here, ne))
+        (λ j here. here.0)
         (table.each a b lta ltb) (rw e (changed.row b ltb))
     | inr ne ↦
         let same = changed.others (a * consumers p + b) (rows_apart (consumers p) a (get_or xs i 0) b ltb ne) in
@@ -233,7 +249,8 @@ table_waiting p xs i old table nowhere = record {
   each_pair = table.each_pair;
   each = λ a b lta ltb.
       known_same p (IsAt xs p.entries a) (IsApart (IsAt xs p.entries) i a) a b _
-      (λ j here. (here, λ e. let at : get_or xs j 0 ≡ get_or xs i 0 = ap (λ x. get_or xs x 0) e in omega (arith, here.1, at)))
+      (λ j here.
+      (here, λ e. let at : get_or xs j 0 ≡ get_or xs i 0 = ap (λ x. get_or xs x 0) e in omega (arith, here.1, at)))
       (λ j here. here.0) (table.each a b lta ltb);
 }
 
@@ -245,7 +262,8 @@ pub table_arrived : (p : Transport) (xs : List ℕ) (i c : ℕ) (old new : List 
     → IsTable p (set xs i c) new
 table_arrived p xs i c old new limits every lt ltc table changed =
     let here : get_or (set xs i c) i 0 ≡ c = get_or-set_same xs i c 0 (omega (arith, every)) in
-    let other : (j : ℕ) → (j ≡ i → ⊥) → get_or (set xs i c) j 0 ≡ get_or xs j 0 = λ j ne. get_or-set_other xs i j c 0 ne in
+    let other : (j : ℕ) → (j ≡ i → ⊥) → get_or (set xs i c) j 0 ≡ get_or xs j 0 =
+    λ j ne. get_or-set_other xs i j c 0 ne in
     let stay : (a j : ℕ) → IsApart (IsAt xs p.entries) i a j → IsAt (set xs i c) p.entries a j =
     λ a j before. (before.0.0, other j before.1 ∙ before.0.1) in
     let back : (a j : ℕ) → IsAt (set xs i c) p.entries a j → (j ≡ i → ⊥) → IsApart (IsAt xs p.entries) i a j =
@@ -291,7 +309,8 @@ note_at p xs a b old known lta ltb table is_known =
             rw (get_or-set_other old (a * n + b) (c * n + d) known None apart) (table.each c d ltc ltd)
         | inl same_row ↦ elim (cases_eq d b) [
           | inr ne ↦
-              let apart : c * n + d ≡ a * n + b → ⊥ = λ e. ne (let row : c * n ≡ a * n = ap (λ x. x * n) same_row in omega arith) in
+              let apart : c * n + d ≡ a * n + b → ⊥ =
+              λ e. ne (let row : c * n ≡ a * n = ap (λ x. x * n) same_row in omega arith) in
               rw (get_or-set_other old (a * n + b) (c * n + d) known None apart) (table.each c d ltc ltd)
           | inl same ↦ rw same_row (rw same (rw (get_or-set_same old (a * n + b) known None pair) is_known))
         ]

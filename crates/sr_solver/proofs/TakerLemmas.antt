@@ -1,5 +1,6 @@
 -- A consumer that takes an entry: how it is found, and what is known once the entry is there.
-use Rattle.std.proofs.Common.{◌≡◌, ℕ, ◌+◌, ◌*◌, ◌^◌, ◌<◌, ◌≤◌, Bool, true, List, length, get_or, Option, Some, None, refl, sym, ◌∙◌, inl, inr, arith}
+use Rattle.std.proofs.Common.{◌≡◌, ℕ, ◌+◌, ◌*◌, ◌^◌, ◌<◌, ◌≤◌, Bool, true, List, length, get_or, Option, Some, None}
+use Rattle.std.proofs.Common.{refl, sym, ◌∙◌, inl, inr, arith}
 use Rattle.std.specs.Prelude.{IfSome, IfNone, IsSome, ◌-◌}
 use Rattle.std.proofs.Math.ListN.{set, length-set}
 use Rattle.std.proofs.lemmas.Bool.{cases_eq, false≢true}
@@ -22,7 +23,8 @@ placed_taken p k c xs prices loads placed counted ltk taken =
     let ltc : c < consumers p = taken.allowed.0 in
     let in_list : k < length xs = omega (arith, placed.every, ltk) in
     let here : get_or (set xs k c) k 0 ≡ c = get_or-set_same xs k c 0 in_list in
-    let other : (i : ℕ) → (i ≡ k → ⊥) → get_or (set xs k c) i 0 ≡ get_or xs i 0 = λ i ne. get_or-set_other xs k i c 0 ne in
+    let other : (i : ℕ) → (i ≡ k → ⊥) → get_or (set xs k c) i 0 ≡ get_or xs i 0 =
+    λ i ne. get_or-set_other xs k i c 0 ne in
     let room : load xs c < room_of p c = omega (arith, taken.room, counted.each c ltc) in
     let loads_are : (d : ℕ) → d < consumers p → load (set xs k c) d ≡ load xs d + one_at c d = λ d lt.
     omega (
@@ -97,10 +99,12 @@ none_compared p prices loads k sum is = record {
 }
 
 -- the consumer that is free after one more
-free_after : (p : Transport) (prices loads : List ℕ) (k n cost sum : ℕ) (has_room : Bool) (old : Cheapest) (free : Option ℕ)
+free_after : (p : Transport) (prices loads : List ℕ) (k n cost sum : ℕ) (has_room : Bool)
+    (old : Cheapest) (free : Option ℕ)
     → IsAllowed p k n → cost_of p k n ≡ cost → (has_room ≡ true → get_or loads n 0 < room_of p n)
     → IfSome old.free (IsFree p prices loads k old.sum)
-    → IfSome free (IsFreeAfter n (cost + get_or prices n 0) has_room old sum) → IfSome free (IsFree p prices loads k sum)
+    → IfSome free (IsFreeAfter n (cost + get_or prices n 0) has_room old sum)
+    → IfSome free (IsFree p prices loads k sum)
 free_after p prices loads k n cost sum has_room old None allowed is_cost room before after = tt
 free_after p prices loads k n cost sum has_room old (Some f) allowed is_cost room before after =
     elim after [
@@ -123,7 +127,8 @@ none_past p prices loads k n sum None not before = λ c lt is. elim (cases_eq c 
 ]
 
 -- no consumer is free after one more
-none_after : (p : Transport) (prices loads : List ℕ) (k n cost sum : ℕ) (has_room : Bool) (old : Cheapest) (free : Option ℕ)
+none_after : (p : Transport) (prices loads : List ℕ) (k n cost sum : ℕ) (has_room : Bool)
+    (old : Cheapest) (free : Option ℕ)
     → cost_of p k n ≡ cost → (get_or loads n 0 < room_of p n → has_room ≡ true) → sum ≤ old.sum
     → ((c : ℕ) → c < n → IsAllowed p k c → old.sum ≤ priced p prices k c)
     → IfNone old.free ((c : ℕ) → c < n → IsFree p prices loads k old.sum c → ⊥)
@@ -143,7 +148,8 @@ none_after p prices loads k n cost sum has_room old None is_cost room less least
     ]
 
 -- one more consumer was looked at
-compared_more : (p : Transport) (prices loads : List ℕ) (k n : ℕ) (cost : Option ℕ) (has_room : Bool) (old new : Cheapest)
+compared_more : (p : Transport) (prices loads : List ℕ) (k n : ℕ) (cost : Option ℕ) (has_room : Bool)
+    (old new : Cheapest)
     → n < consumers p → cost_at p k n ≡ cost → (has_room ≡ true → get_or loads n 0 < room_of p n)
     → (get_or loads n 0 < room_of p n → has_room ≡ true)
     → IsCheapest p prices loads k n old → IsCompared n cost (get_or prices n 0) has_room old new
@@ -169,18 +175,21 @@ compared_more p prices loads k n (Some cost) has_room old new ltn is room no_roo
         | inl e ↦ rw e (omega (arith, compared.0, is_cost))
         | inr ne ↦ omega (arith, before.least c (omega (arith, lt, ne)) ok, compared.1)
       ];
-      free = free_after p prices loads k n cost new.sum has_room old new.free allowed is_cost room before.free compared.3;
+      free =
+          free_after p prices loads k n cost new.sum has_room old new.free allowed is_cost room before.free compared.3;
       attained = λ below. elim compared.2 [
         | inl here ↦ (n, allowed, omega (arith, here, is_cost))
         | inr stays ↦
             let was = before.attained (omega (arith, stays, below)) in
             (was.0, was.1, omega (arith, was.2, stays))
       ];
-      none = none_after p prices loads k n cost new.sum has_room old new.free is_cost no_room compared.1 before.least before.none compared.4;
+      none = none_after p prices loads k n cost new.sum has_room old new.free is_cost no_room compared.1 before.least
+          before.none compared.4;
     }
 
 -- the same for what a loop holds
-pub compared_next : (p : Transport) (prices loads : List ℕ) (k n price : ℕ) (cost : Option ℕ) (has_room : Bool) (old new : Cheapest)
+pub compared_next : (p : Transport) (prices loads : List ℕ) (k n price : ℕ) (cost : Option ℕ) (has_room : Bool)
+    (old new : Cheapest)
     → n < consumers p → cost_at p k n ≡ cost → price ≡ get_or prices n 0
     → (has_room ≡ true → get_or loads n 0 < room_of p n) → (get_or loads n 0 < room_of p n → has_room ≡ true)
     → IsCheapest p prices loads k n old → IsCompared n cost price has_room old new
@@ -190,7 +199,8 @@ compared_next p prices loads k n price cost has_room old new ltn is is_price roo
 
 -- an entry that may not go there
 pub compared_not : (p : Transport) (prices loads : List ℕ) (k n : ℕ) (old : Cheapest)
-    → n < consumers p → (IsSome (cost_at p k n) → ⊥) → IsCheapest p prices loads k n old → IsCheapest p prices loads k (n + 1) old
+    → n < consumers p → (IsSome (cost_at p k n) → ⊥) → IsCheapest p prices loads k n old
+    → IsCheapest p prices loads k (n + 1) old
 compared_not p prices loads k n old ltn not before = record {
   least = λ c lt allowed. elim (cases_eq c n) [
     | inl e ↦ absurd (not (rw (← e) allowed.1))
@@ -244,17 +254,21 @@ pub taken_roomy : (p : Transport) (k c w : ℕ) (xs prices loads members : List 
     → IsPlaced p k xs prices → AreLoads p xs loads → AreWide p w → AreMembers p w xs members → k < p.entries
     → IsTaker p prices loads k c → IsRoomy members (c * w)
 taken_roomy p k c w xs prices loads members placed counted wide are ltk taken =
-    let away = members_waiting p w xs k members placed.every ltk (omega (arith, placed.waiting k (omega arith) ltk)) are in
+    let away =
+    members_waiting p w xs k members placed.every ltk (omega (arith, placed.waiting k (omega arith) ltk)) are in
     let row = row_of p w _ _ members c (c * w) placed.limits away taken.allowed.0 refl in
     let one =
-    room_for_one p w xs k c placed.every ltk taken.allowed.0 wide (taken_in_room p k c xs prices loads placed counted ltk taken) in
+    room_for_one p w xs k c placed.every ltk taken.allowed.0 wide
+    (taken_in_room p k c xs prices loads placed counted ltk taken) in
     record { short = row.short; room = omega (arith, row.count, row.room, one.0, one.1) }
 
 pub taken_members : (p : Transport) (k c w : ℕ) (xs prices loads members : List ℕ)
     → IsPlaced p k xs prices → AreLoads p xs loads → AreWide p w → AreMembers p w xs members → k < p.entries
     → IsTaker p prices loads k c
-    → AreMembers p w (set xs k c) (set (set members (c * w + 1 + get_or members (c * w) 0) k) (c * w) (get_or members (c * w) 0 + 1))
+    → AreMembers p w (set xs k c)
+    (set (set members (c * w + 1 + get_or members (c * w) 0) k) (c * w) (get_or members (c * w) 0 + 1))
 taken_members p k c w xs prices loads members placed counted wide are ltk taken =
-    let away = members_waiting p w xs k members placed.every ltk (omega (arith, placed.waiting k (omega arith) ltk)) are in
+    let away =
+    members_waiting p w xs k members placed.every ltk (omega (arith, placed.waiting k (omega arith) ltk)) are in
     members_come p w xs k c (c * w) (get_or members (c * w) 0) members placed.every ltk taken.allowed.0 wide
     (taken_in_room p k c xs prices loads placed counted ltk taken) away refl refl

@@ -16,7 +16,8 @@ loop-number-preserved c =
 
 pub returns : goal.returns
 returns c =
-    let all : c.loop-number.number ≡ c.args.n = omega (arith, c.loop-number-test.false, c.loop-number.auto.number-end) in
+    let all : c.loop-number.number ≡ c.args.n =
+    omega (arith, c.loop-number-test.false, c.loop-number.auto.number-end) in
     c.loop-number.invariant ∙ ap (λ (m : ℕ). numbers_below m) all
 
 pub returns-in_err-push : goal.returns-in_err-push

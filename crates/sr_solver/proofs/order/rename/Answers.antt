@@ -27,8 +27,10 @@ loop-place-preserved c = record {
   every = omega (
     arith,
     c.loop-place.invariant.every,
-    length-set c.loop-place.renamed (get_or c.args.order.now c.loop-place.place 0) (get_or c.args.assign.now c.loop-place.place 0),
+    length-set c.loop-place.renamed (get_or c.args.order.now c.loop-place.place 0)
+        (get_or c.args.assign.now c.loop-place.place 0),
   );
-  renamed = renamed_more (length c.args.assign.now) c.args.order.now c.args.assign.now c.loop-place.renamed c.loop-place.place
+  renamed =
+      renamed_more (length c.args.assign.now) c.args.order.now c.args.assign.now c.loop-place.renamed c.loop-place.place
       c.requires.order c.loop-place.invariant.every (omega arith) c.loop-place.invariant.renamed;
 }

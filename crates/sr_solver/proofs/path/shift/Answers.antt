@@ -8,7 +8,8 @@ use Rattle.sr_solver.proofs.path.shift.Goals as goal
 pub returns-then-mover-entry-clause-assign : goal.returns-then-mover-entry-clause-assign
 returns-then-mover-entry-clause-assign c =
     rw c.put.ensures.assign (
-    shifted_last c.args.labels.now c.args.entry c.args.end c.args.placement.now.assign.items c.path.placement.assign.items c.path.place
+    shifted_last c.args.labels.now c.args.entry c.args.end c.args.placement.now.assign.items
+    c.path.placement.assign.items c.path.place
     c.requires.paths c.path.invariant.shifting c.if-mover-entry.true
     )
 
@@ -22,7 +23,8 @@ path-preserved c =
     c.index-from.ensures ∙ get_or_default _ _ _ 0 within in
     record {
       shifting = rw c.put.ensures.assign (rw from (
-          shifting_more c.args.labels.now c.args.entry c.args.end c.args.placement.now.assign.items c.path.placement.assign.items
+          shifting_more c.args.labels.now c.args.entry c.args.end c.args.placement.now.assign.items
+          c.path.placement.assign.items
           c.path.place c.requires.paths shifting c.if-mover-entry.false
           ));
       prices = c.put.ensures.prices ∙ c.path.invariant.prices;
@@ -35,8 +37,10 @@ path-preserved c =
 pub put-requires-clause-room : goal.put-requires-clause-room
 put-requires-clause-room c =
     let shifting = c.path.invariant.shifting in
-    put_in_room c.args.labels.now c.args.entry c.args.end c.args.placement.now.assign.items c.path.placement.assign.items c.path.place
-    (room_of c.args.problem.now c.path.place) c.requires.paths shifting (c.requires.in_room c.path.place shifting.consumer)
+    put_in_room c.args.labels.now c.args.entry c.args.end c.args.placement.now.assign.items
+    c.path.placement.assign.items c.path.place
+    (room_of c.args.problem.now c.path.place) c.requires.paths shifting
+    (c.requires.in_room c.path.place shifting.consumer)
 
 pub path-init : goal.path-init
 path-init c = record {
@@ -63,19 +67,30 @@ pub bounds-labels-place : goal.bounds-labels-place
 bounds-labels-place c = c.path.invariant.shifting.consumer
 
 pub index-from-requires : goal.index-from-requires
-index-from-requires c = omega (arith, c.requires.paths.entry c.path.place c.path.invariant.shifting.consumer c.path.invariant.shifting.reached)
+index-from-requires c =
+    omega (
+      arith,
+      c.requires.paths.entry c.path.place c.path.invariant.shifting.consumer
+          c.path.invariant.shifting.reached,
+    )
 
 pub put-requires-clause-limits : goal.put-requires-clause-limits
 put-requires-clause-limits c = c.requires.limits
 
 pub put-requires-clause-entry : goal.put-requires-clause-entry
-put-requires-clause-entry c = omega (arith, c.requires.paths.entry c.path.place c.path.invariant.shifting.consumer c.path.invariant.shifting.reached)
+put-requires-clause-entry c =
+    omega (
+      arith,
+      c.requires.paths.entry c.path.place c.path.invariant.shifting.consumer
+          c.path.invariant.shifting.reached,
+    )
 
 pub put-requires-clause-every : goal.put-requires-clause-every
 put-requires-clause-every c = c.path.invariant.shifting.every ∙ c.requires.every
 
 pub put-requires-clause-allowed : goal.put-requires-clause-allowed
-put-requires-clause-allowed c = c.requires.allowed c.path.place c.path.invariant.shifting.consumer c.path.invariant.shifting.reached
+put-requires-clause-allowed c =
+    c.requires.allowed c.path.place c.path.invariant.shifting.consumer c.path.invariant.shifting.reached
 
 pub put-requires-clause-wide : goal.put-requires-clause-wide
 put-requires-clause-wide c = rw c.path.invariant.width c.requires.wide
@@ -110,6 +125,7 @@ path-smaller c =
     let from : c.index-from.result.now ≡ get_or c.path.placement.assign.items mover 0 =
     c.index-from.ensures ∙ get_or_default _ _ _ 0 within in
     rw from (
-    mover_falls c.args.labels.now c.args.entry c.args.end c.args.placement.now.assign.items c.path.placement.assign.items c.path.place
+    mover_falls c.args.labels.now c.args.entry c.args.end c.args.placement.now.assign.items
+    c.path.placement.assign.items c.path.place
     c.requires.paths shifting
     )

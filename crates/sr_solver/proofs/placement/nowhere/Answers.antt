@@ -8,8 +8,11 @@ returns c =
     let p = c.args.problem.now in
     let many = c.consumers-consumers.ensures.count in
     none_stands p _ c.consumers-consumers.ensures.limits
-    (c.in_ok-assign.ensures.items_if_clones_equal (λ y e. e) ∙ ap (λ (n : ℕ). replicate n c.consumers-consumers.result) c.entries.ensures ∙ ap (λ (n : ℕ). replicate p.entries n) many)
+    (c.in_ok-assign.ensures.items_if_clones_equal (λ y e. e)
+    ∙ ap (λ (n : ℕ). replicate n c.consumers-consumers.result) c.entries.ensures
+    ∙ ap (λ (n : ℕ). replicate p.entries n) many)
     (c.in_ok-prices.ensures.items_if_clones_equal (λ y e. e) ∙ ap (λ (n : ℕ). replicate n 0) many)
     (c.in_ok-loads.ensures.items_if_clones_equal (λ y e. e) ∙ ap (λ (n : ℕ). replicate n 0) many)
-    (c.in_ok-members.ensures.items_if_clones_equal (λ y e. e) ∙ ap (λ (n : ℕ). replicate (n * c.row_width-width.result) 0) many)
+    (c.in_ok-members.ensures.items_if_clones_equal (λ y e. e)
+    ∙ ap (λ (n : ℕ). replicate (n * c.row_width-width.result) 0) many)
     c.row_width-width.ensures

@@ -4,8 +4,10 @@ use Rattle.sr_solver.proofs.placement.row_width.Goals as goal
 
 pub loop-consumer-preserved : goal.loop-consumer-preserved
 loop-consumer-preserved c = record {
-  enough = wide_more c.args.problem.now c.loop-consumer.consumer _ c.loop-consumer.most c.greater-most.result c.room.ensures
-      c.loop-consumer.invariant.enough c.greater-most.ensures.kept (rw c.entries.ensures at c.greater-most.ensures.enough);
+  enough =
+      wide_more c.args.problem.now c.loop-consumer.consumer _ c.loop-consumer.most c.greater-most.result c.room.ensures
+      c.loop-consumer.invariant.enough c.greater-most.ensures.kept
+      (rw c.entries.ensures at c.greater-most.ensures.enough);
   few = omega arith;
 }
 

@@ -9,7 +9,8 @@ use Rattle.sr_solver.proofs.placing.place.Goals as goal
 
 pub shift-requires-clause-paths : goal.shift-requires-clause-paths
 shift-requires-clause-paths c =
-    are_paths c.args.problem.now c.args.entry c.args.placement.now.assign.items c.args.placement.now.prices.items _ c.search.new.labels
+    are_paths c.args.problem.now c.args.entry c.args.placement.now.assign.items c.args.placement.now.prices.items _
+    c.search.new.labels
     c.requires.entry c.requires.standing.placed c.in-Some.ensures.end.search
 
 pub returns-clause-standing : goal.returns-clause-standing
@@ -21,17 +22,20 @@ returns-clause-standing c =
     let raised : c.shift.new.placement.prices.items ≡ c.raise.new.prices =
     ap (λ v. v.items) c.shift.ensures.prices ∙ with_items_is before.prices c.raise.new.prices (omega arith) in
     let same : c.shift.new.placement.loads.items ≡ before.loads.items = ap (λ v. v.items) c.shift.ensures.loads in
-    let within : end < length before.loads.items = omega (arith, found.nearest.consumer, c.requires.standing.loads.one_each) in
+    let within : end < length before.loads.items =
+    omega (arith, found.nearest.consumer, c.requires.standing.loads.one_each) in
     let count : c.index_mut.result.now ≡ get_or before.loads.items end 0 =
     rw same at c.index_mut.ensures.value ∙ get_or_default _ _ _ 0 within in
     record {
       placed = rw raised (
-          placed_more c.args.problem.now c.args.entry before.assign.items before.prices.items c.search.new.labels end c.raise.new.prices
+          placed_more c.args.problem.now c.args.entry before.assign.items before.prices.items c.search.new.labels end
+          c.raise.new.prices
           c.shift.new.placement.assign.items c.requires.standing.placed found c.requires.entry
           (rw c.deref_mut.ensures.value at c.raise.ensures) c.shift.ensures.assign
           );
       loads = rw same (rw count (
-          loads_more c.args.problem.now c.args.entry before.assign.items before.prices.items before.loads.items c.search.new.labels end
+          loads_more c.args.problem.now c.args.entry before.assign.items before.prices.items before.loads.items
+          c.search.new.labels end
           c.shift.new.placement.assign.items c.requires.standing.loads found c.shift.ensures.assign
           ));
       wide = rw c.shift.ensures.width c.requires.standing.wide;
@@ -40,7 +44,8 @@ returns-clause-standing c =
 
 pub shift-requires-clause-in_room : goal.shift-requires-clause-in_room
 shift-requires-clause-in_room c =
-    end_in_room c.args.problem.now c.args.entry c.args.placement.now.assign.items c.args.placement.now.prices.items c.search.new.labels
+    end_in_room c.args.problem.now c.args.entry c.args.placement.now.assign.items c.args.placement.now.prices.items
+    c.search.new.labels
     c.in-Some.end c.requires.standing.placed c.in-Some.ensures.end
 
 pub search-requires-clause-entry : goal.search-requires-clause-entry
@@ -75,7 +80,8 @@ returns-in_default-clause-stuck c = λ no.
 
 pub raise-requires-clause-one_each : goal.raise-requires-clause-one_each
 raise-requires-clause-one_each c =
-    c.in-Some.ensures.end.search.one_each ∙ sym (ap length c.deref_mut.ensures.value ∙ c.requires.standing.placed.one_each)
+    c.in-Some.ensures.end.search.one_each
+    ∙ sym (ap length c.deref_mut.ensures.value ∙ c.requires.standing.placed.one_each)
 
 pub raise-requires-clause-few : goal.raise-requires-clause-few
 raise-requires-clause-few c =
@@ -84,7 +90,8 @@ raise-requires-clause-few c =
 pub raise-requires-clause-dist : goal.raise-requires-clause-dist
 raise-requires-clause-dist c = omega (
   arith,
-  end_near c.args.problem.now c.args.entry c.args.placement.now.assign.items c.args.placement.now.prices.items c.search.new.labels
+  end_near c.args.problem.now c.args.entry c.args.placement.now.assign.items c.args.placement.now.prices.items
+      c.search.new.labels
       c.in-Some.end c.requires.standing.placed c.in-Some.ensures.end,
 )
 
@@ -92,14 +99,16 @@ pub raise-requires-clause-low : goal.raise-requires-clause-low
 raise-requires-clause-low c = λ x lt.
     let within : length c.deref_mut.result.now ≡ consumers c.args.problem.now =
     ap length c.deref_mut.ensures.value ∙ c.requires.standing.placed.one_each in
-    prices_low c.args.problem.now c.args.entry c.args.placement.now.assign.items c.args.placement.now.prices.items c.deref_mut.result.now
+    prices_low c.args.problem.now c.args.entry c.args.placement.now.assign.items c.args.placement.now.prices.items
+    c.deref_mut.result.now
     c.requires.standing.placed c.requires.entry c.deref_mut.ensures.value x (rw within at lt)
 
 pub raise-requires-clause-near : goal.raise-requires-clause-near
 raise-requires-clause-near c = λ x lt.
     let within : length c.deref_mut.result.now ≡ consumers c.args.problem.now =
     ap length c.deref_mut.ensures.value ∙ c.requires.standing.placed.one_each in
-    closed_near c.args.problem.now c.args.entry c.args.placement.now.assign.items c.args.placement.now.prices.items c.search.new.labels
+    closed_near c.args.problem.now c.args.entry c.args.placement.now.assign.items c.args.placement.now.prices.items
+    c.search.new.labels
     c.in-Some.end c.in-Some.ensures.end x (rw within at lt)
 
 pub shift-requires-clause-limits : goal.shift-requires-clause-limits
@@ -138,7 +147,8 @@ pub returns-clause-stuck : goal.returns-clause-stuck
 returns-clause-stuck c = λ no. absurd (false≢true (sym no))
 
 pub offset_bounds-labels-end : goal.offset_bounds-labels-end
-offset_bounds-labels-end c = omega (arith, c.in-Some.ensures.end.nearest.consumer, c.requires.standing.placed.limits.consumers)
+offset_bounds-labels-end c =
+    omega (arith, c.in-Some.ensures.end.nearest.consumer, c.requires.standing.placed.limits.consumers)
 
 pub bounds-labels-end : goal.bounds-labels-end
 bounds-labels-end c = rw c.in-Some.ensures.end.search.one_each c.in-Some.ensures.end.nearest.consumer
@@ -157,4 +167,10 @@ overflow_add-index_mut c =
     let within : end < length before.loads.items = omega (arith, found.nearest.consumer, loads.one_each) in
     let count : c.index_mut.result.now ≡ get_or before.loads.items end 0 =
     rw same at c.index_mut.ensures.value ∙ get_or_default _ _ _ 0 within in
-    omega (arith, count, loads.each end found.nearest.consumer, found.room, room_small c.args.problem.now end c.requires.standing.placed.limits found.nearest.consumer)
+    omega (
+      arith,
+      count,
+      loads.each end found.nearest.consumer,
+      found.room,
+      room_small c.args.problem.now end c.requires.standing.placed.limits found.nearest.consumer,
+    )

@@ -13,7 +13,8 @@ put-requires-clause-room c =
     let before = c.args.placement.now in
     let taken : IsTaker c.args.problem.now before.prices.items before.loads.items c.args.entry c.in-Some.consumer =
     rw c.deref.ensures.value at (rw c.deref-2.ensures.value at c.in-Some.ensures.some) in
-    taken_in_room c.args.problem.now c.args.entry c.in-Some.consumer before.assign.items before.prices.items before.loads.items
+    taken_in_room c.args.problem.now c.args.entry c.in-Some.consumer before.assign.items before.prices.items
+    before.loads.items
     s.placed s.loads c.requires.entry taken
 
 pub returns-clause-taken : goal.returns-clause-taken
@@ -30,11 +31,13 @@ returns-clause-taken c =
     rw same at c.index_mut.ensures.value ∙ get_or_default _ _ _ 0 within in
     record {
       placed = rw c.put.ensures.assign (rw prices (
-          placed_taken c.args.problem.now c.args.entry c.in-Some.consumer before.assign.items before.prices.items before.loads.items
+          placed_taken c.args.problem.now c.args.entry c.in-Some.consumer before.assign.items before.prices.items
+          before.loads.items
           s.placed s.loads c.requires.entry taken
           ));
       loads = rw c.put.ensures.assign (rw same (rw count (
-          loads_taken c.args.problem.now c.args.entry c.in-Some.consumer before.assign.items before.prices.items before.loads.items
+          loads_taken c.args.problem.now c.args.entry c.in-Some.consumer before.assign.items before.prices.items
+          before.loads.items
           s.placed s.loads c.requires.entry taken
           )));
       wide = rw c.put.ensures.width s.wide;
@@ -52,7 +55,8 @@ taker-requires-clause-loads_each c = ap length c.deref-2.ensures.value ∙ c.req
 
 pub taker-requires-clause-low : goal.taker-requires-clause-low
 taker-requires-clause-low c =
-    prices_low c.args.problem.now c.args.entry c.args.placement.now.assign.items c.args.placement.now.prices.items c.deref.result.now
+    prices_low c.args.problem.now c.args.entry c.args.placement.now.assign.items c.args.placement.now.prices.items
+    c.deref.result.now
     c.requires.standing.placed c.requires.entry c.deref.ensures.value
 
 pub returns-in_default-clause-taken : goal.returns-in_default-clause-taken
@@ -99,7 +103,12 @@ overflow_add-index_mut c =
     let within : c.in-Some.consumer < length before.loads.items = omega (arith, taken.allowed.0, loads.one_each) in
     let count : c.index_mut.result.now ≡ get_or before.loads.items c.in-Some.consumer 0 =
     rw same at c.index_mut.ensures.value ∙ get_or_default _ _ _ 0 within in
-    omega (arith, count, taken.room, room_small c.args.problem.now c.in-Some.consumer c.requires.standing.placed.limits taken.allowed.0)
+    omega (
+      arith,
+      count,
+      taken.room,
+      room_small c.args.problem.now c.in-Some.consumer c.requires.standing.placed.limits taken.allowed.0,
+    )
 
 pub returns-clause-left : goal.returns-clause-left
 returns-clause-left c = λ no. absurd (false≢true (sym no))

@@ -12,12 +12,14 @@ pub taker-requires-clause-prices_each : goal.taker-requires-clause-prices_each
 taker-requires-clause-prices_each c = ap length c.deref.ensures.value ∙ c.loop-entry.invariant.placed.one_each
 
 pub taker-requires-clause-loads_each : goal.taker-requires-clause-loads_each
-taker-requires-clause-loads_each c = ap length c.deref-in-loop-entry.ensures.value ∙ c.loop-entry.invariant.loads.one_each
+taker-requires-clause-loads_each c =
+    ap length c.deref-in-loop-entry.ensures.value ∙ c.loop-entry.invariant.loads.one_each
 
 pub taker-requires-clause-low : goal.taker-requires-clause-low
 taker-requires-clause-low c =
     let now = c.loop-entry.placement in
-    prices_low c.args.problem.now c.loop-entry.entry now.assign.items now.prices.items c.deref.result.now c.loop-entry.invariant.placed
+    prices_low c.args.problem.now c.loop-entry.entry now.assign.items now.prices.items c.deref.result.now
+    c.loop-entry.invariant.placed
     (omega arith) c.deref.ensures.value
 
 pub returns-in_default-clause-few : goal.returns-in_default-clause-few
@@ -37,7 +39,8 @@ pub join-requires-clause-standing : goal.join-requires-clause-standing
 join-requires-clause-standing c = c.loop-entry.invariant
 
 pub join-requires-clause-taker : goal.join-requires-clause-taker
-join-requires-clause-taker c = rw c.deref.ensures.value at (rw c.deref-in-loop-entry.ensures.value at c.in-Some.ensures.some)
+join-requires-clause-taker c =
+    rw c.deref.ensures.value at (rw c.deref-in-loop-entry.ensures.value at c.in-Some.ensures.some)
 
 pub loop-entry-preserved : goal.loop-entry-preserved
 loop-entry-preserved c = c.join.ensures

@@ -4,7 +4,8 @@ use Rattle.sr_solver.proofs.OrderLemmas.{order_below}
 use Rattle.sr_solver.proofs.sample.placing_order.Goals as goal
 
 pub by_price-requires-clause-below : goal.by_price-requires-clause-below
-by_price-requires-clause-below c = order_below c.args.problem.now.entries c.in_ok-order.order.items c.in_ok-order.ensures
+by_price-requires-clause-below c =
+    order_below c.args.problem.now.entries c.in_ok-order.order.items c.in_ok-order.ensures
 
 pub prices_of-requires : goal.prices_of-requires
 prices_of-requires c =

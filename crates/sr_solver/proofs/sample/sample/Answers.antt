@@ -24,7 +24,8 @@ returns-in_err-push c = IfOk-from_err _ _ c.from_residual-in_err-push.ensures.0
 pub loop-block-preserved : goal.loop-block-preserved
 loop-block-preserved c = λ n all.
     rw c.in_ok-push.ensures.items (
-    All-push (λ entry. entry < n) c.loop-block.sample.items _ (c.loop-block.invariant n all) (all c.place_in.result 0 (omega arith))
+    All-push (λ entry. entry < n) c.loop-block.sample.items _ (c.loop-block.invariant n all)
+    (all c.place_in.result 0 (omega arith))
     )
 
 pub returns : goal.returns

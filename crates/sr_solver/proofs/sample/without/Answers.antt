@@ -27,7 +27,8 @@ loop-place-2-preserved c =
     elim c.if-unwrap_or.branch [
       | then-unwrap_or+in_ok-push w ↦
           λ n all. rw w.kept-is (rw w.in_ok-push.ensures.items (
-          All-push (λ entry. entry < n) c.loop-place-2.kept.items _ (c.loop-place-2.invariant n all) (all c.loop-place-2.place 0 c.loop-place-2-test.true)
+          All-push (λ entry. entry < n) c.loop-place-2.kept.items _ (c.loop-place-2.invariant n all)
+          (all c.loop-place-2.place 0 c.loop-place-2-test.true)
           ))
       | else-unwrap_or w ↦ rw w.kept-is c.loop-place-2.invariant
     ]

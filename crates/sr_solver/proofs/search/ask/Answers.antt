@@ -1,44 +1,58 @@
 use Rattle.std.proofs.Common.{◌+◌, ◌*◌, length, refl, ap, ◌∙◌, inl, arith}
-use Rattle.sr_solver.proofs.OfferLemmas.{asked_far, asked_none, asked_mover, dist_small, hops_small, way_small, prices_low, stands_allowed, stands_least, bound_small, pair_small}
+use Rattle.sr_solver.proofs.OfferLemmas.{asked_far, asked_none, asked_mover, dist_small, hops_small, way_small}
+use Rattle.sr_solver.proofs.OfferLemmas.{prices_low, stands_allowed, stands_least, bound_small, pair_small}
 use Rattle.sr_solver.proofs.search.ask.Goals as goal
 
 pub returns-clause-asked : goal.returns-clause-asked
 returns-clause-asked c =
-    asked_mover c.args.problem.now c.args.entry c.args.placement.now.assign.items c.args.placement.now.prices.items c.args.near c.args.other
-    c.in-Some.mover c.args.cutoff c.args.labels.now c.offer.new.labels c.requires.standing.placed (omega arith) c.requires.near c.in-Some.ensures.mover
+    asked_mover c.args.problem.now c.args.entry c.args.placement.now.assign.items c.args.placement.now.prices.items
+    c.args.near c.args.other
+    c.in-Some.mover c.args.cutoff c.args.labels.now c.offer.new.labels c.requires.standing.placed
+    (omega arith) c.requires.near c.in-Some.ensures.mover
     (rw c.as_slice-prices.ensures.value at c.offer.ensures)
 
 pub returns-in_default-clause-asked : goal.returns-in_default-clause-asked
 returns-in_default-clause-asked c =
-    asked_none c.args.problem.now c.args.entry c.args.placement.now.assign.items c.args.placement.now.prices.items c.args.near c.args.other
+    asked_none c.args.problem.now c.args.entry c.args.placement.now.assign.items c.args.placement.now.prices.items
+    c.args.near c.args.other
     c.args.cutoff c.args.labels.now (omega arith) c.in_default.ensures.mover
 
 pub returns-then-not-may_be_nearer-clause-asked : goal.returns-then-not-may_be_nearer-clause-asked
 returns-then-not-may_be_nearer-clause-asked c =
-    asked_far c.args.problem.now c.args.entry c.args.placement.now.assign.items c.args.placement.now.prices.items c.args.near c.args.other
-    (c.args.near * c.consumers.result + c.args.other) c.args.cutoff c.args.labels.now c.args.table.now (omega arith) c.requires.near c.requires.other
+    asked_far c.args.problem.now c.args.entry c.args.placement.now.assign.items c.args.placement.now.prices.items
+    c.args.near c.args.other
+    (c.args.near * c.consumers.result + c.args.other) c.args.cutoff c.args.labels.now c.args.table.now
+    (omega arith) c.requires.near c.requires.other
     (ap (λ n. c.args.near * n + c.args.other) c.consumers.ensures.count) c.requires.table
     (rw c.as_slice-prices.ensures.value at c.if-not-may_be_nearer.ensures.no refl)
 
 pub may_be_nearer-requires-clause-dist : goal.may_be_nearer-requires-clause-dist
-may_be_nearer-requires-clause-dist c = dist_small c.args.problem.now c.args.entry c.args.placement.now.assign.items c.args.placement.now.prices.items c.args.cutoff c.args.labels.now c.args.near c.args.other c.requires.standing.placed
+may_be_nearer-requires-clause-dist c = dist_small c.args.problem.now c.args.entry c.args.placement.now.assign.items
+    c.args.placement.now.prices.items c.args.cutoff c.args.labels.now c.args.near c.args.other
+    c.requires.standing.placed
     (omega arith) c.requires.search c.args.near c.requires.near c.requires.closed
 
 pub may_be_nearer-requires-clause-here : goal.may_be_nearer-requires-clause-here
-may_be_nearer-requires-clause-here c = prices_low c.args.problem.now c.args.entry c.args.placement.now.assign.items c.args.placement.now.prices.items c.as_slice-prices.result.now
+may_be_nearer-requires-clause-here c = prices_low c.args.problem.now c.args.entry c.args.placement.now.assign.items
+    c.args.placement.now.prices.items c.as_slice-prices.result.now
     c.requires.standing.placed c.requires.entry c.as_slice-prices.ensures.value c.args.near c.requires.near
 
 pub may_be_nearer-requires-clause-there : goal.may_be_nearer-requires-clause-there
-may_be_nearer-requires-clause-there c = prices_low c.args.problem.now c.args.entry c.args.placement.now.assign.items c.args.placement.now.prices.items c.as_slice-prices.result.now
+may_be_nearer-requires-clause-there c = prices_low c.args.problem.now c.args.entry c.args.placement.now.assign.items
+    c.args.placement.now.prices.items c.as_slice-prices.result.now
     c.requires.standing.placed c.requires.entry c.as_slice-prices.ensures.value c.args.other c.requires.other
 
 pub may_be_nearer-requires-clause-label : goal.may_be_nearer-requires-clause-label
-may_be_nearer-requires-clause-label c = way_small c.args.problem.now c.args.entry c.args.placement.now.assign.items c.args.placement.now.prices.items c.args.cutoff c.args.labels.now c.args.near c.args.other c.requires.standing.placed
+may_be_nearer-requires-clause-label c = way_small c.args.problem.now c.args.entry c.args.placement.now.assign.items
+    c.args.placement.now.prices.items c.args.cutoff c.args.labels.now c.args.near c.args.other
+    c.requires.standing.placed
     (omega arith) c.requires.search c.args.other c.requires.other
 
 pub may_be_nearer-requires-clause-low : goal.may_be_nearer-requires-clause-low
-may_be_nearer-requires-clause-low c = bound_small c.args.problem.now c.args.placement.now.assign.items c.args.near c.args.other (c.args.near * c.consumers.result + c.args.other)
-    c.args.table.now c.requires.table c.requires.near c.requires.other (ap (λ n. c.args.near * n + c.args.other) c.consumers.ensures.count)
+may_be_nearer-requires-clause-low c = bound_small c.args.problem.now c.args.placement.now.assign.items c.args.near
+    c.args.other (c.args.near * c.consumers.result + c.args.other)
+    c.args.table.now c.requires.table c.requires.near c.requires.other
+    (ap (λ n. c.args.near * n + c.args.other) c.consumers.ensures.count)
 
 pub may_be_nearer-requires-clause-cutoff : goal.may_be_nearer-requires-clause-cutoff
 may_be_nearer-requires-clause-cutoff c = c.requires.cutoff
@@ -62,7 +76,8 @@ pub least_mover-requires-clause-to : goal.least_mover-requires-clause-to
 least_mover-requires-clause-to c = c.requires.other
 
 pub least_mover-requires-clause-placed : goal.least_mover-requires-clause-placed
-least_mover-requires-clause-placed c = stands_allowed c.args.problem.now c.args.entry c.args.placement.now.assign.items c.args.placement.now.prices.items c.args.near c.requires.standing.placed c.requires.near
+least_mover-requires-clause-placed c = stands_allowed c.args.problem.now c.args.entry c.args.placement.now.assign.items
+    c.args.placement.now.prices.items c.args.near c.requires.standing.placed c.requires.near
 
 pub least_mover-requires-clause-members : goal.least_mover-requires-clause-members
 least_mover-requires-clause-members c = c.requires.standing.members
@@ -83,14 +98,16 @@ pub offer-requires-clause-entry : goal.offer-requires-clause-entry
 offer-requires-clause-entry c = c.in-Some.ensures.mover.stands.0
 
 pub offer-requires-clause-allowed : goal.offer-requires-clause-allowed
-offer-requires-clause-allowed c = stands_allowed c.args.problem.now c.args.entry c.args.placement.now.assign.items c.args.placement.now.prices.items c.args.near c.requires.standing.placed c.requires.near
+offer-requires-clause-allowed c = stands_allowed c.args.problem.now c.args.entry c.args.placement.now.assign.items
+    c.args.placement.now.prices.items c.args.near c.requires.standing.placed c.requires.near
     c.in-Some.mover c.in-Some.ensures.mover.stands
 
 pub offer-requires-clause-other : goal.offer-requires-clause-other
 offer-requires-clause-other c = c.requires.other
 
 pub offer-requires-clause-least : goal.offer-requires-clause-least
-offer-requires-clause-least c = stands_least c.args.problem.now c.args.entry c.args.placement.now.assign.items c.args.placement.now.prices.items c.as_slice-prices.result.now c.args.near c.in-Some.mover
+offer-requires-clause-least c = stands_least c.args.problem.now c.args.entry c.args.placement.now.assign.items
+    c.args.placement.now.prices.items c.as_slice-prices.result.now c.args.near c.in-Some.mover
     c.requires.standing.placed c.requires.near c.as_slice-prices.ensures.value c.in-Some.ensures.mover.stands
 
 pub offer-requires-clause-prices_each : goal.offer-requires-clause-prices_each
@@ -100,15 +117,20 @@ pub offer-requires-clause-labels_each : goal.offer-requires-clause-labels_each
 offer-requires-clause-labels_each c = c.requires.search.one_each
 
 pub offer-requires-clause-low : goal.offer-requires-clause-low
-offer-requires-clause-low c = prices_low c.args.problem.now c.args.entry c.args.placement.now.assign.items c.args.placement.now.prices.items c.as_slice-prices.result.now
+offer-requires-clause-low c = prices_low c.args.problem.now c.args.entry c.args.placement.now.assign.items
+    c.args.placement.now.prices.items c.as_slice-prices.result.now
     c.requires.standing.placed c.requires.entry c.as_slice-prices.ensures.value
 
 pub offer-requires-clause-dist : goal.offer-requires-clause-dist
-offer-requires-clause-dist c = dist_small c.args.problem.now c.args.entry c.args.placement.now.assign.items c.args.placement.now.prices.items c.args.cutoff c.args.labels.now c.args.near c.args.other c.requires.standing.placed
+offer-requires-clause-dist c = dist_small c.args.problem.now c.args.entry c.args.placement.now.assign.items
+    c.args.placement.now.prices.items c.args.cutoff c.args.labels.now c.args.near c.args.other
+    c.requires.standing.placed
     (omega arith) c.requires.search c.args.near c.requires.near c.requires.closed
 
 pub offer-requires-clause-hops : goal.offer-requires-clause-hops
-offer-requires-clause-hops c = hops_small c.args.problem.now c.args.entry c.args.placement.now.assign.items c.args.placement.now.prices.items c.args.cutoff c.args.labels.now c.args.near c.args.other c.requires.standing.placed
+offer-requires-clause-hops c = hops_small c.args.problem.now c.args.entry c.args.placement.now.assign.items
+    c.args.placement.now.prices.items c.args.cutoff c.args.labels.now c.args.near c.args.other
+    c.requires.standing.placed
     c.requires.search c.args.near c.requires.near c.requires.closed
 
 pub offer-requires-clause-cutoff : goal.offer-requires-clause-cutoff

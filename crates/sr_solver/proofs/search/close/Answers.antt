@@ -7,10 +7,12 @@ use Rattle.sr_solver.proofs.search.close.Goals as goal
 pub loop-other-init : goal.loop-other-init
 loop-other-init c = record {
   table = c.requires.table;
-  closed = closed_start c.args.problem.now c.args.entry c.args.placement.now.assign.items c.args.placement.now.prices.items
+  closed =
+      closed_start c.args.problem.now c.args.entry c.args.placement.now.assign.items c.args.placement.now.prices.items
       c.args.cutoff c.args.labels.now c.args.near _ c.requires.round c.requires.nearest c.requires.full
       (record { hops = refl; dist = refl; mover = refl }) refl;
-  cutoff = cutoff_closing c.args.problem.now c.args.placement.now.assign.items c.args.labels.now c.args.near _ _ c.args.cutoff
+  cutoff = cutoff_closing c.args.problem.now c.args.placement.now.assign.items c.args.labels.now
+      c.args.near _ _ c.args.cutoff
       (omega (arith, c.requires.nearest.consumer, c.requires.round.one_each)) c.requires.nearest.not_closed
       (record { hops = refl; dist = refl; mover = refl }) refl c.requires.cutoff;
 }
@@ -19,17 +21,25 @@ pub loop-other-preserved : goal.loop-other-preserved
 loop-other-preserved c =
     let standing = c.requires.standing in
     let cut = c.ask-cutoff.ensures.cut in
-    let closed = closed_ask c.args.problem.now c.args.entry c.args.placement.now.assign.items c.args.placement.now.prices.items
-    c.loop-other.cutoff c.args.labels.now c.loop-other.labels c.ask-cutoff.new.labels c.args.near c.loop-other.other standing.placed
+    let closed =
+    closed_ask c.args.problem.now c.args.entry c.args.placement.now.assign.items c.args.placement.now.prices.items
+    c.loop-other.cutoff c.args.labels.now c.loop-other.labels c.ask-cutoff.new.labels c.args.near
+    c.loop-other.other standing.placed
     c.requires.nearest.consumer c.loop-other.invariant.closed c.ask-cutoff.ensures.asked in
     record {
       table = c.ask-cutoff.ensures.table;
-      closed = closed_cut c.args.problem.now c.args.entry c.args.placement.now.assign.items c.args.placement.now.prices.items
-          c.loop-other.cutoff c.ask-cutoff.result c.args.labels.now c.ask-cutoff.new.labels c.args.near (c.loop-other.other + 1)
-          (beyond_cut c.args.problem.now c.args.placement.now.loads.items c.loop-other.other _ c.loop-other.cutoff c.ask-cutoff.result cut) closed;
-      cutoff = cutoff_asked c.args.problem.now c.args.entry c.args.placement.now.assign.items c.args.placement.now.prices.items
-          c.args.placement.now.loads.items c.loop-other.cutoff c.ask-cutoff.result c.args.labels.now c.loop-other.labels c.ask-cutoff.new.labels
-          c.args.near c.loop-other.other standing.placed (omega arith) standing.loads (omega arith) closed c.ask-cutoff.ensures.asked cut
+      closed =
+          closed_cut c.args.problem.now c.args.entry c.args.placement.now.assign.items c.args.placement.now.prices.items
+          c.loop-other.cutoff c.ask-cutoff.result c.args.labels.now c.ask-cutoff.new.labels c.args.near
+          (c.loop-other.other + 1)
+          (beyond_cut c.args.problem.now c.args.placement.now.loads.items c.loop-other.other _ c.loop-other.cutoff
+          c.ask-cutoff.result cut) closed;
+      cutoff = cutoff_asked c.args.problem.now c.args.entry c.args.placement.now.assign.items
+          c.args.placement.now.prices.items
+          c.args.placement.now.loads.items c.loop-other.cutoff c.ask-cutoff.result c.args.labels.now c.loop-other.labels
+          c.ask-cutoff.new.labels
+          c.args.near c.loop-other.other standing.placed (omega arith) standing.loads
+          (omega arith) closed c.ask-cutoff.ensures.asked cut
           c.loop-other.invariant.cutoff;
     }
 
@@ -61,7 +71,8 @@ pub returns-clause-table : goal.returns-clause-table
 returns-clause-table c = c.loop-other.invariant.table
 
 pub returns-clause-round : goal.returns-clause-round
-returns-clause-round c = closed_round _ _ _ _ _ _ _ c.loop-other.other (omega arith) c.loop-other.invariant.closed.search
+returns-clause-round c =
+    closed_round _ _ _ _ _ _ _ c.loop-other.other (omega arith) c.loop-other.invariant.closed.search
 
 pub returns-clause-cutoff : goal.returns-clause-cutoff
 returns-clause-cutoff c = c.loop-other.invariant.cutoff

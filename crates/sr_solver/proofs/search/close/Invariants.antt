@@ -7,6 +7,7 @@ use Rattle.sr_solver.proofs.search.close.Given as goal
 abbrev pub invariant-loop-other : goal.invariant-loop-other
 invariant-loop-other l = record {
   table : IsTable l.problem l.placement.assign.items l.table;
-  closed : IsClosed l.problem l.entry l.placement.assign.items l.placement.prices.items l.cutoff l.fn.labels l.labels l.near l.other;
+  closed : IsClosed l.problem l.entry l.placement.assign.items l.placement.prices.items l.cutoff l.fn.labels
+      l.labels l.near l.other;
   cutoff : IsCutoff l.problem l.placement.assign.items l.labels (consumers l.problem) l.cutoff;
 }

@@ -7,7 +7,8 @@ use Rattle.sr_solver.proofs.search.offer.Goals as goal
 pub overflow_add-offer : goal.overflow_add-offer
 overflow_add-offer c =
     let cost : Option ℕ → ℕ = λ o. unwrap_or o 0 in
-    let same : cost_of c.args.problem.now c.args.mover c.args.near ≡ c.unwrap.result = ap cost (sym c.cost.ensures ∙ c.unwrap.ensures) in
+    let same : cost_of c.args.problem.now c.args.mover c.args.near ≡ c.unwrap.result =
+    ap cost (sym c.cost.ensures ∙ c.unwrap.ensures) in
     omega (
       arith,
       same,

@@ -6,15 +6,18 @@ use Rattle.sr_solver.proofs.search.search.Goals as goal
 pub loop-near-init : goal.loop-near-init
 loop-near-init c = record {
   table = c.requires.table;
-  round = started_round c.args.problem.now c.args.entry c.args.placement.now.assign.items c.args.placement.now.prices.items _ _
+  round = started_round c.args.problem.now c.args.entry c.args.placement.now.assign.items
+      c.args.placement.now.prices.items _ _
       c.requires.standing.placed.limits c.start-cutoff.ensures.started;
   cutoff = c.start-cutoff.ensures.cutoff;
 }
 
 pub returns-then-loads-near-clause-end : goal.returns-then-loads-near-clause-end
 returns-then-loads-near-clause-end c = record {
-  search = cutoff_nearest c.args.problem.now c.args.entry c.args.placement.now.assign.items c.args.placement.now.prices.items
-      c.loop-near.cutoff c.loop-near.labels c.in-Some.near c.loop-near.invariant.round c.loop-near.invariant.cutoff c.in-Some.ensures.some;
+  search =
+      cutoff_nearest c.args.problem.now c.args.entry c.args.placement.now.assign.items c.args.placement.now.prices.items
+      c.loop-near.cutoff c.loop-near.labels c.in-Some.near c.loop-near.invariant.round c.loop-near.invariant.cutoff
+      c.in-Some.ensures.some;
   nearest = c.in-Some.ensures.some;
   room = omega (
     arith,

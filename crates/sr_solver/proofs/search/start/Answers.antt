@@ -31,7 +31,8 @@ offered-label-requires-clause-dist c = omega arith
 
 pub offered-label-requires-clause-price : goal.offered-label-requires-clause-price
 offered-label-requires-clause-price c =
-    prices_low c.args.problem.now c.args.entry c.args.placement.now.assign.items c.args.placement.now.prices.items c.as_slice-prices.result.now
+    prices_low c.args.problem.now c.args.entry c.args.placement.now.assign.items c.args.placement.now.prices.items
+    c.as_slice-prices.result.now
     c.requires.standing.placed c.requires.entry c.as_slice-prices.ensures.value c.loop-consumer.consumer (omega arith)
 
 pub offered-label-requires-clause-cost : goal.offered-label-requires-clause-cost
@@ -73,11 +74,15 @@ loop-consumer-preserved c =
     let n : ℕ = c.loop-consumer.consumer in
     let placed = c.requires.standing.placed in
     let lt : n < consumers p = omega arith in
-    let offered : IsOffered (cost_at p c.args.entry n) (get_or prices n 0) (first_offer c.args.entry) no_label c.offered-label.result =
-    rw (c.costs-cost-items.ensures.costs n lt) at (rw c.as_slice-prices.ensures.value at (rw c.none.ensures at c.offered-label.ensures)) in
+    let offered : IsOffered (cost_at p c.args.entry n) (get_or prices n 0)
+    (first_offer c.args.entry) no_label c.offered-label.result =
+    rw (c.costs-cost-items.ensures.costs n lt) at
+    (rw c.as_slice-prices.ensures.value at (rw c.none.ensures at c.offered-label.ensures)) in
     record {
-      each = offered_more p c.args.entry n prices c.loop-consumer.labels c.offered-label.result (omega arith) c.loop-consumer.invariant.each offered;
-      cutoff = cutoff_more p c.args.placement.now.assign.items c.args.placement.now.loads.items c.loop-consumer.labels c.offered-label.result n
+      each = offered_more p c.args.entry n prices c.loop-consumer.labels c.offered-label.result
+          (omega arith) c.loop-consumer.invariant.each offered;
+      cutoff = cutoff_more p c.args.placement.now.assign.items c.args.placement.now.loads.items c.loop-consumer.labels
+          c.offered-label.result n
           c.loop-consumer.cutoff c.cut-cutoff.result c.requires.standing.loads (omega arith) lt
           (first_small p c.args.entry n prices c.offered-label.result placed.limits
           (price_small p c.args.entry c.args.placement.now.assign.items prices placed (omega arith) n lt) lt offered)

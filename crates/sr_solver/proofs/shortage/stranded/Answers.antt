@@ -28,4 +28,5 @@ pub returns : goal.returns
 returns c =
     let at_end : c.loop-other.other ≡ c.args.entry = omega arith in
     c.in_ok-push-2.ensures.items
-    ∙ ap (λ set. set ++ c.args.entry ∷ []) (c.loop-other.invariant ∙ ap (stranded_below c.args.labels.now c.args.assign.now) at_end)
+    ∙ ap (λ set. set ++ c.args.entry ∷ []) (c.loop-other.invariant
+    ∙ ap (stranded_below c.args.labels.now c.args.assign.now) at_end)

@@ -12,11 +12,14 @@ place_all-requires-clause-table c =
     let p = c.args.problem.now in
     let same : c.deref_mut-2.result.now ≡ c.forget.new.table =
     c.deref_mut-2.ensures.value
-    ∙ take_at c.forget.new.table _ c.in_ok-table.table.len (omega (arith, c.forget.ensures.length, c.deref_mut.ensures.len)) in
+    ∙ take_at c.forget.new.table _ c.in_ok-table.table.len
+    (omega (arith, c.forget.ensures.length, c.deref_mut.ensures.len)) in
     let pairs : length c.deref_mut.result.now ≡ consumers p * consumers p =
-    omega (arith, c.deref_mut.ensures.len, c.in_ok-table.ensures.len) ∙ ap (λ n. n * n) c.consumers-consumers.ensures.count in
+    omega (arith, c.deref_mut.ensures.len, c.in_ok-table.ensures.len)
+    ∙ ap (λ n. n * n) c.consumers-consumers.ensures.count in
     rw same (
-    unknown_table p _ (length c.deref_mut.result.now) c.forget.new.table c.consumers-consumers.ensures.limits pairs c.forget.ensures.length
+    unknown_table p _ (length c.deref_mut.result.now) c.forget.new.table c.consumers-consumers.ensures.limits pairs
+    c.forget.ensures.length
     c.forget.ensures.unknown
     )
 
@@ -25,13 +28,16 @@ stranded-requires-clause-entry c = rw (c.deref.ensures.value, c.in-Stuck.ensures
 
 pub stranded-requires-clause-placed : goal.stranded-requires-clause-placed
 stranded-requires-clause-placed c i lt =
-    let many : length c.deref-in-Stuck.result.now ≡ consumers c.args.problem.now = c.deref-in-Stuck.ensures.len ∙ c.in_ok-labels.ensures.len ∙ c.consumers-consumers.ensures.count in
+    let many : length c.deref-in-Stuck.result.now ≡ consumers c.args.problem.now =
+    c.deref-in-Stuck.ensures.len ∙ c.in_ok-labels.ensures.len ∙ c.consumers-consumers.ensures.count in
     rw (c.deref.ensures.value, many) (c.in-Stuck.ensures.placed_below i lt).0
 
 pub returns-in_ok-set-in-Stuck-clause-solution : goal.returns-in_ok-set-in-Stuck-clause-solution
 returns-in_ok-set-in-Stuck-clause-solution c =
-    stuck_short_is c.args.problem.now c.in-Stuck.entry c.place_all.new.placement.assign.items c.place_all.new.placement.prices.items
-    c.place_all.new.labels c.deref.result.now c.deref-in-Stuck.result.now c.in_ok-set-in-Stuck.set.items c.in-Stuck.ensures
+    stuck_short_is c.args.problem.now c.in-Stuck.entry c.place_all.new.placement.assign.items
+    c.place_all.new.placement.prices.items
+    c.place_all.new.labels c.deref.result.now c.deref-in-Stuck.result.now c.in_ok-set-in-Stuck.set.items
+    c.in-Stuck.ensures
     c.deref.ensures.value
     (c.deref-in-Stuck.ensures.value ∙ take_at c.place_all.new.labels _ c.in_ok-labels.labels.len (omega arith))
     c.in_ok-set-in-Stuck.ensures
@@ -61,7 +67,8 @@ pub place_all-requires-clause-first : goal.place_all-requires-clause-first
 place_all-requires-clause-first c = below c.args.first _ c.requires.first
 
 pub place_all-requires-clause-labels : goal.place_all-requires-clause-labels
-place_all-requires-clause-labels c = c.deref_mut-3.ensures.len ∙ c.in_ok-labels.ensures.len ∙ c.consumers-consumers.ensures.count
+place_all-requires-clause-labels c =
+    c.deref_mut-3.ensures.len ∙ c.in_ok-labels.ensures.len ∙ c.consumers-consumers.ensures.count
 
 pub place_all-requires-clause-standing : goal.place_all-requires-clause-standing
 place_all-requires-clause-standing c = c.requires.standing

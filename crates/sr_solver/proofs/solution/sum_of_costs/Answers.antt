@@ -10,7 +10,8 @@ sum_more : (f : ℕ → ℕ) (n total next : ℕ) → total ≡ sum_below f n �
 sum_more f n total next sum here = let more : n + 1 ≡ suc n = omega arith in rw more (omega (arith, sum, here))
 
 pub bounds-costs-consumer : goal.bounds-costs-consumer
-bounds-costs-consumer c = omega (arith, (c.requires.placement.allowed c.loop-entry.entry (omega arith)).0, c.costs.ensures.each_consumer)
+bounds-costs-consumer c =
+    omega (arith, (c.requires.placement.allowed c.loop-entry.entry (omega arith)).0, c.costs.ensures.each_consumer)
 
 pub unwrap-total-requires : goal.unwrap-total-requires
 unwrap-total-requires c =

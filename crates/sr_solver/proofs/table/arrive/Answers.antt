@@ -10,23 +10,28 @@ use Rattle.sr_solver.proofs.table.arrive.Goals.{then-is_some, else-is_some}
 pub loop-next-preserved : goal.loop-next-preserved
 loop-next-preserved c =
     let cost : Option ℕ → ℕ = λ o. unwrap_or o 0 in
-    let same : cost_of c.args.problem.now c.args.entry c.args.to ≡ c.unwrap-here.result = ap cost (sym c.cost.ensures ∙ c.unwrap-here.ensures) in
+    let same : cost_of c.args.problem.now c.args.entry c.args.to ≡ c.unwrap-here.result =
+    ap cost (sym c.cost.ensures ∙ c.unwrap-here.ensures) in
     let below : c.loop-next.next < consumers c.args.problem.now =
     rw c.costs-there-items.ensures.each_consumer at c.loop-next-test.true in
     let there = c.costs-there-items.ensures.costs c.loop-next.next below in
     elim c.if-is_some.branch [
       | then-is_some w ↦
-          let pair : c.args.to * w.consumers.result + c.loop-next.next ≡ c.args.to * consumers c.args.problem.now + c.loop-next.next =
+          let pair : c.args.to * w.consumers.result + c.loop-next.next ≡ c.args.to * consumers c.args.problem.now
+          + c.loop-next.next =
           ap (λ n. c.args.to * n + c.loop-next.next) w.consumers.ensures.count in
           rw w.table-is (
-          row_more (consumers c.args.problem.now) c.args.to c.loop-next.next _ _ c.args.table.now c.loop-next.table w.lowered-known.result
+          row_more (consumers c.args.problem.now) c.args.to c.loop-next.next _ _ c.args.table.now c.loop-next.table
+          w.lowered-known.result
           c.loop-next.invariant c.requires.allowed.0 below c.requires.each_pair pair
           (lowered_is c.args.entry _ _ _ _ _ _ same (sym there) w.lowered-known.ensures.lowered)
           )
       | else-is_some w ↦
           rw w.table-is (
-          row_stays (consumers c.args.problem.now) c.args.to c.loop-next.next _ _ c.args.table.now c.loop-next.table c.loop-next.invariant refl
-          (lowered_not c.args.entry (cost_of c.args.problem.now c.args.entry c.args.to) (cost_at c.args.problem.now c.args.entry c.loop-next.next) _
+          row_stays (consumers c.args.problem.now) c.args.to c.loop-next.next _ _ c.args.table.now c.loop-next.table
+          c.loop-next.invariant refl
+          (lowered_not c.args.entry (cost_of c.args.problem.now c.args.entry c.args.to)
+          (cost_at c.args.problem.now c.args.entry c.loop-next.next) _
           (rw there at (sym c.is_some.ensures ∙ w.if-is_some.false)))
           )
     ]
@@ -64,7 +69,8 @@ bounds-table-pair c =
 pub lowered-known-requires-clause-here : goal.lowered-known-requires-clause-here
 lowered-known-requires-clause-here c =
     let cost : Option ℕ → ℕ = λ o. unwrap_or o 0 in
-    let same : cost_of c.args.problem.now c.args.entry c.args.to ≡ c.unwrap-here.result = ap cost (sym c.cost.ensures ∙ c.unwrap-here.ensures) in
+    let same : cost_of c.args.problem.now c.args.entry c.args.to ≡ c.unwrap-here.result =
+    ap cost (sym c.cost.ensures ∙ c.unwrap-here.ensures) in
     omega (arith, same, cost_small c.args.problem.now c.requires.limits c.args.entry c.args.to)
 
 pub lowered-known-requires-clause-there : goal.lowered-known-requires-clause-there
@@ -75,5 +81,6 @@ lowered-known-requires-clause-there c =
 
 pub returns : goal.returns
 returns c =
-    let at_end : c.loop-next.next ≡ consumers c.args.problem.now = omega (arith, c.costs-there-items.ensures.each_consumer) in
+    let at_end : c.loop-next.next ≡ consumers c.args.problem.now =
+    omega (arith, c.costs-there-items.ensures.each_consumer) in
     rw at_end at c.loop-next.invariant

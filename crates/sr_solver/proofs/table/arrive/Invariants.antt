@@ -4,5 +4,6 @@ use Rattle.sr_solver.proofs.table.arrive.Given as goal
 
 abbrev pub invariant-loop-next : goal.invariant-loop-next
 invariant-loop-next l =
-    IsRowChanged (consumers l.problem) l.to l.next (λ next. IsLowered l.entry (cost_of l.problem l.entry l.to) (cost_at l.problem l.entry next))
+    IsRowChanged (consumers l.problem) l.to l.next
+    (λ next. IsLowered l.entry (cost_of l.problem l.entry l.to) (cost_at l.problem l.entry next))
     l.initial.table l.table

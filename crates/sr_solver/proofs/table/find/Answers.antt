@@ -14,10 +14,12 @@ loop-place-preserved c =
     let row : ℕ = c.args.from * c.args.placement.now.width in
     let xs : List ℕ = c.args.placement.now.assign.items in
     let members : List ℕ = c.as_slice-members.result.now in
-    let are_members : AreMembers c.args.problem.now c.args.placement.now.width xs members = rw c.as_slice-members.ensures.value c.requires.members in
+    let are_members : AreMembers c.args.problem.now c.args.placement.now.width xs members =
+    rw c.as_slice-members.ensures.value c.requires.members in
     let other : ℕ = get_or members (row + 1 + c.loop-place.place) 0 in
     let cost : Option ℕ → ℕ = λ o. unwrap_or o 0 in
-    let same : cost_of c.args.problem.now other c.args.from ≡ c.unwrap-here.result = ap cost (sym c.cost.ensures ∙ c.unwrap-here.ensures) in
+    let same : cost_of c.args.problem.now other c.args.from ≡ c.unwrap-here.result =
+    ap cost (sym c.cost.ensures ∙ c.unwrap-here.ensures) in
     let placed : c.loop-place.place < get_or members row 0 = c.loop-place-test.true in
     let stands : IsAt xs c.args.problem.now.entries c.args.from other =
     are_members.stands c.args.from c.loop-place.place c.requires.from
@@ -33,45 +35,66 @@ loop-place-preserved c =
 pub returns-clause-known : goal.returns-clause-known
 returns-clause-known c =
     let members : List ℕ = c.as_slice-members.result.now in
-    let are_members : AreMembers c.args.problem.now c.args.placement.now.width c.args.placement.now.assign.items members =
+    let are_members : AreMembers c.args.problem.now c.args.placement.now.width
+    c.args.placement.now.assign.items members =
     rw c.as_slice-members.ensures.value c.requires.members in
-    seen_all c.args.problem.now c.args.placement.now.width c.args.placement.now.assign.items members (c.args.from * c.args.placement.now.width) c.loop-place.place
+    seen_all c.args.problem.now c.args.placement.now.width c.args.placement.now.assign.items members
+    (c.args.from * c.args.placement.now.width) c.loop-place.place
     c.args.from c.args.to c.loop-place.found c.requires.from are_members refl (omega arith)
     c.loop-place.invariant.known
 
 -- the row of the consumer, and what fits within it
-row_in : (p : Transport) (w from : ℕ) (xs held members : List ℕ) → IsWithinLimits p.rooms p.entries p.costs → members ≡ held → AreMembers p w xs held → from < consumers p → IsRow members (from * w) w (load xs from)
-row_in p w from xs held members limits same are lt = row_of p w (load xs) (IsAt xs p.entries) members from (from * w) limits (rw same are) lt refl
+row_in : (p : Transport) (w from : ℕ) (xs held members : List ℕ) → IsWithinLimits p.rooms p.entries p.costs
+    → members ≡ held → AreMembers p w xs held → from < consumers p → IsRow members (from * w) w (load xs from)
+row_in p w from xs held members limits same are lt =
+    row_of p w (load xs) (IsAt xs p.entries) members from (from * w) limits (rw same are) lt refl
 
-first : (members : List ℕ) (row w n : ℕ) → IsRow members row w n → (row < length members) × Fits w64 (row * 8) × Fits w64 row
-first members row w n is = (omega (arith, is.fits, is.room), omega (arith, is.short, is.room), omega (arith, is.short, is.room))
+first : (members : List ℕ) (row w n : ℕ) → IsRow members row w n
+    → (row < length members) × Fits w64 (row * 8) × Fits w64 row
+first members row w n is =
+    (omega (arith, is.fits, is.room), omega (arith, is.short, is.room), omega (arith, is.short, is.room))
 
 other : (members : List ℕ) (row w n place : ℕ) → IsRow members row w n → place < get_or members row 0
-    → (row + 1 + place < length members) × Fits w64 ((row + 1 + place) * 8) × Fits w64 (row + 1 + place) × Fits w64 (row + 1)
+    → (row + 1 + place < length members) × Fits w64 ((row + 1 + place) * 8) × Fits w64 (row + 1 + place)
+    × Fits w64 (row + 1)
 other members row w n place is lt =
     let within : row + 1 + place < length members = omega (arith, lt, is.count, is.fits, is.room) in
     (within, omega (arith, within, is.short), omega (arith, within, is.short), omega (arith, within, is.short))
 
 pub bounds-members-row : goal.bounds-members-row
-bounds-members-row c = (first _ _ _ _ (row_in c.args.problem.now c.args.placement.now.width c.args.from _ _ _ c.requires.limits c.as_slice-members.ensures.value c.requires.members c.requires.from)).0
+bounds-members-row c =
+    (first _ _ _ _ (row_in c.args.problem.now c.args.placement.now.width c.args.from _ _ _ c.requires.limits
+    c.as_slice-members.ensures.value c.requires.members c.requires.from)).0
 
 pub offset_bounds-members-row : goal.offset_bounds-members-row
-offset_bounds-members-row c = (first _ _ _ _ (row_in c.args.problem.now c.args.placement.now.width c.args.from _ _ _ c.requires.limits c.as_slice-members.ensures.value c.requires.members c.requires.from)).1
+offset_bounds-members-row c =
+    (first _ _ _ _ (row_in c.args.problem.now c.args.placement.now.width c.args.from _ _ _ c.requires.limits
+    c.as_slice-members.ensures.value c.requires.members c.requires.from)).1
 
 pub overflow_mul-row : goal.overflow_mul-row
-overflow_mul-row c = (first _ _ _ _ (row_in c.args.problem.now c.args.placement.now.width c.args.from _ _ _ c.requires.limits c.as_slice-members.ensures.value c.requires.members c.requires.from)).2
+overflow_mul-row c =
+    (first _ _ _ _ (row_in c.args.problem.now c.args.placement.now.width c.args.from _ _ _ c.requires.limits
+    c.as_slice-members.ensures.value c.requires.members c.requires.from)).2
 
 pub bounds-members-row-in-loop-place : goal.bounds-members-row-in-loop-place
-bounds-members-row-in-loop-place c = (other _ _ _ _ _ (row_in c.args.problem.now c.args.placement.now.width c.args.from _ _ _ c.requires.limits c.as_slice-members.ensures.value c.requires.members c.requires.from) c.loop-place-test.true).0
+bounds-members-row-in-loop-place c =
+    (other _ _ _ _ _ (row_in c.args.problem.now c.args.placement.now.width c.args.from _ _ _ c.requires.limits
+    c.as_slice-members.ensures.value c.requires.members c.requires.from) c.loop-place-test.true).0
 
 pub offset_bounds-members-row-in-loop-place : goal.offset_bounds-members-row-in-loop-place
-offset_bounds-members-row-in-loop-place c = (other _ _ _ _ _ (row_in c.args.problem.now c.args.placement.now.width c.args.from _ _ _ c.requires.limits c.as_slice-members.ensures.value c.requires.members c.requires.from) c.loop-place-test.true).1
+offset_bounds-members-row-in-loop-place c =
+    (other _ _ _ _ _ (row_in c.args.problem.now c.args.placement.now.width c.args.from _ _ _ c.requires.limits
+    c.as_slice-members.ensures.value c.requires.members c.requires.from) c.loop-place-test.true).1
 
 pub overflow_add-other-in-loop-place : goal.overflow_add-other-in-loop-place
-overflow_add-other-in-loop-place c = (other _ _ _ _ _ (row_in c.args.problem.now c.args.placement.now.width c.args.from _ _ _ c.requires.limits c.as_slice-members.ensures.value c.requires.members c.requires.from) c.loop-place-test.true).2
+overflow_add-other-in-loop-place c =
+    (other _ _ _ _ _ (row_in c.args.problem.now c.args.placement.now.width c.args.from _ _ _ c.requires.limits
+    c.as_slice-members.ensures.value c.requires.members c.requires.from) c.loop-place-test.true).2
 
 pub overflow_add-other : goal.overflow_add-other
-overflow_add-other c = (other _ _ _ _ _ (row_in c.args.problem.now c.args.placement.now.width c.args.from _ _ _ c.requires.limits c.as_slice-members.ensures.value c.requires.members c.requires.from) c.loop-place-test.true).3
+overflow_add-other c =
+    (other _ _ _ _ _ (row_in c.args.problem.now c.args.placement.now.width c.args.from _ _ _ c.requires.limits
+    c.as_slice-members.ensures.value c.requires.members c.requires.from) c.loop-place-test.true).3
 
 pub loop-place-init : goal.loop-place-init
 loop-place-init c = record { known = λ i seen allowed. absurd (omega (arith, seen.1.1)); best = tt }
@@ -80,8 +103,10 @@ pub cost-requires-clause-entry : goal.cost-requires-clause-entry
 cost-requires-clause-entry c =
     let xs : List ℕ = c.args.placement.now.assign.items in
     let members : List ℕ = c.as_slice-members.result.now in
-    let are : AreMembers c.args.problem.now c.args.placement.now.width xs members = rw c.as_slice-members.ensures.value c.requires.members in
-    let counted : c.loop-place.place < load xs c.args.from = omega (arith, c.loop-place-test.true, are.counted c.args.from c.requires.from) in
+    let are : AreMembers c.args.problem.now c.args.placement.now.width xs members =
+    rw c.as_slice-members.ensures.value c.requires.members in
+    let counted : c.loop-place.place < load xs c.args.from =
+    omega (arith, c.loop-place-test.true, are.counted c.args.from c.requires.from) in
     (are.stands c.args.from c.loop-place.place c.requires.from counted).0
 
 pub cost-requires-clause-consumer : goal.cost-requires-clause-consumer
@@ -91,16 +116,20 @@ pub unwrap-here-requires : goal.unwrap-here-requires
 unwrap-here-requires c =
     let xs : List ℕ = c.args.placement.now.assign.items in
     let members : List ℕ = c.as_slice-members.result.now in
-    let are : AreMembers c.args.problem.now c.args.placement.now.width xs members = rw c.as_slice-members.ensures.value c.requires.members in
-    let counted : c.loop-place.place < load xs c.args.from = omega (arith, c.loop-place-test.true, are.counted c.args.from c.requires.from) in
+    let are : AreMembers c.args.problem.now c.args.placement.now.width xs members =
+    rw c.as_slice-members.ensures.value c.requires.members in
+    let counted : c.loop-place.place < load xs c.args.from =
+    omega (arith, c.loop-place-test.true, are.counted c.args.from c.requires.from) in
     rw c.cost.ensures (c.requires.placed _ (are.stands c.args.from c.loop-place.place c.requires.from counted)).1
 
 pub cost-there-requires-clause-entry : goal.cost-there-requires-clause-entry
 cost-there-requires-clause-entry c =
     let xs : List ℕ = c.args.placement.now.assign.items in
     let members : List ℕ = c.as_slice-members.result.now in
-    let are : AreMembers c.args.problem.now c.args.placement.now.width xs members = rw c.as_slice-members.ensures.value c.requires.members in
-    let counted : c.loop-place.place < load xs c.args.from = omega (arith, c.loop-place-test.true, are.counted c.args.from c.requires.from) in
+    let are : AreMembers c.args.problem.now c.args.placement.now.width xs members =
+    rw c.as_slice-members.ensures.value c.requires.members in
+    let counted : c.loop-place.place < load xs c.args.from =
+    omega (arith, c.loop-place-test.true, are.counted c.args.from c.requires.from) in
     (are.stands c.args.from c.loop-place.place c.requires.from counted).0
 
 pub cost-there-requires-clause-consumer : goal.cost-there-requires-clause-consumer
@@ -109,12 +138,15 @@ cost-there-requires-clause-consumer c = c.requires.to
 pub lowered-found-requires-clause-here : goal.lowered-found-requires-clause-here
 lowered-found-requires-clause-here c =
     let cost : Option ℕ → ℕ = λ o. unwrap_or o 0 in
-    let other : ℕ = get_or c.as_slice-members.result.now (c.args.from * c.args.placement.now.width + 1 + c.loop-place.place) 0 in
-    let same : cost_of c.args.problem.now other c.args.from ≡ c.unwrap-here.result = ap cost (sym c.cost.ensures ∙ c.unwrap-here.ensures) in
+    let other : ℕ =
+    get_or c.as_slice-members.result.now (c.args.from * c.args.placement.now.width + 1 + c.loop-place.place) 0 in
+    let same : cost_of c.args.problem.now other c.args.from ≡ c.unwrap-here.result =
+    ap cost (sym c.cost.ensures ∙ c.unwrap-here.ensures) in
     omega (arith, same, cost_small c.args.problem.now c.requires.limits other c.args.from)
 
 pub lowered-found-requires-clause-there : goal.lowered-found-requires-clause-there
-lowered-found-requires-clause-there c = rw c.cost-there.ensures (cost_at_small c.args.problem.now c.requires.limits _ c.args.to)
+lowered-found-requires-clause-there c =
+    rw c.cost-there.ensures (cost_at_small c.args.problem.now c.requires.limits _ c.args.to)
 
 pub returns-clause-best : goal.returns-clause-best
 returns-clause-best c = c.loop-place.invariant.best

@@ -6,7 +6,8 @@ use Rattle.sr_solver.proofs.table.least_mover.Goals as goal
 pub returns-clause-mover : goal.returns-clause-mover
 returns-clause-mover c =
     mover_known c.args.problem.now c.args.placement.now.assign.items c.args.from c.args.to
-    (c.args.from * c.consumers.result + c.args.to) c.args.table.now c.in-Some.bound c.in-Some-best.mover c.requires.from c.requires.to
+    (c.args.from * c.consumers.result + c.args.to) c.args.table.now c.in-Some.bound c.in-Some-best.mover
+    c.requires.from c.requires.to
     (ap (λ n. c.args.from * n + c.args.to) c.consumers.ensures.count) c.requires.table c.in-Some.is c.in-Some-best.is
 
 pub returns-in_default-clause-table : goal.returns-in_default-clause-table

@@ -6,7 +6,8 @@ use Rattle.sr_solver.proofs.table.leave.Goals as goal
 
 pub loop-to-preserved : goal.loop-to-preserved
 loop-to-preserved c =
-    row_more (consumers c.args.problem.now) c.args.from c.loop-to.to _ _ c.args.table.now c.loop-to.table c.without-known.result
+    row_more (consumers c.args.problem.now) c.args.from c.loop-to.to _ _ c.args.table.now c.loop-to.table
+    c.without-known.result
     c.loop-to.invariant c.requires.from (omega arith) c.requires.each_pair
     (ap (λ n. c.args.from * n + c.loop-to.to) c.consumers.ensures.count) c.without-known.ensures
 

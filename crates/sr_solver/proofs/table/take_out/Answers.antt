@@ -6,7 +6,8 @@ use Rattle.sr_solver.proofs.table.take_out.Goals as goal
 
 pub returns-then-consumers-from-clause-members : goal.returns-then-consumers-from-clause-members
 returns-then-consumers-from-clause-members c =
-    members_waiting c.args.problem.now c.args.width c.args.assign.now c.args.entry c.args.members.now c.requires.every c.requires.entry
+    members_waiting c.args.problem.now c.args.width c.args.assign.now c.args.entry c.args.members.now
+    c.requires.every c.requires.entry
     (omega (arith, c.if-consumers-from.true, c.consumers.ensures.count)) c.requires.members
 
 pub returns-then-consumers-from-clause-table : goal.returns-then-consumers-from-clause-table
@@ -17,29 +18,35 @@ returns-then-consumers-from-clause-table c =
 pub remove-requires-clause-member : goal.remove-requires-clause-member
 remove-requires-clause-member c =
     let from : ℕ = get_or c.args.assign.now c.args.entry 0 in
-    let within : from < consumers c.args.problem.now = omega (arith, c.if-consumers-from.false, c.consumers.ensures.count) in
+    let within : from < consumers c.args.problem.now =
+    omega (arith, c.if-consumers-from.false, c.consumers.ensures.count) in
     let listed = c.requires.members.each from c.args.entry within (c.requires.entry, refl) in
     (listed.0, omega (arith, listed.1, c.requires.members.counted from within), listed.2)
 
 pub remove-requires-clause-apart : goal.remove-requires-clause-apart
 remove-requires-clause-apart c =
     let from : ℕ = get_or c.args.assign.now c.args.entry 0 in
-    let within : from < consumers c.args.problem.now = omega (arith, c.if-consumers-from.false, c.consumers.ensures.count) in
+    let within : from < consumers c.args.problem.now =
+    omega (arith, c.if-consumers-from.false, c.consumers.ensures.count) in
     rw (c.requires.members.counted from within) (c.requires.members.apart from within)
 
 pub returns-clause-members : goal.returns-clause-members
 returns-clause-members c =
-    members_left c.args.problem.now c.args.width c.args.assign.now c.args.entry c.args.members.now c.remove.new.members c.requires.every c.requires.entry
+    members_left c.args.problem.now c.args.width c.args.assign.now c.args.entry c.args.members.now c.remove.new.members
+    c.requires.every c.requires.entry
     (omega (arith, c.if-consumers-from.false, c.consumers.ensures.count)) c.requires.members c.remove.ensures
 
 pub returns-clause-table : goal.returns-clause-table
 returns-clause-table c =
-    table_left c.args.problem.now c.args.assign.now c.args.entry c.args.table.now c.leave.new.table c.requires.table c.leave.ensures
+    table_left c.args.problem.now c.args.assign.now c.args.entry c.args.table.now c.leave.new.table
+    c.requires.table c.leave.ensures
 
 pub remove-requires-clause-room : goal.remove-requires-clause-room
 remove-requires-clause-room c =
     let from : ℕ = get_or c.args.assign.now c.args.entry 0 in
-    let within : from < consumers c.args.problem.now = omega (arith, c.if-consumers-from.false, c.consumers.ensures.count) in
+    let within : from < consumers c.args.problem.now =
+    omega (arith, c.if-consumers-from.false, c.consumers.ensures.count) in
     let row =
-    row_of c.args.problem.now c.args.width _ _ c.args.members.now from (from * c.args.width) c.requires.limits c.requires.members within refl in
+    row_of c.args.problem.now c.args.width _ _ c.args.members.now from
+    (from * c.args.width) c.requires.limits c.requires.members within refl in
     omega (arith, row.count, row.fits, row.room)

@@ -7,7 +7,8 @@ use Rattle.sr_solver.proofs.TakerLemmas.{compared_next, compared_not, none_compa
 use Rattle.sr_solver.proofs.taker.taker.Goals as goal
 use Rattle.sr_solver.proofs.taker.taker.Goals.{then-is_some, else-is_some}
 
-has_room : (load room of : ℕ) → room ≡ of → (nat_lt load room ≡ true → load < of) × (load < of → nat_lt load room ≡ true)
+has_room : (load room of : ℕ) → room ≡ of
+    → (nat_lt load room ≡ true → load < of) × (load < of → nat_lt load room ≡ true)
 has_room load room of is = (λ h. rw (← is) (ltb-true load room h), λ lt. lt-ltb load room (rw is lt))
 
 pub costs-cost-items-requires : goal.costs-cost-items-requires
@@ -48,12 +49,14 @@ compared-cheapest-requires-clause-price c = c.requires.low c.loop-consumer.consu
 
 pub returns-clause-some : goal.returns-clause-some
 returns-clause-some c =
-    free_takes c.args.problem.now c.args.prices.now c.args.loads.now c.args.entry c.loop-consumer.cheapest.sum c.loop-consumer.cheapest.free
+    free_takes c.args.problem.now c.args.prices.now c.args.loads.now c.args.entry c.loop-consumer.cheapest.sum
+    c.loop-consumer.cheapest.free
     (λ x lt. c.loop-consumer.invariant.least x (omega arith)) c.loop-consumer.invariant.free
 
 pub returns-clause-none : goal.returns-clause-none
 returns-clause-none c =
-    none_takes c.args.problem.now c.args.prices.now c.args.loads.now c.args.entry c.loop-consumer.consumer c.loop-consumer.cheapest.sum c.loop-consumer.cheapest.free
+    none_takes c.args.problem.now c.args.prices.now c.args.loads.now c.args.entry c.loop-consumer.consumer
+    c.loop-consumer.cheapest.sum c.loop-consumer.cheapest.free
     (omega arith) c.loop-consumer.invariant.least
     (λ x lt allowed. omega (
       arith,
@@ -71,8 +74,10 @@ loop-consumer-preserved c =
     elim c.if-is_some.branch [
       | then-is_some w ↦
           let room = has_room (get_or c.args.loads.now n 0) w.room.result (room_of p n) w.room.ensures in
-          rw w.cheapest-is (compared_next p _ _ _ n _ _ _ _ _ lt (sym cost) refl room.0 room.1 c.loop-consumer.invariant w.compared-cheapest.ensures)
+          rw w.cheapest-is (compared_next p _ _ _ n _ _ _ _ _ lt
+          (sym cost) refl room.0 room.1 c.loop-consumer.invariant w.compared-cheapest.ensures)
       | else-is_some w ↦
-          let none = λ (some : IsSome (cost_at p c.args.entry n)). false≢true (sym w.if-is_some.false ∙ c.is_some.ensures ∙ ap (λ (o : Option ℕ). is_some o) cost ∙ some) in
+          let none = λ (some : IsSome (cost_at p c.args.entry n)). false≢true
+          (sym w.if-is_some.false ∙ c.is_some.ensures ∙ ap (λ (o : Option ℕ). is_some o) cost ∙ some) in
           rw w.cheapest-is (compared_not p _ _ _ n _ lt none c.loop-consumer.invariant)
     ]

@@ -17,7 +17,8 @@ join_crowds-requires-clause-crowds_each c = ap length c.deref_mut.ensures.value 
 
 pub loop-entry-preserved : goal.loop-entry-preserved
 loop-entry-preserved c =
-    ap length (take_at c.join_crowds.new.crowds _ c.loop-entry.crowds.len (omega (arith, c.join_crowds.ensures, c.deref_mut.ensures.len)))
+    ap length (take_at c.join_crowds.new.crowds _ c.loop-entry.crowds.len
+    (omega (arith, c.join_crowds.ensures, c.deref_mut.ensures.len)))
     ∙ (c.join_crowds.ensures ∙ (ap length c.deref_mut.ensures.value ∙ c.loop-entry.invariant))
 
 pub returns : goal.returns
