@@ -8,4 +8,5 @@ returns-in-Some-strip_prefix c =
     let after = c.in-Some-strip_prefix.after.now in
     let word = c.loop.word.items in
     let closed : c.loop.left.now ≡ 34 ∷ after = search rules in
-    subst (λ (bytes : List ℕ). HasQuoted c.args.text.now bytes after) (append-nil word) (c.loop.invariant [] after closed)
+    subst (λ (bytes : List ℕ). HasQuoted c.args.text.now bytes after) (append-nil word)
+    (c.loop.invariant [] after closed)
