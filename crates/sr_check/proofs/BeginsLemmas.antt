@@ -1,5 +1,6 @@
 -- A text that begins with parts: cut into some of them and the others.
-use Rattle.std.proofs.Common.{◌≡◌, ℕ, ◌^◌, ◌<◌, ◌≤◌, List, [], ◌∷◌, ◌++◌, decimal, length, refl, sym, ap, ◌∙◌, subst, arith, append_assoc}
+use Rattle.std.proofs.Common.{◌≡◌, ℕ, ◌^◌, ◌<◌, ◌≤◌, List, [], ◌∷◌, ◌++◌, decimal, length, refl, sym, ap, ◌∙◌, subst}
+use Rattle.std.proofs.Common.{arith, append_assoc}
 use Rattle.std.proofs.lemmas.List.{append-nil, append_cancel_left, length-append}
 use Rattle.std.proofs.lemmas.List.Concat.{flat_map-append}
 use Rattle.sr_resp.specs.Reply.{Answer, Part, Bulk, bulk_string, part_text, reply_text}
@@ -9,8 +10,10 @@ use Rattle.sr_resp.specs.steps.OneSpelling.{part_text-lines}
 use Rattle.sr_check.specs.steps.Read.{Begins}
 use Rattle.sr_check.proofs.ReadLemmas.{HasPart-one}
 
-text-append : (ps qs : Answer) (after : List ℕ) → reply_text (ps ++ qs) ++ after ≡ reply_text ps ++ (reply_text qs ++ after)
-text-append ps qs after = ap (λ (t : List ℕ). t ++ after) (flat_map-append part_text ps qs) ∙ append_assoc (reply_text ps)
+text-append : (ps qs : Answer) (after : List ℕ)
+    → reply_text (ps ++ qs) ++ after ≡ reply_text ps ++ (reply_text qs ++ after)
+text-append ps qs after =
+    ap (λ (t : List ℕ). t ++ after) (flat_map-append part_text ps qs) ∙ append_assoc (reply_text ps)
     (reply_text qs) after
 
 -- some parts, and then the others
@@ -24,11 +27,12 @@ Begins-append text between after ps qs first second = record {
 pub Begins-rest : (text between after : List ℕ) (ps qs : Answer) → Begins text ps between → Begins text (ps ++ qs) after
     → Begins between qs after
 Begins-rest text between after ps qs first whole = record {
-  whole = append_cancel_left (reply_text ps) between (reply_text qs ++ after) (sym first.whole ∙ whole.whole ∙ text-append ps
-      qs after);
+  whole = append_cancel_left (reply_text ps) between (reply_text qs ++ after)
+      (sym first.whole ∙ whole.whole ∙ text-append ps qs after);
 }
 
-pub Begins-front : (text after : List ℕ) (ps qs : Answer) → Begins text (ps ++ qs) after → Begins text ps (reply_text qs ++ after)
+pub Begins-front : (text after : List ℕ) (ps qs : Answer) → Begins text (ps ++ qs) after
+    → Begins text ps (reply_text qs ++ after)
 Begins-front text after ps qs whole = record { whole = whole.whole ∙ text-append ps qs after }
 
 pub Begins-back : (text after : List ℕ) (qs : Answer) → text ≡ reply_text qs ++ after → Begins text qs after
@@ -52,11 +56,13 @@ one-text part after = ap (λ (t : List ℕ). t ++ after) (append-nil (part_text 
 pub Begins-part : (text after : List ℕ) (part : Part) → HasPart text part after → Begins text (part ∷ []) after
 Begins-part text after part has = record { whole = has.whole ∙ sym (one-text part after) }
 
-pub part-Begins : (text after : List ℕ) (part : Part) → IsSpellable part → Begins text (part ∷ []) after → HasPart text part after
+pub part-Begins : (text after : List ℕ) (part : Part) → IsSpellable part → Begins text (part ∷ []) after
+    → HasPart text part after
 part-Begins text after part fits is = record { whole = is.whole ∙ one-text part after; fits = fits }
 
 -- a part that is not the one that the text begins with
-pub other_part : (text x y : List ℕ) (p q : Part) → IsSpellable q → (p ≡ q → ⊥) → HasPart text p x → Begins text (q ∷ []) y → ⊥
+pub other_part : (text x y : List ℕ) (p q : Part) → IsSpellable q → (p ≡ q → ⊥) → HasPart text p x
+    → Begins text (q ∷ []) y → ⊥
 other_part text x y p q fits other has is = other (HasPart-one text p q x y has (part-Begins text y q fits is)).0
 
 pub no_part : (text y : List ℕ) (q : Part) → IsSpellable q → ((after : List ℕ) → HasPart text q after → ⊥)
@@ -71,8 +77,8 @@ Begins-shorter text after ps is = omega (arith, ap length is.whole, length-appen
 pub bulk_within : (text after string : List ℕ) → length text < 2 ^ 64 → Begins text (bulk_string string) after
     → length string < 2 ^ 64
 bulk_within text after string small is =
-    let shape : text ≡ 36 ∷ (decimal (length string) ++ 13 ∷ 10 ∷ (string ++ 13 ∷ 10 ∷ after)) = is.whole ∙ one-text (Bulk
-    string) after ∙ part_text-lines (Bulk string) after in
+    let shape : text ≡ 36 ∷ (decimal (length string) ++ 13 ∷ 10 ∷ (string ++ 13 ∷ 10 ∷ after)) =
+    is.whole ∙ one-text (Bulk string) after ∙ part_text-lines (Bulk string) after in
     omega (
       arith,
       ap length shape,

@@ -1,5 +1,6 @@
 -- The ids of a set of entries are found by walking over all entries.
-use Rattle.std.proofs.Common.{◌≡◌, ℕ, zero, suc, ◌+◌, ◌^◌, ◌-◌, ◌<◌, ◌≤◌, Bool, true, false, inl, inr, List, [], ◌∷◌, ◌++◌, length, get_or, take, drop, refl, sym, ap, ◌∙◌, subst, arith}
+use Rattle.std.proofs.Common.{◌≡◌, ℕ, zero, suc, ◌+◌, ◌^◌, ◌-◌, ◌<◌, ◌≤◌, Bool, true, false, inl, inr, List, [], ◌∷◌}
+use Rattle.std.proofs.Common.{◌++◌, length, get_or, take, drop, refl, sym, ap, ◌∙◌, subst, arith}
 use Rattle.std.specs.List.{All, flat_map}
 use Rattle.std.specs.List.Sorted.{IsStrictlyIncreasing}
 use Rattle.std.proofs.lemmas.Bool.{cases_lt}
@@ -17,7 +18,8 @@ use Rattle.sr_check.specs.Answer.{id_at}
 use Rattle.sr_check.specs.PlanReply.{id_answer}
 use Rattle.sr_check.specs.steps.Read.{AreRead, Begins, HasChosen, HasFlag, flagged_from, ids_of}
 use Rattle.sr_check.proofs.ReadLemmas.{HasPart-one}
-use Rattle.sr_check.proofs.BeginsLemmas.{Begins-append, Begins-front, Begins-back, Begins-one, Begins-shorter, Begins-none, part-Begins, none-Begins, bulk_within}
+use Rattle.sr_check.proofs.BeginsLemmas.{Begins-append, Begins-front, Begins-back, Begins-one, Begins-shorter}
+use Rattle.sr_check.proofs.BeginsLemmas.{Begins-none, part-Begins, none-Begins, bulk_within}
 use Rattle.sr_check.proofs.AreReadLemmas.{IsOne, AreRead-one, AreRead-more, AreRead-all}
 use Rattle.sr_check.proofs.OrderLemmas.{earlier_id}
 
@@ -45,7 +47,8 @@ abbrev pub AreFrom : ℕ → List ℕ → Type 0
 AreFrom n [] = Unit {0}
 AreFrom n (i ∷ set) = (n ≤ i) × AreFrom (i + 1) set
 
-AreFrom-rising : (n : ℕ) (set : List ℕ) → IsStrictlyIncreasing set → (0 < length set → n ≤ get_or set 0 0) → AreFrom n set
+AreFrom-rising : (n : ℕ) (set : List ℕ) → IsStrictlyIncreasing set → (0 < length set → n ≤ get_or set 0 0)
+    → AreFrom n set
 AreFrom-rising n [] rising least = tt
 AreFrom-rising n (i ∷ set) rising least =
     let next : (k : ℕ) → k + 1 < length set → get_or set k 0 < get_or set (k + 1) 0 = λ k lt.
@@ -66,19 +69,20 @@ AreFrom-above n i set lt from = (omega arith, from.1)
 
 pub one_spelling_of_id : (a b : Id) → IsId a → IsId b → spelling a ≡ spelling b → a ≡ b
 one_spelling_of_id a b valid fits e =
-    SpellsId-one 0 (spelling b) a b (subst (λ text. SpellsId 0 text a) e (spelling-reads_back 0 a valid)) (spelling-reads_back
-    0 b fits)
+    SpellsId-one 0 (spelling b) a b (subst (λ text. SpellsId 0 text a) e (spelling-reads_back 0 a valid))
+    (spelling-reads_back 0 b fits)
 
 -- the entry with this number, and those after it
 first-is : (stranded : List Stranded) (entry : Stranded) (rest : List Stranded) (n : ℕ) → entry ∷ rest ≡ drop n stranded
     → entry ≡ get_or stranded n entry
 first-is stranded entry rest n split =
-    let at : get_or (entry ∷ rest) 0 entry ≡ get_or stranded (n + 0) entry = ap (λ (es : List Stranded). get_or es 0 entry)
-    split ∙ get_or-drop n stranded 0 entry in
+    let at : get_or (entry ∷ rest) 0 entry ≡ get_or stranded (n + 0) entry =
+    ap (λ (es : List Stranded). get_or es 0 entry) split ∙ get_or-drop n stranded 0 entry in
     let e : n + 0 ≡ n = omega arith in
     at ∙ ap (λ (k : ℕ). get_or stranded k entry) e
 
-first-within : (stranded : List Stranded) (entry : Stranded) (rest : List Stranded) (n : ℕ) → entry ∷ rest ≡ drop n stranded
+first-within : (stranded : List Stranded) (entry : Stranded) (rest : List Stranded) (n : ℕ)
+    → entry ∷ rest ≡ drop n stranded
     → n < length stranded
 first-within stranded entry rest n split = omega (arith, ap length split, length-drop n stranded)
 
@@ -113,12 +117,13 @@ other_id : (stranded : List Stranded) → AreInOrder (λ a b. IsBelow a.id b.id)
     → Begins text (id_answer entry.id) y → ⊥
 other_id stranded ordered valid entry n i lt within is text x y small a b =
     let far = get_or stranded i entry in
-    let named : id_at stranded i ≡ far.id = get_or-map (λ (e : Stranded). e.id) stranded i entry (record { ms = 0; seq = 0 })
-    within in
+    let named : id_at stranded i ≡ far.id =
+    get_or-map (λ (e : Stranded). e.id) stranded i entry (record { ms = 0; seq = 0 }) within in
     let long = bulk_within text x (spelling (id_at stranded i)) small a in
     let short = bulk_within text y (spelling entry.id) small b in
-    let same = HasPart-one text (Bulk (spelling (id_at stranded i))) (Bulk (spelling entry.id)) x y (part-Begins text x (Bulk
-    (spelling (id_at stranded i))) long a) (part-Begins text y (Bulk (spelling entry.id)) short b) in
+    let same = HasPart-one text (Bulk (spelling (id_at stranded i))) (Bulk (spelling entry.id)) x y
+    (part-Begins text x (Bulk (spelling (id_at stranded i))) long a)
+    (part-Begins text y (Bulk (spelling entry.id)) short b) in
     let spelled : spelling (id_at stranded i) ≡ spelling entry.id = cc same.0 in
     let here : IsId entry.id = subst (λ e. IsId e.id) (sym is) (valid n entry (omega arith)) in
     let there : IsId far.id = valid i entry within in
@@ -129,27 +134,31 @@ other_id stranded ordered valid entry n i lt within is text x y small a b =
 -- the flags of the entries of a set
 chosen_from : (stranded : List Stranded) → AreInOrder (λ a b. IsBelow a.id b.id) stranded
     → All (λ entry. IsId entry.id) stranded → (rest : List Stranded) (n : ℕ) → rest ≡ drop n stranded
-    → (text set after : List ℕ) → length text < 2 ^ 64 → ((string others : List ℕ) → HasPart after (Bulk string) others → ⊥)
+    → (text set after : List ℕ) → length text < 2 ^ 64
+    → ((string others : List ℕ) → HasPart after (Bulk string) others → ⊥)
     → IsLeft stranded n text set after
     → (flags : List Bool) × AreRead HasFlag rest text flags after × (set ≡ flagged_from n flags)
-chosen_from stranded ordered valid [] n split text [] after small ended left = ([], none-Begins text after left.ids, refl)
+chosen_from stranded ordered valid [] n split text [] after small ended left =
+    ([], none-Begins text after left.ids, refl)
 chosen_from stranded ordered valid [] n split text (i ∷ set) after small ended left =
     let none : 0 ≡ length stranded - n = ap length split ∙ length-drop n stranded in
     absurd (omega (arith, none, left.from.0, left.within 0 0 (omega arith)))
 chosen_from stranded ordered valid (entry ∷ rest) n split text [] after small ended left =
     let same = none-Begins text after left.ids in
     let none : (x : List ℕ) → Begins text (id_answer entry.id) x → ⊥ = λ x is.
-    ended (spelling entry.id) x (subst (λ t. HasPart t (Bulk (spelling entry.id)) x) same (part-Begins text x (Bulk (spelling
-    entry.id)) (bulk_within text x (spelling entry.id) small is) is))
+    ended (spelling entry.id) x (subst (λ t. HasPart t (Bulk (spelling entry.id)) x) same
+    (part-Begins text x (Bulk (spelling entry.id)) (bulk_within text x (spelling entry.id) small is) is))
     in
-    let more = chosen_from stranded ordered valid rest (n + 1) (rest-is stranded entry rest n split) text [] after small ended
+    let more = chosen_from stranded ordered valid rest (n + 1)
+    (rest-is stranded entry rest n split) text [] after small ended
     (record { from = tt; within = left.within; ids = left.ids }) in
     (false ∷ more.0, (text, (refl, none), more.1), more.2)
 chosen_from stranded ordered valid (entry ∷ rest) n split text (i ∷ set) after small ended left =
     let within : i < length stranded = left.within 0 0 (omega arith) in
     let is = first-is stranded entry rest n split in
     let back = rest-is stranded entry rest n split in
-    let front = Begins-front text after (id_answer (id_at stranded i)) (flat_map (λ item. item) (ids_of stranded set)) left.ids in
+    let front = Begins-front text after (id_answer (id_at stranded i))
+    (flat_map (λ item. item) (ids_of stranded set)) left.ids in
     let between = reply_text (flat_map (λ item. item) (ids_of stranded set)) ++ after in
     elim (cases_lt n i) [
       | inl above ↦
@@ -161,9 +170,11 @@ chosen_from stranded ordered valid (entry ∷ rest) n split text (i ∷ set) aft
           (false ∷ more.0, (text, (refl, none), more.1), more.2)
       | inr not_above ↦
           let at : i ≡ n = omega (arith, left.from.0) in
-          let here : id_at stranded i ≡ entry.id = ap (id_at stranded) at ∙ get_or-map (λ (e : Stranded). e.id) stranded n
-          entry (record { ms = 0; seq = 0 }) (omega arith) ∙ ap (λ (e : Stranded). e.id) (sym is) in
-          let picked : Begins text (id_answer entry.id) between = subst (λ id. Begins text (id_answer id) between) here front in
+          let here : id_at stranded i ≡ entry.id = ap (id_at stranded) at
+          ∙ get_or-map (λ (e : Stranded). e.id) stranded n entry (record { ms = 0; seq = 0 }) (omega arith)
+          ∙ ap (λ (e : Stranded). e.id) (sym is) in
+          let picked : Begins text (id_answer entry.id) between =
+          subst (λ id. Begins text (id_answer id) between) here front in
           let shorter = Begins-shorter text between (id_answer entry.id) picked in
           let more = chosen_from stranded ordered valid rest (n + 1) back between set after (omega arith) ended
           (record {
@@ -176,7 +187,8 @@ chosen_from stranded ordered valid (entry ∷ rest) n split text (i ∷ set) aft
     ]
 
 pub flags_of : (stranded : List Stranded) → AreInOrder (λ a b. IsBelow a.id b.id) stranded
-    → All (λ entry. IsId entry.id) stranded → (text set after : List ℕ) → length text < 2 ^ 64 → HasChosen stranded text set after
+    → All (λ entry. IsId entry.id) stranded → (text set after : List ℕ) → length text < 2 ^ 64
+    → HasChosen stranded text set after
     → (flags : List Bool) × AreRead HasFlag stranded text flags after × (set ≡ flagged_from 0 flags)
 flags_of stranded ordered valid text set after small has =
     chosen_from stranded ordered valid stranded 0 refl text set after small has.ended
@@ -202,7 +214,8 @@ IsWalked-start stranded text = record {
       arith);
 }
 
-valid-more : (stranded : List Stranded) (n : ℕ) (entry : Stranded) → n < length stranded → entry ≡ get_or stranded n entry
+valid-more : (stranded : List Stranded) (n : ℕ) (entry : Stranded) → n < length stranded
+    → entry ≡ get_or stranded n entry
     → IsId entry.id → ((k : ℕ) (d : Stranded) → k < n → IsId (get_or stranded k d).id)
     → (k : ℕ) (d : Stranded) → k < n + 1 → IsId (get_or stranded k d).id
 valid-more stranded n entry lt is one valid k d less = elim (cases_lt k n) [
@@ -228,7 +241,8 @@ IsWalked-found stranded n text set left next entry lt is one walked begins = rec
   valid = valid-more stranded n entry lt is one walked.valid;
 }
 
-pub IsWalked-passed : (stranded : List Stranded) (n : ℕ) (text set left : List ℕ) (entry : Stranded) → n < length stranded
+pub IsWalked-passed : (stranded : List Stranded) (n : ℕ) (text set left : List ℕ) (entry : Stranded)
+    → n < length stranded
     → entry ≡ get_or stranded n entry → IsId entry.id
     → IsWalked stranded n text set left → ((others : List ℕ) → Begins left (id_answer entry.id) others → ⊥)
     → IsWalked stranded (n + 1) text set left
@@ -251,15 +265,17 @@ ids-read stranded (entry ∷ rest) n split text after (true ∷ flags) (between,
     let more = ids-read stranded rest (n + 1) (rest-is stranded entry rest n split) between after flags others in
     let within = first-within stranded entry rest n split in
     let is = first-is stranded entry rest n split in
-    let here : id_at stranded n ≡ entry.id = get_or-map (λ (e : Stranded). e.id) stranded n entry (record { ms = 0; seq = 0 })
-    within ∙ ap (λ (e : Stranded). e.id) (sym is) in
-    let front : Begins text (id_answer (id_at stranded n)) between = subst (λ id. Begins text (id_answer id) between) (sym
-    here) first in
-    Begins-append text between after (id_answer (id_at stranded n)) (flat_map (λ item. item) (ids_of stranded (flagged_from (n
-    + 1) flags))) front more
+    let here : id_at stranded n ≡ entry.id =
+    get_or-map (λ (e : Stranded). e.id) stranded n entry (record { ms = 0; seq = 0 }) within
+    ∙ ap (λ (e : Stranded). e.id) (sym is) in
+    let front : Begins text (id_answer (id_at stranded n)) between =
+    subst (λ id. Begins text (id_answer id) between) (sym here) first in
+    Begins-append text between after (id_answer (id_at stranded n))
+    (flat_map (λ item. item) (ids_of stranded (flagged_from (n + 1) flags))) front more
 ids-read stranded (entry ∷ rest) n split text after (false ∷ flags) (between, passed, others) =
     let more = ids-read stranded rest (n + 1) (rest-is stranded entry rest n split) between after flags others in
-    subst (λ t. Begins t (flat_map (λ item. item) (ids_of stranded (flagged_from (n + 1) flags))) after) (sym passed.0) more
+    subst (λ t. Begins t (flat_map (λ item. item) (ids_of stranded (flagged_from (n + 1) flags))) after)
+    (sym passed.0) more
 
 -- and they are numbers of entries
 flagged-within : (rest : List Stranded) (n : ℕ) (text after : List ℕ) (flags : List Bool)
@@ -269,15 +285,16 @@ flagged-within [] n text after (flag ∷ flags) read = absurd read
 flagged-within (entry ∷ rest) n text after [] read = absurd read
 flagged-within (entry ∷ rest) n text after (true ∷ flags) (between, first, others) =
     All-cons (n + suc (length rest)) n (flagged_from (n + 1) flags) (omega arith)
-    (All-up (n + 1 + length rest) (n + suc (length rest)) (flagged_from (n + 1) flags) (omega arith) (flagged-within rest (n +
-    1) between after flags others))
+    (All-up (n + 1 + length rest) (n + suc (length rest)) (flagged_from (n + 1) flags) (omega arith)
+    (flagged-within rest (n + 1) between after flags others))
 flagged-within (entry ∷ rest) n text after (false ∷ flags) (between, first, others) =
-    All-up (n + 1 + length rest) (n + suc (length rest)) (flagged_from (n + 1) flags) (omega arith) (flagged-within rest (n +
-    1) between after flags others)
+    All-up (n + 1 + length rest) (n + suc (length rest)) (flagged_from (n + 1) flags) (omega arith)
+    (flagged-within rest (n + 1) between after flags others)
 
 walked-read : (stranded : List Stranded) (n : ℕ) (text set left : List ℕ) → length stranded ≤ n
     → (walked : IsWalked stranded n text set left) → AreRead HasFlag stranded text walked.flags left
-walked-read stranded n text set left past walked = AreRead-all HasFlag stranded n text walked.flags left past walked.read
+walked-read stranded n text set left past walked =
+    AreRead-all HasFlag stranded n text walked.flags left past walked.read
 
 pub IsWalked-ids : (stranded : List Stranded) (n : ℕ) (text set left : List ℕ) → length stranded ≤ n
     → IsWalked stranded n text set left → Begins text (flat_map (λ item. item) (ids_of stranded set)) left
@@ -297,11 +314,11 @@ pub IsWalked-one : (stranded : List Stranded) → AreInOrder (λ a b. IsBelow a.
     → (other after : List ℕ) → HasChosen stranded text other after → (set ≡ other) × (left ≡ after)
 IsWalked-one stranded ordered n text set left past small walked other after has =
     let claimed = flags_of stranded ordered (λ k d lt. walked.valid k d (omega arith)) text other after small has in
-    let same = AreRead-one HasFlag HasFlag-one stranded text walked.flags claimed.0 left after (walked-read stranded n text set
-    left past walked) claimed.1 in
+    let same = AreRead-one HasFlag HasFlag-one stranded text walked.flags claimed.0 left after
+    (walked-read stranded n text set left past walked) claimed.1 in
     (walked.numbers ∙ ap (flagged_from 0) same.0 ∙ sym claimed.2, same.1)
 
 pub IsWalked-same : (stranded : List Stranded) (n : ℕ) (text set other left next : List ℕ) → other ≡ set → next ≡ left
     → IsWalked stranded n text set left → IsWalked stranded n text other next
-IsWalked-same stranded n text set other left next e f walked = subst (λ t. IsWalked stranded n text other t) (sym f) (subst (λ
-    ns. IsWalked stranded n text ns left) (sym e) walked)
+IsWalked-same stranded n text set other left next e f walked = subst (λ t. IsWalked stranded n text other t) (sym f)
+    (subst (λ ns. IsWalked stranded n text ns left) (sym e) walked)

@@ -50,7 +50,8 @@ plan-shown shown p reply text read costs n done posed word plan shows = record {
 -- no shortage was read
 pub shortage-unread : (shown : Shown) (p : Tiered) (reply text : List ℕ) (reason : Reason) → p ≡ problem_of shown
     → Begins reply (array_header 4 ++ bulk_string (codes "none")) text → length text < 2 ^ 64
-    → ((set : List ℕ) → IsShortage p set → IsShortageText shown text set → ⊥) → IsVerified shown reply (says.Wrong reason)
+    → ((set : List ℕ) → IsShortage p set → IsShortageText shown text set → ⊥)
+    → IsVerified shown reply (says.Wrong reason)
 shortage-unread shown p reply text reason posed word small none answer applied shows e =
     let claimed = shortage-claimed shown reply text answer applied word small shows e in
     none claimed.set (subst (λ q. IsShortage q claimed.set) (sym posed) claimed.shows) claimed.read
@@ -61,8 +62,8 @@ pub shortage-unshown : (shown : Shown) (p : Tiered) (reply text read : List ℕ)
     → ((set : List ℕ) → IsShortage p set → IsShortageText shown text set → read ≡ set) → (IsShortage p read → ⊥)
     → IsVerified shown reply (says.Wrong reason)
 shortage-unshown shown p reply text read reason posed word small one none =
-    shortage-unread shown p reply text reason posed word small (λ set shows is. none (subst (IsShortage p) (sym (one set shows
-    is)) shows))
+    shortage-unread shown p reply text reason posed word small
+    (λ set shows is. none (subst (IsShortage p) (sym (one set shows is)) shows))
 
 -- and it has not
 pub shortage-shown : (shown : Shown) (p : Tiered) (reply text read : List ℕ) (places : ℕ) → p ≡ problem_of shown

@@ -10,7 +10,8 @@ use Rattle.sr_check.specs.Answer.{name_at}
 use Rattle.sr_check.specs.PlanReply.{id_answer}
 use Rattle.sr_check.specs.steps.Read.{Begins, HasMove}
 use Rattle.sr_check.proofs.ReadLemmas.{HasPart-one}
-use Rattle.sr_check.proofs.BeginsLemmas.{Begins-append, Begins-rest, Begins-front, Begins-back, Begins-part, part-Begins}
+use Rattle.sr_check.proofs.BeginsLemmas.{Begins-append, Begins-rest, Begins-front, Begins-back, Begins-part}
+use Rattle.sr_check.proofs.BeginsLemmas.{part-Begins}
 use Rattle.sr_check.proofs.AreReadLemmas.{IsOne}
 use Rattle.sr_check.proofs.OrderLemmas.{one_consumer}
 
@@ -26,8 +27,8 @@ last_bulk text x y ps a b small short first second =
 
 pub HasMove-one : (live : List Live) → AreInOrder (λ a b. ComesBefore a.name b.name) live → IsOne (HasMove live)
 HasMove-one live ordered entry text c d x y a b =
-    let same = last_bulk text x y (array_header 2 ++ id_answer entry.id) (name_at live c) (name_at live d) a.named b.named
-    a.begins b.begins in
+    let same = last_bulk text x y (array_header 2 ++ id_answer entry.id) (name_at live c)
+    (name_at live d) a.named b.named a.begins b.begins in
     (one_consumer live ordered c d a.is_live b.is_live same.0, same.1)
 
 -- ---- a move is read part by part
@@ -54,16 +55,17 @@ pub move-name : (live : List Live) (entry : Stranded) (text items name : List �
 move-name live entry text items name c after header id has =
     let rest = Begins-rest text items after (array_header 2) (id_answer entry.id ++ bulk_string (name_at live c)) header
     has.begins in
-    part-Begins name after (Bulk (name_at live c)) has.named (Begins-rest items name after (id_answer entry.id) (bulk_string
-    (name_at live c)) id rest)
+    part-Begins name after (Bulk (name_at live c)) has.named
+    (Begins-rest items name after (id_answer entry.id) (bulk_string (name_at live c)) id rest)
 
-pub no_move-name : (live : List Live) (entry : Stranded) (text items name string others : List ℕ) (c : ℕ) (after : List ℕ)
+pub no_move-name : (live : List Live) (entry : Stranded) (text items name string others : List ℕ)
+    (c : ℕ) (after : List ℕ)
     → Begins text (array_header 2) items → Begins items (id_answer entry.id) name
     → HasPart name (Bulk string) others → ((c : ℕ) → c < length live → name_at live c ≡ string → ⊥)
     → HasMove live entry text c after → ⊥
 no_move-name live entry text items name string others c after header id is none has =
-    let same = HasPart-one name (Bulk (name_at live c)) (Bulk string) after others (move-name live entry text items name c
-    after header id has) is in
+    let same = HasPart-one name (Bulk (name_at live c)) (Bulk string) after others
+    (move-name live entry text items name c after header id has) is in
     none c has.is_live (cc same.0)
 
 pub HasMove-read : (live : List Live) (entry : Stranded) (text items name string after : List ℕ) (c : ℕ)
@@ -71,10 +73,11 @@ pub HasMove-read : (live : List Live) (entry : Stranded) (text items name string
     → HasPart name (Bulk string) after → c < length live → name_at live c ≡ string → HasMove live entry text c after
 HasMove-read live entry text items name string after c header id is lt named =
     let there : HasPart name (Bulk (name_at live c)) after = subst (λ s. HasPart name (Bulk s) after) (sym named) is in
-    let last = Begins-append items name after (id_answer entry.id) (bulk_string (name_at live c)) id (Begins-part name after
-    (Bulk (name_at live c)) there) in
+    let last = Begins-append items name after (id_answer entry.id) (bulk_string (name_at live c)) id
+    (Begins-part name after (Bulk (name_at live c)) there) in
     record {
       is_live = lt;
       named = there.fits;
-      begins = Begins-append text items after (array_header 2) (id_answer entry.id ++ bulk_string (name_at live c)) header last;
+      begins = Begins-append text items after (array_header 2)
+          (id_answer entry.id ++ bulk_string (name_at live c)) header last;
     }

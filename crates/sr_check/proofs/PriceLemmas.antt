@@ -1,5 +1,7 @@
 -- The prices of consumers are there in one way, and are read one by one.
-use Rattle.std.proofs.Common.{◌≡◌, ℕ, suc, ◌+◌, ◌^◌, ◌<◌, ◌≤◌, pos, true, false, cond, Option, Some, None, is_some, List, [], ◌∷◌, ◌++◌, length, get_or, map, take, append_assoc, refl, sym, ap, ◌∙◌, subst, arith}
+use Rattle.std.proofs.Common.{◌≡◌, ℕ, suc, ◌+◌, ◌^◌, ◌<◌, ◌≤◌, pos, true, false, cond, Option, Some, None, is_some}
+use Rattle.std.proofs.Common.{List, [], ◌∷◌, ◌++◌, length, get_or, map, take, append_assoc, refl, sym, ap, ◌∙◌, subst}
+use Rattle.std.proofs.Common.{arith}
 use Rattle.std.specs.Option.{is_none, option_to_list}
 use Rattle.std.specs.List.{flat_map}
 use Rattle.std.proofs.lemmas.List.{append-nil, length-map}
@@ -12,7 +14,8 @@ use Rattle.sr_resp.specs.steps.Decoding.{HasPart}
 use Rattle.sr_check.specs.Answer.{AreTold}
 use Rattle.sr_check.specs.steps.Read.{AreRead, ArePrices, Begins, HasPrices}
 use Rattle.sr_check.proofs.ReadLemmas.{HasPart-one}
-use Rattle.sr_check.proofs.BeginsLemmas.{Begins-append, Begins-cut, Begins-rest, Begins-front, none-Begins, Begins-part, part-Begins}
+use Rattle.sr_check.proofs.BeginsLemmas.{Begins-append, Begins-cut, Begins-rest, Begins-front, none-Begins, Begins-part}
+use Rattle.sr_check.proofs.BeginsLemmas.{part-Begins}
 use Rattle.sr_check.proofs.AreReadLemmas.{AreRead-all, AreRead-more, HasArray-one, HasArray-stuck, IsOne}
 use Rattle.sr_check.proofs.ListLemmas.{flat}
 
@@ -98,7 +101,8 @@ prices-begin : (consumer : Live) (text prices after : List ℕ) (m : ℕ) → m 
     → HasPrices consumer text prices after
     → Begins text (array_header m ++ (bulk_string consumer.name ++ listed prices)) after
 prices-begin consumer text prices after m counted has =
-    let many : suc (length (map price_part prices)) ≡ m = omega (arith, counted, has.each, length-map prices price_part) in
+    let many : suc (length (map price_part prices)) ≡ m =
+    omega (arith, counted, has.each, length-map prices price_part) in
     subst (λ k. Begins text (array_header k ++ (bulk_string consumer.name ++ listed prices)) after) many has.begins
 
 -- no header
@@ -112,8 +116,8 @@ prices-name : (consumer : Live) (text name prices after : List ℕ) (m : ℕ) �
     → Begins text (array_header m) name → HasPrices consumer text prices after
     → Begins name (bulk_string consumer.name ++ listed prices) after
 prices-name consumer text name prices after m counted header has =
-    Begins-rest text name after (array_header m) (bulk_string consumer.name ++ listed prices) header (prices-begin consumer
-    text prices after m counted has)
+    Begins-rest text name after (array_header m) (bulk_string consumer.name ++ listed prices) header
+    (prices-begin consumer text prices after m counted has)
 
 -- after the header, no such name
 pub no_prices-name : (consumer : Live) (text name prices after : List ℕ) (m : ℕ) → m ≡ tier_count consumer + 1
@@ -128,8 +132,8 @@ prices-listed : (consumer : Live) (text name first prices after : List ℕ) (m :
     → Begins text (array_header m) name → Begins name (bulk_string consumer.name) first
     → HasPrices consumer text prices after → Begins first (listed prices) after
 prices-listed consumer text name first prices after m counted header named has =
-    Begins-rest name first after (bulk_string consumer.name) (listed prices) named (prices-name consumer text name prices
-    after m counted header has)
+    Begins-rest name first after (bulk_string consumer.name) (listed prices) named
+    (prices-name consumer text name prices after m counted header has)
 
 pub no_prices-first : (consumer : Live) (text name first prices after : List ℕ) (m : ℕ) → m ≡ tier_count consumer + 1
     → Begins text (array_header m) name → Begins name (bulk_string consumer.name) first
@@ -154,11 +158,13 @@ HasPrices-read : (consumer : Live) (text name first prices after : List ℕ) (m 
 HasPrices-read consumer text name first prices after m counted header named each told is =
     let many : m ≡ suc (length (map price_part prices)) = omega (arith, counted, each, length-map prices price_part) in
     let last = Begins-append name first after (bulk_string consumer.name) (listed prices) named is in
-    let whole = Begins-append text name after (array_header m) (bulk_string consumer.name ++ listed prices) header last in
+    let whole =
+    Begins-append text name after (array_header m) (bulk_string consumer.name ++ listed prices) header last in
     record {
       each = each;
       told = told;
-      begins = subst (λ k. Begins text (array_header k ++ (bulk_string consumer.name ++ listed prices)) after) many whole;
+      begins =
+          subst (λ k. Begins text (array_header k ++ (bulk_string consumer.name ++ listed prices)) after) many whole;
     }
 
 pub HasPrices-one_tier : (consumer : Live) (text name first after : List ℕ) (m n : ℕ) → m ≡ tier_count consumer + 1
@@ -175,8 +181,8 @@ pub HasPrices-two_tiers : (consumer : Live) (text name first second after : List
 HasPrices-two_tiers consumer text name first second after m n k counted header named priced next two =
     HasPrices-read consumer text name first (n ∷ k ∷ []) after m counted header named (sym two)
     (told_more n (k ∷ []) priced.fits (told_more k [] next.fits told_none))
-    (Begins-append first second after (integer (pos n)) (integer (pos k)) (Begins-part first second (Int (pos n)) priced)
-    (Begins-part second after (Int (pos k)) next))
+    (Begins-append first second after (integer (pos n)) (integer (pos k))
+    (Begins-part first second (Int (pos n)) priced) (Begins-part second after (Int (pos k)) next))
 
 pub HasPrices-one : IsOne HasPrices
 HasPrices-one consumer text ps qs x y a b =

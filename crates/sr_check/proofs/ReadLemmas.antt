@@ -14,7 +14,8 @@ tail-of a b x y e = cc e
 head-of : (a b : ℕ) (x y : List ℕ) → a ∷ x ≡ b ∷ y → a ≡ b
 head-of a b x y e = cc e
 
-pub HasNumber-marked : (text : List ℕ) (first sign n : ℕ) (after : List ℕ) → HasNumber (first ∷ text) sign n after → first ≡ sign
+pub HasNumber-marked : (text : List ℕ) (first sign n : ℕ) (after : List ℕ) → HasNumber (first ∷ text) sign n after
+    → first ≡ sign
 HasNumber-marked text first sign n after has = head-of first sign text (decimal n ++ 13 ∷ 10 ∷ after) has.whole
 
 pub HasNumber-none : (sign n : ℕ) (after : List ℕ) → HasNumber [] sign n after → ⊥
@@ -60,14 +61,17 @@ HasNumber-from_line text front rest first sign n marked is digits small =
 pub HasPart-header : (text : List ℕ) (n : ℕ) (after : List ℕ) → HasNumber text 42 n after → HasPart text (Array n) after
 HasPart-header text n after has = record { whole = has.whole ∙ sym (part_text-lines (Array n) after); fits = has.small }
 
-pub HasNumber-of_header : (text : List ℕ) (n : ℕ) (after : List ℕ) → HasPart text (Array n) after → HasNumber text 42 n after
+pub HasNumber-of_header : (text : List ℕ) (n : ℕ) (after : List ℕ) → HasPart text (Array n) after
+    → HasNumber text 42 n after
 HasNumber-of_header text n after has = record { whole = has.whole ∙ part_text-lines (Array n) after; small = has.fits }
 
 pub HasPart-integer : (text : List ℕ) (n : ℕ) (after : List ℕ) → HasNumber text 58 n after → n < 2 ^ 63
     → HasPart text (Int (pos n)) after
-HasPart-integer text n after has small = record { whole = has.whole ∙ sym (part_text-lines (Int (pos n)) after); fits = small }
+HasPart-integer text n after has small =
+    record { whole = has.whole ∙ sym (part_text-lines (Int (pos n)) after); fits = small }
 
-pub HasNumber-of_integer : (text : List ℕ) (n : ℕ) (after : List ℕ) → HasPart text (Int (pos n)) after → HasNumber text 58 n after
+pub HasNumber-of_integer : (text : List ℕ) (n : ℕ) (after : List ℕ) → HasPart text (Int (pos n)) after
+    → HasNumber text 58 n after
 HasNumber-of_integer text n after has = record {
   whole = has.whole ∙ part_text-lines (Int (pos n)) after;
   small = omega (
@@ -79,14 +83,16 @@ HasNumber-of_integer text n after has = record {
 pub HasPart-bulk : (text string after rest : List ℕ) (n : ℕ) → HasNumber text 36 n rest → length string ≡ n
     → rest ≡ string ++ 13 ∷ 10 ∷ after → HasPart text (Bulk string) after
 HasPart-bulk text string after rest n has len e =
-    let shape : 36 ∷ (decimal n ++ 13 ∷ 10 ∷ rest) ≡ 36 ∷ (decimal (length string) ++ 13 ∷ 10 ∷ (string ++ 13 ∷ 10 ∷ after)) =
-    ap (λ (m : ℕ). 36 ∷ (decimal m ++ 13 ∷ 10 ∷ rest)) (sym len) ∙ ap (λ (t : List ℕ). 36 ∷ (decimal (length string) ++ 13 ∷ 10
-    ∷ t)) e in
+    let shape : 36 ∷ (decimal n ++ 13 ∷ 10 ∷ rest)
+    ≡ 36 ∷ (decimal (length string) ++ 13 ∷ 10 ∷ (string ++ 13 ∷ 10 ∷ after)) =
+    ap (λ (m : ℕ). 36 ∷ (decimal m ++ 13 ∷ 10 ∷ rest)) (sym len)
+    ∙ ap (λ (t : List ℕ). 36 ∷ (decimal (length string) ++ 13 ∷ 10 ∷ t)) e in
     record { whole = has.whole ∙ shape ∙ sym (part_text-lines (Bulk string) after); fits = rw len has.small }
 
 pub HasNumber-of_bulk : (text string after : List ℕ) → HasPart text (Bulk string) after
     → HasNumber text 36 (length string) (string ++ 13 ∷ 10 ∷ after)
-HasNumber-of_bulk text string after has = record { whole = has.whole ∙ part_text-lines (Bulk string) after; small = has.fits }
+HasNumber-of_bulk text string after has =
+    record { whole = has.whole ∙ part_text-lines (Bulk string) after; small = has.fits }
 
 -- a number is there in one way
 number_to_header : (text : List ℕ) (sign n : ℕ) (after : List ℕ) → HasNumber text sign n after
@@ -108,8 +114,9 @@ HasPart-one text p q x y a b = one_part p q x y a.fits b.fits (sym a.whole ∙ b
 
 -- a bulk string whose length was read
 pub no_bulk : (text rest string after : List ℕ) (n : ℕ) → HasNumber text 36 n rest
-    → ((string after : List ℕ) → length string ≡ n → rest ≡ string ++ 13 ∷ 10 ∷ after → ⊥) → HasPart text (Bulk string) after → ⊥
+    → ((string after : List ℕ) → length string ≡ n → rest ≡ string ++ 13 ∷ 10 ∷ after → ⊥)
+    → HasPart text (Bulk string) after → ⊥
 no_bulk text rest string after n has none is =
-    let same = HasNumber-one text 36 (length string) n (string ++ 13 ∷ 10 ∷ after) rest (HasNumber-of_bulk text string after
-    is) has in
+    let same = HasNumber-one text 36 (length string) n (string ++ 13 ∷ 10 ∷ after) rest
+    (HasNumber-of_bulk text string after is) has in
     none string after same.0 (sym same.1)

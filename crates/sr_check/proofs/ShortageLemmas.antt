@@ -1,5 +1,6 @@
 -- A shortage's text: what is read of it, and what it spells.
-use Rattle.std.proofs.Common.{◌≡◌, ℕ, ◌^◌, ◌<◌, ◌≤◌, pos, Bool, true, false, List, [], ◌∷◌, ◌++◌, codes, length, map, refl, sym, ap, ◌∙◌, subst, arith}
+use Rattle.std.proofs.Common.{◌≡◌, ℕ, ◌^◌, ◌<◌, ◌≤◌, pos, Bool, true, false, List, [], ◌∷◌, ◌++◌, codes, length, map}
+use Rattle.std.proofs.Common.{refl, sym, ap, ◌∙◌, subst, arith}
 use Rattle.std.specs.List.{All}
 use Rattle.std.proofs.lemmas.List.{append-nil, length-map, length-append}
 use Rattle.sr_transport.specs.Certificate.{IsShortage, places_of}
@@ -16,7 +17,8 @@ use Rattle.sr_check.specs.Answer.{Answer, IsShown, best, short}
 use Rattle.sr_check.specs.PlanReply.{share_answer, reached_from, plan_word, verdict_answer}
 use Rattle.sr_check.specs.steps.Read.{Begins, HasChosen, IsShortageText, ids_of, rooms_answer}
 use Rattle.sr_check.proofs.ReadLemmas.{HasPart-one}
-use Rattle.sr_check.proofs.BeginsLemmas.{Begins-append, Begins-cut, Begins-whole, Begins-last, Begins-none, Begins-part, part-Begins, Begins-shorter, one-text}
+use Rattle.sr_check.proofs.BeginsLemmas.{Begins-append, Begins-cut, Begins-whole, Begins-last, Begins-none, Begins-part}
+use Rattle.sr_check.proofs.BeginsLemmas.{part-Begins, Begins-shorter, one-text}
 use Rattle.sr_check.proofs.ListLemmas.{flat}
 use Rattle.sr_check.proofs.PlanLemmas.{same_word, plan_word-short, after_plan_word, after_none}
 
@@ -27,12 +29,12 @@ first-byte a b x y e = cc e
 array-bulk : (text : List ℕ) (n : ℕ) (after string others : List ℕ) → Begins text (array_header n) after
     → HasPart text (Bulk string) others → ⊥
 array-bulk text n after string others is has =
-    let array : text ≡ 42 ∷ (line (Array n) ++ (13 ∷ 10 ∷ after)) = is.whole ∙ one-text (Array n) after ∙ part_text-lines
-    (Array n) after in
-    let bulk : text ≡ 36 ∷ (line (Bulk string) ++ (13 ∷ 10 ∷ tail (Bulk string) others)) = has.whole ∙ part_text-lines (Bulk
-    string) others in
-    let marks = first-byte 42 36 (line (Array n) ++ (13 ∷ 10 ∷ after)) (line (Bulk string) ++ (13 ∷ 10 ∷ tail (Bulk string)
-    others)) (sym array ∙ bulk) in
+    let array : text ≡ 42 ∷ (line (Array n) ++ (13 ∷ 10 ∷ after)) =
+    is.whole ∙ one-text (Array n) after ∙ part_text-lines (Array n) after in
+    let bulk : text ≡ 36 ∷ (line (Bulk string) ++ (13 ∷ 10 ∷ tail (Bulk string) others)) =
+    has.whole ∙ part_text-lines (Bulk string) others in
+    let marks = first-byte 42 36 (line (Array n) ++ (13 ∷ 10 ∷ after))
+    (line (Bulk string) ++ (13 ∷ 10 ∷ tail (Bulk string) others)) (sym array ∙ bulk) in
     absurd (omega (arith, marks))
 
 -- after the ids come the rooms, which are an array
@@ -56,8 +58,9 @@ HasChosen-shortage shown p text set posed shows is = record {
 rooms-moved : (q p : Tiered) (live : List Live) (set read left rooms after : List ℕ) → p ≡ q → read ≡ set → rooms ≡ left
     → Begins left (rooms_answer q set live) after → Begins rooms (rooms_answer p read live) after
 rooms-moved q p live set read left rooms after e f g is =
-    subst (λ t. Begins t (rooms_answer p read live) after) (sym g) (subst (λ ns. Begins left (rooms_answer p ns live) after)
-    (sym f) (subst (λ o. Begins left (rooms_answer o set live) after) (sym e) is))
+    subst (λ t. Begins t (rooms_answer p read live) after) (sym g)
+    (subst (λ ns. Begins left (rooms_answer p ns live) after) (sym f)
+    (subst (λ o. Begins left (rooms_answer o set live) after) (sym e) is))
 
 places-moved : (q p : Tiered) (set read left : List ℕ) → p ≡ q → read ≡ set
     → Begins left (integer (pos (places_of q set))) [] → Begins left (integer (pos (places_of p read))) []
@@ -87,17 +90,20 @@ pub shortage-known : (shown : Shown) (p : Tiered) (text ids read rooms set : Lis
 shortage-known shown p text ids read rooms set n posed header chosen shows is =
     let headers = HasPart-one text (Array n) (Array (length set)) ids is.ids_at header is.header in
     let claimed = HasChosen-shortage shown p text set posed shows is in
-    let one = chosen set is.rooms_at (subst (λ t. HasChosen shown.stranded t set is.rooms_at) (sym headers.1) claimed) in
+    let one =
+    chosen set is.rooms_at (subst (λ t. HasChosen shown.stranded t set is.rooms_at) (sym headers.1) claimed) in
     record {
       counted = cc headers.0;
       same = one.0;
       places_at = is.places_at;
-      rooms_are = rooms-moved (problem_of shown) p shown.live set read is.rooms_at rooms is.places_at posed one.0 one.1 is.rooms;
+      rooms_are = rooms-moved (problem_of shown) p shown.live set read is.rooms_at rooms is.places_at posed
+          one.0 one.1 is.rooms;
       places_are = places-moved (problem_of shown) p set read is.places_at posed one.0 is.places;
     }
 
 -- the text is read
-pub IsShortageText-read : (shown : Shown) (p : Tiered) (text ids rooms places set : List ℕ) (n : ℕ) → p ≡ problem_of shown
+pub IsShortageText-read : (shown : Shown) (p : Tiered) (text ids rooms places set : List ℕ) (n : ℕ)
+    → p ≡ problem_of shown
     → HasPart text (Array n) ids → length set ≡ n → Begins ids (flat (ids_of shown.stranded set)) rooms
     → Begins rooms (rooms_answer p set shown.live) places → Begins places (integer (pos (places_of p set))) []
     → IsShortageText shown text set
@@ -121,13 +127,15 @@ shortage-spelled shown reply text set word is =
     let rooms = rooms_answer (problem_of shown) set shown.live in
     let places = integer (pos (places_of (problem_of shown) set)) in
     let many : length set ≡ length ids = sym (length-map set _) in
-    let header : Begins text (array_header (length ids)) is.ids_at = subst (λ n. Begins text (array_header n) is.ids_at) many
+    let header : Begins text (array_header (length ids)) is.ids_at =
+    subst (λ n. Begins text (array_header n) is.ids_at) many
     (Begins-part text is.ids_at (Array (length set)) is.header) in
     let listed = Begins-append text is.ids_at is.rooms_at (array_header (length ids)) (flat ids) header is.ids in
     let end = Begins-append is.places_at [] [] places [] is.places (Begins-none [] [] refl) in
     let last = Begins-append is.rooms_at is.places_at [] rooms (places ++ []) is.rooms end in
     let rest = Begins-append text is.rooms_at [] (array_of ids) (rooms ++ (places ++ [])) listed last in
-    let whole = Begins-append reply text [] (array_header 4 ++ bulk_string (codes "none")) (after_none shown set) word rest in
+    let whole =
+    Begins-append reply text [] (array_header 4 ++ bulk_string (codes "none")) (after_none shown set) word rest in
     whole.whole ∙ append-nil (reply_text (verdict_answer shown (short set) false))
 
 -- and a right answer's reply is read
@@ -173,22 +181,25 @@ pub record IsClaimedShort (shown : Shown) (text : List ℕ) : Type 0 where
 
 pub shortage-claimed : (shown : Shown) (reply text : List ℕ) (answer : Answer) (applied : Bool)
     → Begins reply (array_header 4 ++ bulk_string (codes "none")) text → length text < 2 ^ 64
-    → IsShown (problem_of shown) answer → reply ≡ reply_text (verdict_answer shown answer applied) → IsClaimedShort shown text
+    → IsShown (problem_of shown) answer → reply ≡ reply_text (verdict_answer shown answer applied)
+    → IsClaimedShort shown text
 shortage-claimed shown reply text (best assign prices total) applied word small shows e =
-    let whole : Begins reply ((array_header 5 ++ bulk_string (plan_word applied)) ++ after_plan_word shown assign prices total)
-    [] = Begins-whole reply (verdict_answer shown (best assign prices total) applied) e in
-    let cut = Begins-cut reply [] (array_header 5 ++ bulk_string (plan_word applied)) (after_plan_word shown assign prices
-    total) whole in
-    let same = same_word reply text cut.0 4 5 (codes "none") (plan_word applied) (omega arith) (omega arith) (omega arith)
-    (plan_word-short applied) word cut.1 in
+    let whole : Begins reply
+    ((array_header 5 ++ bulk_string (plan_word applied)) ++ after_plan_word shown assign prices total) [] =
+    Begins-whole reply (verdict_answer shown (best assign prices total) applied) e in
+    let cut = Begins-cut reply [] (array_header 5 ++ bulk_string (plan_word applied))
+    (after_plan_word shown assign prices total) whole in
+    let same = same_word reply text cut.0 4 5 (codes "none") (plan_word applied) (omega arith) (omega arith)
+    (omega arith) (plan_word-short applied) word cut.1 in
     absurd (omega (arith, same.0))
 shortage-claimed shown reply text (short set) applied word small shows e =
-    let whole : Begins reply ((array_header 4 ++ bulk_string (codes "none")) ++ after_none shown set) [] = Begins-whole reply
-    (verdict_answer shown (short set) applied) e in
+    let whole : Begins reply ((array_header 4 ++ bulk_string (codes "none")) ++ after_none shown set) [] =
+    Begins-whole reply (verdict_answer shown (short set) applied) e in
     let cut = Begins-cut reply [] (array_header 4 ++ bulk_string (codes "none")) (after_none shown set) whole in
-    let same = same_word reply text cut.0 4 4 (codes "none") (codes "none") (omega arith) (omega arith) (omega arith) (omega
-    arith) word cut.1 in
-    let rest : Begins text (after_none shown set) [] = subst (λ t. Begins t (after_none shown set) []) (sym same.2) cut.2 in
+    let same = same_word reply text cut.0 4 4 (codes "none") (codes "none") (omega arith) (omega arith) (omega arith)
+    (omega arith) word cut.1 in
+    let rest : Begins text (after_none shown set) [] =
+    subst (λ t. Begins t (after_none shown set) []) (sym same.2) cut.2 in
     record { set = set; shows = shows; read = short-read shown text set small rest }
 
 -- a reply with neither word is that of no answer
@@ -198,14 +209,16 @@ pub no_answer : (shown : Shown) (reply : List ℕ) → ((after : List ℕ)
     → ((after : List ℕ) → Begins reply (array_header 4 ++ bulk_string (codes "none")) after → ⊥)
     → (answer : Answer) (applied : Bool) → reply ≡ reply_text (verdict_answer shown answer applied) → ⊥
 no_answer shown reply plan done none (best assign prices total) true e =
-    let cut = Begins-cut reply [] (array_header 5 ++ bulk_string (codes "done")) (after_plan_word shown assign prices total)
+    let cut = Begins-cut reply [] (array_header 5 ++ bulk_string (codes "done"))
+    (after_plan_word shown assign prices total)
     (Begins-whole reply (verdict_answer shown (best assign prices total) true) e) in
     done cut.0 cut.1
 no_answer shown reply plan done none (best assign prices total) false e =
-    let cut = Begins-cut reply [] (array_header 5 ++ bulk_string (codes "plan")) (after_plan_word shown assign prices total)
+    let cut = Begins-cut reply [] (array_header 5 ++ bulk_string (codes "plan"))
+    (after_plan_word shown assign prices total)
     (Begins-whole reply (verdict_answer shown (best assign prices total) false) e) in
     plan cut.0 cut.1
 no_answer shown reply plan done none (short set) applied e =
-    let cut = Begins-cut reply [] (array_header 4 ++ bulk_string (codes "none")) (after_none shown set) (Begins-whole reply
-    (verdict_answer shown (short set) applied) e) in
+    let cut = Begins-cut reply [] (array_header 4 ++ bulk_string (codes "none")) (after_none shown set)
+    (Begins-whole reply (verdict_answer shown (short set) applied) e) in
     none cut.0 cut.1

@@ -5,5 +5,5 @@ use Rattle.sr_check.proofs.expect.after_ids.Given as goal
 
 abbrev pub invariant-loop-id : goal.invariant-loop-id
 invariant-loop-id l =
-    AreLeft (map (λ entry. id_answer entry.0) l.entries) l.initial.left (map (λ entry. id_answer entry.0) (drop l.id-index
-    l.entries)) l.left
+    AreLeft (map (λ entry. id_answer entry.0) l.entries) l.initial.left
+    (map (λ entry. id_answer entry.0) (drop l.id-index l.entries)) l.left

@@ -7,8 +7,8 @@ use Rattle.sr_check.proofs.expect.after_share.Goals as goal
 
 pub returns-in_err-items-clause-none : goal.returns-in_err-items-clause-none
 returns-in_err-items-clause-none c = rw c.from_residual.ensures (λ after is.
-    c.in_err-items.ensures.none _ (Begins-front c.args.bytes.now after (array_header 2) (bulk_string c.args.name.now ++ integer
-    (pos c.args.n)) is))
+    c.in_err-items.ensures.none _
+    (Begins-front c.args.bytes.now after (array_header 2) (bulk_string c.args.name.now ++ integer (pos c.args.n)) is))
 
 pub returns-in_err-number-clause-none : goal.returns-in_err-number-clause-none
 returns-in_err-number-clause-none c = rw c.from_residual-in_err-number.ensures (λ after is.

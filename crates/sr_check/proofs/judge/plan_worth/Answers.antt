@@ -18,7 +18,8 @@ returns-then-not-check c = λ reply word.
     let found = rw c.in-Ok.is at c.in_ok-plan.ensures.found in
     plan-unshown c.args.snapshot.now c.in_ok-problem.problem reply bytes plan.assign.items plan.prices.items plan.total
     c.args.done reasons.Prices c.in_ok-problem.ensures.ok c.sound.ensures.names.live word small found
-    (λ shows. let yes : c.check.result ≡ true = c.check.ensures.exact.1 shows in true≢false (sym yes ∙ c.if-not-check.true))
+    (λ shows. let yes : c.check.result ≡ true = c.check.ensures.exact.1 shows in true≢false
+    (sym yes ∙ c.if-not-check.true))
 
 pub returns : goal.returns
 returns c = λ reply word.

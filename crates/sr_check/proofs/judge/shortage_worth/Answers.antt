@@ -9,7 +9,8 @@ returns-in-Err c = λ reply word.
     let bytes = c.args.bytes.now in
     let small : length bytes < 2 ^ 64 = search rules in
     let none = rw c.in-Err.is at c.in_ok-set.ensures.none in
-    shortage-unread c.args.snapshot.now c.in_ok-problem.problem reply bytes c.in-Err.reason c.in_ok-problem.ensures.ok word
+    shortage-unread c.args.snapshot.now c.in_ok-problem.problem reply bytes c.in-Err.reason
+    c.in_ok-problem.ensures.ok word
     small none
 
 pub returns-then-not-check_shortage : goal.returns-then-not-check_shortage
@@ -32,6 +33,8 @@ returns c = λ reply word.
     let found = rw c.in-Ok.is at c.in_ok-set.ensures.found in
     let shows : IsShortage p set = subst (IsShortage p) c.as_slice.ensures.value (c.check_shortage.ensures.exact.0
     c.if-not-check_shortage.false) in
-    let count : c.places.result ≡ places_of p set = c.places.ensures.value ∙ ap (places_of p) c.as_slice-2.ensures.value in
-    shortage-shown c.args.snapshot.now p reply c.args.bytes.now set c.places.result c.in_ok-problem.ensures.ok word found
+    let count : c.places.result ≡ places_of p set =
+    c.places.ensures.value ∙ ap (places_of p) c.as_slice-2.ensures.value in
+    shortage-shown c.args.snapshot.now p reply c.args.bytes.now set c.places.result
+    c.in_ok-problem.ensures.ok word found
     shows count

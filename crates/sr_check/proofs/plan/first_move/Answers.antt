@@ -3,7 +3,8 @@ use Rattle.sr_check.proofs.MoveLemmas.{no_move-header, no_move-id, move-name, no
 use Rattle.sr_check.proofs.plan.first_move.Goals as goal
 
 pub returns-in_default-clause-none : goal.returns-in_default-clause-none
-returns-in_default-clause-none c = λ n after has. no_move-header c.args.live.now c.args.entry.now c.args.bytes.now n after
+returns-in_default-clause-none c =
+    λ n after has. no_move-header c.args.live.now c.args.entry.now c.args.bytes.now n after
     c.in_default.ensures.none has
 
 pub returns-in_default-after_id-clause-none : goal.returns-in_default-after_id-clause-none

@@ -2,7 +2,8 @@ use Rattle.std.proofs.Common.{rules, ◌≡◌, ◌+◌, ℕ, List, true, false,
 use Rattle.std.specs.Option.{is_none}
 use Rattle.sr_resp.specs.Reply.{bulk_string}
 use Rattle.sr_check.specs.steps.Read.{Begins}
-use Rattle.sr_check.proofs.PriceLemmas.{one_tier, two_tiers, no_prices-header, no_prices-name, no_prices-first, no_prices-second, HasPrices-one_tier, HasPrices-two_tiers}
+use Rattle.sr_check.proofs.PriceLemmas.{one_tier, two_tiers, no_prices-header, no_prices-name, no_prices-first}
+use Rattle.sr_check.proofs.PriceLemmas.{no_prices-second, HasPrices-one_tier, HasPrices-two_tiers}
 use Rattle.sr_check.proofs.plan.first_prices.Goals as goal
 
 pub returns-in_err-name-clause-none : goal.returns-in_err-name-clause-none
@@ -15,7 +16,8 @@ returns-in_err-first-clause-none c = rw c.from_residual-in_err-first.ensures (λ
     let consumer = c.args.consumer.now in
     let name = c.in_ok-name.name.now in
     let none : (others : List ℕ) → Begins name (bulk_string consumer.name) others → ⊥ = search rules in
-    no_prices-name consumer c.args.bytes.now name prices after (c.tiers.result + 1) (ap (λ (n : ℕ). n + 1) c.tiers.ensures)
+    no_prices-name consumer c.args.bytes.now name prices after (c.tiers.result + 1)
+    (ap (λ (n : ℕ). n + 1) c.tiers.ensures)
     c.in_ok-name.ensures.found none has)
 
 pub returns-in_err-price-clause-none : goal.returns-in_err-price-clause-none

@@ -10,7 +10,8 @@ returns-in-Err-clause-none c = λ assign after has.
     let live = c.args.live.now in
     HasArray-stuck (HasMove live) (HasMove-one live c.requires) c.args.stranded.now c.loop-entry.entry-index
     c.entry-item.result c.args.bytes.now c.in-Some.items.now
-    c.loop-entry.assign.items assign c.loop-entry.left.now after c.in-Some.ensures.found c.loop-entry-test.true c.entry-item.is
+    c.loop-entry.assign.items assign c.loop-entry.left.now after c.in-Some.ensures.found
+    c.loop-entry-test.true c.entry-item.is
     c.loop-entry.invariant c.in-Err.ensures.none has
 
 pub loop-entry-preserved : goal.loop-entry-preserved
@@ -56,7 +57,8 @@ pub returns-clause-found : goal.returns-clause-found
 returns-clause-found c = record {
   items = c.in-Some.items.now;
   header = c.in-Some.ensures.found;
-  read = AreRead-all (HasMove c.args.live.now) c.args.stranded.now c.loop-entry.entry-index c.in-Some.items.now c.loop-entry.assign.items c.loop-entry.left.now
+  read = AreRead-all (HasMove c.args.live.now) c.args.stranded.now c.loop-entry.entry-index c.in-Some.items.now
+      c.loop-entry.assign.items c.loop-entry.left.now
       c.loop-entry-test.false c.loop-entry.invariant;
 }
 

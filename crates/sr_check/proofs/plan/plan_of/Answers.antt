@@ -28,12 +28,13 @@ returns-in-Err-2-clause-none c = λ assign prices total plan.
     let shares = c.in-Ok.read.1.now in
     let read = c.in-Ok.read.0.items in
     let found = rw c.in-Ok.is at c.in_ok-read.ensures.found in
-    let has = moves-as c.live.result.now shown.live c.stranded.result.now shown.stranded moves read shares (sym c.live.ensures)
-    (sym c.stranded.ensures) found in
+    let has = moves-as c.live.result.now shown.live c.stranded.result.now shown.stranded moves read shares
+    (sym c.live.ensures) (sym c.stranded.ensures) found in
     let none = rw c.in-Err-2.is at c.in_ok-read-2.ensures.none in
     let there = plan-shares shown c.sound.ensures.names.live bytes moves shares read assign prices n total
     c.in-Some.ensures.found has plan in
-    none prices plan.gone_at (shares-as shown.live c.live-2.result.now shares prices plan.gone_at c.live-2.ensures there.1)
+    none prices plan.gone_at
+    (shares-as shown.live c.live-2.result.now shares prices plan.gone_at c.live-2.ensures there.1)
 
 pub returns-in_default-after_ids-clause-none : goal.returns-in_default-after_ids-clause-none
 returns-in_default-after_ids-clause-none c = λ assign prices total plan.
@@ -44,8 +45,8 @@ returns-in_default-after_ids-clause-none c = λ assign prices total plan.
     let shares = c.in-Ok.read.1.now in
     let read = c.in-Ok.read.0.items in
     let found = rw c.in-Ok.is at c.in_ok-read.ensures.found in
-    let has = moves-as c.live.result.now shown.live c.stranded.result.now shown.stranded moves read shares (sym c.live.ensures)
-    (sym c.stranded.ensures) found in
+    let has = moves-as c.live.result.now shown.live c.stranded.result.now shown.stranded moves read shares
+    (sym c.live.ensures) (sym c.stranded.ensures) found in
     let gone = c.in-Ok-2.read.1.now in
     let costs = c.in-Ok-2.read.0.items in
     let priced = rw c.in-Ok-2.is at c.in_ok-read-2.ensures.found in
@@ -64,8 +65,8 @@ returns-then-not-is_empty-clause-none c = λ assign prices total plan.
     let shares = c.in-Ok.read.1.now in
     let read = c.in-Ok.read.0.items in
     let found = rw c.in-Ok.is at c.in_ok-read.ensures.found in
-    let has = moves-as c.live.result.now shown.live c.stranded.result.now shown.stranded moves read shares (sym c.live.ensures)
-    (sym c.stranded.ensures) found in
+    let has = moves-as c.live.result.now shown.live c.stranded.result.now shown.stranded moves read shares
+    (sym c.live.ensures) (sym c.stranded.ensures) found in
     let gone = c.in-Ok-2.read.1.now in
     let costs = c.in-Ok-2.read.0.items in
     let priced = rw c.in-Ok-2.is at c.in_ok-read-2.ensures.found in
@@ -74,13 +75,15 @@ returns-then-not-is_empty-clause-none c = λ assign prices total plan.
     c.in-Some.ensures.found has likewise plan in
     let last = gone-as shown.gone c.gone.result.now gone [] c.gone.ensures there.1 in
     let left = c.in-Some-after_ids.left.now in
-    let ended : left ≡ [] = Begins-one gone left [] (gone_ids c.gone.result.now) c.in-Some-after_ids.ensures.found last in
+    let ended : left ≡ [] =
+    Begins-one gone left [] (gone_ids c.gone.result.now) c.in-Some-after_ids.ensures.found last in
     let yes : c.is_empty.result ≡ true = true-empty left c.is_empty.result c.is_empty.ensures ended in
     true≢false (sym yes ∙ c.if-not-is_empty.true)
 
 pub moves_of-requires : goal.moves_of-requires
 moves_of-requires c =
-    subst (λ (live : List Live). AreInOrder (λ a b. ComesBefore a.name b.name) live) (sym c.live.ensures) c.sound.ensures.names.live
+    subst (λ (live : List Live). AreInOrder (λ a b. ComesBefore a.name b.name) live)
+    (sym c.live.ensures) c.sound.ensures.names.live
 
 pub returns-in_default-clause-found : goal.returns-in_default-clause-found
 returns-in_default-clause-found c = tt
@@ -119,14 +122,16 @@ returns-clause-found c =
     let gone = c.in-Ok-2.read.1.now in
     let left = c.in-Some-after_ids.left.now in
     let ended : left ≡ [] = empty-true left c.is_empty.result c.is_empty.ensures c.if-not-is_empty.false in
-    let begins = gone-as c.gone.result.now shown.gone gone left (sym c.gone.ensures) c.in-Some-after_ids.ensures.found in
+    let begins =
+    gone-as c.gone.result.now shown.gone gone left (sym c.gone.ensures) c.in-Some-after_ids.ensures.found in
     record {
       moves_at = c.in-Some.moves.now;
       prices_at = shares;
       gone_at = gone;
       cost = c.in-Some.ensures.found;
       moves = moves-as c.live.result.now shown.live c.stranded.result.now shown.stranded c.in-Some.moves.now
-          c.in-Ok.read.0.items shares (sym c.live.ensures) (sym c.stranded.ensures) (rw c.in-Ok.is at c.in_ok-read.ensures.found);
+          c.in-Ok.read.0.items shares (sym c.live.ensures) (sym c.stranded.ensures)
+          (rw c.in-Ok.is at c.in_ok-read.ensures.found);
       shares = shares-as c.live-2.result.now shown.live shares c.in-Ok-2.read.0.items gone (sym c.live-2.ensures)
           (rw c.in-Ok-2.is at c.in_ok-read-2.ensures.found);
       gone = subst (λ (after : List ℕ). Begins gone (gone_ids shown.gone) after) ended begins;

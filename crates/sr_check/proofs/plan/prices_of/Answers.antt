@@ -1,7 +1,8 @@
 use Rattle.std.proofs.Common.{rules, ◌≡◌, ◌∷◌, ◌++◌, [], Some, None}
 use Rattle.std.specs.Option.{option_to_list}
 use Rattle.std.proofs.lemmas.Result.{IfOk-from_err}
-use Rattle.sr_check.proofs.PriceLemmas.{ArePriced-start, ArePriced-more, ArePriced-all, ArePriced-stuck, grown_one, grown_two}
+use Rattle.sr_check.proofs.PriceLemmas.{ArePriced-start, ArePriced-more, ArePriced-all, ArePriced-stuck, grown_one}
+use Rattle.sr_check.proofs.PriceLemmas.{grown_two}
 use Rattle.sr_check.proofs.plan.prices_of.Goals as goal
 use Rattle.sr_check.proofs.plan.prices_of.Goals.{in-Some-next+in_ok-push-2, in_default-next}
 
@@ -23,7 +24,8 @@ loop-consumer-preserved c =
     let after = c.in-Some-first_prices.after.now in
     let all = c.match-next.prices.items in
     let more = λ (grown : all ≡ old ++ (price ∷ option_to_list next)).
-    ArePriced-more live i start old (price ∷ option_to_list next) all c.loop-consumer.left.now after c.consumer-item.result
+    ArePriced-more live i start old (price ∷ option_to_list next) all c.loop-consumer.left.now after
+    c.consumer-item.result
     c.loop-consumer-test.true c.consumer-item.is grown c.loop-consumer.invariant c.in-Some-first_prices.ensures.found in
     let one : c.push.new.self.items ≡ old ++ price ∷ [] = search rules in
     elim c.match-next.branch [

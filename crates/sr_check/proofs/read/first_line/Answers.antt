@@ -18,7 +18,8 @@ pub returns-in_err-strip_prefix-clause-none : goal.returns-in_err-strip_prefix-c
 returns-in_err-strip_prefix-clause-none c = none_is _ _ c.from_residual-in_err-strip_prefix.ensures (λ front after has.
     let text = c.args.bytes.now in
     let end = c.in_ok-end.end in
-    let within : end < length text = subst (λ (t : List ℕ). end < length t) c.iter.ensures.rest c.in_ok-end.ensures.bound in
+    let within : end < length text =
+    subst (λ (t : List ℕ). end < length t) c.iter.ensures.rest c.in_ok-end.ensures.bound in
     let at : get_or text end 0 ≡ 13 = search rules in
     let first : (k : ℕ) → k < end → get_or text k 0 ≡ 13 → ⊥ = search rules in
     let other : (rest : List ℕ) → drop end text ≡ 13 ∷ 10 ∷ rest → ⊥ = search rules in
@@ -28,7 +29,8 @@ pub returns-clause-found : goal.returns-clause-found
 returns-clause-found c =
     let text = c.args.bytes.now in
     let end = c.in_ok-end.end in
-    let within : end < length text = subst (λ (t : List ℕ). end < length t) c.iter.ensures.rest c.in_ok-end.ensures.bound in
+    let within : end < length text =
+    subst (λ (t : List ℕ). end < length t) c.iter.ensures.rest c.in_ok-end.ensures.bound in
     let first : (k : ℕ) → k < end → get_or text k 0 ≡ 13 → ⊥ = search rules in
     record {
       whole = search rules;

@@ -17,5 +17,5 @@ returns-in_err-n-clause-none c = rw c.from_residual-in_err-n.ensures (λ n after
     let text = c.in_ok-first.text.now in
     let is : c.args.bytes.now ≡ first ∷ text = search rules in
     c.in_err-n.ensures.none n has.small
-    (HasNumber-digits text c.in_ok-line.line.now c.in_ok-line.after.now first c.args.mark n after c.in_ok-line.ensures.found
-    (subst (λ (b : List ℕ). HasNumber b c.args.mark n after) is has)))
+    (HasNumber-digits text c.in_ok-line.line.now c.in_ok-line.after.now first c.args.mark n after
+    c.in_ok-line.ensures.found (subst (λ (b : List ℕ). HasNumber b c.args.mark n after) is has)))

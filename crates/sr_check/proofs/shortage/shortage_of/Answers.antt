@@ -20,10 +20,10 @@ returns-then-len-entries-clause-none c = λ set shows is.
     let read = c.in_ok-set.set.items in
     let rooms = c.in_ok-set.rooms.now in
     let chosen = λ (other after : List ℕ) (has : HasChosen shown.stranded ids other after).
-    c.in_ok-set.ensures.same other after (subst (λ (s : List Stranded). HasChosen s ids other after) (sym c.stranded.ensures)
-    has) in
-    let known = shortage-known shown p c.args.bytes.now ids read rooms set c.in-Some.entries c.requires c.in-Some.ensures.found
-    chosen shows is in
+    c.in_ok-set.ensures.same other after
+    (subst (λ (s : List Stranded). HasChosen s ids other after) (sym c.stranded.ensures) has) in
+    let known = shortage-known shown p c.args.bytes.now ids read rooms set c.in-Some.entries c.requires
+    c.in-Some.ensures.found chosen shows is in
     absurd (omega (arith, c.len.ensures, known.counted, ap length known.same, c.if-len-entries.true))
 
 pub returns-in_default-after_rooms-clause-none : goal.returns-in_default-after_rooms-clause-none
@@ -34,10 +34,10 @@ returns-in_default-after_rooms-clause-none c = λ set shows is.
     let read = c.in_ok-set.set.items in
     let rooms = c.in_ok-set.rooms.now in
     let chosen = λ (other after : List ℕ) (has : HasChosen shown.stranded ids other after).
-    c.in_ok-set.ensures.same other after (subst (λ (s : List Stranded). HasChosen s ids other after) (sym c.stranded.ensures)
-    has) in
-    let known = shortage-known shown p c.args.bytes.now ids read rooms set c.in-Some.entries c.requires c.in-Some.ensures.found
-    chosen shows is in
+    c.in_ok-set.ensures.same other after
+    (subst (λ (s : List Stranded). HasChosen s ids other after) (sym c.stranded.ensures) has) in
+    let known = shortage-known shown p c.args.bytes.now ids read rooms set c.in-Some.entries c.requires
+    c.in-Some.ensures.found chosen shows is in
     c.in_default-after_rooms.ensures.none known.places_at
     (subst (λ (ns : List ℕ). Begins rooms (rooms_answer p ns shown.live) known.places_at) (sym c.as_slice.ensures.value)
     known.rooms_are)
@@ -50,16 +50,17 @@ returns-in_default-after_integer-clause-none c = λ set shows is.
     let read = c.in_ok-set.set.items in
     let rooms = c.in_ok-set.rooms.now in
     let chosen = λ (other after : List ℕ) (has : HasChosen shown.stranded ids other after).
-    c.in_ok-set.ensures.same other after (subst (λ (s : List Stranded). HasChosen s ids other after) (sym c.stranded.ensures)
-    has) in
-    let known = shortage-known shown p c.args.bytes.now ids read rooms set c.in-Some.entries c.requires c.in-Some.ensures.found
-    chosen shows is in
+    c.in_ok-set.ensures.same other after
+    (subst (λ (s : List Stranded). HasChosen s ids other after) (sym c.stranded.ensures) has) in
+    let known = shortage-known shown p c.args.bytes.now ids read rooms set c.in-Some.entries c.requires
+    c.in-Some.ensures.found chosen shows is in
     let answer = λ (ns : List ℕ). rooms_answer p ns shown.live in
     let places = c.in-Some-after_rooms.places.now in
     let roomy = subst (λ (ns : List ℕ). Begins rooms (answer ns) places) c.as_slice.ensures.value
     c.in-Some-after_rooms.ensures.found in
     let at : places ≡ known.places_at = Begins-one rooms places known.places_at (answer read) roomy known.rooms_are in
-    let count : c.places.result ≡ places_of p read = c.places.ensures.value ∙ ap (places_of p) c.as_slice-2.ensures.value in
+    let count : c.places.result ≡ places_of p read =
+    c.places.ensures.value ∙ ap (places_of p) c.as_slice-2.ensures.value in
     let begins = subst (λ (t : List ℕ). Begins t (integer (pos (places_of p read))) []) (sym at) known.places_are in
     let last = subst (λ (n : ℕ). Begins places (integer (pos n)) []) (sym count) begins in
     c.in_default-after_integer.ensures.none [] last
@@ -72,21 +73,22 @@ returns-then-not-is_empty-clause-none c = λ set shows is.
     let read = c.in_ok-set.set.items in
     let rooms = c.in_ok-set.rooms.now in
     let chosen = λ (other after : List ℕ) (has : HasChosen shown.stranded ids other after).
-    c.in_ok-set.ensures.same other after (subst (λ (s : List Stranded). HasChosen s ids other after) (sym c.stranded.ensures)
-    has) in
-    let known = shortage-known shown p c.args.bytes.now ids read rooms set c.in-Some.entries c.requires c.in-Some.ensures.found
-    chosen shows is in
+    c.in_ok-set.ensures.same other after
+    (subst (λ (s : List Stranded). HasChosen s ids other after) (sym c.stranded.ensures) has) in
+    let known = shortage-known shown p c.args.bytes.now ids read rooms set c.in-Some.entries c.requires
+    c.in-Some.ensures.found chosen shows is in
     let answer = λ (ns : List ℕ). rooms_answer p ns shown.live in
     let places = c.in-Some-after_rooms.places.now in
     let roomy = subst (λ (ns : List ℕ). Begins rooms (answer ns) places) c.as_slice.ensures.value
     c.in-Some-after_rooms.ensures.found in
     let at : places ≡ known.places_at = Begins-one rooms places known.places_at (answer read) roomy known.rooms_are in
-    let count : c.places.result ≡ places_of p read = c.places.ensures.value ∙ ap (places_of p) c.as_slice-2.ensures.value in
+    let count : c.places.result ≡ places_of p read =
+    c.places.ensures.value ∙ ap (places_of p) c.as_slice-2.ensures.value in
     let begins = subst (λ (t : List ℕ). Begins t (integer (pos (places_of p read))) []) (sym at) known.places_are in
     let last = subst (λ (n : ℕ). Begins places (integer (pos n)) []) (sym count) begins in
     let left = c.in-Some-after_integer.left.now in
-    let ended : left ≡ [] = Begins-one places left [] (integer (pos c.places.result)) c.in-Some-after_integer.ensures.found
-    last in
+    let ended : left ≡ [] =
+    Begins-one places left [] (integer (pos c.places.result)) c.in-Some-after_integer.ensures.found last in
     let yes : c.is_empty.result ≡ true = true-empty left c.is_empty.result c.is_empty.ensures ended in
     true≢false (sym yes ∙ c.if-not-is_empty.true)
 
@@ -98,15 +100,16 @@ returns-clause-same c = λ set shows is.
     let read = c.in_ok-set.set.items in
     let rooms = c.in_ok-set.rooms.now in
     let chosen = λ (other after : List ℕ) (has : HasChosen shown.stranded ids other after).
-    c.in_ok-set.ensures.same other after (subst (λ (s : List Stranded). HasChosen s ids other after) (sym c.stranded.ensures)
-    has) in
-    let known = shortage-known shown p c.args.bytes.now ids read rooms set c.in-Some.entries c.requires c.in-Some.ensures.found
-    chosen shows is in
+    c.in_ok-set.ensures.same other after
+    (subst (λ (s : List Stranded). HasChosen s ids other after) (sym c.stranded.ensures) has) in
+    let known = shortage-known shown p c.args.bytes.now ids read rooms set c.in-Some.entries c.requires
+    c.in-Some.ensures.found chosen shows is in
     known.same
 
 pub chosen-requires : goal.chosen-requires
 chosen-requires c =
-    subst (λ (s : List Stranded). AreInOrder (λ a b. IsBelow a.id b.id) s) (sym c.stranded.ensures) c.sound.ensures.ids.stranded
+    subst (λ (s : List Stranded). AreInOrder (λ a b. IsBelow a.id b.id) s)
+    (sym c.stranded.ensures) c.sound.ensures.ids.stranded
 
 pub returns-in_default-clause-found : goal.returns-in_default-clause-found
 returns-in_default-clause-found c = tt
@@ -196,14 +199,17 @@ returns-clause-found c =
     let places = c.in-Some-after_rooms.places.now in
     let left = c.in-Some-after_integer.left.now in
     let counted : length set ≡ c.in-Some.entries = omega (arith, c.len.ensures, c.if-len-entries.false) in
-    let listed = subst (λ (s : List Stranded). Begins ids (flat (ids_of s set)) rooms) c.stranded.ensures c.in_ok-set.ensures.found in
+    let listed = subst (λ (s : List Stranded). Begins ids (flat (ids_of s set)) rooms) c.stranded.ensures
+    c.in_ok-set.ensures.found in
     let roomy = subst (λ (ns : List ℕ). Begins rooms (rooms_answer p ns shown.live) places) c.as_slice.ensures.value
     c.in-Some-after_rooms.ensures.found in
-    let count : c.places.result ≡ places_of p set = c.places.ensures.value ∙ ap (places_of p) c.as_slice-2.ensures.value in
+    let count : c.places.result ≡ places_of p set =
+    c.places.ensures.value ∙ ap (places_of p) c.as_slice-2.ensures.value in
     let ended : left ≡ [] = empty-true left c.is_empty.result c.is_empty.ensures c.if-not-is_empty.false in
     let begins = subst (λ (n : ℕ). Begins places (integer (pos n)) left) count c.in-Some-after_integer.ensures.found in
     let last = subst (λ (after : List ℕ). Begins places (integer (pos (places_of p set))) after) ended begins in
-    IsShortageText-read shown p c.args.bytes.now ids rooms places set c.in-Some.entries c.requires c.in-Some.ensures.found counted
+    IsShortageText-read shown p c.args.bytes.now ids rooms places set c.in-Some.entries c.requires
+    c.in-Some.ensures.found counted
     listed roomy last
 
 pub returns-clause-none : goal.returns-clause-none
@@ -211,5 +217,6 @@ returns-clause-none c = tt
 
 pub returns-clause-within : goal.returns-clause-within
 returns-clause-within c =
-    within-entries c.args.snapshot.now c.args.problem.now c.stranded.result.now c.in_ok-set.set.items c.requires c.stranded.ensures
+    within-entries c.args.snapshot.now c.args.problem.now c.stranded.result.now c.in_ok-set.set.items c.requires
+    c.stranded.ensures
     c.in_ok-set.ensures.within
