@@ -13,7 +13,8 @@ within_live : (live found : List Live) (c : ℕ) → found ≡ live → c < leng
 within_live live found c same below = rw same below
 
 -- it has a live consumer for each stranded entry
-pub AreMoves-best : (shown : Shown) (assign found prices : List ℕ) (total : ℕ) (stranded : List Stranded) (live : List Live)
+pub AreMoves-best : (shown : Shown) (assign found prices : List ℕ) (total : ℕ) (stranded : List Stranded)
+    (live : List Live)
     → IsBest (problem_of shown) assign prices total → found ≡ assign → stranded ≡ shown.stranded → live ≡ shown.live
     → AreMoves stranded found live
 AreMoves-best shown assign found prices total stranded live best is entries consumers = rw is (record {

@@ -1,5 +1,6 @@
 -- The reply of a verdict, part by part.
-use Rattle.std.proofs.Common.{◌≡◌, ℕ, ◌+◌, ◌<◌, ◌≤◌, suc, Bool, true, false, cond, pos, codes, List, [], ◌∷◌, ◌++◌, length, map, drop, get_or, refl, ap, append_assoc, sym, ◌∙◌, subst, arith}
+use Rattle.std.proofs.Common.{◌≡◌, ℕ, ◌+◌, ◌<◌, ◌≤◌, suc, Bool, true, false, cond, pos, codes, List, [], ◌∷◌, ◌++◌}
+use Rattle.std.proofs.Common.{length, map, drop, get_or, refl, ap, append_assoc, sym, ◌∙◌, subst, arith}
 use Rattle.std.specs.List.{AllByRecursion, flat_map}
 use Rattle.std.proofs.lemmas.List.{drop_all, length-map}
 use Rattle.std.proofs.lemmas.Simd.{map-map}
@@ -14,12 +15,14 @@ use Rattle.sr_policy.specs.Problem.{problem_of, room_at}
 use Rattle.sr_policy.specs.Rules.{Text}
 use Rattle.sr_policy.specs.Snapshot.{Shown}
 use Rattle.sr_plan.specs.Verdict.{best, id_at, moves_of, prices_by, short}
-use Rattle.sr_check.specs.PlanReply.{id_answer, move_answer, price_answer, share_answer, plan_word, reached_from, verdict_answer}
+use Rattle.sr_check.specs.PlanReply.{id_answer, move_answer, price_answer, share_answer, plan_word, reached_from}
+use Rattle.sr_check.specs.PlanReply.{verdict_answer}
 use Rattle.sr_plan.proofs.ArrayLemmas.{map-written, HasLeft, left-after, left-none}
 
 -- each item of a verdict's arrays is a reply
 pub IsReply-moves : (moves : List (Id × Text)) → IsReply (array_of (map move_answer moves))
-IsReply-moves moves = IsReply-array_of_map move_answer moves (λ move. IsReply-array_of (id_answer move.0 ∷ bulk_string move.1 ∷ []) (refl, (refl, tt)))
+IsReply-moves moves = IsReply-array_of_map move_answer moves
+    (λ move. IsReply-array_of (id_answer move.0 ∷ bulk_string move.1 ∷ []) (refl, (refl, tt)))
 
 pub IsReply-ids : (ids : List Id) → IsReply (array_of (map id_answer ids))
 IsReply-ids ids = IsReply-array_of_map id_answer ids (λ id. refl)
@@ -44,20 +47,26 @@ list-written f xs i draft past e = map-written f xs (drop i xs) draft (drop_all 
 
 -- a consumer's name and its prices are written one after another
 pub price-written : (name : Text) (own : List ℕ)
-    → array_header (length own + 1) ++ bulk_string name ++ flat_map (λ (n : ℕ). integer (pos n)) own ≡ price_answer (name, own)
+    → array_header (length own + 1) ++ bulk_string name ++ flat_map (λ (n : ℕ). integer (pos n)) own
+    ≡ price_answer (name, own)
 price-written name own =
     let items : List Answer = map (λ (n : ℕ). integer (pos n)) own in
-    let count : length own + 1 ≡ length (bulk_string name ∷ items) = omega (arith, length-map own (λ (n : ℕ). integer (pos n))) in
+    let count : length own + 1 ≡ length (bulk_string name ∷ items) =
+    omega (arith, length-map own (λ (n : ℕ). integer (pos n))) in
     ap (λ (n : ℕ). array_header n ++ bulk_string name ++ flat_map (λ (n : ℕ). integer (pos n)) own) count
-    ∙ ap (λ (parts : List Part). array_header (length (bulk_string name ∷ items)) ++ bulk_string name ++ parts) (flattened own)
+    ∙ ap (λ (parts : List Part). array_header (length (bulk_string name ∷ items)) ++ bulk_string name ++ parts)
+    (flattened own)
   where
-    flattened : (ns : List ℕ) → flat_map (λ (n : ℕ). integer (pos n)) ns ≡ flat_map (λ (item : Answer). item) (map (λ (n : ℕ). integer (pos n)) ns)
+    flattened : (ns : List ℕ) → flat_map (λ (n : ℕ). integer (pos n)) ns
+        ≡ flat_map (λ (item : Answer). item) (map (λ (n : ℕ). integer (pos n)) ns)
     flattened [] = refl
     flattened (n ∷ ns) = ap (λ (parts : List Part). integer (pos n) ++ parts) (flattened ns)
 
 -- one consumer more is written
-pub prices-more : (left rest : List (Text × List ℕ)) (name : Text) (own : List ℕ) (draft headed named now all : List Part)
-    → left ≡ (name, own) ∷ rest → draft ++ flat_map price_answer left ≡ all → headed ≡ draft ++ array_header (length own + 1)
+pub prices-more : (left rest : List (Text × List ℕ)) (name : Text) (own : List ℕ)
+    (draft headed named now all : List Part)
+    → left ≡ (name, own) ∷ rest → draft ++ flat_map price_answer left ≡ all
+    → headed ≡ draft ++ array_header (length own + 1)
     → named ≡ headed ++ bulk_string name → now ≡ named ++ flat_map (λ (n : ℕ). integer (pos n)) own
     → now ++ flat_map price_answer rest ≡ all
 prices-more left rest name own draft headed named now all first before a b d =
@@ -83,17 +92,20 @@ reached_first : (p : Tiered) (set : List ℕ) (n : ℕ) (consumer : Live) (rest 
     → map share_answer (reached_from p set n (consumer ∷ rest))
     ≡ share_answer (consumer.name, room_at consumer) ∷ map share_answer (reached_from p set (n + 1) rest)
 reached_first p set n consumer rest reached =
-    let more : Bool → List (Text × ℕ) = λ is. cond is ((consumer.name, room_at consumer) ∷ []) [] ++ reached_from p set (n + 1) rest in
+    let more : Bool → List (Text × ℕ) =
+    λ is. cond is ((consumer.name, room_at consumer) ∷ []) [] ++ reached_from p set (n + 1) rest in
     ap (λ (is : Bool). map share_answer (more is)) reached
 
 unreached_first : (p : Tiered) (set : List ℕ) (n : ℕ) (consumer : Live) (rest : List Live) → is_reached p set n ≡ false
     → map share_answer (reached_from p set n (consumer ∷ rest)) ≡ map share_answer (reached_from p set (n + 1) rest)
 unreached_first p set n consumer rest unreached =
-    let more : Bool → List (Text × ℕ) = λ is. cond is ((consumer.name, room_at consumer) ∷ []) [] ++ reached_from p set (n + 1) rest in
+    let more : Bool → List (Text × ℕ) =
+    λ is. cond is ((consumer.name, room_at consumer) ∷ []) [] ++ reached_from p set (n + 1) rest in
     ap (λ (is : Bool). map share_answer (more is)) unreached
 
 -- a reached consumer is added with its room, and another is passed over
-pub room_added : (p : Tiered) (set : List ℕ) (n room : ℕ) (live : List Live) (consumer : Live) (reply now item : Answer) (all : List Answer)
+pub room_added : (p : Tiered) (set : List ℕ) (n room : ℕ) (live : List Live) (consumer : Live) (reply now item : Answer)
+    (all : List Answer)
     → n < length live → consumer ≡ get_or live n consumer → is_reached p set n ≡ true → room ≡ room_at consumer
     → item ≡ share_answer (consumer.name, room)
     → HasLeft reply (map share_answer (reached_from p set n (drop n live))) all
@@ -101,33 +113,39 @@ pub room_added : (p : Tiered) (set : List ℕ) (n room : ℕ) (live : List Live)
     → HasLeft now (map share_answer (reached_from p set (n + 1) (drop (n + 1) live))) all
 room_added p set n room live consumer reply now item all lt is reached roomy itemized has added =
     let left : List Answer = map share_answer (reached_from p set (n + 1) (drop (n + 1) live)) in
-    let one : item ≡ share_answer (consumer.name, room_at consumer) = itemized ∙ ap (λ (k : ℕ). share_answer (consumer.name, k)) roomy in
+    let one : item ≡ share_answer (consumer.name, room_at consumer) =
+    itemized ∙ ap (λ (k : ℕ). share_answer (consumer.name, k)) roomy in
     let split : map share_answer (reached_from p set n (drop n live)) ≡ (item ∷ []) ++ left =
     ap (λ (l : List Live). map share_answer (reached_from p set n l)) (next_consumer live n consumer lt is)
     ∙ reached_first p set n consumer (drop (n + 1) live) reached ∙ ap (λ (first : Answer). first ∷ left) (sym one) in
     left-after reply now (item ∷ []) left all (subst (λ (l : List Answer). HasLeft reply l all) split has) added
 
-pub room_passed : (p : Tiered) (set : List ℕ) (n : ℕ) (live : List Live) (consumer : Live) (reply : Answer) (all : List Answer)
+pub room_passed : (p : Tiered) (set : List ℕ) (n : ℕ) (live : List Live) (consumer : Live) (reply : Answer)
+    (all : List Answer)
     → n < length live → consumer ≡ get_or live n consumer → is_reached p set n ≡ false
     → HasLeft reply (map share_answer (reached_from p set n (drop n live))) all
     → HasLeft reply (map share_answer (reached_from p set (n + 1) (drop (n + 1) live))) all
 room_passed p set n live consumer reply all lt is unreached has =
-    let split : map share_answer (reached_from p set n (drop n live)) ≡ map share_answer (reached_from p set (n + 1) (drop (n + 1) live)) =
-    ap (λ (l : List Live). map share_answer (reached_from p set n l)) (next_consumer live n consumer lt is)
-    ∙ unreached_first p set n consumer (drop (n + 1) live) unreached in
+    let split : map share_answer (reached_from p set n (drop n live)) ≡ map share_answer (reached_from p set (n + 1)
+    (drop (n + 1) live)) = ap (λ (l : List Live). map share_answer (reached_from p set n l))
+    (next_consumer live n consumer lt is) ∙ unreached_first p set n consumer (drop (n + 1) live) unreached in
     subst (λ (l : List Answer). HasLeft reply l all) split has
 
 -- and past the last, all are there
 pub rooms-written : (p : Tiered) (set : List ℕ) (i : ℕ) (live : List Live) (reply : Answer) → length live ≤ i
-    → HasLeft reply (map share_answer (reached_from p set i (drop i live))) (map share_answer (reached_from p set 0 live))
+    → HasLeft reply (map share_answer (reached_from p set i (drop i live)))
+    (map share_answer (reached_from p set 0 live))
     → reply ≡ array_of (map share_answer (reached_from p set 0 live))
 rooms-written p set i live reply past has =
-    left-none reply (map share_answer (reached_from p set i (drop i live))) (map share_answer (reached_from p set 0 live)) has
+    left-none reply (map share_answer (reached_from p set i (drop i live)))
+    (map share_answer (reached_from p set 0 live)) has
     (ap (λ (l : List Live). map share_answer (reached_from p set i l)) (drop_all i live past))
 
 -- the parts of a plan's reply
-pub plan-written : (shown : Shown) (assign prices : List ℕ) (total : ℕ) (word cost moves priced gone : Answer) (applied : Bool)
-    → word ≡ bulk_string (plan_word applied) → cost ≡ integer (pos total) → moves ≡ array_of (map move_answer (moves_of shown assign))
+pub plan-written : (shown : Shown) (assign prices : List ℕ) (total : ℕ)
+    (word cost moves priced gone : Answer) (applied : Bool)
+    → word ≡ bulk_string (plan_word applied) → cost ≡ integer (pos total)
+    → moves ≡ array_of (map move_answer (moves_of shown assign))
     → priced ≡ array_of (map price_answer (prices_by shown.live prices))
     → gone ≡ array_of (map (λ (pair : Id × Text). id_answer pair.0) shown.gone)
     → array_of (word ∷ cost ∷ moves ∷ priced ∷ gone ∷ []) ≡ verdict_answer shown (best assign prices total) applied
@@ -137,17 +155,23 @@ plan-written shown assign prices total word cost moves priced gone applied a b d
     let said : Answer = bulk_string (plan_word applied) in
     let moved : Answer = array_of (map move_answer (moves_of shown assign)) in
     let shares : Answer = array_of (map price_answer (prices_by shown.live prices)) in
-    ap (λ (first : Answer). whole first cost moves priced gone) a ∙ ap (λ (second : Answer). whole said second moves priced gone) b
+    ap (λ (first : Answer). whole first cost moves priced gone) a
+    ∙ ap (λ (second : Answer). whole said second moves priced gone) b
     ∙ ap (λ (third : Answer). whole said (integer (pos total)) third priced gone) d
-    ∙ ap (λ (fourth : Answer). whole said (integer (pos total)) moved fourth gone) e ∙ ap (whole said (integer (pos total)) moved shares) f
+    ∙ ap (λ (fourth : Answer). whole said (integer (pos total)) moved fourth gone) e
+    ∙ ap (whole said (integer (pos total)) moved shares) f
 
 -- the parts of a shortage's reply
-pub shortage-written : (shown : Shown) (set : List ℕ) (p : Tiered) (n : ℕ) (word ids rooms places : Answer) (applied : Bool)
-    → p ≡ problem_of shown → word ≡ bulk_string (codes "none") → ids ≡ array_of (map id_answer (map (id_at shown.stranded) set))
-    → rooms ≡ array_of (map share_answer (reached_from p set 0 shown.live)) → places ≡ integer (pos n) → n ≡ places_of p set
+pub shortage-written : (shown : Shown) (set : List ℕ) (p : Tiered) (n : ℕ)
+    (word ids rooms places : Answer) (applied : Bool)
+    → p ≡ problem_of shown → word ≡ bulk_string (codes "none")
+    → ids ≡ array_of (map id_answer (map (id_at shown.stranded) set))
+    → rooms ≡ array_of (map share_answer (reached_from p set 0 shown.live)) → places ≡ integer (pos n)
+    → n ≡ places_of p set
     → array_of (word ∷ ids ∷ rooms ∷ places ∷ []) ≡ verdict_answer shown (short set) applied
 shortage-written shown set p n word ids rooms places applied posed a b d e f =
-    let whole : Answer → Answer → Answer → Answer → Answer = λ first second third fourth. array_of (first ∷ second ∷ third ∷ fourth ∷ []) in
+    let whole : Answer → Answer → Answer → Answer → Answer =
+    λ first second third fourth. array_of (first ∷ second ∷ third ∷ fourth ∷ []) in
     let none : Answer = bulk_string (codes "none") in
     let listed : Answer = array_of (map (λ (i : ℕ). id_answer (id_at shown.stranded i)) set) in
     let roomy : Tiered → Answer = λ q. array_of (map share_answer (reached_from q set 0 shown.live)) in
@@ -155,5 +179,7 @@ shortage-written shown set p n word ids rooms places applied posed a b d e f =
     let same_rooms : rooms ≡ roomy (problem_of shown) = d ∙ ap roomy posed in
     let same_places : places ≡ integer (pos (places_of (problem_of shown) set)) =
     e ∙ ap (λ (k : ℕ). integer (pos k)) (f ∙ ap (λ (q : Tiered). places_of q set) posed) in
-    ap (λ (first : Answer). whole first ids rooms places) a ∙ ap (λ (second : Answer). whole none second rooms places) same_ids
-    ∙ ap (λ (third : Answer). whole none listed third places) same_rooms ∙ ap (whole none listed (roomy (problem_of shown))) same_places
+    ap (λ (first : Answer). whole first ids rooms places) a
+    ∙ ap (λ (second : Answer). whole none second rooms places) same_ids
+    ∙ ap (λ (third : Answer). whole none listed third places) same_rooms
+    ∙ ap (whole none listed (roomy (problem_of shown))) same_places

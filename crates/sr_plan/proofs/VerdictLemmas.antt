@@ -15,7 +15,8 @@ use Rattle.sr_plan.specs.Verdict.{Answer, best, short, HasSmallPrices, IsShown, 
 use Rattle.sr_plan.specs.steps.Judged.{answer_of}
 
 -- an answer to a snapshot's problem that shows that it is right is worth what it says
-pub shown_is_worth : (shown : Shown) (answer : Answer) → IsShown (problem_of shown) answer → IsWorth (problem_of shown) answer
+pub shown_is_worth : (shown : Shown) (answer : Answer) → IsShown (problem_of shown) answer
+    → IsWorth (problem_of shown) answer
 shown_is_worth shown (best assign prices total) right =
     let p = problem_of shown in (
       right.0.assignment,
@@ -28,7 +29,8 @@ small_are_told : (prices : List ℕ) → All (λ price. price ≤ greatest_price
 small_are_told prices small k d within = omega (arith, small k d within)
 
 -- a solution of a snapshot's problem, with small prices, is a verdict on it
-solution_is_shown : (p : Tiered) (solved : Solved) → IsSolution p solved → AreSmall solved → IsShown p (answer_of solved)
+solution_is_shown : (p : Tiered) (solved : Solved) → IsSolution p solved → AreSmall solved
+    → IsShown p (answer_of solved)
 solution_is_shown p (Best assign prices total) solution small = (solution, small_are_told prices.items small)
 solution_is_shown p (Short set) solution small = solution
 
@@ -36,7 +38,8 @@ solution_is_small : (solved : Solved) → AreSmall solved → HasSmallPrices (an
 solution_is_small (Best assign prices total) small = small
 solution_is_small (Short set) small = small
 
-pub solved_is_verdict : (shown : Shown) (p : Tiered) (solved : Solved) → IsSnapshot shown → p ≡ problem_of shown → IsSolution p solved
+pub solved_is_verdict : (shown : Shown) (p : Tiered) (solved : Solved) → IsSnapshot shown → p ≡ problem_of shown
+    → IsSolution p solved
     → AreSmall solved → IsVerdict (record { snapshot = shown; answer = answer_of solved })
 solved_is_verdict shown p solved sound posed solution small =
     record {

@@ -70,7 +70,8 @@ impl Judgement {
         let _ = &self.solved;
     }
 
-    /// What a plan costs: the sum of rate times weight over its moves, and of the fees of entries beyond soft limits. `None` for a shortage.
+    /// What a plan costs: the sum of rate times weight over its moves, and of the fees of entries beyond soft limits.
+    /// `None` for a shortage.
     pub(crate) fn total(&self) -> Option<u64>
         ensures { result ≡ total_in self.now.answer }
     {
@@ -80,8 +81,8 @@ impl Judgement {
         }
     }
 
-    /// The prices that show a plan to be a cheapest one: each live consumer, in their order, with one for each of its tiers, in the
-    /// unit of the costs. `None` for a shortage.
+    /// The prices that show a plan to be a cheapest one: each live consumer, in their order, with one for each of its
+    /// tiers, in the unit of the costs. `None` for a shortage.
     pub(crate) fn prices(&self) -> Option<Prices<'_>>
         ensures { result ≡ prices_in self.now.snapshot self.now.answer }
     {
@@ -128,8 +129,8 @@ impl Judgement {
         self.snapshot.gone()
     }
 
-    /// The calls of XCLAIM that carry out a plan: one for each consumer that gets entries, in byte order of their names.
-    /// For a shortage there are none.
+    /// The calls of XCLAIM that carry out a plan: one for each consumer that gets entries, in byte order of their
+    /// names. For a shortage there are none.
     ///
     /// Source: Redis documentation, command XCLAIM.
     pub(crate) fn claim_calls(&self, alloc: Global) -> Result<Vec<Call>, AllocError>

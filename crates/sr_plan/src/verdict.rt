@@ -75,15 +75,16 @@ impl Verdict {
         self.judged.as_ref().optimal();
     }
 
-    /// What a plan costs: the sum of rate times weight over its moves, and of the fees of entries beyond soft limits. `None` for a shortage.
+    /// What a plan costs: the sum of rate times weight over its moves, and of the fees of entries beyond soft limits.
+    /// `None` for a shortage.
     pub fn total(&self) -> Option<u64>
         ensures { result ≡ total_in self.now.answer }
     {
         self.judged.as_ref().total()
     }
 
-    /// The prices that show a plan to be a cheapest one: each live consumer, in their order, with one for each of its tiers, in the
-    /// unit of the costs. `None` for a shortage.
+    /// The prices that show a plan to be a cheapest one: each live consumer, in their order, with one for each of its
+    /// tiers, in the unit of the costs. `None` for a shortage.
     pub fn prices(&self) -> Option<Prices<'_>>
         ensures { result ≡ prices_in self.now.snapshot self.now.answer }
     {
@@ -113,8 +114,8 @@ impl Verdict {
         self.judged.as_ref().gone()
     }
 
-    /// The calls of XCLAIM that carry out a plan: one for each consumer that gets entries, in byte order of their names.
-    /// For a shortage there are none.
+    /// The calls of XCLAIM that carry out a plan: one for each consumer that gets entries, in byte order of their
+    /// names. For a shortage there are none.
     ///
     /// Source: Redis documentation, command XCLAIM.
     pub fn claim_calls(&self, alloc: Global) -> Result<Vec<Call>, AllocError>

@@ -14,11 +14,14 @@ returns-in_err-add_call c = IfOk-from_err _ _ c.from_residual-in_err-add_call.en
 
 pub loop-number-preserved : goal.loop-number-preserved
 loop-number-preserved c =
-    calls_more c.args.snapshot.now c.args.assign.now c.loop-number.number c.live-live.result.now c.index-live-number.result c.stranded.result.now
-    c.in_ok-ids.ids.items c.loop-number.calls.items c.add_call.new.calls.items _ c.loop-number-test.true c.index-live-number.is
+    calls_more c.args.snapshot.now c.args.assign.now c.loop-number.number c.live-live.result.now
+    c.index-live-number.result c.stranded.result.now
+    c.in_ok-ids.ids.items c.loop-number.calls.items c.add_call.new.calls.items _ c.loop-number-test.true
+    c.index-live-number.is
     c.stranded.ensures c.in_ok-ids.ensures c.loop-number.invariant c.in_ok-add_call.ensures
 
 pub returns : goal.returns
 returns c =
-    calls_all c.args.snapshot.now c.args.assign.now c.loop-number.number c.live-live.result.now c.loop-number.calls.items
+    calls_all c.args.snapshot.now c.args.assign.now c.loop-number.number c.live-live.result.now
+    c.loop-number.calls.items
     c.loop-number-test.false c.live-live.ensures c.loop-number.invariant

@@ -28,10 +28,15 @@ loop-number-preserved c =
     let live = c.live-live.result.now in
     elim c.if-is_reached.branch [
       | then-is_reached+in_ok-share_reply+in_ok-push w ↦
-          rw w.reply-is (room_added p set c.loop-number.number w.room.result live c.index-live-number.result c.loop-number.reply _ _ _ c.loop-number-test.true
-          c.index-live-number.is (sym c.is_reached.ensures ∙ w.if-is_reached.true) w.room.ensures w.in_ok-share_reply.ensures c.loop-number.invariant w.in_ok-push.ensures.ok)
+          rw w.reply-is
+          (room_added p set c.loop-number.number w.room.result live c.index-live-number.result c.loop-number.reply _ _ _
+          c.loop-number-test.true c.index-live-number.is
+          (sym c.is_reached.ensures ∙ w.if-is_reached.true) w.room.ensures w.in_ok-share_reply.ensures
+          c.loop-number.invariant w.in_ok-push.ensures.ok)
       | else-is_reached w ↦
-          rw w.reply-is (room_passed p set c.loop-number.number live c.index-live-number.result c.loop-number.reply _ c.loop-number-test.true c.index-live-number.is
+          rw w.reply-is
+          (room_passed p set c.loop-number.number live c.index-live-number.result c.loop-number.reply _
+          c.loop-number-test.true c.index-live-number.is
           (sym c.is_reached.ensures ∙ w.if-is_reached.false) c.loop-number.invariant)
     ]
 
@@ -40,5 +45,6 @@ returns c =
     let p = c.args.problem.now in
     let set = c.args.set.now in
     let from : List Live → List Answer = λ live. map share_answer (reached_from p set c.loop-number.number live) in
-    left-none c.loop-number.reply _ _ c.loop-number.invariant (ap from (drop_all c.loop-number.number c.live-live.result.now c.loop-number-test.false))
+    left-none c.loop-number.reply _ _ c.loop-number.invariant
+    (ap from (drop_all c.loop-number.number c.live-live.result.now c.loop-number-test.false))
     ∙ ap (λ (live : List Live). array_of (map share_answer (reached_from p set 0 live))) c.live-live.ensures

@@ -4,4 +4,5 @@ use Rattle.sr_resp.specs.Reply.{integer}
 use Rattle.sr_plan.proofs.reply.write_prices.Given as goal
 
 abbrev pub invariant-loop-price : goal.invariant-loop-price
-invariant-loop-price l = l.draft ≡ l.initial.draft ++ flat_map (λ price. integer (pos price)) (take l.price-index l.prices)
+invariant-loop-price l =
+    l.draft ≡ l.initial.draft ++ flat_map (λ price. integer (pos price)) (take l.price-index l.prices)

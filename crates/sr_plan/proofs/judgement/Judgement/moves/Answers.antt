@@ -4,5 +4,7 @@ use Rattle.sr_plan.proofs.judgement.Judgement.moves.Goals as goal
 pub new-requires : goal.new-requires
 new-requires c =
     let best = (rw c.in-Best.is at c.self.invariant.shown).0 in
-    let moves = AreMoves-best c.self.inside.snapshot c.in-Best.assign.items c.as_slice.result.now c.in-Best.prices.items c.in-Best.total c.stranded.result.now c.live.result.now best c.as_slice.ensures.value c.stranded.ensures c.live.ensures in
+    let moves = AreMoves-best c.self.inside.snapshot c.in-Best.assign.items c.as_slice.result.now c.in-Best.prices.items
+    c.in-Best.total c.stranded.result.now c.live.result.now best c.as_slice.ensures.value
+    c.stranded.ensures c.live.ensures in
     record { each = moves.each; consumers = moves.consumers }

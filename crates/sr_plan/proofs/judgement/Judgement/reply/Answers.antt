@@ -8,5 +8,6 @@ pub returns-in-Short : goal.returns-in-Short
 returns-in-Short c =
     IfOk-weaker c.shortage_reply.result _ _
     (λ reply is. rw (← c.self.view_is, c.in-Short.is)
-    (is c.args.applied ∙ ap (λ (set : List ℕ). verdict_answer c.self.inside.snapshot (short set) c.args.applied) c.as_slice-in-Short.ensures.value))
+    (is c.args.applied ∙ ap (λ (set : List ℕ). verdict_answer c.self.inside.snapshot (short set) c.args.applied)
+    c.as_slice-in-Short.ensures.value))
     c.shortage_reply.ensures

@@ -6,4 +6,5 @@ use Rattle.sr_plan.proofs.judgement.Judgement.shortage.Goals as goal
 
 pub returns-in-Best : goal.returns-in-Best
 returns-in-Best c =
-    ap (λ (s : Solved). shortage_in c.self.inside.snapshot (answer_of s)) (sym c.in-Best.is) ∙ ap (λ (j : Judged). shortage_in j.snapshot j.answer) c.self.view_is
+    ap (λ (s : Solved). shortage_in c.self.inside.snapshot (answer_of s)) (sym c.in-Best.is)
+    ∙ ap (λ (j : Judged). shortage_in j.snapshot j.answer) c.self.view_is

@@ -5,4 +5,5 @@ use Rattle.sr_plan.specs.steps.Judged.{answer_of}
 use Rattle.sr_plan.proofs.judgement.Judgement.total.Goals as goal
 
 pub returns-in-Best : goal.returns-in-Best
-returns-in-Best c = ap (λ (s : Solved). total_in (answer_of s)) (sym c.in-Best.is) ∙ ap (λ (j : Judged). total_in j.answer) c.self.view_is
+returns-in-Best c = ap (λ (s : Solved). total_in (answer_of s)) (sym c.in-Best.is)
+    ∙ ap (λ (j : Judged). total_in j.answer) c.self.view_is
