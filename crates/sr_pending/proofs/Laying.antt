@@ -5,6 +5,7 @@ use Rattle.std.proofs.lemmas.List.{length-append, length-drop, length-take}
 use Rattle.std.specs.List.{insert}
 use Rattle.std.specs.VecDeque.{deque_capacity, deque_len}
 use Rattle.std.specs.declared.collections.VecDeque.{VecDeque}
+use Rattle.sr_pending.specs.declared.parts.TheConstants.{BLOCK}
 use Rattle.sr_pending.specs.steps.Blocks.{AreFilled, AreSpare, IsLaid, Rotates, held_in}
 
 longer : {X : Type 0} (xs : List X) (i : ℕ) (x : X) → length (insert xs i x) ≡ length xs + 1
@@ -12,7 +13,7 @@ longer xs i x = omega (arith, length-append (take i xs) (x ∷ drop i xs), lengt
 
 module _ {T Z : Type 0} where
   -- the open block may be closed, if what came before left room
-  pub laid-rotated : (closed new : VecDeque (VecDeque T Z) Z) (tail tail_new : VecDeque T Z) (spare spare_new : VecDeque (VecDeque T Z) Z) (count room : ℕ) → Rotates closed new tail tail_new spare spare_new → count ≡ length (held_in closed.items ++ tail.items) → deque_len tail + room ≤ deque_capacity tail + 128 * deque_len spare → count + room < 2 ^ 63 → IsLaid new tail_new spare_new count room
+  pub laid-rotated : (closed new : VecDeque (VecDeque T Z) Z) (tail tail_new : VecDeque T Z) (spare spare_new : VecDeque (VecDeque T Z) Z) (count room : ℕ) → Rotates closed new tail tail_new spare spare_new → count ≡ length (held_in closed.items ++ tail.items) → deque_len tail + room ≤ deque_capacity tail + BLOCK * deque_len spare → count + room < 2 ^ 63 → IsLaid new tail_new spare_new count room
   laid-rotated closed new tail tail_new spare spare_new count room rotates counted fits small =
       record {
         filled = rotates.filled;

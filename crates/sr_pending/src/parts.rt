@@ -10,10 +10,10 @@ use std::collections::VecDeque;
 use std::mem::replace;
 
 /// How many elements a block has when it is closed.
-pub(crate) const BLOCK: usize = 128;
+pub(crate) const BLOCK: usize = 512;
 
 /// How many more it has places for then.
-pub(crate) const FREE: usize = 32;
+pub(crate) const FREE: usize = 128;
 
 /// Adds empty blocks, until there are so many.
 pub(crate) fn provide<T>(

@@ -1,11 +1,13 @@
 -- A list as it is kept: closed blocks, and the open one behind them. No public clause cites it.
 
-use Rattle.std.specs.Prelude.{◌≡◌, ℕ, ◌+◌, ◌-◌, ◌*◌, ◌^◌, ◌<◌, ◌≤◌, Bool, true, List, [], ◌++◌, Option, Some, None, length, take, map, get_or, slice_get, slice_set, refl}
+use Rattle.std.specs.Prelude.{◌≡◌, ℕ, ◌+◌, ◌-◌, ◌*◌, ◌^◌, ◌<◌, ◌≤◌, Bool, true, List, [], ◌++◌, Option, Some, None}
+use Rattle.std.specs.Prelude.{length, take, map, get_or, slice_get, slice_set, refl}
 use Rattle.std.specs.List.{All, flat_map}
 use Rattle.std.specs.Coded.{Coded, code_by, coded×, coded_ℕ, coded_list}
 use Rattle.std.specs.VecDeque.{deque_items, deque_capacity, deque_len}
 use Rattle.std.specs.declared.collections.VecDeque.{VecDeque}
 use Rattle.sr_pending.specs.declared.blocks.Place.{Place}
+use Rattle.sr_pending.specs.declared.parts.TheConstants.{BLOCK, FREE}
 
 -- what contracts see: the closed blocks, the open one, and for how many more elements there is room
 pub record Laid (T : Type 0) : Type 0 where
@@ -55,9 +57,12 @@ module _ {T Z : Type 0} where
   abbrev pub AreFilled : List (VecDeque T Z) → Type 0
   AreFilled blocks = All (λ block. 0 < length block.items) blocks
 
-  -- blocks that have nothing yet, and places for 160 elements each
+  -- a block that has nothing yet, and a place for each element that it is closed with, and for those that may come then
+  abbrev pub IsSpare : VecDeque T Z → Type 0
+  IsSpare block = (block.items ≡ []) × (BLOCK + FREE ≤ deque_capacity block)
+
   abbrev pub AreSpare : List (VecDeque T Z) → Type 0
-  AreSpare blocks = All (λ block. (block.items ≡ []) × (160 ≤ deque_capacity block)) blocks
+  AreSpare blocks = All (λ block. IsSpare block) blocks
 
   -- no closed block is empty; the elements are counted; the spare blocks have nothing, and places among the closed ones;
   -- there is memory for the elements to come, and the open block has a place for the next one
@@ -66,7 +71,7 @@ module _ {T Z : Type 0} where
     pub counted : count ≡ length (held_in closed.items ++ tail.items)
     pub spares : AreSpare spare.items
     pub places : deque_len closed + deque_len spare ≤ deque_capacity closed
-    pub fits : deque_len tail + room ≤ deque_capacity tail + 128 * deque_len spare
+    pub fits : deque_len tail + room ≤ deque_capacity tail + BLOCK * deque_len spare
     pub ready : 0 < room → deque_len tail < deque_capacity tail
     pub small : count + room < 2 ^ 63
 
@@ -76,7 +81,7 @@ module _ {T Z : Type 0} where
     pub filled : AreFilled new.items
     pub spares : AreSpare spare_new.items
     pub places : deque_len new + deque_len spare_new ≤ deque_capacity new
-    pub fits : deque_len tail_new + (deque_capacity tail_old + 128 * deque_len spare_old) ≤ deque_len tail_old + (deque_capacity tail_new + 128 * deque_len spare_new)
+    pub fits : deque_len tail_new + (deque_capacity tail_old + BLOCK * deque_len spare_old) ≤ deque_len tail_old + (deque_capacity tail_new + BLOCK * deque_len spare_new)
     pub ready : 0 < deque_len spare_new → deque_len tail_new < deque_capacity tail_new
 
   -- the elements of a block: none if there is no such block

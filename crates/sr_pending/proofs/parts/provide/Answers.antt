@@ -2,7 +2,7 @@ use Rattle.std.proofs.Common.{◌≡◌, ◌≤◌, [], sym, subst, arith, Globa
 use Rattle.std.proofs.lemmas.List.Elements.{All-push}
 use Rattle.std.specs.VecDeque.{deque_capacity}
 use Rattle.std.specs.declared.collections.VecDeque.{VecDeque}
-use Rattle.sr_pending.specs.steps.Blocks.{AreSpare}
+use Rattle.sr_pending.specs.steps.Blocks.{AreSpare, IsSpare}
 use Rattle.sr_pending.proofs.parts.provide.Goals as goal
 
 pub returns-in_err-reserve-clause-spares : goal.returns-in_err-reserve-clause-spares
@@ -21,7 +21,7 @@ loop-made-preserved g c =
     let had : AreSpare spare = subst AreSpare (sym c.reserve.ensures.items) c.loop-made.invariant.0 in
     let len = c.push_back_reserved.ensures.len in
     let before = c.reserve.ensures.len in (
-      subst AreSpare (sym c.push_back_reserved.ensures.items) (All-push (λ (d : VecDeque g.row.T.Denot Global). (d.items ≡ []) × (160 ≤ deque_capacity d)) spare block had (c.in_ok-block.ensures.items, omega (arith, c.in_ok-block.ensures.capacity))),
+      subst AreSpare (sym c.push_back_reserved.ensures.items) (All-push (λ (d : VecDeque g.row.T.Denot Global). IsSpare d) spare block had (c.in_ok-block.ensures.items, omega (arith, c.in_ok-block.ensures.capacity))),
       omega (arith, len, before, c.loop-made.invariant.1),
       omega (arith, len, before, c.loop-made.invariant.2),
       omega (arith, len, before, c.loop-made.invariant.1, c.loop-made-test.true),
