@@ -1,5 +1,5 @@
-//! The ids that closed blocks began with. They are where a search looks first, and nothing rests on them: if there is no memory for
-//! one, or it is out of date, the search goes on without.
+//! The ids that closed blocks began with. They are where a search looks first, and nothing rests on them: if there is
+//! no memory for one, or it is out of date, the search goes on without.
 use crate::Nack;
 use crate::slots::id_in;
 use slab::Slab;
@@ -32,8 +32,8 @@ fn part_of(len: usize, id: Id, from: Id, to: Id) -> usize {
     (done.saturating_mul(len as u64) / all.max(1)) as usize
 }
 
-/// Where in a block that began with `from`, before one that began with `to`, the entry with this id is, if three tries by proportion find
-/// it.
+/// Where in a block that began with `from`, before one that began with `to`, the entry with this id is, if three tries
+/// by proportion find it.
 pub(crate) fn guess_between(
     slab: &Slab<Nack>,
     block: &VecDeque<usize>,

@@ -68,7 +68,8 @@ fn grow(held: &mut Held, alloc: Global, owner: &Name, room: usize) -> Result<(),
 pub(crate) fn put_slot(held: &mut Held, slab: &Slab<Nack>, slot: usize)
     requires taken { ContainsKey slab.now slot }
     requires rising { AreRising (nacks_at slab.now (slots_by held.old (nack_at slab.now slot).owner)) }
-    requires fresh { has_id (nack_at slab.now slot).id (nacks_at slab.now (slots_by held.old (nack_at slab.now slot).owner)) ≡ false }
+    requires fresh { has_id (nack_at slab.now slot).id
+        (nacks_at slab.now (slots_by held.old (nack_at slab.now slot).owner)) ≡ false }
     requires spare { 0 < spare_by held.old (nack_at slab.now slot).owner }
     ensures { PutsSlot slot slab.now held.old held.new }
 {

@@ -154,7 +154,8 @@ pub(crate) fn insert_in<T>(
     requires filled { AreFilled closed.old.items }
     requires free { deque_len tail.old < deque_capacity tail.old }
     ensures items { held_in closed.new.items ++ tail.new.items ≡
-        insert (held_in closed.old.items ++ tail.old.items) (length (held_in (take block closed.old.items)) + at) value }
+        insert (held_in closed.old.items ++ tail.old.items)
+        (length (held_in (take block closed.old.items)) + at) value }
     ensures filled { AreFilled closed.new.items }
     ensures blocks { deque_len closed.new ≡ deque_len closed.old }
     ensures places { deque_capacity closed.new ≡ deque_capacity closed.old }

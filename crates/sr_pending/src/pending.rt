@@ -302,7 +302,8 @@ impl Pending {
         }
     }
 
-    /// The owner of this name. It shares its name with the entries that it has, if it has any, and then takes no memory.
+    /// The owner of this name. It shares its name with the entries that it has, if it has any, and then takes no
+    /// memory.
     pub fn owner(&self, alloc: Global, name: &Name) -> Result<Owner, AllocError>
         ensures { IfOk result (λ owner. owner ≡ name.now) }
     {

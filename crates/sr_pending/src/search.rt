@@ -41,7 +41,9 @@ fn is_edge(
     id: Id,
     upto: bool,
 ) -> bool
-    ensures { IsTrue result → IsEdge (λ block. ends_in (λ slot. is_before upto id (nack_at slab.now slot)) block) (map deque_items blocks.now.items) place }
+    ensures { IsTrue result →
+        IsEdge (λ block. ends_in (λ slot. is_before upto id (nack_at slab.now slot)) block)
+        (map deque_items blocks.now.items) place }
 {
     if place > blocks.len() {
         return false;
@@ -70,7 +72,8 @@ fn first_guess(slab: &Slab<Nack>, slots: &Blocks<usize>, id: Id, upto: bool) -> 
 /// How many closed blocks end before the id: by a guess, and by binary search if that is wrong.
 fn block_before(slab: &Slab<Nack>, slots: &Blocks<usize>, id: Id, upto: bool) -> usize
     requires { AreRising (nacks_at slab.now (items_of slots.now)) }
-    ensures { Splits (λ block. ends_in (λ slot. is_before upto id (nack_at slab.now slot)) block) slots.now.closed result }
+    ensures { Splits (λ block. ends_in (λ slot. is_before upto id (nack_at slab.now slot)) block)
+        slots.now.closed result }
 {
     let guess = first_guess(slab, slots, id, upto);
     if is_edge(slab, slots.closed(), guess, id, upto) {
@@ -94,8 +97,8 @@ fn place_before(slab: &Slab<Nack>, slots: &Blocks<usize>, id: Id, upto: bool) ->
     Place { block, at }
 }
 
-/// Where in this block an entry of this id would lie: by proportion between the ids that it and the next one began with, if that finds
-/// it, and by binary search if not.
+/// Where in this block an entry of this id would lie: by proportion between the ids that it and the next one began
+/// with, if that finds it, and by binary search if not.
 fn guess_in(slab: &Slab<Nack>, slots: &Blocks<usize>, number: usize, id: Id) -> usize {
     if number > slots.closed().len() {
         return 0;

@@ -45,7 +45,8 @@ pub(crate) fn is_owned(slab: &Slab<Nack>, slot: usize, owner: &Name) -> bool
 /// Sets the time and the count of the entry in this slot.
 pub(crate) fn touch_in(slab: &mut Slab<Nack>, slot: usize, time: u64, count: u64)
     requires { ContainsKey slab.old slot }
-    ensures { Writes slot (redelivered (nack_at slab.old slot).owner time count (nack_at slab.old slot)) slab.old slab.new }
+    ensures { Writes slot (redelivered (nack_at slab.old slot).owner time count (nack_at slab.old slot))
+        slab.old slab.new }
 {
     if let Some(nack) = slab.get_mut(slot) {
         nack.time = time;

@@ -64,9 +64,11 @@ module _ {T Z : Type 0} where
   abbrev pub AreSpare : List (VecDeque T Z) → Type 0
   AreSpare blocks = All (λ block. IsSpare block) blocks
 
-  -- no closed block is empty; the elements are counted; the spare blocks have nothing, and places among the closed ones;
-  -- there is memory for the elements to come, and the open block has a place for the next one
-  pub record IsLaid (closed : VecDeque (VecDeque T Z) Z) (tail : VecDeque T Z) (spare : VecDeque (VecDeque T Z) Z) (count room : ℕ) : Type 0 where
+  -- no closed block is empty; the elements are counted; the spare blocks have nothing, and places among the closed
+  -- ones; there is memory for the elements to come, and the open block has a place for the next one
+  pub record IsLaid
+      (closed : VecDeque (VecDeque T Z) Z) (tail : VecDeque T Z) (spare : VecDeque (VecDeque T Z) Z)
+      (count room : ℕ) : Type 0 where
     pub filled : AreFilled closed.items
     pub counted : count ≡ length (held_in closed.items ++ tail.items)
     pub spares : AreSpare spare.items
@@ -76,12 +78,15 @@ module _ {T Z : Type 0} where
     pub small : count + room < 2 ^ 63
 
   -- the elements are the same, no less memory is free, and the open block has a free place if a block is still spare
-  pub record Rotates (old new : VecDeque (VecDeque T Z) Z) (tail_old tail_new : VecDeque T Z) (spare_old spare_new : VecDeque (VecDeque T Z) Z) : Type 0 where
+  pub record Rotates
+      (old new : VecDeque (VecDeque T Z) Z) (tail_old tail_new : VecDeque T Z)
+      (spare_old spare_new : VecDeque (VecDeque T Z) Z) : Type 0 where
     pub items : held_in new.items ++ tail_new.items ≡ held_in old.items ++ tail_old.items
     pub filled : AreFilled new.items
     pub spares : AreSpare spare_new.items
     pub places : deque_len new + deque_len spare_new ≤ deque_capacity new
-    pub fits : deque_len tail_new + (deque_capacity tail_old + BLOCK * deque_len spare_old) ≤ deque_len tail_old + (deque_capacity tail_new + BLOCK * deque_len spare_new)
+    pub fits : deque_len tail_new + (deque_capacity tail_old + BLOCK * deque_len spare_old) ≤
+        deque_len tail_old + (deque_capacity tail_new + BLOCK * deque_len spare_new)
     pub ready : 0 < deque_len spare_new → deque_len tail_new < deque_capacity tail_new
 
   -- the elements of a block: none if there is no such block
@@ -89,7 +94,8 @@ module _ {T Z : Type 0} where
   items_at block blocks = get_or (map deque_items blocks) block []
 
   -- the block has a free place: what it lost went on to those behind it, and the elements are the same
-  pub record MakesRoom (block : ℕ) (old new : VecDeque (VecDeque T Z) Z) (tail_old tail_new : VecDeque T Z) : Type 0 where
+  pub record MakesRoom
+      (block : ℕ) (old new : VecDeque (VecDeque T Z) Z) (tail_old tail_new : VecDeque T Z) : Type 0 where
     pub is : VecDeque T Z
     pub here : slice_get new.items block ≡ Some is
     pub free : deque_len is < deque_capacity is

@@ -1,4 +1,5 @@
--- The slots that each owner has, as they are kept: a map from owners to lists of slots in blocks. No public clause cites it.
+-- The slots that each owner has, as they are kept: a map from owners to lists of slots in blocks.
+-- No public clause cites it.
 
 use Rattle.std.specs.Prelude.{◌≡◌, ℕ, ◌-◌, ◌≤◌, List, [], Option, Some, None, false}
 use Rattle.std.specs.HashMap.{HashMap, get}
@@ -50,7 +51,8 @@ module _ {S : Type 0} where
   pub record Gives (owner : List ℕ) (given : List ℕ) (room : ℕ) (old new : HashMap (List ℕ) (Laid ℕ) S) : Type 0 where
     pub slots : slots_by new owner ≡ given
     pub spare : room ≤ spare_by new owner
-    pub others : (other : List ℕ) → is_same_name owner other ≡ false → get is_same_name new other ≡ get is_same_name old other
+    pub others : (other : List ℕ) → is_same_name owner other ≡ false →
+        get is_same_name new other ≡ get is_same_name old other
 
   -- the slot comes to its owner's, at the place of its entry, in memory that they have
   abbrev pub PutsSlot : ℕ → Slab Nack → HashMap (List ℕ) (Laid ℕ) S → HashMap (List ℕ) (Laid ℕ) S → Type 0

@@ -12,10 +12,12 @@ use Rattle.sr_pending.specs.steps.Room.{rooms_in_all}
 use Rattle.sr_pending.specs.steps.Slots.{AreTaken, nacks_at}
 use Rattle.sr_pending.specs.Pending.{AreRising, IsCountable}
 
--- the entries in the slots rise, and their times and counts are countable; each slot has an entry, and no other slot has one;
--- each owner's slots are those of its entries; and what was reserved can be counted, and finds places in the slab, among the slots and
--- among those of each owner
-pub record IsSound {S : Type 0} (slab : Slab Nack) (slots : List ℕ) (rooms : List Room) (held : HashMap (List ℕ) (Laid ℕ) S) (spare : ℕ) : Type 0 where
+-- the entries in the slots rise, and their times and counts are countable; each slot has an entry, and no other slot
+-- has one; each owner's slots are those of its entries; and what was reserved can be counted, and finds places in the
+-- slab, among the slots and among those of each owner
+pub record IsSound
+    {S : Type 0} (slab : Slab Nack) (slots : List ℕ) (rooms : List Room) (held : HashMap (List ℕ) (Laid ℕ) S)
+    (spare : ℕ) : Type 0 where
   pub rising : AreRising (nacks_at slab slots)
   pub countable : All IsCountable (nacks_at slab slots)
   pub taken : AreTaken slab slots
