@@ -1,6 +1,6 @@
 -- Where binary search finds the place in a list in blocks: first the block, by its last element, and then the place there.
 use Rattle.std.proofs.Common.{◌≡◌, ℕ, zero, suc, ◌+◌, ◌-◌, ◌<◌, ◌≤◌, Bool, true, false, List, [], ◌∷◌, ◌++◌, length, get_or, take, map, slice_get, Some, refl, ap, sym, subst, ◌∙◌, arith}
-use Rattle.std.proofs.lemmas.List.{append_assoc, length-append, length-map}
+use Rattle.std.proofs.lemmas.List.{append-nil, append_assoc, length-append, length-map}
 use Rattle.std.proofs.lemmas.List.Elements.{All-map}
 use Rattle.std.specs.Option.{option_map}
 use Rattle.std.proofs.lemmas.Option.{slice_get-get_or, slice_get-map, slice_get_read, slice_get_within}
@@ -32,7 +32,7 @@ module _ {X : Type 0} (p : X → Bool) where
   Splits-within (x ∷ xs) (suc i) splits = omega (arith, Splits-within xs i splits.1)
 
   -- where an element passes and the next one fails, the list splits
-  Splits-edge : (xs : List X) (i k : ℕ) → Splits p xs k → IsEdge p xs i → k ≡ i
+  pub Splits-edge : (xs : List X) (i k : ℕ) → Splits p xs k → IsEdge p xs i → k ≡ i
   Splits-edge [] i k splits edge = omega (arith, splits, edge.within)
   Splits-edge (x ∷ xs) zero zero splits edge = refl
   Splits-edge (x ∷ xs) zero (suc k) splits edge = absurd (let fails = edge.failed x refl in let passes = splits.0 in cc)
@@ -86,6 +86,14 @@ module _ {X : Type 0} (p : X → Bool) where
       let later = Splits-past (b ∷ bs) rest i splits.1 (sym (ends-more a b bs) ∙ ends) in
       let many = later.1 in
       (later.0, omega arith, later.2)
+
+  -- where the last element passes, all do
+  pub Splits-all : (xs : List X) (i : ℕ) → Splits p xs i → ends_in p xs ≡ true → length xs ≡ i
+  Splits-all xs i splits ends =
+      let past = Splits-past xs [] i (subst (λ (l : List X). Splits p l i) (sym (append-nil xs)) splits) ends in
+      let many = past.1 in
+      let none = past.2 in
+      omega (arith, many, none)
 
   -- where it fails, no later element passes
   Splits-before : (block rest : List X) (i : ℕ) → Splits p (block ++ rest) i → ends_in p block ≡ false → Splits p rest zero

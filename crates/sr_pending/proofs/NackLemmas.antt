@@ -17,6 +17,9 @@ is_below-true a b test = grind (arith, nat_tests)
 pub is_below-from : (a b : Id) → IsBelow a b → is_below a b ≡ true
 is_below-from a b below = grind (arith, nat_tests)
 
+pub is_below-self : (a : Id) → is_below a a ≡ false
+is_below-self a = grind (arith, nat_tests)
+
 pub is_same_id-true : (a b : Id) → is_same_id a b ≡ true → a ≡ b
 is_same_id-true a b test =
     let ms : a.ms ≡ b.ms = grind (arith, nat_tests) in

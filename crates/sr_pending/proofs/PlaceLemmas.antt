@@ -1,22 +1,24 @@
 -- Lists in the order of the entries that f gives: what binary search finds in them, and what they become there.
-use Rattle.std.proofs.Common.{◌≡◌, ℕ, zero, suc, ◌-◌, ◌<◌, Bool, true, false, cond, not, List, [], ◌∷◌, ◌++◌, length, get_or, map, take, drop, filter, slice_get, Option, Some, None, refl, ap, subst, sym, ◌∙◌, arith}
+use Rattle.std.proofs.Common.{◌≡◌, ℕ, zero, suc, ◌-◌, ◌<◌, Bool, true, false, cond, not, List, [], ◌∷◌, ◌++◌, length, map, take, drop, filter, slice_get, Option, Some, None, refl, ap, sym, ◌∙◌, arith}
 use Rattle.std.specs.List.{count_by, insert, remove, slice_range}
 use Rattle.std.specs.List.Sorted.{IsPartitionedBy}
 use Rattle.std.specs.Option.{option_map}
 use Rattle.std.proofs.Math.ListN.{get_or-map}
 use Rattle.std.proofs.lemmas.List.{length-map, take_rest}
 use Rattle.std.proofs.lemmas.List.Elements.{filter_agree}
+use Rattle.std.proofs.lemmas.List.Sums.{length-filter}
 use Rattle.std.proofs.lemmas.Option.{slice_get-map}
 use Rattle.sr_ids.specs.declared.id.Id.{Id}
 use Rattle.sr_ids.specs.Id.{IsBelow}
 use Rattle.sr_pending.specs.declared.nack.Nack.{Nack}
 use Rattle.sr_pending.specs.Pending.{AreAbove, AreRising, has_id, is_below, is_between, is_same_id}
-use Rattle.sr_pending.specs.steps.Search.{is_before}
-use Rattle.sr_pending.proofs.NackLemmas.{AreAbove-get, is_below-from, is_same_id-below, is_same_id-refl}
+use Rattle.sr_pending.specs.steps.Blocks.{ends_in}
+use Rattle.sr_pending.specs.steps.Search.{IsEdge, is_before}
+use Rattle.sr_pending.proofs.NackLemmas.{AreAbove-get, is_below-from, is_below-self, is_same_id-below, is_same_id-refl}
 use Rattle.sr_pending.proofs.SearchLemmas.{before_place, below_first, has_id-above, has_id-no_place, has_id-not_first, not_above_first}
 use Rattle.sr_pending.proofs.ChangeLemmas.{is_below-not, not_below, take-Splits}
-use Rattle.sr_pending.proofs.Finding.{Splits-map}
-use Rattle.sr_pending.proofs.Splitting.{Splits, Splits-counted, drop-Splits, filter-Splits}
+use Rattle.sr_pending.proofs.Finding.{Splits-all, Splits-edge, Splits-map}
+use Rattle.sr_pending.proofs.Splitting.{Splits-counted, count_by-no, count_by-yes, drop-Splits, filter-Splits}
 
 -- all from a place on
 pub slice_range-rest : {X : Type 0} (xs : List X) (from len : ℕ) → len ≡ length xs → slice_range xs from len ≡ drop from xs
@@ -43,6 +45,18 @@ module _ {X : Type 0} (f : X → Nack) where
     pub first_before : (upto : Bool) → IsPartitionedBy (λ (x : X). is_before upto id (f x)) xs
     first_before false = first_below
     first_before true = first_upto
+
+    -- if the last one does, all do
+    pub last_before : (upto : Bool) → ends_in (λ (x : X). is_before upto id (f x)) xs ≡ true → length xs ≡ count_by (λ x. is_before upto id (f x)) xs
+    last_before upto ends =
+        let p : X → Bool = λ x. is_before upto id (f x) in
+        Splits-all p xs (count_by p xs) (Splits-counted p xs (first_before upto)) ends
+
+    -- where the entry before lies below the id and the next one does not
+    pub place_edge : (i : ℕ) → IsEdge (λ (x : X). is_below (f x).id id) xs i → i ≡ count_by (λ x. is_below (f x).id id) xs
+    place_edge i edge =
+        let p : X → Bool = λ x. is_below (f x).id id in
+        sym (Splits-edge p xs i (count_by p xs) (Splits-counted p xs first_below) edge)
 
     -- what lies from the place that is found on
     pub rest_from : drop (count_by (λ x. is_below (f x).id id) xs) xs ≡ filter (λ x. not (is_below (f x).id id)) xs
@@ -77,7 +91,7 @@ module _ {X : Type 0} (f : X → Nack) where
           other x is (ap (λ (n : Nack). n.id) one ∙ same)
 
   -- the new one goes to the place that binary search gives
-  not_below-above : (id : Id) (xs : List X) → has_id id (map f xs) ≡ false → filter (λ x. not (is_below (f x).id id)) xs ≡ filter (λ x. is_below id (f x).id) xs
+  pub not_below-above : (id : Id) (xs : List X) → has_id id (map f xs) ≡ false → filter (λ x. not (is_below (f x).id id)) xs ≡ filter (λ x. is_below id (f x).id) xs
   not_below-above id [] fresh = refl
   not_below-above id (x ∷ xs) fresh =
       let parts = has_id-not_first id (f x) (map f xs) fresh in
@@ -120,6 +134,33 @@ module _ {X : Type 0} (f : X → Nack) where
   all_above : (id : Id) (xs : List X) → AreAbove id (map f xs) → filter (λ x. is_below id (f x).id) xs ≡ xs
   all_above id [] above = refl
   all_above id (x ∷ xs) above = rw (is_below-from id (f x).id above.0) (ap (λ (l : List X). x ∷ l) (all_above id xs above.1))
+
+  -- the place of the entry with the id is the one that is found, and behind it lies what is above the id
+  pub place_at : (id : Id) (xs : List X) (i : ℕ) (x : X) → AreRising (map f xs) → slice_get xs i ≡ Some x → (f x).id ≡ id → i ≡ count_by (λ x. is_below (f x).id id) xs
+  place_at id [] i x rising here same = cc
+  place_at id (y ∷ ys) zero x rising here same =
+      let p : X → Bool = λ x. is_below (f x).id id in
+      let first : y ≡ x = cc in
+      let first_id : (f y).id ≡ id = ap (λ (z : X). (f z).id) first ∙ same in
+      let above : AreAbove id (map f ys) = rw first_id at rising.0 in
+      let fails : p y ≡ false = rw first_id (is_below-self id) in
+      sym (count_by-no p y ys fails ∙ sym (length-filter p ys) ∙ ap (λ (l : List X). length l) (none_below id ys above))
+  place_at id (y ∷ ys) (suc i) x rising here same =
+      let p : X → Bool = λ x. is_below (f x).id id in
+      let lt : IsBelow (f y).id id = rw same at (AreAbove-get (f y).id (map f ys) i (f x) rising.0 (place-map ys i x here)) in
+      ap (λ (n : ℕ). suc n) (place_at id ys i x rising.1 here same) ∙ sym (count_by-yes p y ys (is_below-from (f y).id id lt))
+
+  pub rest_behind : (id : Id) (xs : List X) (i : ℕ) (x : X) → AreRising (map f xs) → slice_get xs i ≡ Some x → (f x).id ≡ id → drop 1 (drop i xs) ≡ filter (λ x. is_below id (f x).id) xs
+  rest_behind id [] i x rising here same = cc
+  rest_behind id (y ∷ ys) zero x rising here same =
+      let first : y ≡ x = cc in
+      let first_id : (f y).id ≡ id = ap (λ (z : X). (f z).id) first ∙ same in
+      let above : AreAbove id (map f ys) = rw first_id at rising.0 in
+      let fails : is_below id (f y).id ≡ false = rw first_id (is_below-self id) in
+      rw fails (sym (all_above id ys above))
+  rest_behind id (y ∷ ys) (suc i) x rising here same =
+      let lt : IsBelow (f y).id id = rw same at (AreAbove-get (f y).id (map f ys) i (f x) rising.0 (place-map ys i x here)) in
+      rw (is_below-not (f y).id id lt) (rest_behind id ys i x rising.1 here same)
 
   abbrev pub with_one : X → List X → List X
   with_one x xs = filter (λ o. is_below (f o).id (f x).id) xs ++ x ∷ filter (λ o. is_below (f x).id (f o).id) xs

@@ -1,4 +1,4 @@
-ghost use Rattle.std.specs.Prelude.{◌≡◌, [], ◌∷◌, IfSome, IfNone};
+ghost use Rattle.std.specs.Prelude.{◌≡◌, [], ◌∷◌, IfSome, IfNone, drop};
 ghost use Rattle.std.specs.VecDeque.Iter.{deque_iter_rest};
 
 use std::collections::VecDeque;
@@ -42,6 +42,13 @@ impl<'a, T> Run<'a, T> {
                 None => return self.last.next(),
             }
         }
+    }
+
+    /// Leaves out the next element.
+    pub(crate) fn skip(&mut self)
+        ensures { self.new ≡ drop 1 self.old }
+    {
+        if let Some(_) = self.next() {}
     }
 
     /// The same elements once more.

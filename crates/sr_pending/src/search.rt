@@ -3,7 +3,8 @@ ghost use Rattle.std.specs.Prelude.{◌≡◌, ◌+◌, ◌<◌, ◌≤◌, IsTr
 ghost use Rattle.std.specs.VecDeque.{deque_items};
 ghost use Rattle.sr_pending.specs.Pending.{AreRising, has_id, is_below, is_between};
 ghost use Rattle.sr_pending.specs.steps.Blocks.{IsIn, at_of, ends_in, items_of};
-ghost use Rattle.sr_pending.specs.steps.Search.{IsAt, IsEdge, IsSlotOf, Splits, is_before, number_before};
+ghost use Rattle.sr_pending.specs.steps.Search.{EndsBelow, IsAt, IsBegin, IsEdge, IsSlotOf, Splits};
+ghost use Rattle.sr_pending.specs.steps.Search.{is_before, number_before};
 ghost use Rattle.sr_pending.specs.steps.Slots.{nack_at, nacks_at, slots_with, slots_without};
 
 use crate::Nack;
@@ -84,12 +85,27 @@ fn block_before(slab: &Slab<Nack>, slots: &Blocks<usize>, id: Id, upto: bool) ->
         .partition_point(|block| ends_before(slab, block, id, upto))
 }
 
-/// The first slot whose entry does not lie before the id.
+/// Whether all entries lie before the id: the last one does, or there is none.
+fn all_before(slab: &Slab<Nack>, slots: &Blocks<usize>, id: Id, upto: bool) -> bool
+    requires { AreRising (nacks_at slab.now (items_of slots.now)) }
+    ensures { IsTrue result →
+        length (items_of slots.now) ≡ number_before upto id slab.now (items_of slots.now) }
+{
+    match slots.last() {
+        Some(slot) => lies_before(slab, *slot, id, upto),
+        None => true,
+    }
+}
+
+/// The first slot whose entry does not lie before the id: the end, if the last one does, and else by a search.
 fn place_before(slab: &Slab<Nack>, slots: &Blocks<usize>, id: Id, upto: bool) -> Place
     requires { AreRising (nacks_at slab.now (items_of slots.now)) }
     ensures place { IsIn result slots.now }
     ensures value { at_of result slots.now ≡ number_before upto id slab.now (items_of slots.now) }
 {
+    if all_before(slab, slots, id, upto) {
+        return slots.end();
+    }
     let block = block_before(slab, slots, id, upto);
     let at = slots
         .block(block)
@@ -112,7 +128,25 @@ fn guess_in(slab: &Slab<Nack>, slots: &Blocks<usize>, number: usize, id: Id) -> 
     block.partition_point(|slot| lies_before(slab, *slot, id, false))
 }
 
-/// This place, if it is that of the slot of the entry with this id.
+/// Whether the entry before this place lies below the id, or there is none.
+fn ends_below(slab: &Slab<Nack>, slots: &Blocks<usize>, place: Place, id: Id) -> bool
+    requires { IsIn place slots.now }
+    ensures { IsTrue result → EndsBelow id slab.now (items_of slots.now) (at_of place slots.now) }
+{
+    if place.at == 0 {
+        return place.block == 0;
+    }
+    let before = Place {
+        block: place.block,
+        at: place.at - 1,
+    };
+    match slots.get(before) {
+        Some(slot) => lies_before(slab, *slot, id, false),
+        None => false,
+    }
+}
+
+/// This place, if an entry is there that is seen to be the first that is not below the id.
 fn place_if(
     slab: &Slab<Nack>,
     slots: &Blocks<usize>,
@@ -120,7 +154,8 @@ fn place_if(
     at: usize,
     id: Id,
 ) -> Option<Place>
-    ensures { IfSome result (λ place. IsAt id slab.now slots.now place) }
+    requires { AreRising (nacks_at slab.now (items_of slots.now)) }
+    ensures { IfSome result (λ place. IsBegin id slab.now slots.now place) }
 {
     if block > slots.closed().len() {
         return None;
@@ -132,6 +167,12 @@ fn place_if(
     match slots.get(place) {
         Some(slot) => {
             if id_in(slab, *slot) == id {
+                return Some(place);
+            }
+            if lies_before(slab, *slot, id, false) {
+                return None;
+            }
+            if ends_below(slab, slots, place, id) {
                 Some(place)
             } else {
                 None
@@ -141,9 +182,10 @@ fn place_if(
     }
 }
 
-/// The place of the slot of the entry with this id, if it is the first, or where it is to be looked for first.
+/// The first slot whose entry is not below the id, if it is the first of all, or where it is to be looked for first.
 fn guessed_place(slab: &Slab<Nack>, slots: &Blocks<usize>, id: Id) -> Option<Place>
-    ensures { IfSome result (λ place. IsAt id slab.now slots.now place) }
+    requires { AreRising (nacks_at slab.now (items_of slots.now)) }
+    ensures { IfSome result (λ place. IsBegin id slab.now slots.now place) }
 {
     if let Some(place) = place_if(slab, slots, 0, 0, id) {
         return Some(place);
@@ -153,25 +195,41 @@ fn guessed_place(slab: &Slab<Nack>, slots: &Blocks<usize>, id: Id) -> Option<Pla
     place_if(slab, slots, block, at, id)
 }
 
+/// The first slot whose entry is not below the id: by a guess, and by binary search if that is wrong.
+fn place_below(slab: &Slab<Nack>, slots: &Blocks<usize>, id: Id) -> Place
+    requires { AreRising (nacks_at slab.now (items_of slots.now)) }
+    ensures { IsBegin id slab.now slots.now result }
+{
+    match guessed_place(slab, slots, id) {
+        Some(place) => place,
+        None => place_before(slab, slots, id, false),
+    }
+}
+
+/// Whether the entry at this place, the first that is not below the id, has it.
+fn has_at(slab: &Slab<Nack>, slots: &Blocks<usize>, place: Place, id: Id) -> bool
+    requires rising { AreRising (nacks_at slab.now (items_of slots.now)) }
+    requires begin { IsBegin id slab.now slots.now place }
+    ensures found { IsTrue result → IsAt id slab.now slots.now place }
+    ensures none { result ≡ false → has_id id (nacks_at slab.now (items_of slots.now)) ≡ false }
+{
+    match slots.get(place) {
+        None => false,
+        Some(slot) => id_in(slab, *slot) == id,
+    }
+}
+
 /// The place of the slot of the entry with this id.
 pub(crate) fn place_of(slab: &Slab<Nack>, slots: &Blocks<usize>, id: Id) -> Option<Place>
     requires { AreRising (nacks_at slab.now (items_of slots.now)) }
     ensures found { IfSome result (λ place. IsAt id slab.now slots.now place) }
     ensures none { IfNone result (has_id id (nacks_at slab.now (items_of slots.now)) ≡ false) }
 {
-    if let Some(place) = guessed_place(slab, slots, id) {
-        return Some(place);
-    }
-    let place = place_before(slab, slots, id, false);
-    match slots.get(place) {
-        None => None,
-        Some(slot) => {
-            if id_in(slab, *slot) == id {
-                Some(place)
-            } else {
-                None
-            }
-        }
+    let place = place_below(slab, slots, id);
+    if has_at(slab, slots, place, id) {
+        Some(place)
+    } else {
+        None
     }
 }
 
@@ -210,7 +268,7 @@ pub(crate) fn range_of<'a>(
     ensures { result ≡ filter (λ slot. is_between start end (nack_at slab.now slot).id) (items_of slots.now) }
 {
     slots.run(
-        place_before(slab, slots, start, false),
+        place_below(slab, slots, start),
         place_before(slab, slots, end, true),
     )
 }
@@ -220,7 +278,12 @@ pub(crate) fn above<'a>(slab: &Slab<Nack>, slots: &'a Blocks<usize>, id: Id) -> 
     requires { AreRising (nacks_at slab.now (items_of slots.now)) }
     ensures { result ≡ filter (λ slot. is_below id (nack_at slab.now slot).id) (items_of slots.now) }
 {
-    slots.run(place_before(slab, slots, id, true), slots.end())
+    let place = place_below(slab, slots, id);
+    let mut rest = slots.run(place, slots.end());
+    if has_at(slab, slots, place, id) {
+        rest.skip();
+    }
+    rest
 }
 
 /// The slots of the entries from the id on.
@@ -228,7 +291,7 @@ pub(crate) fn from<'a>(slab: &Slab<Nack>, slots: &'a Blocks<usize>, id: Id) -> R
     requires { AreRising (nacks_at slab.now (items_of slots.now)) }
     ensures { result ≡ filter (λ slot. not (is_below (nack_at slab.now slot).id id)) (items_of slots.now) }
 {
-    slots.run(place_before(slab, slots, id, false), slots.end())
+    slots.run(place_below(slab, slots, id), slots.end())
 }
 
 /// Puts the slot at the place of its entry, in the room that there is.

@@ -31,6 +31,16 @@ pub record IsEdge {X : Type 0} (p : X → Bool) (xs : List X) (i : ℕ) : Type 0
   pub passed : (k : ℕ) (x : X) → suc k ≡ i → slice_get xs k ≡ Some x → p x ≡ true
   pub failed : (x : X) → slice_get xs i ≡ Some x → p x ≡ false
 
+-- the slot before this place has an entry below the id, if there is one
+abbrev pub EndsBelow : Id → Slab Nack → List ℕ → ℕ → Type 0
+EndsBelow id slab slots place =
+    (k slot : ℕ) → suc k ≡ place → slice_get slots k ≡ Some slot → is_before false id (nack_at slab slot) ≡ true
+
+-- this place of a list in blocks is the first whose entry is not below the id, or the end
+pub record IsBegin (id : Id) (slab : Slab Nack) (slots : Laid ℕ) (place : Place) : Type 0 where
+  pub within : IsIn place slots
+  pub value : at_of place slots ≡ number_before false id slab (items_of slots)
+
 -- the slot at this place has the entry with this id
 pub record IsPlace (id : Id) (slab : Slab Nack) (slots : List ℕ) (slot place : ℕ) : Type 0 where
   pub here : slice_get slots place ≡ Some slot

@@ -8,6 +8,6 @@ pub returns : goal.returns
 returns c =
     let slots = items_of c.args.slots.now in
     c.run.ensures
-    ∙ slice_range-rest slots (at_of c.place_before.result c.args.slots.now) _ c.end.ensures.at
-    ∙ ap (λ (n : ℕ). drop n slots) c.place_before.ensures.value
+    ∙ slice_range-rest slots (at_of c.place_below.result c.args.slots.now) _ c.end.ensures.at
+    ∙ ap (λ (n : ℕ). drop n slots) c.place_below.ensures.value
     ∙ rest_from (nack_at c.args.slab.now) slots c.requires c.args.id

@@ -9,8 +9,8 @@ pub returns : goal.returns
 returns c =
     let slots = items_of c.args.slots.now in
     let slab = c.args.slab.now in
-    let past = at_of c.place_before-2.result c.args.slots.now in
+    let past = at_of c.place_before.result c.args.slots.now in
     c.run.ensures
-    ∙ ap (λ (n : ℕ). take (past - n) (drop n slots)) c.place_before.ensures.value
-    ∙ ap (λ (n : ℕ). take (n - number_before false c.args.start slab slots) (drop (number_before false c.args.start slab slots) slots)) c.place_before-2.ensures.value
+    ∙ ap (λ (n : ℕ). take (past - n) (drop n slots)) c.place_below.ensures.value
+    ∙ ap (λ (n : ℕ). take (n - number_before false c.args.start slab slots) (drop (number_before false c.args.start slab slots) slots)) c.place_before.ensures.value
     ∙ sym (range_between (nack_at slab) slots c.args.start c.args.end c.requires)
