@@ -10,6 +10,7 @@ pub mod ReadGroupLaws
 pub mod NoAckLaws
 pub mod GroupedLemmas
 pub mod KeysLemmas
+pub mod CopyLemmas
 pub mod CommandLaws
 pub mod LawLemmas
 pub mod ReplyLemmas
