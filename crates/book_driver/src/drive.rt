@@ -46,6 +46,14 @@ impl Driver {
                 line_of(alloc, status_text(status))
             }
             Ask::Records => records_line(alloc, self.book.records()),
+            Ask::Checkpoint => {
+                let index = self.book.checkpoint(alloc)?;
+                format!(in alloc; "checkpoint {index}\n")
+            }
+            Ask::Base => {
+                let base = self.book.base();
+                format!(in alloc; "base {} {}\n", base.index, base.events)
+            }
         }
     }
 

@@ -44,8 +44,12 @@ pub(crate) enum Ask {
     Status {
         place: usize,
     },
-    /// The records so far.
+    /// The records since the last checkpoint.
     Records,
+    /// A checkpoint.
+    Checkpoint,
+    /// What the book says of the records up to the last checkpoint.
+    Base,
 }
 
 /// What a session does.
@@ -101,6 +105,8 @@ fn read_form(alloc: Global, parts: &mut Split<'_, char>) -> Result<Ask, LineFaul
     match form {
         "policy" => return read_policy(alloc, parts),
         "records" => return Ok(Ask::Records),
+        "checkpoint" => return Ok(Ask::Checkpoint),
+        "base" => return Ok(Ask::Base),
         _ => {}
     }
     let number = read_number(parts)?;

@@ -1,4 +1,5 @@
 pub mod ActLemmas
+pub mod BaseLemmas
 pub mod BookLemmas
 pub mod DueLemmas
 pub mod FreshLemmas

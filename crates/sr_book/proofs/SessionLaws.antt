@@ -37,7 +37,7 @@ use Rattle.sr_book.specs.declared.event.Out.{Out}
 use Rattle.sr_book.specs.declared.event.Out.TheVariants as outs
 use Rattle.sr_book.proofs.ActLemmas.{called_server, not_busy, speaker_is_open}
 use Rattle.sr_book.proofs.DueLemmas.{absent-without}
-use Rattle.sr_book.proofs.FreshLemmas.{AreBelow-acted, AreBelow-served}
+use Rattle.sr_book.proofs.BaseLemmas.{all-legal, all_records}
 use Rattle.sr_book.proofs.OpenLemmas.{is_open-with_letter, open-called, open-expired, open-joined, open-left, open-served, open-with_letter}
 use Rattle.sr_book.proofs.HeardLemmas.{Asks, SendsAnswer, acted-heard, asks-busy, asks-speaker}
 use Rattle.sr_book.proofs.ServeLemmas.{serving-read}
@@ -428,32 +428,6 @@ steps-asked-not-idle old told session event fault new asks idle stepped =
 
 -- ---- every state that a history leads to
 
-led-below : (index moment : ℕ) (replies : List (ℕ × ReplyParts)) (old new : Server) (act : Act) → LeadsBy act index moment replies old new
-    → AreBelow index old.sessions → AreBelow (index + 1) new.sessions
-led-below index moment replies old new (acts.Event event) leads below =
-    let IsFresh : Server → Type 0 = λ s. AreBelow (index + 1) s.sessions in
-    subst IsFresh (sym leads.leaves) (AreBelow-acted old index moment event below)
-led-below index moment replies old new (acts.Serve session) leads below =
-    AreBelow-served old index (record { session = session; reply = leads.reply; server = new }) leads.next below
-
--- the next index lies above the number of each open session
-pub legal-below : (index : ℕ) (old : Server) (records : List Recorded) (new : Server) → Legal index old records new → AreBelow index old.sessions → AreBelow (index + length records) new.sessions
-legal-below index old [] new legal below =
-    let IsFresh : Server → Type 0 = λ s. AreBelow (index + 0) s.sessions in
-    let same : index + 0 ≡ index = omega arith in
-    subst IsFresh (sym legal) (rw same below)
-legal-below index old (first ∷ others) new legal below =
-    let next = led-below index first.moment first.replies old legal.0 first.act legal.1.1 below in
-    let IsFresh : ℕ → Type 0 = λ n. AreBelow n new.sessions in
-    let same : (index + 1) + length others ≡ index + length (first ∷ others) = omega arith in
-    subst IsFresh same (legal-below (index + 1) legal.0 others new legal.2 next)
-
-pub history-below : (book : BookState) → IsHistory book → AreBelow (next_index book) book.server.sessions
-history-below book history =
-    let IsFresh : ℕ → Type 0 = λ n. AreBelow n book.server.sessions in
-    let same : 1 + length book.records ≡ next_index book = omega arith in
-    subst IsFresh same (legal-below 1 (empty_server book.server.rules) book.records book.server history tt)
-
 heard-open : (server : Server) (index moment session : ℕ) (event : Event) → Asks session event → AreOpen server.waiting server.sessions
     → AreOpen (acted server index moment event).server.waiting (acted server index moment event).server.sessions
 heard-open server index moment session event asks all =
@@ -491,4 +465,6 @@ legal-open index old (first ∷ others) new legal all =
     legal-open (index + 1) legal.0 others new legal.2 (led-waiting_open index first.moment first.replies old legal.0 first.act legal.1.1 all)
 
 pub history-open : (book : BookState) → IsHistory book → AreOpen book.server.waiting book.server.sessions
-history-open book history = legal-open 1 (empty_server book.server.rules) book.records book.server history (λ session waits. absurd (true≢false (sym waits)))
+history-open book history =
+    legal-open 1 (empty_server book.server.rules) (all_records book history) book.server (all-legal book history)
+    (λ session waits. absurd (true≢false (sym waits)))

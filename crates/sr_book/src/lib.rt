@@ -3,17 +3,22 @@
 
 mod answer;
 mod book;
+mod checkpoint;
 mod conclude;
 mod due;
 mod effect;
 mod event;
 mod machine;
 mod record;
+mod replies;
+mod sent;
 mod sessions;
 
 pub use answer::{Answer, Letter, Status, StepFault};
 pub use book::Book;
+pub use checkpoint::Base;
 pub use effect::{Acted, Served};
 pub use event::{Act, BookFault, Event, Out};
 pub use machine::Machine;
 pub use record::Record;
+pub use sent::Sent;

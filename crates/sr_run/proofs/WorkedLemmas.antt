@@ -417,13 +417,13 @@ crew_has_not_run scripts crew faults.Thread first told refused = (tt, λ is. let
 
 -- a closed run of a crew that has worked, with its receipts script by script
 pub whole_run : {V W : Type 0} (f : V → List Call) (h : W → List Receipt) (crew : CrewState) (scripts : List V) (sizes : List ℕ) (groups : List W) (seats : List SeatState) (receipts handed_in : List Receipt)
-    (book : BookState) (acts : ℕ) → HasWorked crew seats receipts → crew.first ≡ 0 → crew.scripts ≡ map f scripts → sizes ≡ map (λ s. length (f s)) scripts → map (λ g. length (h g)) groups ≡ sizes
-    → flat_map (λ g. h g) groups ≡ receipts → handed_in ≡ receipts → IsClosed (count_before seats) handed_in [] book acts → acts ≡ count_made seats → HasRun (map f scripts) (map h groups) book acts
-whole_run f h crew scripts sizes groups seats receipts handed_in book acts worked first told sizes_are grouped same handed closed total =
+    (book : BookState) (acts skipped : ℕ) → HasWorked crew seats receipts → crew.first ≡ 0 → crew.scripts ≡ map f scripts → sizes ≡ map (λ s. length (f s)) scripts → map (λ g. length (h g)) groups ≡ sizes
+    → flat_map (λ g. h g) groups ≡ receipts → handed_in ≡ receipts → IsClosed (count_before seats) handed_in [] book acts skipped → acts ≡ count_made seats → HasRun (map f scripts) (map h groups) book acts skipped
+whole_run f h crew scripts sizes groups seats receipts handed_in book acts skipped worked first told sizes_are grouped same handed closed total =
     let lengths : map length (map h groups) ≡ map length crew.scripts = sizes_of_all h groups ∙ grouped ∙ sizes_are ∙ sym (sizes_of_all f scripts) ∙ ap (λ (ss : List (List Call)). map length ss) (sym told) in
     let flat : joined_up (map h groups) ≡ receipts = flat_map-map (λ (list : List Receipt). list) h groups ∙ same in
-    let P : List Receipt → Type 0 = λ rs. IsClosed 0 rs [] book acts in
-    let N : ℕ → Type 0 = λ n. IsClosed n handed_in [] book acts in
+    let P : List Receipt → Type 0 = λ rs. IsClosed 0 rs [] book acts skipped in
+    let N : ℕ → Type 0 = λ n. IsClosed n handed_in [] book acts skipped in
     let Q : ℕ → Type 0 = λ n. AreWorked n crew.scripts (map h groups) in
     let R : List (List Call) → Type 0 = λ ss. AreWorked 0 ss (map h groups) in
     let many : count_calls crew.scripts + 2 * length crew.scripts ≡ count_calls (map f scripts) + 2 * length (map f scripts) = ap (λ (ss : List (List Call)). count_calls ss + 2 * length ss) told in

@@ -1,7 +1,7 @@
 -- What a call under the lock tells its seat, whoever else uses the book meanwhile.
 -- Source: docs/DEFINITIONS.md, "The one-thread server".
 
-use Rattle.std.specs.Prelude.{⊤, ◌≡◌, ◌+◌, ◌<◌, ℕ, Bool, true, false}
+use Rattle.std.specs.Prelude.{⊤, ◌≡◌, ◌+◌, ◌<◌, ◌≤◌, ℕ, Bool, true, false, Option, Some, None}
 use Rattle.sr_args.specs.declared.call.Call.{Call}
 use Rattle.sr_book.specs.declared.answer.Letter.{Letter}
 use Rattle.sr_seats.specs.Held.{SeatState, seen_by}
@@ -70,3 +70,17 @@ pub record HasSeen (session : ℕ) (letter : Letter) (old new : SeatState) : Typ
 abbrev pub HasTicked : Bool → SeatState → SeatState → Type 0
 HasTicked true old new = (index : ℕ) × HasMade index old new
 HasTicked false old new = new ≡ old
+
+-- what may be told of a checkpoint, which asks for no session and takes no memory
+abbrev pub RefusesCheckpoint : SeatFault → Type 0
+RefusesCheckpoint (faults.Regress index) = ⊤
+RefusesCheckpoint faults.NoSession = ⊥
+RefusesCheckpoint faults.Busy = ⊥
+RefusesCheckpoint faults.Full = ⊥
+RefusesCheckpoint faults.Memory = ⊥
+RefusesCheckpoint faults.Idle = ⊥
+
+-- the seat has seen the checkpoint that was made, which is of all that it had seen; if none was made, it is as it was
+abbrev pub HasCompacted : Option ℕ → SeatState → SeatState → Type 0
+HasCompacted (Some index) old new = (old.front ≤ index) × (new ≡ seen_by index old)
+HasCompacted None old new = new ≡ old

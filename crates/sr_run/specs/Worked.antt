@@ -35,10 +35,10 @@ abbrev pub count_calls : List (List Call) → ℕ
 count_calls scripts = sum_by length scripts
 
 -- a run of scripts: the receipts of each are those of its calls, each worker made two events besides, and it is closed with all of them
-pub record HasRun (scripts : List (List Call)) (receipts : List (List Receipt)) (book : BookState) (acts : ℕ) : Type 0 where
+pub record HasRun (scripts : List (List Call)) (receipts : List (List Receipt)) (book : BookState) (acts skipped : ℕ) : Type 0 where
   pub worked : AreWorked 0 scripts receipts
   pub counted : acts ≡ count_calls scripts + 2 * length scripts
-  pub closed : IsClosed 0 (joined_up receipts) [] book acts
+  pub closed : IsClosed 0 (joined_up receipts) [] book acts skipped
 
 -- why scripts have not run: an event was refused to one of them; or the run, whose seats are all there, is not closed
 abbrev pub HasNotRun : List (List Call) → RunFault → Type 0

@@ -74,7 +74,7 @@ impl Waiting {
         let sessions = self.sessions.lock(rt);
         let mut woken = Woken::nobody();
         for recorded in records.iter().skip(first) {
-            for (session, _) in &recorded.replies {
+            for (session, _) in recorded.replies.as_slice() {
                 woken = woken.and(waiting_for(&sessions, *session));
             }
         }

@@ -2,7 +2,7 @@ ghost use Rattle.std.specs.Prelude.{◌≡◌, ◌≢◌, ◌⊎◌, ◌↔◌, 
 ghost use Rattle.std.specs.Result.{IsErrOf};
 ghost use Rattle.std.specs.List.{flat_map};
 ghost use Rattle.sr_run.specs.Worked.{HasNotRun, HasRun};
-ghost use Rattle.sr_seats.specs.Held.{count_events};
+ghost use Rattle.sr_book.specs.Records.{events_of};
 
 use crate::crew::{Crew, Finished, run_crew};
 use crate::{RunFault, open};
@@ -43,7 +43,7 @@ pub fn run_workers<C: Clock + Sync, G: Gate + Sync, R: Threads + Wait + Sync>(
 ) -> Result<Ran, RunFault>
     ensures count { IsErrOf result RunFault.Count ↔ ((vec_len scripts ≡ 0) ⊎ (64 < vec_len scripts)) }
     ensures ok { IfOk result (λ ran. HasRun (map (λ script. script.items) scripts.items)
-        (map (λ receipts. receipts.items) ran.receipts.items) ran.closed.book ran.closed.acts) }
+        (map (λ receipts. receipts.items) ran.receipts.items) ran.closed.book ran.closed.acts ran.closed.skipped) }
     ensures err { IfErr result (HasNotRun (map (λ script. script.items) scripts.items)) }
 {
     let count = scripts.len();
@@ -77,9 +77,9 @@ fn run_over<L: Ledger + Send + Sync, C: Clock + Sync, G: Gate + Sync, R: Threads
     requires parts { blank.parts ≡ vec_len scripts }
     requires some { 0 < vec_len scripts }
     requires few { vec_len scripts ≤ 64 }
-    requires fresh { count_events book.records ≡ 0 }
+    requires fresh { events_of book ≡ 0 }
     ensures ok { IfOk result (λ ran. HasRun (map (λ script. script.items) scripts.items)
-        (map (λ receipts. receipts.items) ran.receipts.items) ran.closed.book ran.closed.acts) }
+        (map (λ receipts. receipts.items) ran.receipts.items) ran.closed.book ran.closed.acts ran.closed.skipped) }
     ensures err { IfErr result (HasNotRun (map (λ script. script.items) scripts.items)) }
     ensures counted { IfErr result (λ fault. fault ≢ RunFault.Count) }
 {

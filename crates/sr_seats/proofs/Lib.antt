@@ -1,3 +1,4 @@
 pub mod ClosingLemmas
 pub mod HeldLemmas
 pub mod LetterLemmas
+pub mod SkipLemmas

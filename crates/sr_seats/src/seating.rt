@@ -1,9 +1,10 @@
 ghost use Rattle.std.specs.Prelude.{◌≡◌, ◌↔◌, ◌⊎◌, ◌+◌, ◌*◌, ◌^◌, ◌<◌, ◌≤◌, IfOk, length};
 ghost use Rattle.std.specs.Result.{IsErrOf};
-ghost use Rattle.sr_seats.specs.Held.{count_events, new_seats};
+ghost use Rattle.sr_book.specs.Records.{events_of};
+ghost use Rattle.sr_seats.specs.Held.{new_seats};
 
 use crate::{Held, HoldFault, Seat};
-use sr_book::{Act, Book, Record};
+use sr_book::Book;
 use std::alloc::{AllocError, Global};
 use std::sync::ledger;
 use std::sync::ledger::{Blank, Ledger};
@@ -20,13 +21,13 @@ pub fn hold<L: Ledger>(
     requires parts { 0 < n → n ≤ 65 → blank.parts ≡ n }
     ensures count { IsErrOf result HoldFault.Count ↔ ((n ≡ 0) ⊎ (65 < n)) }
     ensures held { IfOk result (λ made. made.0 ≡
-        record { book = book; before = count_events book.records; made = 0 }) }
-    ensures seats { IfOk result (λ made. made.1.items ≡ new_seats (count_events book.records) n) }
+        record { book = book; before = events_of book; made = 0 }) }
+    ensures seats { IfOk result (λ made. made.1.items ≡ new_seats (events_of book) n) }
 {
     if n == 0 || n > 65 {
         return Err(HoldFault::Count);
     }
-    let before = count_events(book.records());
+    let before = book.events();
     let Ok((made, seats)) = seats_of::<L>(alloc, n, before, blank) else {
         return Err(HoldFault::Memory);
     };
@@ -64,18 +65,4 @@ fn part_before(number: usize, before: u64) -> u64
     ensures others { 0 < number → result ≡ 0 }
 {
     if number == 0 { before } else { 0 }
-}
-
-/// How many of the records are of events.
-pub(crate) fn count_events(records: &[Record]) -> u64
-    ensures { result ≡ count_events records.now }
-{
-    let mut count = 0;
-    for recorded in records {
-        match &recorded.act {
-            Act::Event(_event) => count += 1,
-            Act::Serve { .. } => {}
-        }
-    }
-    count
 }

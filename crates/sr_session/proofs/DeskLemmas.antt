@@ -28,7 +28,8 @@ use Rattle.sr_book.specs.declared.event.Event.{Event}
 use Rattle.sr_book.specs.declared.event.Event.TheVariants as events
 use Rattle.sr_book.specs.declared.event.Out.{Out}
 use Rattle.sr_book.specs.declared.event.Out.TheVariants as outs
-use Rattle.sr_book.proofs.SessionLaws.{board-replies, called-addressed, called-idle, history-below, history-open, joined-idle, snapshot-answers, steps-not-idle, unblocked-replies}
+use Rattle.sr_book.proofs.BaseLemmas.{history-below}
+use Rattle.sr_book.proofs.SessionLaws.{board-replies, called-addressed, called-idle, history-open, joined-idle, snapshot-answers, steps-not-idle, unblocked-replies}
 use Rattle.sr_session.specs.Answered.{Answers, GoesOnToRounds, Holds, Replies, at_once, breaks_off, first_event, hidden, is_full, later, refuses, replies, taken_as, waits}
 use Rattle.sr_session.specs.Desk.{AwaitsAt, IsIdle, IsRecorded, StepsAt, StepsTo}
 use Rattle.sr_session.specs.Rounds.{BreaksIn}

@@ -12,6 +12,7 @@ use Rattle.sr_space.specs.Keys.{Keys}
 use Rattle.sr_space.specs.declared.blocking.Outcome.{Outcome}
 use Rattle.sr_space.specs.declared.blocking.Outcome.TheVariants as outcomes
 use Rattle.sr_waiters.specs.Waiters.{AreOnce, Waiting, due_at, first_that, has_session, is_due, not_due_at, without_session}
+use Rattle.sr_book.proofs.BaseLemmas.{all-legal, all_records}
 use Rattle.sr_book.specs.Server.{Given, Server, Serving, Session, acted, called, empty_server, is_open, letter_of, refusal, served as served_as, serving, with_letter, with_nothing, without}
 use Rattle.sr_book.specs.Records.{AreServings, BookState, IsHistory, IsStepped, LeadsBy, Legal, Recorded, event_server, is_serving, letter_for, next_index, next_moment}
 use Rattle.sr_book.specs.declared.answer.Answer.{Answer}
@@ -298,7 +299,7 @@ legal-quiet index old (first ∷ others) new legal quiet =
 -- in every state of a book, a session that waits has no letter
 pub history-none : (session : ℕ) (book : BookState) → IsHistory book → HasNone session book.server
 history-none session book history =
-    (legal-quiet 1 (empty_server book.server.rules) book.records book.server history (record { once = tt; none = λ other there. refl })).none session
+    (legal-quiet 1 (empty_server book.server.rules) (all_records book history) book.server (all-legal book history) (record { once = tt; none = λ other there. refl })).none session
 
 led-none : (session index moment : ℕ) (replies : List (ℕ × ReplyParts)) (old new : Server) (act : Act) → is_serving act ≡ true
     → LeadsBy act index moment replies old new → HasNone session old → HasNone session new

@@ -5,7 +5,7 @@ ghost use Rattle.sr_resp.specs.Reply.{error_reply};
 ghost use Rattle.sr_book.specs.Server.{snap_code};
 
 use super::Machine;
-use crate::{Acted, Out};
+use crate::{Acted, Out, Sent};
 use sr_args::Names;
 use sr_bytes::Name;
 use sr_dash::board;
@@ -40,7 +40,7 @@ impl Machine {
             (board_reply self.old.rules moment (group_at self.old.keys key.now group.now))).server) }
         ensures out { IfOk result (λ acted. acted.out ≡ (replied session moment self.old self.old.keys
             (board_reply self.old.rules moment (group_at self.old.keys key.now group.now))).out) }
-        ensures sent { IfOk result (λ acted. acted.sent.items ≡ (replied session moment self.old self.old.keys
+        ensures sent { IfOk result (λ acted. acted.sent ≡ (replied session moment self.old self.old.keys
             (board_reply self.old.rules moment (group_at self.old.keys key.now group.now))).sent) }
         ensures err { OnErr result (self.new ≡ self.old) }
     {
@@ -86,7 +86,7 @@ impl Machine {
             (snapped self.old.rules self.old.keys key.now group.now dead.now)).server) }
         ensures out { IfOk result (λ acted. acted.out ≡ (snapped_for session moment self.old
             (snapped self.old.rules self.old.keys key.now group.now dead.now)).out) }
-        ensures sent { IfOk result (λ acted. acted.sent.items ≡ (snapped_for session moment self.old
+        ensures sent { IfOk result (λ acted. acted.sent ≡ (snapped_for session moment self.old
             (snapped self.old.rules self.old.keys key.now group.now dead.now)).sent) }
         ensures err { OnErr result (self.new ≡ self.old) }
     {
@@ -94,7 +94,7 @@ impl Machine {
             .space
             .snap(alloc, key, group, dead.as_slice(), &self.policy)
         {
-            Ok(snapshot) => Ok(self.unreplied(alloc, session, moment, Out::Snap(snapshot))),
+            Ok(snapshot) => Ok(self.unreplied(session, moment, Out::Snap(snapshot))),
             Err(fault) => {
                 let reply = snap_error(alloc, fault)?;
                 self.reply(alloc, session, moment, reply)
@@ -121,7 +121,7 @@ impl Machine {
             (fresh_snapshot self.old verdict.now.snapshot)).server) }
         ensures out { IfOk result (λ acted. acted.out ≡ (concluded session moment apply last verdict.now self.old
             (fresh_snapshot self.old verdict.now.snapshot)).out) }
-        ensures sent { IfOk result (λ acted. acted.sent.items ≡ (concluded session moment apply last verdict.now self.old
+        ensures sent { IfOk result (λ acted. acted.sent ≡ (concluded session moment apply last verdict.now self.old
             (fresh_snapshot self.old verdict.now.snapshot)).sent) }
         ensures err { OnErr result (self.new ≡ self.old) }
     {
@@ -136,7 +136,7 @@ impl Machine {
                 } else if last {
                     self.reply(alloc, session, moment, Reply::error(alloc, ErrCode::Stale))
                 } else {
-                    Ok(self.unreplied(alloc, session, moment, Out::Stale(fresh)))
+                    Ok(self.unreplied(session, moment, Out::Stale(fresh)))
                 }
             }
             Err(fault) => {
@@ -165,22 +165,20 @@ impl Machine {
         ensures out { IfOk result (λ acted. acted.out ≡ (replied session moment self.old
             (keys_after apply moment verdict.now self.old.keys)
             (verdict_answer verdict.now.snapshot verdict.now.answer apply)).out) }
-        ensures sent { IfOk result (λ acted. acted.sent.items ≡ (replied session moment self.old
+        ensures sent { IfOk result (λ acted. acted.sent ≡ (replied session moment self.old
             (keys_after apply moment verdict.now self.old.keys)
             (verdict_answer verdict.now.snapshot verdict.now.answer apply)).sent) }
         ensures err { OnErr result (self.new ≡ self.old) }
     {
         let reply = verdict.reply(alloc, apply)?;
         let keep = reply.copy(alloc)?;
-        let mut sent = Vec::with_capacity(alloc, 1)?;
         if apply {
             self.space.commit(alloc, moment, verdict)?;
         }
-        sent.push_reserved((session, keep));
         self.hear(session, moment);
         Ok(Acted {
             out: Out::Reply(reply),
-            sent,
+            sent: Sent::one(session, keep),
         })
     }
 
@@ -196,31 +194,29 @@ impl Machine {
         requires there { is_open session self.old.sessions ≡ true }
         ensures server { OnOk result (self.new ≡ (replied session moment self.old self.old.keys reply).server) }
         ensures out { IfOk result (λ acted. acted.out ≡ (replied session moment self.old self.old.keys reply).out) }
-        ensures sent { IfOk result (λ acted. acted.sent.items ≡ (replied session moment self.old self.old.keys reply).sent) }
+        ensures sent { IfOk result (λ acted. acted.sent ≡ (replied session moment self.old self.old.keys reply).sent) }
         ensures err { OnErr result (self.new ≡ self.old) }
     {
         let keep = reply.copy(alloc)?;
-        let mut sent = Vec::with_capacity(alloc, 1)?;
-        sent.push_reserved((session, keep));
         self.hear(session, moment);
         Ok(Acted {
             out: Out::Reply(reply),
-            sent,
+            sent: Sent::one(session, keep),
         })
     }
 
     /// An event of a session changes no key, and no reply is sent. Takes no memory.
-    fn unreplied(&mut self, alloc: Global, session: u64, moment: u64, out: Out) -> Acted
+    fn unreplied(&mut self, session: u64, moment: u64, out: Out) -> Acted
         requires bound { moment < 2 ^ 63 }
         requires there { is_open session self.old.sessions ≡ true }
         ensures server { self.new ≡ (unreplied session moment self.old out).server }
         ensures out { result.out ≡ out }
-        ensures sent { result.sent.items ≡ [] }
+        ensures sent { result.sent ≡ [] }
     {
         self.hear(session, moment);
         Acted {
             out,
-            sent: Vec::new(alloc),
+            sent: Sent::nobody(),
         }
     }
 

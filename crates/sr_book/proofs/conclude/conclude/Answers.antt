@@ -1,11 +1,7 @@
-use Rattle.std.proofs.Common.{◌++◌, ap, sym, ◌∙◌}
-use Rattle.std.proofs.lemmas.List.{append-nil}
+use Rattle.std.proofs.Common.{ap, sym, ◌∙◌}
 use Rattle.sr_space.specs.declared.blocking.Outcome.{Outcome}
 use Rattle.sr_book.specs.Concluded.{out_of, sent_by, waiting_after}
 use Rattle.sr_book.proofs.conclude.conclude.Goals as goal
-
-pub push_reserved-requires : goal.push_reserved-requires
-push_reserved-requires c = c.requires.spare
 
 pub returns-in-Reply : goal.returns-in-Reply
 returns-in-Reply c =
@@ -13,7 +9,7 @@ returns-in-Reply c =
     record {
       out = ap (λ (o : Outcome). out_of o) (sym c.in-Reply.is);
       waiting = ap (λ (o : Outcome). waiting_after a.session o a.waiters.now.list) (sym c.in-Reply.is);
-      sent = c.push_reserved.ensures.items ∙ ap (λ (o : Outcome). a.sent.now.items ++ sent_by a.session o) (sym c.in-Reply.is);
+      sent = c.one.ensures ∙ ap (λ (o : Outcome). sent_by a.session o) (sym c.in-Reply.is);
     }
 
 pub returns-in-Blocked : goal.returns-in-Blocked
@@ -22,5 +18,5 @@ returns-in-Blocked c =
     record {
       out = ap (λ (o : Outcome). out_of o) (sym c.in-Blocked.is);
       waiting = c.join.ensures.list ∙ ap (λ (o : Outcome). waiting_after a.session o a.waiters.now.list) (sym c.in-Blocked.is);
-      sent = sym (append-nil a.sent.now.items) ∙ ap (λ (o : Outcome). a.sent.now.items ++ sent_by a.session o) (sym c.in-Blocked.is);
+      sent = c.nobody.ensures ∙ ap (λ (o : Outcome). sent_by a.session o) (sym c.in-Blocked.is);
     }

@@ -31,7 +31,7 @@ returns-in-Ok-by_script-clause-ok g c =
     let sizes : c.as_slice-3.result.now ≡ map (λ script. length script.items) c.args.scripts.items =
     c.as_slice-3.ensures.value ∙ c.in-Ok.ensures ∙ ap (λ scripts. map (λ script. length script.items) scripts) c.as_slice.ensures.value in
     whole_run (λ script. script.items) (λ group. group.items) c.new.result c.args.scripts.items c.as_slice-3.result.now c.in-Ok-by_script.receipts.items finished.seats.items finished.receipts.items
-    c.as_slice-2.result.now c.in-Ok-close.closed.book c.in-Ok-close.closed.acts c.in_ok-seats.ensures c.new.ensures.first c.new.ensures.scripts sizes c.in-Ok-by_script.ensures.sizes
+    c.as_slice-2.result.now c.in-Ok-close.closed.book c.in-Ok-close.closed.acts c.in-Ok-close.closed.skipped c.in_ok-seats.ensures c.new.ensures.first c.new.ensures.scripts sizes c.in-Ok-by_script.ensures.sizes
     c.in-Ok-by_script.ensures.same c.as_slice-2.ensures.value c.in-Ok-close.ensures.ok c.in-Ok-close.ensures.acts
 
 pub returns-in_err-seats-clause-ok : goal.returns-in_err-seats-clause-ok

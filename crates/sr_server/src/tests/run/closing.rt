@@ -2,7 +2,9 @@
 ghost use Rattle.std.specs.Prelude.{◌≡◌};
 
 use super::records::{are_driven, driven};
-use super::rows::{DEADLINE, OPENED, READERS, RECOVERY, Row, SCRIPTS, TWO_SEATS, Told, play};
+use super::rows::{
+    CHECKPOINT, DEADLINE, OPENED, READERS, RECOVERY, Row, SCRIPTS, TWO_SEATS, Told, WAITED, play,
+};
 use super::{TWO, book_under};
 use sr_book::{Book, Out};
 use sr_resp::Reply;
@@ -20,6 +22,8 @@ use std::test::Fail;
 #[derive(Clone, Copy, Drop)]
 enum Altered {
     Nothing,
+    /// This receipt has index 0, which names no record.
+    Unnumbered(usize),
     /// A seat is missing.
     Seat,
     /// This receipt has another outcome, `:7`.
@@ -46,7 +50,7 @@ fn alter(told: &mut Told, spare: &mut Spare, altered: Altered) {
                 mem::swap(&mut receipt.out, &mut spare.out);
             }
         }
-        Altered::Index(at) => {
+        Altered::Index(at) | Altered::Unnumbered(at) => {
             if let Some(receipt) = told.receipts.get_mut(at) {
                 mem::swap(&mut receipt.index, &mut spare.index);
             }
@@ -77,7 +81,10 @@ fn close<L: Ledger>(
 ) -> Result<(Option<CloseFault>, Closed), Fail> {
     let mut spare = Spare {
         out: Out::Reply(Reply::int(alloc, 7)),
-        index: 3,
+        index: match altered {
+            Altered::Unnumbered(_) => 0,
+            _ => 3,
+        },
     };
     alter(told, &mut spare, altered);
     let seat = missing(&mut seats, altered);
@@ -136,8 +143,8 @@ fn is_of_row(
     row: Row,
 ) -> Result<bool, Fail> {
     let book = book_before(rt, row)?;
-    let same = are_driven(rt.alloc(), book, row.lines, closed.book.records())?;
-    Ok(same && closed.acts == row.acts)
+    let same = are_driven(rt.alloc(), book, row.lines, &closed.book)?;
+    Ok(same && closed.acts == row.acts && closed.skipped == row.skipped)
 }
 
 /// Fails the test unless a row behind a lock, closed with this altered, has this fault, and then its events and records.
@@ -215,9 +222,36 @@ const CLOSINGS: &[(Row, Altered, Option<CloseFault>)] = &[
     ),
 ];
 
+/// The same of runs with checkpoints: what is skipped is not compared, what comes after is, and index 0 is not skipped.
+const CHECKPOINTS: &[(Row, Altered, Option<CloseFault>)] = &[
+    (CHECKPOINT, Altered::Nothing, None),
+    (CHECKPOINT, Altered::Outcome(0), None),
+    (
+        CHECKPOINT,
+        Altered::Outcome(1),
+        Some(CloseFault::Mismatch { at: 1 }),
+    ),
+    (
+        CHECKPOINT,
+        Altered::Unnumbered(0),
+        Some(CloseFault::Strange { at: 0 }),
+    ),
+    (WAITED, Altered::Nothing, None),
+];
+
 #[test]
 fn a_run_is_closed_with_what_was_told_and_nothing_else(rt: HostRuntime) -> Result<(), Fail> {
     for (row, altered, fault) in CLOSINGS {
+        closes(&rt, *row, *altered, *fault)?;
+    }
+    Ok(())
+}
+
+#[test]
+fn what_is_before_a_checkpoint_is_skipped_and_nothing_else_changes(
+    rt: HostRuntime,
+) -> Result<(), Fail> {
+    for (row, altered, fault) in CHECKPOINTS {
         closes(&rt, *row, *altered, *fault)?;
     }
     Ok(())

@@ -59,7 +59,7 @@ fn drive_all(
 
 /// Whether a line is no event.
 fn is_look(line: &str, said: &str) -> bool {
-    line == "letter" || said == "false"
+    line == "letter" || line == "compact" || said == "false"
 }
 
 /// What an act is, and whose.
@@ -98,7 +98,7 @@ fn same_record(one: &Record, other: &Record) -> bool {
     one.index == other.index
         && one.moment == other.moment
         && same_act(&one.act, &other.act)
-        && one.replies == other.replies
+        && one.replies.as_slice() == other.replies.as_slice()
 }
 
 /// Whether two lists of records are the same.
@@ -136,16 +136,21 @@ pub(super) fn driven(alloc: Global, book: Book, lines: &[Line]) -> Result<Book, 
     }
 }
 
-/// Whether these are the records of a book that is driven by the events of lines. The book is dropped here alone.
+/// Whether a closed book has the records of one that is driven by the events of lines, but for those up to its last checkpoint, and counts as
+/// many events. The driven book is dropped here alone.
 pub(super) fn are_driven(
     alloc: Global,
     book: Book,
     lines: &[Line],
-    records: &[Record],
+    closed: &Book,
 ) -> Result<bool, Fail> {
     let mut book = book;
     let driven = drive_all(alloc, &mut book, lines, &mut None);
-    let same = same_records(book.records(), records);
+    let same = book.events() == closed.events()
+        && match book.records().get(closed.base().index as usize..) {
+            Some(records) => same_records(records, closed.records()),
+            None => false,
+        };
     drop(book);
     driven?;
     Ok(same)

@@ -16,12 +16,14 @@ use std::test::Fail;
 /// A moment, a session, its call or what else happens, and what is said of it.
 pub(crate) type Line = (u64, u64, &'static str, &'static str);
 
-/// A run: the events of the book before it is opened, what happens then, and how many events of seats there are.
+/// A run: the events of the book before it is opened, what happens then, how many events of seats there are, and how many receipts and
+/// letters are of records that are kept no longer.
 #[derive(Clone, Copy, Drop)]
 pub(super) struct Row {
     pub(super) before: &'static [Line],
     pub(super) lines: &'static [Line],
     pub(super) acts: u64,
+    pub(super) skipped: u64,
 }
 
 /// The letters of two readers: the indexes of their records, and the entries 1-1 and 2-1.
@@ -65,6 +67,7 @@ pub(super) const READERS: Row = Row {
         (10, 2, "letter", SECOND),
     ],
     acts: 9,
+    skipped: 0,
 };
 
 /// A read waits until its deadline, since what is added is trimmed at once.
@@ -81,6 +84,7 @@ pub(super) const DEADLINE: Row = Row {
         (111, 0, "tick", "false"),
     ],
     acts: 5,
+    skipped: 0,
 };
 
 /// D dies with an entry of each class, of weight 2. B takes the first at 4 and A the second at 2; the other way round it were 2 and 200.
@@ -97,6 +101,7 @@ pub(super) const RECOVERY: Row = Row {
         (100, 1, "XPENDING s g - + 9", MOVED),
     ],
     acts: 8,
+    skipped: 0,
 };
 
 /// Session 1 adds an entry, and session 2, at the other seat, reads it later: a call's moment is that which it is told. Then session 1
@@ -113,6 +118,7 @@ pub(super) const TWO_SEATS: Row = Row {
         (12, 1, "letter", "no session"),
     ],
     acts: 6,
+    skipped: 0,
 };
 
 /// The book has three events before its seats make four.
@@ -129,6 +135,7 @@ pub(super) const OPENED: Row = Row {
         (12, 2, "leave", "left"),
     ],
     acts: 4,
+    skipped: 0,
 };
 
 /// What two scripts do that workers run, one after the other.
@@ -147,6 +154,45 @@ pub(super) const SCRIPTS: Row = Row {
         (10, 2, "leave", "left"),
     ],
     acts: 10,
+    skipped: 0,
+};
+
+/// A checkpoint is made at record 3, since more than no record is kept, and none before it, since no more than a thousand are.
+pub(super) const CHECKPOINT: Row = Row {
+    before: &[],
+    lines: &[
+        (10, 0, "join", "joined 1"),
+        (10, 0, "join", "joined 2"),
+        (10, 1, "XADD s 1-1 a b", "$3\r\n1-1\r\n"),
+        (1_000, 0, "compact", "none"),
+        (0, 0, "compact", "3"),
+        (10, 2, "XLEN s", ":1\r\n"),
+    ],
+    acts: 4,
+    skipped: 1,
+};
+
+/// Two readers of a group wait at a checkpoint and are served after it; a letter outlasts the next one.
+pub(super) const WAITED: Row = Row {
+    before: &[],
+    lines: &[
+        (10, 0, "join", "joined 1"),
+        (10, 0, "join", "joined 2"),
+        (10, 0, "join", "joined 3"),
+        (10, 3, "XGROUP CREATE s g $ MKSTREAM", "+OK\r\n"),
+        (10, 1, "XREADGROUP GROUP g A BLOCK 0 STREAMS s >", "blocked"),
+        (10, 2, "XREADGROUP GROUP g B BLOCK 0 STREAMS s >", "blocked"),
+        (0, 2, "compact", "6"),
+        (10, 3, "XADD s 1-1 a b", "$3\r\n1-1\r\n"),
+        (10, 1, "letter", FIRST),
+        (10, 1, "leave", "left"),
+        (10, 3, "XADD s 2-1 a c", "$3\r\n2-1\r\n"),
+        (4, 1, "compact", "11"),
+        (10, 2, "letter", SECOND),
+        (10, 0, "join", "joined 12"),
+    ],
+    acts: 10,
+    skipped: 7,
 };
 
 /// What a run was told. Of its snapshots the last.
@@ -227,6 +273,7 @@ fn out_text(alloc: Global, out: &Out) -> Result<Vec<u8>, AllocError> {
         Out::Joined(1) => word(alloc, "joined 1"),
         Out::Joined(2) => word(alloc, "joined 2"),
         Out::Joined(3) => word(alloc, "joined 3"),
+        Out::Joined(12) => word(alloc, "joined 12"),
         Out::Reply(reply) => encode(alloc, reply),
         Out::Blocked => word(alloc, "blocked"),
         Out::Snap(_) => word(alloc, "snapshot"),
@@ -401,7 +448,17 @@ fn letter<L: Ledger, R: AllocGlobal + Wait>(
     }
 }
 
-/// Plays a line at a seat. What is said of it.
+/// What is said of a checkpoint: its index, if one was made.
+fn checkpoint_text(alloc: Global, made: Option<u64>) -> Result<Vec<u8>, Fail> {
+    let Some(index) = made else {
+        return Ok(word(alloc, "none")?);
+    };
+    let mut text = String::new(alloc);
+    write!(text, "{index}")?;
+    Ok(text.into_bytes())
+}
+
+/// Plays a line at a seat. What is said of it. A checkpoint has the number of records that are kept for its moment.
 fn play_line<L: Ledger, R: AllocGlobal + Wait>(
     rt: &R,
     shared: &Shared<L>,
@@ -414,6 +471,10 @@ fn play_line<L: Ledger, R: AllocGlobal + Wait>(
         "tick" => {
             let due = shared.tick(rt, rt.alloc(), seat, moment)?;
             Ok(word(rt.alloc(), if due { "true" } else { "false" })?)
+        }
+        "compact" => {
+            let made = shared.compact(rt, rt.alloc(), seat, moment)?;
+            checkpoint_text(rt.alloc(), made)
         }
         _ => match event_of(rt.alloc(), session, line, &mut told.snapshot)? {
             Event::Call {

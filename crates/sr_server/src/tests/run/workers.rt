@@ -170,7 +170,7 @@ fn have_left(book: &Book, receipts: &[Receipt]) -> bool {
 
 /// Whether each script has its replies, and its worker has left.
 fn have_replies(alloc: Global, ran: &Ran) -> Result<bool, AllocError> {
-    let mut have = ran.closed.acts == 10 && ran.receipts.len() == 2;
+    let mut have = ran.closed.acts == 10 && ran.closed.skipped == 0 && ran.receipts.len() == 2;
     for (receipts, want) in ran.receipts.iter().zip(SAID) {
         let replies = replies_of(alloc, receipts.as_slice())?;
         have &= replies.as_slice() == want.as_bytes();

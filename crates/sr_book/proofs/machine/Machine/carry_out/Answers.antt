@@ -1,4 +1,4 @@
-use Rattle.std.proofs.Common.{◌≡◌, ℕ, Bool, true, false, refl, ap, sym, ◌∙◌, arith}
+use Rattle.std.proofs.Common.{◌≡◌, ℕ, Bool, true, false, refl, ap, sym, ◌∙◌}
 use Rattle.std.proofs.lemmas.Result.{IfOk-from_err}
 use Rattle.sr_resp.specs.Reply.{Answer}
 use Rattle.sr_plan.specs.Calls.{claim_calls}
@@ -32,16 +32,6 @@ returns-in_err-keep c =
       err = on_err_always _ refl;
     }
 
-pub returns-in_err-sent : goal.returns-in_err-sent
-returns-in_err-sent c =
-    let failed = c.from_residual-in_err-sent.ensures.0 in
-    record {
-      server = on_ok_none _ _ failed;
-      out = IfOk-from_err _ _ failed;
-      sent = IfOk-from_err _ _ failed;
-      err = on_err_always _ refl;
-    }
-
 pub returns-in_err-commit : goal.returns-in_err-commit
 returns-in_err-commit c =
     let failed = c.from_residual-in_err-commit.ensures.0 in
@@ -51,9 +41,6 @@ returns-in_err-commit c =
       sent = IfOk-from_err _ _ failed;
       err = on_err_always _ (unchanged _ c.args.self.now _ _ c.in_err-commit.ensures.err refl c.self.view_is);
     }
-
-pub push_reserved-requires : goal.push_reserved-requires
-push_reserved-requires c = omega (arith, c.in_ok-sent.ensures.len, c.in_ok-sent.ensures.capacity)
 
 pub hear-requires : goal.hear-requires
 hear-requires c =
@@ -94,6 +81,6 @@ returns c =
     record {
       server = c.hear.ensures ∙ heard;
       out = ap (λ (r : Answer). outs.Reply r) c.in_ok-reply.ensures;
-      sent = one_sent a.session _ _ _ _ c.in_ok-sent.ensures.items (c.in_ok-keep.ensures ∙ c.in_ok-reply.ensures) c.push_reserved.ensures.items;
+      sent = one_sent a.session _ _ _ (c.in_ok-keep.ensures ∙ c.in_ok-reply.ensures) c.one.ensures;
       err = tt;
     }

@@ -14,16 +14,6 @@ returns-in_err-keep c =
       err = on_err_always _ refl;
     }
 
-pub returns-in_err-sent : goal.returns-in_err-sent
-returns-in_err-sent c =
-    let failed = c.from_residual-in_err-sent.ensures.0 in
-    record {
-      server = on_ok_none _ _ failed;
-      out = IfOk-from_err _ _ failed;
-      sent = IfOk-from_err _ _ failed;
-      err = on_err_always _ refl;
-    }
-
 pub hear-requires : goal.hear-requires
 hear-requires c = c.requires
 
@@ -31,6 +21,6 @@ pub returns : goal.returns
 returns c = record {
   server = c.hear.ensures;
   out = refl;
-  sent = one_sent c.args.session _ _ _ _ c.in_ok-sent.ensures.items c.in_ok-keep.ensures c.push_reserved.ensures.items;
+  sent = one_sent c.args.session _ _ _ c.in_ok-keep.ensures c.one.ensures;
   err = tt;
 }
