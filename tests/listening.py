@@ -1,5 +1,5 @@
 #!/usr/bin/env python3
-"""Has clients use a server over sockets: reads that wait, clients that vanish, a recovery, many requests, and many connections.
+"""Has clients use a server over sockets: reads that wait, clients that vanish, a recovery, many requests, many connections, checkpoints.
 
 usage: tests/listening.py PROGRAM
 
@@ -33,6 +33,9 @@ FEW = 2  # workers, when more connections come
 MANY, DESCRIPTORS = 1_500, 256
 BEYOND = 2  # connections that are accepted beyond the workers: one that waits for a worker, and one that waits for its place
 OWN = 100  # descriptors that this program needs for itself
+ROUNDS, AT_A_TIME, DEPTH = 4, 200_000, 1_000  # times that memory is looked at, after so many requests, of which so many are sent at once
+KEPT = 1_000  # records
+GROWS = 64 << 20  # bytes, at most, by which memory grows after the first round: without checkpoints it were more than twice as much
 
 ENTRIES = [[b"s", [[b"1-1", [b"a", b"b"]]]], [b"s", [[b"2-1", [b"a", b"c"]]]]]
 
@@ -240,6 +243,21 @@ def many(tally, server, number):
         tally.compare("PING after the many", b"PONG", connection.call("PING"))
 
 
+def bounded(tally, server, number):
+    """A server that makes checkpoints takes no more memory for more requests."""
+    pings, pongs, sizes = resp.spelled("PING") * DEPTH, b"+PONG\r\n" * DEPTH, []
+    with server.connect(PATIENCE) as connection:
+        for _ in range(ROUNDS):
+            right = 0
+            for _ in range(number // DEPTH):
+                connection.socket.sendall(pings)
+                right += connection.file.read(len(pongs)) == pongs
+            tally.compare("many requests at a time", number // DEPTH, right)
+            sizes.append(server.memory())
+    told = ", ".join(f"{size >> 10:,}" for size in sizes)
+    tally.compare(f"memory bounded after {number:,} requests each, KiB {told}", True, sizes[-1] <= sizes[0] + GROWS)
+
+
 def raised_limit():
     """How many descriptors this program may have: enough for the many, if it is allowed so many."""
     soft, hard = resource.getrlimit(resource.RLIMIT_NOFILE)
@@ -272,6 +290,10 @@ def run(program, tally):
         policy.write(POLICY)
         policy.flush()
         play(recovered, tally, servers.Server(program, policy=policy.name, workers=FEW))
+    # A checkpoint a hundredth of a second after each request changes nothing.
+    play(answered, tally, servers.Server(program, workers=WORKERS, keep=1))
+    play(woken, tally, servers.Server(program, workers=WORKERS, keep=1))
+    play(bounded, tally, servers.Server(program, workers=FEW, keep=KEPT), AT_A_TIME)
     number = min(MANY, raised_limit() - OWN)
     play(many, tally, servers.Server(program, workers=FEW, descriptors=DESCRIPTORS), number)
 

@@ -39,6 +39,12 @@ REFUSED = [
     "sr_server --listen 127.0.0.1",
     "sr_server --listen localhost:6379",
     "sr_server --listen 127.0.0.1:6379 --workers many",
+    "sr_server --stdio --keep 1",
+    "sr_server --stdio --keep 0",
+    "sr_server --keep 1",
+    "sr_server --listen 127.0.0.1:6379 --keep 0",
+    "sr_server --listen 127.0.0.1:6379 --keep 1000000001",
+    "sr_server --listen 127.0.0.1:6379 --keep 1 --keep 2",
 ]
 
 
@@ -100,7 +106,7 @@ def addresses(program):
     """What is tried of addresses, what is wanted of it and what came of it. The text of an address is said as it was given."""
     yield "an address that is taken", (1, b"", b"listen: cannot bind\n"), to_taken(program)
     local = f"{HOST}:{free_port()}"
-    yield local, (f"listening on {local}\n".encode(), b""), begun(program, f"sr_server --listen {local} --workers 3")
+    yield local, (f"listening on {local}\n".encode(), b""), begun(program, f"sr_server --listen {local} --workers 3 --keep 1000000000")
     every = f"0.0.0.0:0{free_port()}"
     yield every, (f"listening on {every}\n".encode(), WARNING), begun(program, f"sr_server --policy=/dev/null --listen={every}")
 

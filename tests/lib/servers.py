@@ -117,11 +117,12 @@ class Server(Process):
 
     name = "sr_server"
 
-    def __init__(self, program, policy=None, workers=None, descriptors=None, env=None, errors=None):
-        """`descriptors` is how many files and sockets it may have open; `errors` is the file that its standard error goes to."""
+    def __init__(self, program, policy=None, workers=None, keep=None, descriptors=None, env=None, errors=None):
+        """`keep` is how many records are kept, and `descriptors` how many files and sockets it may have open; `errors` is the file that its standard error goes to."""
         limit = descriptors and functools.partial(resource.setrlimit, resource.RLIMIT_NOFILE, (descriptors, descriptors))
         options = [] if policy is None else ["--policy", str(policy)]
         options += [] if workers is None else ["--workers", str(workers)]
+        options += [] if keep is None else ["--keep", str(keep)]
         for tries in range(TRIES):
             self.port = free_port()
             address = f"{HOST}:{self.port}"

@@ -10,7 +10,7 @@ use Rattle.clap.specs.Walk.{Held, Walk, at_row, finished, has_row, more_values, 
 use Rattle.clap.specs.declared.builder.value_parser.Reading.TheVariants.{AsWritten}
 use Rattle.clap.specs.declared.parser.matches.ValueSource.TheVariants.{CommandLine, DefaultValue}
 use Rattle.clap.proofs.OnLiterals.{clap_on_literals}
-use Rattle.sr_options.specs.Options.{AreOnce, Asked, Flag, has_name, is_given, listen, name_of, policy, stdio, value_in, value_of, word_of, workers}
+use Rattle.sr_options.specs.Options.{AreOnce, Asked, Flag, has_name, is_given, keep, listen, name_of, policy, stdio, value_in, value_of, word_of, workers}
 use Rattle.sr_options.specs.steps.Server.{server}
 
 pub server_is_simple : is_simple server ≡ true
@@ -69,6 +69,8 @@ met stdio rows none = ap (λ (rs : List Row). walk_from (held_with rs)) (placed 
 met (listen address) rows none = ap (λ (rs : List Row). walk_from (held_with rs)) (placed (codes "listen") (more_values CommandLine (address ∷ [])) (row_of (listen address) ∷ []) rows none)
 met (policy path) rows none = ap (λ (rs : List Row). walk_from (held_with rs)) (placed (codes "policy") (more_values CommandLine (path ∷ [])) (row_of (policy path) ∷ []) rows none)
 met (workers number) rows none = ap (λ (rs : List Row). walk_from (held_with rs)) (placed (codes "workers") (more_values CommandLine (number ∷ [])) (row_of (workers number) ∷ []) rows none)
+met (keep number) rows none =
+    ap (λ (rs : List Row). walk_from (held_with rs)) (placed (codes "keep") (more_values CommandLine (number ∷ [])) (row_of (keep number) ∷ []) rows none)
 
 passed : (flag : Flag) (rows : List Row) → has_row (name_of flag) rows ≡ false → turn_passes top [] (walk_from (held_with rows)) (word_of flag) ≡ true
 unfolding clap_on_literals
@@ -76,6 +78,7 @@ passed stdio rows none = ap (λ b. ((not b || false) && true) && true) none
 passed (listen address) rows none = ap (λ b. ((not b || false) && true) && true) none
 passed (policy path) rows none = ap (λ b. ((not b || false) && true) && true) none
 passed (workers number) rows none = ap (λ b. ((not b || false) && true) && true) none
+passed (keep number) rows none = ap (λ b. ((not b || false) && true) && true) none
 
 -- no flag has a row yet
 abbrev AreNew : List Flag → List Row → Type 0
@@ -87,18 +90,27 @@ other_name stdio stdio e = e
 other_name stdio (listen x) e = refl
 other_name stdio (policy x) e = refl
 other_name stdio (workers x) e = refl
+other_name stdio (keep x) e = refl
 other_name (listen y) stdio e = refl
 other_name (listen y) (listen x) e = e
 other_name (listen y) (policy x) e = refl
 other_name (listen y) (workers x) e = refl
+other_name (listen y) (keep x) e = refl
 other_name (policy y) stdio e = refl
 other_name (policy y) (listen x) e = refl
 other_name (policy y) (policy x) e = e
 other_name (policy y) (workers x) e = refl
+other_name (policy y) (keep x) e = refl
 other_name (workers y) stdio e = refl
 other_name (workers y) (listen x) e = refl
 other_name (workers y) (policy x) e = refl
 other_name (workers y) (workers x) e = e
+other_name (workers y) (keep x) e = refl
+other_name (keep y) stdio e = refl
+other_name (keep y) (listen x) e = refl
+other_name (keep y) (policy x) e = refl
+other_name (keep y) (workers x) e = refl
+other_name (keep y) (keep x) e = e
 
 not_first : (b : Bool) (flag : Flag) (o : Option Flag) → is_some (option_map value_of (if b then Some flag else o)) ≡ false
     → (b ≡ false) × (is_some (option_map value_of o) ≡ false)
@@ -164,9 +176,11 @@ rows_of_all flags = with_stdio (has_row (codes "stdio") (map row_of flags)) (map
 finished_rows : (rows : List Row) → finished top.rules (held_with rows) ≡ with_stdio (has_row (codes "stdio") rows) rows
 finished_rows rows =
     let r = with_stdio (has_row (codes "stdio") rows) rows in
-    ap (λ xs. without_default (codes "help") (without_default (codes "workers") (without_default (codes "policy") xs))) (same (has_row (codes "listen") r) r)
-    ∙ ap (λ xs. without_default (codes "help") (without_default (codes "workers") xs)) (same (has_row (codes "policy") r) r)
-    ∙ ap (λ xs. without_default (codes "help") xs) (same (has_row (codes "workers") r) r)
+    ap (λ xs. without_default (codes "help") (without_default (codes "keep") (without_default (codes "workers") (without_default (codes "policy") xs))))
+    (same (has_row (codes "listen") r) r)
+    ∙ ap (λ xs. without_default (codes "help") (without_default (codes "keep") (without_default (codes "workers") xs))) (same (has_row (codes "policy") r) r)
+    ∙ ap (λ xs. without_default (codes "help") (without_default (codes "keep") xs)) (same (has_row (codes "workers") r) r)
+    ∙ ap (λ xs. without_default (codes "help") xs) (same (has_row (codes "keep") r) r)
     ∙ same (has_row (codes "help") r) r
 
 pub asked_rows : (name : Text) (flags : List Flag) → AreOnce flags → matches_of server (name ∷ map word_of flags) ≡ rows_of_all flags
@@ -198,6 +212,7 @@ has_stdio (stdio ∷ flags) = refl
 has_stdio (listen x ∷ flags) = has_stdio flags
 has_stdio (policy x ∷ flags) = has_stdio flags
 has_stdio (workers x ∷ flags) = has_stdio flags
+has_stdio (keep x ∷ flags) = has_stdio flags
 
 stdio_found : (flags : List Flag) → one_of (codes "stdio") (map row_of flags) ≡ (if is_given flags (codes "stdio") then Some (codes "true") else None)
 stdio_found [] = refl
@@ -205,6 +220,7 @@ stdio_found (stdio ∷ flags) = refl
 stdio_found (listen x ∷ flags) = stdio_found flags
 stdio_found (policy x ∷ flags) = stdio_found flags
 stdio_found (workers x ∷ flags) = stdio_found flags
+stdio_found (keep x ∷ flags) = stdio_found flags
 
 pub asked_stdio : (flags : List Flag) → one_of (codes "stdio") (rows_of_all flags) ≡ Some (if is_given flags (codes "stdio") then codes "true" else codes "false")
 asked_stdio flags = go (has_row (codes "stdio") (map row_of flags)) refl
@@ -225,6 +241,6 @@ pub flag_read : (read given : Bool) (text : Option Text) → text ≡ Some (if g
 flag_read read true text is if_true if_false = if_true is
 flag_read read false text is if_true if_false = if_false is
 
-pub same_asked : (a b : Asked) → a.stdio ≡ b.stdio → a.listen ≡ b.listen → a.policy ≡ b.policy → a.workers ≡ b.workers → a ≡ b
-same_asked a b stdio_is listen_is policy_is workers_is =
-    λ i. record { stdio = stdio_is i; listen = listen_is i; policy = policy_is i; workers = workers_is i }
+pub same_asked : (a b : Asked) → a.stdio ≡ b.stdio → a.listen ≡ b.listen → a.policy ≡ b.policy → a.workers ≡ b.workers → a.keep ≡ b.keep → a ≡ b
+same_asked a b stdio_is listen_is policy_is workers_is keep_is =
+    λ i. record { stdio = stdio_is i; listen = listen_is i; policy = policy_is i; workers = workers_is i; keep = keep_is i }

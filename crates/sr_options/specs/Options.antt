@@ -11,18 +11,21 @@ pub data Flag : Type 0 where
   listen : List ℕ → Flag
   policy : List ℕ → Flag
   workers : List ℕ → Flag
+  keep : List ℕ → Flag
 
 abbrev pub name_of : Flag → List ℕ
 name_of stdio = codes "stdio"
 name_of (listen address) = codes "listen"
 name_of (policy path) = codes "policy"
 name_of (workers number) = codes "workers"
+name_of (keep number) = codes "keep"
 
 abbrev pub value_of : Flag → List ℕ
 value_of stdio = codes "true"
 value_of (listen address) = address
 value_of (policy path) = path
 value_of (workers number) = number
+value_of (keep number) = number
 
 -- how it is written, in one word
 abbrev pub word_of : Flag → List ℕ
@@ -30,6 +33,7 @@ word_of stdio = codes "--stdio"
 word_of (listen address) = codes "--listen=" ++ address
 word_of (policy path) = codes "--policy=" ++ path
 word_of (workers number) = codes "--workers=" ++ number
+word_of (keep number) = codes "--keep=" ++ number
 
 abbrev pub has_name : List ℕ → Flag → Bool
 has_name name flag = bytes_eq (name_of flag) name
@@ -52,6 +56,7 @@ pub record Asked : Type 0 where
   pub listen : Option (List ℕ)
   pub policy : Option (List ℕ)
   pub workers : Option (List ℕ)
+  pub keep : Option (List ℕ)
 
 abbrev pub asked_by : List Flag → Asked
 asked_by flags = record {
@@ -59,6 +64,7 @@ asked_by flags = record {
   listen = value_in flags (codes "listen");
   policy = value_in flags (codes "policy");
   workers = value_in flags (codes "workers");
+  keep = value_in flags (codes "keep");
 }
 
 abbrev pub asked_of : Options → Asked
@@ -67,4 +73,5 @@ asked_of options = record {
   listen = option_map (λ text. text.now) options.listen;
   policy = option_map (λ text. text.now) options.policy;
   workers = option_map (λ text. text.now) options.workers;
+  keep = option_map (λ text. text.now) options.keep;
 }

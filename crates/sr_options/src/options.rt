@@ -10,7 +10,7 @@ use std::convert::AsStr;
 
 /// What help says at its end.
 const EXAMPLES: &str = "Examples:
-  sr_server --listen 127.0.0.1:6379 --policy policy.toml
+  sr_server --listen 127.0.0.1:6379 --policy policy.toml --keep 100000
   sr_server --stdio < requests > replies";
 
 /// The options of the command line, as they are written.
@@ -24,6 +24,8 @@ pub struct Options<'a> {
     pub policy: Option<&'a str>,
     /// How many connections are served at a time.
     pub workers: Option<&'a str>,
+    /// How many records are kept.
+    pub keep: Option<&'a str>,
 }
 
 /// Reads the options from the words of the command line, of which the first is the program's name.
@@ -42,6 +44,7 @@ pub fn read_options<'a, S: AsStr>(alloc: Global, words: &'a [S]) -> Result<Optio
         listen: matches.get_str("listen"),
         policy: matches.get_str("policy"),
         workers: matches.get_str("workers"),
+        keep: matches.get_str("keep"),
     })
 }
 
@@ -74,6 +77,12 @@ fn command_line<'a>(alloc: Global) -> Result<Command<'a>, AllocError>
             "workers",
             "N",
             "Serve at most N connections at a time, from 1 to 64 [default: 64]",
+        ))?
+        .arg(valued(
+            alloc,
+            "keep",
+            "N",
+            "With --listen: forget older records once there are more than N [default: keep all]",
         ))
 }
 

@@ -20,5 +20,7 @@ pub struct Listening<'a> {
     pub text: &'a str,
     /// How many connections are served at a time.
     pub workers: usize,
+    /// How many records are kept: if there are more, a checkpoint is made. None: all of them.
+    pub keep: Option<u64>,
     ghost in_range: { (1 ≤ workers) × (workers ≤ 64) },
 }

@@ -3,7 +3,8 @@
 //!
 //! - `--stdio` or `--listen ADDR`, an IP address and a port: exactly one of them is given;
 //! - `--policy FILE` names who may take which entries, and without it nobody may take any;
-//! - `--workers N` is how many connections are served at a time, from 1 to 64, and 64 without it.
+//! - `--workers N` is how many connections are served at a time, from 1 to 64, and 64 without it;
+//! - `--keep N`, with `--listen` alone, is how many records are kept, from 1 to 1,000,000,000, and without it all of them are.
 //!
 //! It ends with status 0 at the end of standard input, with 1 after a fault, which is one line on standard error, and with 2
 //! if the command line is refused. Of several faults the first of these ends it: the command line, the random source, the policy,
@@ -33,9 +34,9 @@ use std::thread::JoinHandle;
 fn main(rt: HostRuntime) -> ExitCode {
     let mut files = SystemFiles::new(&rt);
     let beginner = Beginner::new(
-        |rt, listener, book, workers| -> Result<JoinHandle<ServeFault>, ServeFault>
+        |rt, listener, book, workers, keep| -> Result<JoinHandle<ServeFault>, ServeFault>
             requires { (1 ≤ workers) × (workers ≤ 64) }
-        { begin_serving(rt, rt.alloc(), listener, book, workers) },
+        { begin_serving(rt, rt.alloc(), listener, book, workers, keep) },
     );
     let ender = Ender::new(|rt, server| -> ServeFault { server.join(rt) });
     let mut network = SystemNetwork::new(&rt, beginner, ender);

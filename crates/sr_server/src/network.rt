@@ -5,7 +5,7 @@ ghost use Rattle.sr_start.specs.Listening.{any_end, any_refusal};
 
 use crossbeam_channel::{Sender, bounded};
 use sr_book::Book;
-use sr_start::{Begun, Bound, ListenFault, Network, ServeFault, serve_begun};
+use sr_start::{Begun, Bound, ListenFault, Network, ServeFault, Serving, serve_begun};
 use std::alloc::Global;
 use std::io::ErrorKind;
 use std::net::{SocketAddr, TcpListener};
@@ -14,7 +14,7 @@ use std::sync::Wait;
 use std::thread::{JoinHandle, Threads};
 use std::{rt, thread};
 
-/// Begins to serve the connections of a listener, over this book and with this many workers, in a thread of its own.
+/// Begins to serve the connections of a listener, over this book, with this many workers and records kept, in a thread of its own.
 ///
 /// A pointer, since a method of a trait cannot hand its runtime to threads: `main` makes it, and has that runtime itself.
 pub(crate) type Beginning = fn(
@@ -22,6 +22,7 @@ pub(crate) type Beginning = fn(
     TcpListener,
     Book,
     usize,
+    Option<u64>,
 ) -> Result<JoinHandle<ServeFault>, ServeFault>;
 
 /// Waits until serving has ended, and answers why. A pointer for the same reason.
@@ -31,15 +32,15 @@ pub(crate) type Ending = fn(&HostRuntime, JoinHandle<ServeFault>) -> ServeFault;
 #[derive(Drop)]
 pub(crate) struct Beginner {
     by: Beginning,
-    ghost begins: { (rt : _) (listener : _) (book : _) (workers : ℕ) → (1 ≤ workers) × (workers ≤ 64)
-        → pre by rt listener book workers },
+    ghost begins: { (rt : _) (listener : _) (book : _) (workers : ℕ) (keep : _) → (1 ≤ workers) × (workers ≤ 64)
+        → pre by rt listener book workers keep },
 }
 
 impl Beginner {
     /// One that begins so.
     pub(crate) fn new(by: Beginning) -> Beginner
-        requires { (rt : _) (listener : _) (book : _) (workers : ℕ) → (1 ≤ workers) × (workers ≤ 64)
-            → pre by rt listener book workers }
+        requires { (rt : _) (listener : _) (book : _) (workers : ℕ) (keep : _) → (1 ≤ workers) × (workers ≤ 64)
+            → pre by rt listener book workers keep }
     {
         Beginner { by }
     }
@@ -51,10 +52,11 @@ impl Beginner {
         listener: TcpListener,
         book: Book,
         workers: usize,
+        keep: Option<u64>,
     ) -> Result<JoinHandle<ServeFault>, ServeFault>
         requires { (1 ≤ workers) × (workers ≤ 64) }
     {
-        (self.by)(rt, listener, book, workers)
+        (self.by)(rt, listener, book, workers, keep)
     }
 }
 
@@ -122,31 +124,35 @@ impl<'a> Network for SystemNetwork<'a> {
         bound: Bound<TcpListener>,
         book: Book,
         workers: usize,
+        keep: Option<u64>,
     ) -> Result<Begun<JoinHandle<ServeFault>>, ServeFault>
         requires workers { (1 ≤ workers) × (workers ≤ 64) }
         ensures address { IfOk result (λ begun. begun.address ≡ bound.address) }
         ensures workers { IfOk result (λ begun. begun.workers ≡ workers) }
+        ensures keep { IfOk result (λ begun. begun.keep ≡ keep) }
         ensures book { IfOk result (λ begun. begun.book.value ≡ book) }
-        ensures err { IfErr result (λ fault. IsTrue (any_end bound.address workers book fault)) }
+        ensures err { IfErr result (λ fault. IsTrue (any_end bound.address workers keep book fault)) }
     {
         let Bound { listener, address } = bound;
         let noted = Snapshot::of(&book);
-        let server = self.beginner.begin(self.rt, listener, book, workers)?;
+        let server = self.beginner.begin(self.rt, listener, book, workers, keep)?;
         Ok(Begun {
             server,
             address,
             workers,
+            keep,
             book: noted,
         })
     }
 
     fn end(&mut self, begun: Begun<JoinHandle<ServeFault>>) -> ServeFault
-        ensures { IsTrue (any_end begun.address begun.workers begun.book.value result) }
+        ensures { IsTrue (any_end begun.address begun.workers begun.keep begun.book.value result) }
     {
         let Begun {
             server,
             address: _,
             workers: _,
+            keep: _,
             book: _,
         } = begun;
         self.ender.end(self.rt, server)
@@ -160,6 +166,7 @@ pub(crate) fn begin_serving<R: Copy + Threads + Wait + rt::Clock + Send + Sync +
     listener: TcpListener,
     book: Book,
     workers: usize,
+    keep: Option<u64>,
 ) -> Result<JoinHandle<ServeFault>, ServeFault>
     requires workers { (1 ≤ workers) × (workers ≤ 64) }
 {
@@ -167,11 +174,16 @@ pub(crate) fn begin_serving<R: Copy + Threads + Wait + rt::Clock + Send + Sync +
         return Err(ServeFault::Memory);
     };
     let host = *rt;
+    let serving = Serving {
+        workers,
+        accepts: u64::MAX,
+        keep,
+    };
     let Ok(server) = thread::spawn(
         rt,
         move || -> ServeFault
-            requires { (1 ≤ workers) × (workers ≤ 64) }
-        { serve_all_that_come(&host, alloc, &listener, book, workers, stands) },
+            requires { (1 ≤ serving.workers) × (serving.workers ≤ 64) }
+        { serve_all_that_come(&host, alloc, &listener, book, serving, stands) },
     ) else {
         return Err(ServeFault::Thread);
     };
@@ -181,18 +193,18 @@ pub(crate) fn begin_serving<R: Copy + Threads + Wait + rt::Clock + Send + Sync +
     }
 }
 
-/// Serves the connections of a listener until no further one can be accepted, and answers why that ended.
+/// Serves the connections of a listener as is asked, until no further one can be accepted, and answers why that ended.
 fn serve_all_that_come<R: Threads + Wait + rt::Clock + Sync>(
     rt: &R,
     alloc: Global,
     listener: &TcpListener,
     book: Book,
-    workers: usize,
+    serving: Serving,
     stands: Sender<()>,
 ) -> ServeFault
-    requires workers { (1 ≤ workers) × (workers ≤ 64) }
+    requires workers { (1 ≤ serving.workers) × (serving.workers ≤ 64) }
 {
-    match serve_begun(rt, alloc, listener, book, workers, u64::MAX, Some(stands)) {
+    match serve_begun(rt, alloc, listener, book, serving, Some(stands)) {
         Ok(_) => ServeFault::Accept,
         Err(fault) => fault,
     }

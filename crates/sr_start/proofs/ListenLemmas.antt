@@ -13,11 +13,13 @@ said_unless_failed (Ok done) old new line failed ok err fails = (line, ok, λ so
 said_unless_failed (Err fault) old new line failed ok err fails =
     (err.0, err.1, λ sound. absurd (true≢false (sym fails ∙ sound)))
 
--- it was begun with the address and the workers that were asked for, and with the opened book
-pub may_end_so : (may_end : SocketAddr → ℕ → BookState → ServeFault → Bool) (begun address : SocketAddr) (found workers : ℕ)
-    (book opened : BookState) (end : ServeFault) → begun ≡ address → found ≡ workers → book ≡ opened
-    → IsTrue (may_end begun found book end) → IsTrue (may_end address workers opened end)
-may_end_so may_end begun address found workers book opened end same_address same_number same_book ends =
-    subst (λ (at : SocketAddr). IsTrue (may_end at workers opened end)) same_address
-    (subst (λ (number : ℕ). IsTrue (may_end begun number opened end)) same_number
-    (subst (λ (from : BookState). IsTrue (may_end begun found from end)) same_book ends))
+-- it was begun with the address, the workers and the records that were asked for, and with the opened book
+pub may_end_so : (may_end : SocketAddr → ℕ → Option ℕ → BookState → ServeFault → Bool) (begun address : SocketAddr)
+    (found workers : ℕ) (kept keep : Option ℕ) (book opened : BookState) (end : ServeFault)
+    → begun ≡ address → found ≡ workers → kept ≡ keep → book ≡ opened
+    → IsTrue (may_end begun found kept book end) → IsTrue (may_end address workers keep opened end)
+may_end_so may_end begun address found workers kept keep book opened end same_address same_number same_keep same_book ends =
+    subst (λ (at : SocketAddr). IsTrue (may_end at workers keep opened end)) same_address
+    (subst (λ (number : ℕ). IsTrue (may_end begun number keep opened end)) same_number
+    (subst (λ (records : Option ℕ). IsTrue (may_end begun found records opened end)) same_keep
+    (subst (λ (from : BookState). IsTrue (may_end begun found kept from end)) same_book ends)))

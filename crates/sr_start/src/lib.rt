@@ -19,6 +19,6 @@ pub use fault::{Fault, outcome};
 pub use listen::WARNING;
 pub use network::{Begun, Bound, ListenFault, Network};
 pub use program::start;
-pub use serving::{ServeFault, serve, serve_begun};
+pub use serving::{ServeFault, Serving, serve, serve_begun};
 pub use status::report;
 pub use text_files::{TextFault, TextFiles};

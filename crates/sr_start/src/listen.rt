@@ -35,14 +35,14 @@ where
     ensures listened { (written : List ℕ)
         × Appends (O.contents writer.old) (O.contents writer.new) written
         × Listens (F.may_hold files.old) N.may_refuse N.may_not_begin N.may_end (option_map (λ path. path.now) policy.entry)
-        asked.now.text.now asked.now.address asked.now.workers written (O.failed writer.new) result }
+        asked.now.text.now asked.now.address asked.now.workers asked.now.keep written (O.failed writer.new) result }
 {
     let book = match open_book(rt, files, policy) {
         Ok(book) => book,
         Err(fault) => return fault,
     };
     match network.listen(asked.address) {
-        Ok(bound) => match network.begin(bound, book, asked.workers) {
+        Ok(bound) => match network.begin(bound, book, asked.workers, asked.keep) {
             Ok(begun) => {
                 warn(err, asked.address);
                 let _ = announce(writer, asked.text);

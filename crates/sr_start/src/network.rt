@@ -1,4 +1,4 @@
-ghost use Rattle.std.specs.Prelude.{◌≡◌, ◌≤◌, ℕ, Bool, IsTrue, IfOk, IfErr};
+ghost use Rattle.std.specs.Prelude.{◌≡◌, ◌≤◌, ℕ, Bool, IsTrue, Option, IfOk, IfErr};
 ghost use Rattle.std.specs.declared.net.socket_addr.SocketAddr.{SocketAddr};
 ghost use Rattle.sr_book.specs.Records.{BookState};
 ghost use Rattle.sr_start.specs.declared.network.ListenFault.{ListenFault};
@@ -27,6 +27,8 @@ pub struct Begun<S: Drop> {
     pub address: SocketAddr,
     /// How many connections it serves at a time.
     pub workers: usize,
+    /// How many records it keeps, if not all of them.
+    pub keep: Option<u64>,
     /// The book that it was begun with.
     pub book: Snapshot<Book>,
 }
@@ -51,31 +53,35 @@ pub trait Network {
     /// Whether listening at an address may be refused for this cause.
     ghost may_refuse: { SocketAddr → ListenFault → Bool };
 
-    /// Whether serving at an address, with so many connections at a time and from this book on, may not begin for this cause.
-    ghost may_not_begin: { SocketAddr → ℕ → BookState → ServeFault → Bool };
+    /// Whether serving at an address, with so many connections at a time, so many records kept and from this book on, may not begin
+    /// for this cause.
+    ghost may_not_begin: { SocketAddr → ℕ → Option ℕ → BookState → ServeFault → Bool };
 
     /// Whether serving that has begun so may end in this way.
-    ghost may_end: { SocketAddr → ℕ → BookState → ServeFault → Bool };
+    ghost may_end: { SocketAddr → ℕ → Option ℕ → BookState → ServeFault → Bool };
 
     /// Listens at an address.
     fn listen(&mut self, address: SocketAddr) -> Result<Bound<Self::Listener>, ListenFault>
         ensures ok { IfOk result (λ bound. bound.address ≡ address) }
         ensures err { IfErr result (λ fault. IsTrue (may_refuse address fault)) };
 
-    /// Begins to serve the connections that come, at most `workers` at a time, over one book. When it answers, the threads stand.
+    /// Begins to serve the connections that come, at most `workers` at a time, over one book, which keeps `keep` records, or all of
+    /// them. When it answers, the threads stand.
     fn begin(
         &mut self,
         bound: Bound<Self::Listener>,
         book: Book,
         workers: usize,
+        keep: Option<u64>,
     ) -> Result<Begun<Self::Server>, ServeFault>
         requires workers { (1 ≤ workers) × (workers ≤ 64) }
         ensures address { IfOk result (λ begun. begun.address ≡ bound.address) }
         ensures workers { IfOk result (λ begun. begun.workers ≡ workers) }
+        ensures keep { IfOk result (λ begun. begun.keep ≡ keep) }
         ensures book { IfOk result (λ begun. begun.book.value ≡ book) }
-        ensures err { IfErr result (λ fault. IsTrue (may_not_begin bound.address workers book fault)) };
+        ensures err { IfErr result (λ fault. IsTrue (may_not_begin bound.address workers keep book fault)) };
 
     /// Serves until no further connection can be accepted, and answers why that ended.
     fn end(&mut self, begun: Begun<Self::Server>) -> ServeFault
-        ensures { IsTrue (may_end begun.address begun.workers begun.book.value result) };
+        ensures { IsTrue (may_end begun.address begun.workers begun.keep begun.book.value result) };
 }

@@ -1,4 +1,4 @@
-ghost use Rattle.std.specs.Prelude.{◌≡◌, ◌≤◌, ◌↔◌, ◌⊎◌, ℕ, List, ◌∷◌, map, true, false, option_map, Result, IsOk, IfErr, IsErrOf};
+ghost use Rattle.std.specs.Prelude.{◌≡◌, ◌≤◌, ◌↔◌, ◌⊎◌, ℕ, List, ◌∷◌, map, true, false, Option, option_map, Result, IsOk, IfErr, IsErrOf};
 ghost use Rattle.std.specs.Io.KnownBytes.{Appends, Consumes};
 ghost use Rattle.sr_start.specs.Fault.{Serves, Runs, is_of_session, status_of};
 ghost use Rattle.sr_start.specs.Moment.{any_moment};
@@ -31,7 +31,7 @@ use std::rt;
 const BLOCKING: bool = false;
 
 /// Runs the program: reads the command line, whose first word is the program's name, and the policy file that it names, and
-/// serves one connection, or those that come to an address.
+/// serves one connection, or those that come to an address, and then keeps all records, or makes checkpoints (`--keep N`).
 ///
 /// Answers the status that it ends with. What is said besides the replies and the line for the address goes to `err`.
 pub fn start<R, S, F, N, I, O, E>(
@@ -70,16 +70,18 @@ where
     // --listen: what was asked of the network, and what became of it
     ensures listened { (name : List ℕ) (flags : List Flag) → map S.text words.now ≡ name ∷ map word_of flags → AreOnce flags
         → AsksForAddress (asked_by flags)
-        → (text : List ℕ) × (address : SocketAddr) × (workers : ℕ) × AsksToListen (asked_by flags) text address workers
+        → (text : List ℕ) × (address : SocketAddr) × (workers : ℕ) × (keep : Option ℕ)
+        × AsksToListen (asked_by flags) text address workers keep
         × (written : List ℕ)
         × Appends (O.contents writer.old) (O.contents writer.new) written
         × (fault : Fault)
-        × Listens (F.may_hold files.old) N.may_refuse N.may_not_begin N.may_end (asked_by flags).policy text address workers
+        × Listens (F.may_hold files.old) N.may_refuse N.may_not_begin N.may_end (asked_by flags).policy text address workers keep
         written (O.failed writer.new) fault
         × (result ≡ 1)
         × (reader.new ≡ reader.old) }
 
-    // both of these or neither, no address and port, or too few or many workers: no file is read, and nothing is read or written
+    // both of these or neither, no address and port, too few or many workers or records, or records that one session keeps: no file is
+    // read, and nothing is read or written
     ensures both { (name : List ℕ) (flags : List Flag) → map S.text words.now ≡ name ∷ map word_of flags → AreOnce flags
         → AsksForNothing (asked_by flags)
         → (1 ≤ result) × (files.new ≡ files.old) × (network.new ≡ network.old) × (reader.new ≡ reader.old) × (writer.new ≡ writer.old) }

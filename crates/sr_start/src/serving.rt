@@ -1,8 +1,8 @@
-ghost use Rattle.std.specs.Prelude.{◌≡◌, ◌+◌, ◌<◌, ◌≤◌, IfOk, IfErr, OnErr, vec_len};
+ghost use Rattle.std.specs.Prelude.{◌≡◌, ◌⊎◌, ◌↔◌, ◌+◌, ◌<◌, ◌≤◌, [], length, true, IfOk, IfErr, OnErr, vec_len};
 
 use crate::clock::SystemClock;
 use crossbeam_channel::{Receiver, SendError, Sender, bounded};
-use sr_book::Book;
+use sr_book::{Book, Record};
 use sr_resp::WriteTo;
 use sr_run::{HoldFault, Seat, SeatDesk, Shared, open};
 use sr_session::{Clock, Ended, NoGate, ReadFrom, run_session};
@@ -21,6 +21,10 @@ pub(crate) const TURNS: u64 = 1 << 40;
 
 /// How long the timer sleeps between two looks at the deadlines, in milliseconds.
 const TICK: u64 = 10;
+
+/// How many records that are kept no longer are let go between two looks at the deadlines. That takes some milliseconds, so that no
+/// deadline is late by more than a tick.
+const PART: usize = 20_000;
 
 /// How many accepted connections are kept for a free worker, beside the one with which the accepting thread waits. Further ones wait at
 /// the listener and take nothing of this process, so no number of them can use up its descriptors.
@@ -58,6 +62,26 @@ struct Common<'a, R> {
     served: Mutex<Served>,
 }
 
+/// What is asked of a server beside its listener and its book.
+#[derive(Clone, Copy)]
+pub struct Serving {
+    /// How many connections are served at a time, from 1 to 64.
+    pub workers: usize,
+    /// After how many connections it stops to accept.
+    pub accepts: u64,
+    /// How many records are kept: if there are more, a checkpoint is made. None: all of them.
+    pub keep: Option<u64>,
+}
+
+/// What keeps the time of a server.
+#[derive(Drop)]
+struct Timer<L: Ledger> {
+    /// A seat of its own.
+    seat: Seat<L>,
+    /// How many records are kept, if not all of them.
+    keep: Option<u64>,
+}
+
 /// Why a server stopped before all its connections were accepted.
 #[derive(Clone, Copy, Debug, PartialEq, Eq)]
 pub enum ServeFault {
@@ -72,9 +96,9 @@ pub enum ServeFault {
 /// Serves the connections of a listener until this many were accepted, and answers their number once all of them have ended.
 ///
 /// Each of the `workers` threads, 1 to 64, serves one connection at a time, and further ones wait for a free worker. A
-/// timer thread answers the reads whose deadline is reached. A session that ends closes its own connection alone. A failed
-/// accept is tried again, unless it is the listener's own fault: then no connection is accepted any more, and those that are
-/// served are shut down.
+/// timer thread answers the reads whose deadline is reached, and makes a checkpoint if more than `keep` records are kept. A session that
+/// ends closes its own connection alone. A failed accept is tried again, unless it is the listener's own fault: then no connection is
+/// accepted any more, and those that are served are shut down.
 pub fn serve<R: Threads + Wait + rt::Clock + Sync>(
     rt: &R,
     alloc: Global,
@@ -82,11 +106,17 @@ pub fn serve<R: Threads + Wait + rt::Clock + Sync>(
     book: Book,
     workers: usize,
     accepts: u64,
+    keep: Option<u64>,
 ) -> Result<u64, ServeFault>
     requires workers { (1 ≤ workers) × (workers ≤ 64) }
     ensures ok { IfOk result (λ count. count ≡ accepts) }
 {
-    serve_begun(rt, alloc, listener, book, workers, accepts, None)
+    let serving = Serving {
+        workers,
+        accepts,
+        keep,
+    };
+    serve_begun(rt, alloc, listener, book, serving, None)
 }
 
 /// The same, and says when the threads stand, right before the first connection is accepted.
@@ -95,20 +125,19 @@ pub fn serve_begun<R: Threads + Wait + rt::Clock + Sync>(
     alloc: Global,
     listener: &TcpListener,
     book: Book,
-    workers: usize,
-    accepts: u64,
+    serving: Serving,
     stands: Option<Sender<()>>,
 ) -> Result<u64, ServeFault>
-    requires workers { (1 ≤ workers) × (workers ≤ 64) }
-    ensures ok { IfOk result (λ count. count ≡ accepts) }
+    requires workers { (1 ≤ serving.workers) × (serving.workers ≤ 64) }
+    ensures ok { IfOk result (λ count. count ≡ serving.accepts) }
 {
-    let blank = Blank::new(workers as u64 + 1);
+    let blank = Blank::new(serving.workers as u64 + 1);
     let accepting = Accepting {
         listener,
-        accepts,
+        accepts: serving.accepts,
         stands,
     };
-    serve_seats::<Brand, R>(rt, alloc, accepting, book, workers, blank)
+    serve_seats::<Brand, R>(rt, alloc, accepting, book, serving, blank)
 }
 
 /// What the first thread does: it says that the threads stand, and accepts this many connections.
@@ -125,22 +154,26 @@ fn serve_seats<L: Ledger + Send + Sync, R: Threads + Wait + rt::Clock + Sync>(
     alloc: Global,
     accepting: Accepting<'_>,
     book: Book,
-    workers: usize,
+    serving: Serving,
     blank: Blank,
 ) -> Result<u64, ServeFault>
-    requires workers { (1 ≤ workers) × (workers ≤ 64) }
+    requires workers { (1 ≤ serving.workers) × (serving.workers ≤ 64) }
     requires name { blank.name ≡ L.name }
     requires whole { blank.parts ≡ L.parts }
-    requires parts { blank.parts ≡ workers + 1 }
+    requires parts { blank.parts ≡ serving.workers + 1 }
     ensures ok { IfOk result (λ count. count ≡ accepting.entry.accepts) }
 {
-    let (shared, mut seats) = match open::<L>(alloc, book, workers + 1, blank) {
+    let (shared, mut seats) = match open::<L>(alloc, book, serving.workers + 1, blank) {
         Ok(opened) => opened,
         Err(HoldFault::Memory) => return Err(ServeFault::Memory),
         Err(HoldFault::Count) => unreachable!(),
     };
-    let Some(timer) = seats.pop() else {
+    let Some(seat) = seats.pop() else {
         unreachable!()
+    };
+    let timer = Timer {
+        seat,
+        keep: serving.keep,
     };
     serve_timed(rt, alloc, accepting, &shared, seats, timer)
 }
@@ -152,7 +185,7 @@ fn serve_timed<L: Ledger + Send + Sync, R: Threads + Wait + rt::Clock + Sync>(
     accepting: Accepting<'_>,
     shared: &Shared<L>,
     seats: Vec<Seat<L>>,
-    timer: Seat<L>,
+    timer: Timer<L>,
 ) -> Result<u64, ServeFault>
     requires some { 0 < vec_len seats }
     ensures ok { IfOk result (λ count. count ≡ accepting.entry.accepts) }
@@ -406,21 +439,52 @@ fn serve_connection<L: Ledger, R: Wait + rt::Clock>(
     )
 }
 
-/// Answers the reads whose deadline is reached, at each tick, until it is told to stop.
+/// At each tick, answers the reads whose deadline is reached and makes a checkpoint if there are more records than are kept, until it is
+/// told to stop.
 fn keep_time<L: Ledger, R: Wait + rt::Clock>(
     rt: &R,
     alloc: Global,
     shared: &Shared<L>,
-    mut seat: Seat<L>,
+    timer: Timer<L>,
     clock: &SystemClock<'_, R>,
     stop: &Mutex<bool>,
 ) {
+    let Timer { mut seat, keep } = timer;
+    let mut dropped = Vec::new(alloc);
     for _ in rt.forever() {
         if *stop.lock(rt) {
             return;
         }
         // One that is refused is made up for by the next.
         let _ = shared.tick(rt, alloc, &mut seat, clock.now());
+        // While some are left it does not sleep: so they are gone before as many are made again.
+        if let Some(keep) = keep
+            && forget(rt, shared, &mut seat, keep, &mut dropped)
+        {
+            continue;
+        }
         thread::sleep(rt, Duration::from_millis(TICK));
     }
+}
+
+/// Lets go of a part of the records that are kept no longer, and answers whether some of them are left. If not, makes a checkpoint if
+/// more than `keep` records are kept: then `dropped` has these, and the next ones come into the storage that it had.
+fn forget<L: Ledger, R: Wait>(
+    rt: &R,
+    shared: &Shared<L>,
+    seat: &mut Seat<L>,
+    keep: u64,
+    dropped: &mut Vec<Record>,
+) -> bool
+    ensures left { (result ≡ true) ↔ (20000 < length dropped.old.items) }
+    ensures part { 20000 < length dropped.old.items → length dropped.new.items + 20000 ≡ length dropped.old.items }
+    ensures again { length dropped.old.items ≤ 20000 → (dropped.new.items ≡ []) ⊎ (keep < length dropped.new.items) }
+{
+    dropped.truncate(dropped.len().saturating_sub(PART));
+    if !dropped.is_empty() {
+        return true;
+    }
+    // One that is refused is made up for at the next tick.
+    let _ = shared.compact_into(rt, seat, keep, dropped);
+    false
 }

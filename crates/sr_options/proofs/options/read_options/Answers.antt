@@ -22,4 +22,5 @@ returns-clause-ok g c = λ name flags words_are once.
     let listen_is = c.get_str.ensures ∙ first_value-rows found (codes "listen") ∙ ap (first_of (codes "listen")) rows_are ∙ asked_value (codes "listen") flags refl in
     let policy_is = c.get_str-2.ensures ∙ first_value-rows found (codes "policy") ∙ ap (first_of (codes "policy")) rows_are ∙ asked_value (codes "policy") flags refl in
     let workers_is = c.get_str-3.ensures ∙ first_value-rows found (codes "workers") ∙ ap (first_of (codes "workers")) rows_are ∙ asked_value (codes "workers") flags refl in
-    same_asked _ (asked_by flags) stdio_is listen_is policy_is workers_is
+    let keep_is = c.get_str-4.ensures ∙ first_value-rows found (codes "keep") ∙ ap (first_of (codes "keep")) rows_are ∙ asked_value (codes "keep") flags refl in
+    same_asked _ (asked_by flags) stdio_is listen_is policy_is workers_is keep_is

@@ -17,7 +17,7 @@ fn answers_a_client(rt: HostRuntime) -> Result<(), Fail> {
     client.write_all(RUN)?;
     client.shutdown(Shutdown::Write)?;
     let book = Book::new(alloc, Policy::empty(alloc), RandomState::new(&rt)?);
-    let served = serve(&rt, alloc, &listener, book, 1, 1);
+    let served = serve(&rt, alloc, &listener, book, 1, 1, None);
     assert!(rt; served == Ok(1), "{served:?}");
     let mut replies = Vec::new(alloc);
     client.read_to_end(&mut replies)?;

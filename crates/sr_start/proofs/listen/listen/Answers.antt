@@ -13,15 +13,15 @@ returns-in-Ok-begin g c =
     let said = said_unless_failed c.announce.result _ _ _ _ c.announce.ensures.ok c.announce.ensures.err c.announce.ensures.failed in
     let opened = c.in-Ok.ensures.book in
     let begun = c.in-Ok-begin.ensures in
-    let end = may_end_so g.N.Network.may_end _ _ _ _ _ (empty_book opened.0) c.end.result
-    (begun.address ∙ c.in-Ok-listen.ensures.ok) begun.workers (begun.book ∙ opened.2) c.end.ensures in
+    let end = may_end_so g.N.Network.may_end _ _ _ _ _ _ _ (empty_book opened.0) c.end.result
+    (begun.address ∙ c.in-Ok-listen.ensures.ok) begun.workers begun.keep (begun.book ∙ opened.2) c.end.ensures in
     record { listened = (said.0, said.1, ends opened.0 c.end.result opened.1 end said.2 c.serving_fault.ensures) }
 
 pub returns-in-Err-begin : goal.returns-in-Err-begin
 returns-in-Err-begin g c =
     let opened = c.in-Ok.ensures.book in
-    let end = may_end_so g.N.Network.may_not_begin _ _ _ _ _ (empty_book opened.0) c.in-Err-begin.fault
-    c.in-Ok-listen.ensures.ok refl opened.2 c.in-Err-begin.ensures.err in
+    let end = may_end_so g.N.Network.may_not_begin _ _ _ _ _ _ _ (empty_book opened.0) c.in-Err-begin.fault
+    c.in-Ok-listen.ensures.ok refl refl opened.2 c.in-Err-begin.ensures.err in
     record {
       listened =
           ([], Appends-nil _, begins_not opened.0 c.in-Err-begin.fault opened.1 end refl c.serving_fault-in-Err-begin.ensures);

@@ -20,7 +20,7 @@ returns-in-Err-clause-served g c = λ name flags words_are once asks.
 pub returns-in-Err-clause-listened : goal.returns-in-Err-clause-listened
 returns-in-Err-clause-listened g c = λ name flags words_are once asks.
     let is_1 = c.refuse.ensures.memory (c.in-Err.ensures.err name flags words_are once) in
-    (asks.0, asks.1, asks.2, asks.3, [], Appends-nil _, StartMemory, listens_not refl refl, is_1, refl)
+    (asks.0, asks.1, asks.2, asks.3, asks.4, [], Appends-nil _, StartMemory, listens_not refl refl, is_1, refl)
 
 pub returns-in-Err-clause-both : goal.returns-in-Err-clause-both
 returns-in-Err-clause-both g c = λ name flags words_are once nothing. (refused-some _ c.refuse.ensures.status, refl, refl, refl, refl)
@@ -67,27 +67,27 @@ returns-in-Ok-Stdio-clause-refused g c = λ e. absurd (ended-not_2 c.connect.res
 pub returns-in-Ok-Listen-clause-served : goal.returns-in-Ok-Listen-clause-served
 returns-in-Ok-Listen-clause-served g c = λ name flags words_are once asks.
     let asked = c.in-Ok-Listen.asked in
-    let listen = subst (λ (read : Asked). AsksToListen read asked.text.now asked.address asked.workers)
+    let listen = subst (λ (read : Asked). AsksToListen read asked.text.now asked.address asked.workers asked.keep)
     (c.in-Ok.ensures.ok name flags words_are once) (rw c.in-Ok-Listen.field-0-is at c.in-Ok-Listen.ensures.ok) in
-    absurd (not_both _ asks (asked.text.now, asked.address, asked.workers, listen))
+    absurd (not_both _ asks (asked.text.now, asked.address, asked.workers, asked.keep, listen))
 
 pub returns-in-Ok-Listen-clause-listened : goal.returns-in-Ok-Listen-clause-listened
 returns-in-Ok-Listen-clause-listened g c = λ name flags words_are once asks.
     let asked = c.in-Ok-Listen.asked in
     let read = c.in-Ok.ensures.ok name flags words_are once in
-    let listen = subst (λ (read : Asked). AsksToListen read asked.text.now asked.address asked.workers)
+    let listen = subst (λ (read : Asked). AsksToListen read asked.text.now asked.address asked.workers asked.keep)
     read (rw c.in-Ok-Listen.field-0-is at c.in-Ok-Listen.ensures.ok) in
     let l = c.listen-fault.ensures.listened in
     let listens = subst (λ (read : Asked). Listens (g.F.TextFiles.may_hold c.args.files.now) g.N.Network.may_refuse
-    g.N.Network.may_not_begin g.N.Network.may_end read.policy asked.text.now asked.address asked.workers l.0 (g.O.Sink.failed c.listen-fault.new.writer) c.listen-fault.result) read l.2 in
-    (asked.text.now, asked.address, asked.workers, listen, l.0, l.1, c.listen-fault.result, listens, c.report-in-Ok-Listen.ensures, refl)
+    g.N.Network.may_not_begin g.N.Network.may_end read.policy asked.text.now asked.address asked.workers asked.keep l.0 (g.O.Sink.failed c.listen-fault.new.writer) c.listen-fault.result) read l.2 in
+    (asked.text.now, asked.address, asked.workers, asked.keep, listen, l.0, l.1, c.listen-fault.result, listens, c.report-in-Ok-Listen.ensures, refl)
 
 pub returns-in-Ok-Listen-clause-both : goal.returns-in-Ok-Listen-clause-both
 returns-in-Ok-Listen-clause-both g c = λ name flags words_are once nothing.
     let asked = c.in-Ok-Listen.asked in
-    let listen = subst (λ (read : Asked). AsksToListen read asked.text.now asked.address asked.workers)
+    let listen = subst (λ (read : Asked). AsksToListen read asked.text.now asked.address asked.workers asked.keep)
     (c.in-Ok.ensures.ok name flags words_are once) (rw c.in-Ok-Listen.field-0-is at c.in-Ok-Listen.ensures.ok) in
-    absurd (nothing.no_address (asked.text.now, asked.address, asked.workers, listen))
+    absurd (nothing.no_address (asked.text.now, asked.address, asked.workers, asked.keep, listen))
 
 pub returns-in-Ok-Listen-clause-ok : goal.returns-in-Ok-Listen-clause-ok
 returns-in-Ok-Listen-clause-ok g c =
