@@ -188,6 +188,7 @@ bench:
 	@python3 bench/streams.py $(SERVER)
 	@python3 bench/claims.py $(SERVER)
 	@python3 bench/groups.py $(SERVER)
+	@python3 bench/keeping.py $(SERVER)
 	@python3 bench/trims.py $(SERVER)
 	@python3 bench/records.py $(SERVER)
 	@cd crates/book_driver && rt run -- < /dev/null
