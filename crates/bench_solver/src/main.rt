@@ -1,5 +1,6 @@
-//! Solves the transportation problems that it reads from standard input, one a line, and prints a line for each: its name and the
-//! answer, and before that the least of the times that it took, if the problem says how often it is to be timed.
+//! Solves the transportation problems that it reads from standard input, one a line, and prints a line for each: its
+//! name and the answer, and before that the least of the times that it took, if the problem says how often it is to be
+//! timed.
 //!
 //! It ends with status 0 at the end of the input, and with 1 if a problem cannot be read or anything else fails.
 #![tactic(auto)]
@@ -20,8 +21,8 @@ fn main(rt: HostRuntime) -> io::Result<()> {
     Ok(())
 }
 
-/// Prints the name of the problem on a line, the time that it takes if this is asked for, and the answer: the least total, or that
-/// there are too few places.
+/// Prints the name of the problem on a line, the time that it takes if this is asked for, and the answer: the least
+/// total, or that there are too few places.
 fn print_answer<R: AllocGlobal + Clock + Print>(rt: &R, line: &str) -> io::Result<()> {
     let Some((name, numbers)) = line.split_once(": ") else {
         return Err(io::Error::other("a name, a colon and numbers are expected"));

@@ -1,5 +1,6 @@
-//! A problem in words: how many entries and consumers it has, the tiers of each consumer, and for each entry its cost at each
-//! consumer, `-` where it is not allowed. The tiers of a consumer are one word: its room, or `FIRST+NEXT@FEE` for two.
+//! A problem in words: how many entries and consumers it has, the tiers of each consumer, and for each entry its cost
+//! at each consumer, `-` where it is not allowed. The tiers of a consumer are one word: its room, or `FIRST+NEXT@FEE`
+//! for two.
 use sr_transport::{Problem, Tier};
 use std::alloc::Global;
 use std::io;

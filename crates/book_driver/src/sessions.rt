@@ -63,9 +63,9 @@ impl Sessions {
         }
     }
 
-    /// Notes what came of a step: a session that joins gets the next place, also if it is refused; the session at `place`
-    /// holds the snapshot that it was answered, or again the verdict that it was refused to conclude. Takes no memory: for a
-    /// session that joins there is room.
+    /// Notes what came of a step: a session that joins gets the next place, also if it is refused; the session at
+    /// `place` holds the snapshot that it was answered, or again the verdict that it was refused to conclude. Takes no
+    /// memory: for a session that joins there is room.
     pub(crate) fn note(&mut self, place: usize, stepped: Result<Answer, StepFault>) {
         match stepped {
             Ok(answer) => match answer.out {

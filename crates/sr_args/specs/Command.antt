@@ -54,10 +54,10 @@ pub record IsMiscounted (words : List Word) : Type 0 where
   pub named : IsNamed name words operands
   pub uncounted : IsCounted name (length words) → ⊥
 
--- the words are not a command, and this is the first reason: they name no command, nor the first part of one; the name is
--- cut short, or its command takes another number of words; the words do not fit its form, whatever is in the places of
--- numbers and ids; they fit it, and some number's place does not hold a number; or all numbers are there, and some id's
--- place does not hold an id. Memory runs out for commands alone.
+-- the words are not a command, and this is the first reason: they name no command, nor the first part of one; the name
+-- is cut short, or its command takes another number of words; the words do not fit its form, whatever is in the places
+-- of numbers and ids; they fit it, and some number's place does not hold a number; or all numbers are there, and some
+-- id's place does not hold an id. Memory runs out for commands alone.
 abbrev pub Refuses : List Word → CallFault → Type 0
 Refuses words faults.Unknown = (IsCommandNamed words → ⊥) × (IsHalfNamed words → ⊥)
 Refuses words faults.Arity = IsMiscounted words ⊎ IsHalfNamed words

@@ -151,10 +151,11 @@ pub record ArePaired (keys ids : List Word) : Type 0 where
 pub record AreBarred (names : List OptionName) (places : List Place) : Type 0 where
   pub unnamed : (words : List Word) → Fits words places → AreNoneOf names words
 
--- what the places alone do not say: there is at least one id and at least one field; options are of their set, each once;
--- the word after them names no option of it, nor does an id before them; if they are to name a group, they do; a first
--- word that names an option is this option; a form that may be left out has a word if it is there; streams have one id
--- each, and none is named twice; at least one word comes after an option that words follow; and barred options are nowhere
+-- what the places alone do not say: there is at least one id and at least one field; options are of their set, each
+-- once; the word after them names no option of it, nor does an id before them; if they are to name a group, they do; a
+-- first word that names an option is this option; a form that may be left out has a word if it is there; streams have
+-- one id each, and none is named twice; at least one word comes after an option that words follow; and barred options
+-- are nowhere
 abbrev pub IsFit : (form : Form) → Reading form → Type 0
 IsFit end reading = ⊤
 IsFit (text form) reading = IsFit form reading.1

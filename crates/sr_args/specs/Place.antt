@@ -16,7 +16,8 @@ use Rattle.sr_args.specs.Position.{SpellsPosition, SpellsRead}
 abbrev pub Word : Type 0
 Word = List ℕ
 
--- which numbers a place takes: any of 64 bits with a sign, those that are not below 0, those from 1 on, or a number of rounds
+-- which numbers a place takes: any of 64 bits with a sign, those that are not below 0, those from 1 on, or a number of
+-- rounds
 pub data Range : Type 0 where
   int : Range
   nat : Range

@@ -7,8 +7,10 @@ ghost use Rattle.sr_args.specs.Place.{Word};
 ghost use Rattle.sr_args.specs.Options as written;
 ghost use Rattle.sr_args.specs.Options.{Written, operand_places, is_of, IsUnnamed, IsLimit, group_in_one};
 ghost use Rattle.sr_args.specs.steps.Options.{BeginsNoOptions, EndsOptions, AreJudged, IsJudged, GivesTrim};
-ghost use Rattle.sr_args.specs.steps.Options.{Begins, BeginsNone, IsAny, IsLimitOf, IsOptionEnd, IsOptionNamed, IsSigned};
-ghost use Rattle.sr_args.specs.steps.Options.{GivesBound, IsTrimBy, IsTrimEnd, IsUnlimitedAfter, chosen_of, fault_of, index_of};
+ghost use Rattle.sr_args.specs.steps.Options.{Begins, BeginsNone, IsAny, IsLimitOf, IsOptionEnd, IsOptionNamed};
+ghost use Rattle.sr_args.specs.steps.Options.{IsSigned};
+ghost use Rattle.sr_args.specs.steps.Options.{GivesBound, IsTrimBy, IsTrimEnd, IsUnlimitedAfter, chosen_of, fault_of};
+ghost use Rattle.sr_args.specs.steps.Options.{index_of};
 ghost use Rattle.sr_args.specs.steps.Options.{signed_places, trim_operands, trim_reading, written_of};
 ghost use Rattle.sr_args.specs.steps.Options.{named_by, IsGiven};
 

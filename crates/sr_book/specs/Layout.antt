@@ -1,4 +1,5 @@
--- How the open sessions lie in a list, where binary search finds one, and what holds of a server always. No public clause cites this.
+-- How the open sessions lie in a list, where binary search finds one, and what holds of a server always. No public
+-- clause cites this.
 use Rattle.std.specs.Prelude.{⊤, ◌≡◌, ℕ, ◌^◌, ◌<◌, nat_lt, List, [], ◌∷◌, Some, slice_get}
 use Rattle.std.specs.List.{count_by}
 use Rattle.sr_waiters.specs.Waiters.{Waiting}

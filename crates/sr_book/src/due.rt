@@ -1,4 +1,5 @@
-ghost use Rattle.std.specs.Prelude.{◌≡◌, ◌+◌, ◌<◌, ◌≤◌, ◌++◌, [], ◌∷◌, IfSome, IfNone, length, map, vec_len, vec_capacity};
+ghost use Rattle.std.specs.Prelude.{◌≡◌, ◌+◌, ◌<◌, ◌≤◌, ◌++◌, [], ◌∷◌, IfSome, IfNone, length, map, vec_len};
+ghost use Rattle.std.specs.Prelude.{vec_capacity};
 ghost use Rattle.sr_resp.specs.Reply.{null_array};
 ghost use Rattle.sr_waiters.specs.Waiters.{AreOnce, due_at, not_due_at};
 ghost use Rattle.sr_book.specs.Server.{with_nothing};
@@ -9,7 +10,8 @@ use sr_resp::Reply;
 use sr_waiters::Waiters;
 use std::alloc::Global;
 
-/// Answers each read whose deadline is reached by the null array, in order of blocking. Takes no memory: `sent` has room.
+/// Answers each read whose deadline is reached by the null array, in order of blocking. Takes no memory: `sent` has
+/// room.
 pub(crate) fn answer_due(
     alloc: Global,
     index: u64,

@@ -1,4 +1,5 @@
--- How the words of a request are kept: strings one behind another, each behind its length. A text packs at most one list.
+-- How the words of a request are kept: strings one behind another, each behind its length. A text packs at most one
+-- list.
 
 use Rattle.std.proofs.Common.{◌≡◌, ℕ, ◌<◌, ◌^◌, List, [], ◌∷◌, ◌++◌, length, refl, sym, ◌∙◌}
 use Rattle.std.specs.Coded.{Coded-set, coded_list, coded_ℕ, le_prop, Unit-prop, ×_prop}
@@ -30,7 +31,8 @@ words_of text is = is.0
 
 -- ---- a text packs one list
 
-pub one_packing_of_words : (vs ws : List (List ℕ)) → AreShortWords vs → AreShortWords ws → packed_words vs ≡ packed_words ws → vs ≡ ws
+pub one_packing_of_words : (vs ws : List (List ℕ)) → AreShortWords vs → AreShortWords ws → packed_words vs
+    ≡ packed_words ws → vs ≡ ws
 one_packing_of_words [] [] f g e = refl
 one_packing_of_words [] (w ∷ ws) f g e = absurd (some_byte w (packed_words ws) e)
 one_packing_of_words (v ∷ vs) [] f g e = absurd (some_byte v (packed_words vs) (sym e))
@@ -50,4 +52,5 @@ PacksWords-prop text words a b = λ i. record {
 }
 
 pub IsPackedWords-prop : (text : List ℕ) → IsProp (IsPackedWords text)
-IsPackedWords-prop text a b = Σ_prop_path (PacksWords-prop text) (one_packing_of_words a.0 b.0 a.1.short b.1.short (sym a.1.whole ∙ b.1.whole))
+IsPackedWords-prop text a b = Σ_prop_path (PacksWords-prop text)
+    (one_packing_of_words a.0 b.0 a.1.short b.1.short (sym a.1.whole ∙ b.1.whole))

@@ -8,7 +8,8 @@ use std::marker::Model;
 
 /// The fields of an entry, each with its value, in the order in which they were written.
 ///
-/// They are kept in one run of bytes: each string behind its length, which takes one byte, or nine if it is 255 or more.
+/// They are kept in one run of bytes: each string behind its length, which takes one byte, or nine if it is 255 or
+/// more.
 ///
 /// Source: Redis documentation, "Streams", section "Streams basics".
 #[derive(Drop)]

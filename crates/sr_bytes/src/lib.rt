@@ -1,4 +1,5 @@
-//! What every crate of the server shares: byte strings, fields with their values, the words of a request, and decimal numbers.
+//! What every crate of the server shares: byte strings, fields with their values, the words of a request, and decimal
+//! numbers.
 #![tactic(auto)]
 
 mod decimal;

@@ -4,7 +4,8 @@ ghost use Rattle.sr_bytes.specs.Packed.{packed_string};
 
 use std::alloc::AllocError;
 
-/// How many bytes a string takes behind its length, as a field, a value or a word; a number beyond `usize` is its greatest.
+/// How many bytes a string takes behind its length, as a field, a value or a word; a number beyond `usize` is its
+/// greatest.
 pub fn room_of(string: &[u8]) -> usize
     ensures { result ≡ min (length (packed_string string.now)) 0xffff_ffff_ffff_ffff }
 {
@@ -30,7 +31,8 @@ pub(crate) fn append_string(out: &mut Vec<u8>, bytes: &[u8]) -> Result<(), Alloc
 
 /// The string at the front, and the bytes behind it.
 pub(crate) fn first_string(text: &[u8]) -> (&[u8], &[u8])
-    requires { (string : List ℕ) × (behind : List ℕ) × (length string < 2 ^ 64) × (text.now ≡ packed_string string ++ behind) }
+    requires { (string : List ℕ) × (behind : List ℕ) × (length string < 2 ^ 64)
+        × (text.now ≡ packed_string string ++ behind) }
     ensures { (string behind : List ℕ) → length string < 2 ^ 64 → text.now ≡ packed_string string ++ behind
         → (result.0.now ≡ string) × (result.1.now ≡ behind) }
 {

@@ -1,7 +1,8 @@
 -- What XCLAIM and XAUTOCLAIM do with the ids that they are given or find.
 -- Source: Redis documentation, commands XCLAIM and XAUTOCLAIM.
 
-use Rattle.std.specs.Prelude.{ℕ, zero, suc, ◌-◌, ◌*◌, ◌^◌, ◌<◌, IfSome, min, List, [], ◌∷◌, ◌++◌, Option, Some, None, Bool, true, false, not, ◌||◌, nat_lt, if◌then◌else◌, filter, take, slice_get}
+use Rattle.std.specs.Prelude.{ℕ, zero, suc, ◌-◌, ◌*◌, ◌^◌, ◌<◌, IfSome, min, List, [], ◌∷◌, ◌++◌, Option, Some, None}
+use Rattle.std.specs.Prelude.{Bool, true, false, not, ◌||◌, nat_lt, if◌then◌else◌, filter, take, slice_get}
 use Rattle.sr_ids.specs.declared.id.Id.{Id}
 use Rattle.sr_ids.specs.Id.{least_id}
 use Rattle.sr_entries.specs.declared.entry.Entry.{Entry}
@@ -40,7 +41,8 @@ abbrev pub fate_of : Claim → List ℕ → ℕ → List Entry → Nack → Fate
 fate_of claim claimer moment entries nack =
     if not (has_id nack.id entries) then Dropped
     else (if nat_lt (idle_at moment nack) claim.least_idle then Skipped
-    else GivenOver (redelivered claimer (time_given moment claim.time) (count_given claim.count claim.just_ids nack.count) nack))
+    else GivenOver (redelivered claimer (time_given moment claim.time)
+    (count_given claim.count claim.just_ids nack.count) nack))
 
 -- the pending entries after one that had this fate
 abbrev pub after_fate : Fate → Id → List Nack → List Nack
@@ -113,7 +115,8 @@ after_move moment entries group move = group_after_claim move.claim move.claimer
 -- the group after these moves, one after the other
 abbrev pub after_moves : ℕ → List Entry → List MoveState → GroupState → GroupState
 after_moves moment entries [] group = group
-after_moves moment entries (move ∷ moves) group = after_moves moment entries moves (after_move moment entries group move)
+after_moves moment entries (move ∷ moves) group = after_moves moment entries moves
+    (after_move moment entries group move)
 
 -- the pending entries that are not below an id
 abbrev pub pending_from : Id → List Nack → List Nack

@@ -24,8 +24,8 @@ delivered_to reader moment entry = record { id = entry.id; owner = reader; time 
 abbrev pub found_entry : Entry → Listed
 found_entry entry = record { id = entry.id; found = true }
 
--- the group after these entries were delivered: the reader is seen, and unless they need no acknowledgement they are pending
--- for it, also those that were pending before
+-- the group after these entries were delivered: the reader is seen, and unless they need no acknowledgement they are
+-- pending for it, also those that were pending before
 abbrev pub after_delivery : List ℕ → ℕ → Bool → List Entry → GroupState → GroupState
 after_delivery reader moment noack new group = record {
   last = last_id_or group.last new;
@@ -39,7 +39,8 @@ raised count = min (count + 1) (2 ^ 63 - 1)
 
 -- the reader's pending entries above an id, at most this many
 abbrev pub history_of : List ℕ → Id → Option ℕ → List Nack → List Nack
-history_of reader after count nacks = pending.first_of count (filter (λ nack. is_below after nack.id) (owned_by reader nacks))
+history_of reader after count nacks = pending.first_of count (filter
+    (λ nack. is_below after nack.id) (owned_by reader nacks))
 
 -- a pending entry that is shown once more: delivered now if the stream still has it, else as it was
 abbrev pub shown_again : ℕ → List Entry → Nack → Nack

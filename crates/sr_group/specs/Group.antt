@@ -1,7 +1,8 @@
 -- A consumer group: the id that was delivered last, the consumers, and the pending entries.
 -- Source: Redis documentation, "Streams", section "Consumer groups", and the pages of XGROUP, XACK, XPENDING and XINFO.
 
-use Rattle.std.specs.Prelude.{⊤, ℕ, ◌-◌, ◌^◌, ◌<◌, IsTrue, List, [], ◌∷◌, ◌++◌, Option, Some, None, Bool, not, nat_lt, if◌then◌else◌, length, map, filter}
+use Rattle.std.specs.Prelude.{⊤, ℕ, ◌-◌, ◌^◌, ◌<◌, IsTrue, List, [], ◌∷◌, ◌++◌, Option, Some, None, Bool, not, nat_lt}
+use Rattle.std.specs.Prelude.{if◌then◌else◌, length, map, filter}
 use Rattle.std.specs.List.{All, list_any}
 use Rattle.sr_bytes.specs.Order.{comes_before}
 use Rattle.sr_ids.specs.declared.id.Id.{Id}
@@ -10,8 +11,8 @@ use Rattle.sr_pending.specs.declared.room.Room.{Room}
 use Rattle.sr_pending.specs.Pending.{AreRising, IsCountable, is_same_id, is_same_name, owned_by, with_nack}
 use Rattle.sr_group.specs.declared.consumer.Consumer.{Consumer}
 
--- what a group shows: the id that was delivered last, the consumers in byte order of their names, and the pending entries by
--- rising id
+-- what a group shows: the id that was delivered last, the consumers in byte order of their names, and the pending
+-- entries by rising id
 pub record GroupState : Type 0 where
   pub last : Id
   pub consumers : List Consumer
@@ -72,7 +73,8 @@ IsOwned consumers nack = IsTrue (has_consumer nack.owner consumers)
 abbrev pub IsSeen : Consumer → Type 0
 IsSeen consumer = consumer.seen < 2 ^ 63
 
--- consumers once each in byte order; entries pending by rising id, each for one of the consumers, with times and counts of 63 bits
+-- consumers once each in byte order; entries pending by rising id, each for one of the consumers, with times and counts
+-- of 63 bits
 pub record IsGroup (group : GroupState) : Type 0 where
   pub consumers : AreInOrder group.consumers
   pub seen : All IsSeen group.consumers

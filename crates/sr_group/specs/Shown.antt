@@ -9,8 +9,8 @@ use Rattle.sr_group.specs.declared.shown.Act.TheVariants.{Give, Touch, Forget, O
 use Rattle.sr_group.specs.declared.shown.Listed.{Listed}
 use Rattle.sr_group.specs.Group.{GroupState, KeptGroup, has_consumer, seen_at}
 
--- a call of a consumer: the moment at which it is seen by it, the id that was delivered last after it, and what it does to
--- pending entries one after the other
+-- a call of a consumer: the moment at which it is seen by it, the id that was delivered last after it, and what it does
+-- to pending entries one after the other
 pub record ShownState : Type 0 where
   pub consumer : List ℕ
   pub moment : ℕ
@@ -49,7 +49,8 @@ after_showing shown group = record {
   nacks = after_acts shown.acts group.nacks;
 }
 
--- the group has room for what is shown: for each entry that becomes the consumer's, and for the consumer if it is not there
+-- the group has room for what is shown: for each entry that becomes the consumer's, and for the consumer if it is not
+-- there
 pub record HasRoomFor (shown : ShownState) (group : KeptGroup) : Type 0 where
   pub entries : gifts shown.acts ≤ room_of shown.consumer group.rooms
   pub consumer : IsTrue (has_consumer shown.consumer group.shown.consumers) ⊎ (0 < group.places)

@@ -5,7 +5,8 @@ ghost use Rattle.sr_ids.specs.declared.id.Id as ids;
 ghost use Rattle.sr_pending.specs.Pending.{IsCountable, is_below, nack_with};
 ghost use Rattle.sr_group.specs.Claim.{after_claim, count_given, fate_of, listed_claim, time_given};
 ghost use Rattle.sr_group.specs.Shown.{after_acts, listed_of};
-ghost use Rattle.sr_group.specs.steps.Judging.{IsJudged, IsUpTo, Judges, act_judged, act_with, delivered, delivery_after, delivery_of};
+ghost use Rattle.sr_group.specs.steps.Judging.{IsJudged, IsUpTo, Judges, act_judged, act_with, delivered};
+ghost use Rattle.sr_group.specs.steps.Judging.{delivery_after, delivery_of};
 ghost use Rattle.sr_group.specs.steps.Showing.{IsActOf};
 
 use crate::Group;
@@ -206,8 +207,8 @@ pub(crate) fn first_delivery(pending: &Pending, id: Id) -> Option<Delivery>
     })
 }
 
-/// The delivery of the entry with this id, if it is pending after the acts, which are of ids up to `greatest`. Ids that rise,
-/// as those of a scan do, are not looked for among the acts.
+/// The delivery of the entry with this id, if it is pending after the acts, which are of ids up to `greatest`. Ids that
+/// rise, as those of a scan do, are not looked for among the acts.
 fn delivery_now(acts: &[Act], greatest: Id, pending: &Pending, id: Id) -> Option<Delivery>
     requires { All (IsUpTo greatest) acts.now }
     ensures { result ≡ option_map delivery_of (nack_with id (after_acts acts.now pending.now.nacks)) }
@@ -330,8 +331,8 @@ impl Group {
         self.prepare(alloc, claimer, moment, last, acts)
     }
 
-    /// The pending entries from `start` on become the claimer's, as `claim` says: as many as are looked at until `count` of
-    /// them are given over or dropped, and at most ten times that many.
+    /// The pending entries from `start` on become the claimer's, as `claim` says: as many as are looked at until
+    /// `count` of them are given over or dropped, and at most ten times that many.
     ///
     /// Source: Redis documentation, command XAUTOCLAIM.
     pub fn autoclaim(
@@ -359,7 +360,8 @@ impl Group {
             self.old.shown.nacks) }
         ensures next { IfOk result (λ scan. scan.next
             ≡ id_behind
-            (length (scanned claim claimer.now moment entries.now.entries count (pending_from start self.old.shown.nacks)))
+            (length (scanned claim claimer.now moment entries.now.entries count
+            (pending_from start self.old.shown.nacks)))
             (pending_from start self.old.shown.nacks)) }
         ensures room { IfOk result (λ scan. HasRoomFor scan.shown self.new) }
         ensures kept { OnOk result (KeepsRooms self.old.rooms self.new.rooms) }

@@ -76,7 +76,8 @@ pub(crate) fn make_place(consumers: &mut Vec<Consumer>, name: &Name) -> Result<(
 /// The consumer is seen at the moment: one that is not there comes to its place, in memory that is spare.
 pub(crate) fn see(consumers: &mut Vec<Consumer>, name: Name, moment: u64)
     requires order { AreInOrder consumers.old.items }
-    requires room { IsTrue (has_consumer name consumers.old.items) ⊎ (vec_len consumers.old < vec_capacity consumers.old) }
+    requires room { IsTrue (has_consumer name consumers.old.items)
+        ⊎ (vec_len consumers.old < vec_capacity consumers.old) }
     ensures items { consumers.new.items ≡ seen_at name moment consumers.old.items }
     ensures spare { vec_capacity consumers.old - vec_len consumers.old
         ≤ vec_capacity consumers.new - vec_len consumers.new + 1 }

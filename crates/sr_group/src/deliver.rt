@@ -16,14 +16,15 @@ impl Group {
     ghost use Rattle.std.specs.Prelude.{◌≡◌, ◌^◌, ◌<◌, IfOk, OnOk, map};
     ghost use Rattle.std.specs.List.{All};
     ghost use Rattle.sr_pending.specs.Pending.{KeepsRooms};
-    ghost use Rattle.sr_group.specs.Delivery.{after_delivery, after_history, found_entry, history_of, listed_in, new_entries};
+    ghost use Rattle.sr_group.specs.Delivery.{after_delivery, after_history, found_entry, history_of, listed_in};
+    ghost use Rattle.sr_group.specs.Delivery.{new_entries};
     ghost use Rattle.sr_group.specs.Shown.{HasRoomFor, after_showing, listed_of};
     ghost use Rattle.sr_group.specs.steps.Showing.{IsActOf};
 
     /// The entries that are delivered next to a reader, at most `count` of them: those above the last delivered id.
     ///
-    /// `moment` is that of the call, in milliseconds since 1970. With `noack` they need no acknowledgement, and no pending
-    /// entry changes.
+    /// `moment` is that of the call, in milliseconds since 1970. With `noack` they need no acknowledgement, and no
+    /// pending entry changes.
     ///
     /// Source: Redis documentation, command XREADGROUP, the special ID `>`.
     pub fn deliver(
@@ -38,7 +39,8 @@ impl Group {
         requires { moment < 2 ^ 63 }
         ensures shown { self.new.shown ≡ self.old.shown }
         ensures effect { IfOk result (λ shown. after_showing shown self.old.shown
-            ≡ after_delivery reader.now moment noack (new_entries self.old.shown.last count entries.now.entries) self.old.shown) }
+            ≡ after_delivery reader.now moment noack (new_entries self.old.shown.last count entries.now.entries)
+            self.old.shown) }
         ensures listed { IfOk result (λ shown. listed_of shown.acts
             ≡ map found_entry (new_entries self.old.shown.last count entries.now.entries)) }
         ensures room { IfOk result (λ shown. HasRoomFor shown self.new) }
@@ -50,8 +52,8 @@ impl Group {
         self.prepare(alloc, reader, moment, last, acts)
     }
 
-    /// The reader's own pending entries above an id, at most `count` of them, which are then delivered to it once more if the
-    /// stream still has them.
+    /// The reader's own pending entries above an id, at most `count` of them, which are then delivered to it once more
+    /// if the stream still has them.
     ///
     /// Source: Redis documentation, command XREADGROUP, "any other ID".
     pub fn history(
@@ -66,7 +68,8 @@ impl Group {
         requires { moment < 2 ^ 63 }
         ensures shown { self.new.shown ≡ self.old.shown }
         ensures effect { IfOk result (λ shown. after_showing shown self.old.shown
-            ≡ after_history reader.now moment entries.now.entries (history_of reader.now after count self.old.shown.nacks) self.old.shown) }
+            ≡ after_history reader.now moment entries.now.entries
+            (history_of reader.now after count self.old.shown.nacks) self.old.shown) }
         ensures listed { IfOk result (λ shown. listed_of shown.acts
             ≡ map (listed_in entries.now.entries) (history_of reader.now after count self.old.shown.nacks)) }
         ensures room { IfOk result (λ shown. HasRoomFor shown self.new) }

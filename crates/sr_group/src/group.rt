@@ -12,9 +12,9 @@ use std::marker::Model;
 
 /// A consumer group of a stream.
 ///
-/// A call that delivers, shows or claims entries makes all its growths first and answers a `Shown`, and leaves what the group
-/// shows as it was; `show` then makes the change, and takes no memory. So a command that reads several groups changes none of
-/// them until all have their growths.
+/// A call that delivers, shows or claims entries makes all its growths first and answers a `Shown`, and leaves what the
+/// group shows as it was; `show` then makes the change, and takes no memory. So a command that reads several groups
+/// changes none of them until all have their growths.
 ///
 /// Source: Redis documentation, "Streams", section "Consumer groups".
 pub struct Group {
@@ -47,13 +47,15 @@ impl Model for Group {
       places = vec_capacity g.consumers - vec_len g.consumers;
     } };
 
-    ghost invariant = { λ g. IsGroup (record { last = g.last; consumers = g.consumers.items; nacks = g.pending.nacks }) };
+    ghost invariant = { λ g. IsGroup
+        (record { last = g.last; consumers = g.consumers.items; nacks = g.pending.nacks }) };
 }
 
 impl Group {
     ghost use Rattle.std.specs.Prelude.{◌≡◌, ◌<◌, ◌^◌, length, not, IfOk, OnOk, OnErr};
     ghost use Rattle.sr_pending.specs.Pending.{owned_by, without_owner};
-    ghost use Rattle.sr_group.specs.Group.{IsGroup, has_consumer, made_at, new_group, with_ids, without_consumer, without_ids};
+    ghost use Rattle.sr_group.specs.Group.{IsGroup, has_consumer, made_at, new_group, with_ids, without_consumer};
+    ghost use Rattle.sr_group.specs.Group.{without_ids};
 
     /// A group that has delivered what lies up to this id, to nobody. Takes no memory.
     ///
@@ -112,8 +114,8 @@ impl Group {
         (before - self.pending.len()) as u64
     }
 
-    /// Makes a consumer, unless it is there, and answers whether it did. A consumer that was there was seen when it was seen
-    /// before.
+    /// Makes a consumer, unless it is there, and answers whether it did. A consumer that was there was seen when it was
+    /// seen before.
     ///
     /// Source: Redis documentation, command XGROUP CREATECONSUMER.
     pub fn add_consumer(

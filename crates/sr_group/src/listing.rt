@@ -150,7 +150,8 @@ fn earlier(time: u64, other: Option<u64>) -> u64
 impl Group {
     ghost use Rattle.std.specs.Prelude.{◌≡◌, IfOk, length, option_map, take};
     ghost use Rattle.std.specs.Option.{option_copied};
-    ghost use Rattle.sr_pending.specs.Pending.{greatest_pending, least_pending, owned_by, owned_by_named, pending_between};
+    ghost use Rattle.sr_pending.specs.Pending.{greatest_pending, least_pending, owned_by, owned_by_named};
+    ghost use Rattle.sr_pending.specs.Pending.{pending_between};
     ghost use Rattle.sr_group.specs.Group.{consumer_with, counts_of, idle_for, oldest_of};
 
     /// How many entries are pending, the least and the greatest of their ids, and how many each consumer has.
@@ -160,7 +161,8 @@ impl Group {
         ensures total { IfOk result (λ summary. summary.total ≡ length self.now.shown.nacks) }
         ensures least { IfOk result (λ summary. summary.least ≡ least_pending self.now.shown.nacks) }
         ensures greatest { IfOk result (λ summary. summary.greatest ≡ greatest_pending self.now.shown.nacks) }
-        ensures counts { IfOk result (λ summary. summary.counts.items ≡ counts_of self.now.shown.consumers self.now.shown.nacks) }
+        ensures counts { IfOk result (λ summary. summary.counts.items
+            ≡ counts_of self.now.shown.consumers self.now.shown.nacks) }
     {
         let total = self.pending.len() as u64;
         let counts = counts_for(alloc, self.consumers.as_slice(), &self.pending)?;

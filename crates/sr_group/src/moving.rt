@@ -80,8 +80,8 @@ impl Group {
     ghost use Rattle.sr_group.specs.Claim.{HasCount, after_move, after_moves};
     ghost use Rattle.sr_group.specs.steps.Moving.{Spends};
 
-    /// Carries out moves at one moment, in milliseconds since 1970, one after the other. All memory is taken before the first
-    /// change: an `Err` leaves all as it was.
+    /// Carries out moves at one moment, in milliseconds since 1970, one after the other. All memory is taken before the
+    /// first change: an `Err` leaves all as it was.
     ///
     /// Source: Redis documentation, command XCLAIM.
     pub fn move_all(
@@ -158,7 +158,8 @@ fn take(pending: &mut Pending, call: &Call<'_>, wanted: Wanted)
     requires owner { wanted.owner ≡ call.now.claimer.now }
     requires room { 0 < room_of call.now.claimer.now pending.old.rooms }
     ensures nacks { pending.new.nacks ≡ after_fate (fate_with
-        call.now.claim call.now.claimer.now call.now.moment call.now.entries.now.entries wanted.id pending.old.nacks) wanted.id pending.old.nacks }
+        call.now.claim call.now.claimer.now call.now.moment call.now.entries.now.entries wanted.id pending.old.nacks)
+        wanted.id pending.old.nacks }
     ensures rooms { Spends call.now.claimer.now 1 pending.old.rooms pending.new.rooms }
 {
     let Wanted { id, owner } = wanted;
@@ -234,8 +235,8 @@ fn make_rooms(pending: &mut Pending, alloc: Global, readies: &[Ready]) -> Result
     Ok(())
 }
 
-/// Makes room for the entries of a move, beside the room that there is. More entries than a number holds need more memory
-/// than there is.
+/// Makes room for the entries of a move, beside the room that there is. More entries than a number holds need more
+/// memory than there is.
 fn make_room(pending: &mut Pending, alloc: Global, ready: &Ready) -> Result<(), AllocError>
     ensures nacks { pending.new.nacks ≡ pending.old.nacks }
     ensures rooms { OnOk result (HaveRooms (ready.now ∷ []) pending.old.rooms pending.new.rooms) }

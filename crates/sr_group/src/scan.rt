@@ -28,7 +28,8 @@ fn is_taken(call: &Call<'_>, nack: &Nack) -> bool
 fn left_after(call: &Call<'_>, nack: &Nack, left: u64) -> u64
     requires { 0 < left }
     ensures { result ≡ if claims.is_taken
-        call.now.claim call.now.claimer.now call.now.moment call.now.entries.now.entries nack.now then left - 1 else left }
+        call.now.claim call.now.claimer.now call.now.moment call.now.entries.now.entries nack.now then left - 1
+        else left }
 {
     if is_taken(call, nack) { left - 1 } else { left }
 }

@@ -48,7 +48,8 @@ fn apply_all(pending: &mut Pending, acts: Vec<Act>)
 fn apply(pending: &mut Pending, act: Act)
     requires { HaveRoom (act ∷ []) pending.old.rooms }
     ensures nacks { pending.new.nacks ≡ after_acts (act ∷ []) pending.old.nacks }
-    ensures rooms { (acts : List declared.Act) → HaveRoom (act ∷ acts) pending.old.rooms → HaveRoom acts pending.new.rooms }
+    ensures rooms { (acts : List declared.Act) → HaveRoom (act ∷ acts) pending.old.rooms
+        → HaveRoom acts pending.new.rooms }
 {
     match act {
         Act::Give(nack) => give(pending, nack),

@@ -44,7 +44,8 @@ impl Model for Shown {
 
     ghost view = { λ s. record { consumer = s.consumer; moment = s.moment; last = s.last; acts = s.acts.items } };
 
-    ghost invariant = { λ s. IsShowable (record { consumer = s.consumer; moment = s.moment; last = s.last; acts = s.acts.items }) };
+    ghost invariant = { λ s. IsShowable
+        (record { consumer = s.consumer; moment = s.moment; last = s.last; acts = s.acts.items }) };
 }
 
 impl Shown {

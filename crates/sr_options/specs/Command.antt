@@ -17,8 +17,8 @@ IsWorkers None number = number ≡ 64
 IsWorkers (Some text) number = IsNumeral 10 (without_leading_plus text)
     × (digits_value 10 (without_leading_plus text) ≡ number) × (1 ≤ number) × (number ≤ 64)
 
--- how many records are kept, at which a checkpoint is made beyond them: none is made without the option, or the decimal number
--- that is written, from 1 to 1,000,000,000
+-- how many records are kept, at which a checkpoint is made beyond them: none is made without the option, or the decimal
+-- number that is written, from 1 to 1,000,000,000
 abbrev pub IsKeep : Option (List ℕ) → Option ℕ → Type 0
 IsKeep None keep = keep ≡ None
 IsKeep (Some text) keep = (number : ℕ) × (keep ≡ Some number) × IsNumeral 10 (without_leading_plus text)
@@ -32,16 +32,18 @@ pub record AsksForStdio (asked : Asked) : Type 0 where
   pub unkept : asked.keep ≡ None
 
 -- the options ask to serve the connections that come to an address, which they write as this text
-pub record AsksToListen (asked : Asked) (text : List ℕ) (address : SocketAddr) (number : ℕ) (keep : Option ℕ) : Type 0 where
-  pub given : asked.listen ≡ Some text
-  pub alone : asked.stdio ≡ false
-  pub spelled : IsSocketText text address
-  pub workers : IsWorkers asked.workers number
-  pub kept : IsKeep asked.keep keep
+pub record AsksToListen (asked : Asked) (text : List ℕ) (address : SocketAddr) (number : ℕ) (keep : Option ℕ) : Type 0
+  where
+    pub given : asked.listen ≡ Some text
+    pub alone : asked.stdio ≡ false
+    pub spelled : IsSocketText text address
+    pub workers : IsWorkers asked.workers number
+    pub kept : IsKeep asked.keep keep
 
 abbrev pub AsksForAddress : Asked → Type 0
 AsksForAddress asked =
-    (text : List ℕ) × (address : SocketAddr) × (number : ℕ) × (keep : Option ℕ) × AsksToListen asked text address number keep
+    (text : List ℕ) × (address : SocketAddr) × (number : ℕ) × (keep : Option ℕ)
+    × AsksToListen asked text address number keep
 
 -- the options ask for what the program takes them for
 abbrev pub AsksFor : Asked → Request → Type 0
@@ -58,8 +60,8 @@ pub record AsksForNothing (asked : Asked) : Type 0 where
 abbrev pub AreNumbers : Asked → Type 0
 AreNumbers asked = ((number : ℕ) × IsWorkers asked.workers number) × ((keep : Option ℕ) × IsKeep asked.keep keep)
 
--- what is wrong first: the number of workers, then that of records, then the address, then what is asked for, and that records are
--- kept for one session
+-- what is wrong first: the number of workers, then that of records, then the address, then what is asked for, and that
+-- records are kept for one session
 abbrev pub IsFaultOf : Asked → UsageFault → Type 0
 IsFaultOf asked Workers = (number : ℕ) → ¬ (IsWorkers asked.workers number)
 IsFaultOf asked Keep =
@@ -67,4 +69,5 @@ IsFaultOf asked Keep =
 IsFaultOf asked Address = AreNumbers asked × (asked.stdio ≡ false)
     × ((text : List ℕ) × (asked.listen ≡ Some text) × ((address : SocketAddr) → ¬ (IsSocketText text address)))
 IsFaultOf asked Mode = AreNumbers asked × (asked.stdio ≡ is_some asked.listen)
-IsFaultOf asked KeepAlone = AreNumbers asked × (asked.stdio ≡ true) × (asked.listen ≡ None) × (is_some asked.keep ≡ true)
+IsFaultOf asked KeepAlone = AreNumbers asked × (asked.stdio ≡ true) × (asked.listen ≡ None)
+    × (is_some asked.keep ≡ true)

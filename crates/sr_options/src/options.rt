@@ -82,7 +82,7 @@ fn command_line<'a>(alloc: Global) -> Result<Command<'a>, AllocError>
             alloc,
             "keep",
             "N",
-            "With --listen: forget older records once there are more than N [default: keep all]",
+            "With --listen: make a checkpoint, which lets go of all records, once there are more than N [default: never]",
         ))
 }
 

@@ -32,8 +32,8 @@ fn part_of(len: usize, id: Id, from: Id, to: Id) -> usize {
     (done.saturating_mul(len as u64) / all.max(1)) as usize
 }
 
-/// Where in a block that began with `from`, before one that began with `to`, the entry with this id is, if three tries
-/// by proportion find it.
+/// Where in a block whose ids lie between `from` and `to` the entry with this id is, if three tries by proportion find
+/// it.
 pub(crate) fn guess_between(
     slab: &Slab<Nack>,
     block: &VecDeque<usize>,
@@ -45,6 +45,7 @@ pub(crate) fn guess_between(
     let (mut high, mut to) = (block.len(), to);
     for _ in 0..3 {
         let at = low.saturating_add(part_of(high.saturating_sub(low), id, from, to));
+        let at = at.min(high.saturating_sub(1));
         let other = id_in(slab, *block.get(at)?);
         if other == id {
             return Some(at);

@@ -113,14 +113,14 @@ fn place_before(slab: &Slab<Nack>, slots: &Blocks<usize>, id: Id, upto: bool) ->
     Place { block, at }
 }
 
-/// Where in this block an entry of this id would lie: by proportion between the ids that it and the next one began
-/// with, if that finds it, and by binary search if not.
+/// Where in this block an entry of this id would lie: by proportion between ids that bound the block, if that finds
+/// it, and by binary search if not.
 fn guess_in(slab: &Slab<Nack>, slots: &Blocks<usize>, number: usize, id: Id) -> usize {
     if number > slots.closed().len() {
         return 0;
     }
     let block = slots.block(number);
-    if let Some((from, to)) = slots.bounds(number) {
+    if let Some((from, to)) = slots.bounds(slab, number) {
         if let Some(at) = guess_between(slab, block, id, from, to) {
             return at;
         }

@@ -13,7 +13,8 @@ abbrev pub NumberGoesOn : ℕ → ℕ → ℕ → ℕ → Number → Type 0
 NumberGoesOn most digits value byte (numbers.Digit digits' value') =
     (value' ≤ most) × ((more : List ℕ) → digits_at most digits value (byte ∷ more) ≡ digits_at most digits' value' more)
 NumberGoesOn most digits value byte numbers.End =
-    (more : List ℕ) → digits_at most digits value (byte ∷ more) ≡ (literal_at (codes "\n") more >>= λ x. Ok (value, x.1))
+    (more : List ℕ) → digits_at most digits value (byte ∷ more)
+    ≡ (literal_at (codes "\n") more >>= λ x. Ok (value, x.1))
 NumberGoesOn most digits value byte numbers.Bad = (more : List ℕ) → digits_at most digits value (byte ∷ more) ≡ Err Bad
 
 -- in the number of words

@@ -1,7 +1,9 @@
 -- What is read at the front of some bytes: a value and the bytes after it, or why reading stops. Only private clauses
 -- cite this. The lemmas in proofs/ show that it is exact for the spellings in Request.
 
-use Rattle.std.specs.Prelude.{◌≡◌, ℕ, zero, suc, ◌+◌, ◌-◌, ◌*◌, List, [], ◌∷◌, ◌++◌, length, take, drop, Option, Some, None, Result, Ok, Err, nat_lt, nat_le, ◌==◌, ◌&&◌, if◌then◌else◌, codes, min, Bool, MatchBool}
+use Rattle.std.specs.Prelude.{◌≡◌, ℕ, zero, suc, ◌+◌, ◌-◌, ◌*◌, List, [], ◌∷◌, ◌++◌, length, take, drop, Option, Some}
+use Rattle.std.specs.Prelude.{None, Result, Ok, Err, nat_lt, nat_le, ◌==◌, ◌&&◌, if◌then◌else◌, codes, min, Bool}
+use Rattle.std.specs.Prelude.{MatchBool}
 use Rattle.std.specs.Char.{digit_value}
 use Rattle.sr_resp.specs.Reply.{line_end}
 use Rattle.sr_resp.specs.Request.{Words}
@@ -28,7 +30,8 @@ unfoldable pub digits_at : ℕ → ℕ → ℕ → List ℕ → Result (ℕ × L
 digits_at most count value [] = Err More
 digits_at most count value (b ∷ bytes) =
     if nat_lt (digit_value b) 10
-    then (if nat_lt count 10 && nat_le (value * 10 + digit_value b) most then digits_at most (count + 1) (value * 10 + digit_value b) bytes else Err Bad)
+    then (if nat_lt count 10 && nat_le (value * 10 + digit_value b) most
+    then digits_at most (count + 1) (value * 10 + digit_value b) bytes else Err Bad)
     else (if count == 0 then Err Bad else (literal_at line_end (b ∷ bytes) >>= λ x. Ok (value, x.1)))
 
 -- this many bytes

@@ -1,7 +1,8 @@
 -- Items in some bytes, examined from where the reader stopped. Only private clauses and the invariant of a Reader cite
 -- this.
 
-use Rattle.std.specs.Prelude.{◌≡◌, ℕ, ◌-◌, ◌<◌, ◌≤◌, List, [], ◌++◌, length, take, drop, Option, Some, None, Result, Ok, Err, All, Bool, MatchBool}
+use Rattle.std.specs.Prelude.{◌≡◌, ℕ, ◌-◌, ◌<◌, ◌≤◌, List, [], ◌++◌, length, take, drop, Option, Some, None, Result}
+use Rattle.std.specs.Prelude.{Ok, Err, All, Bool, MatchBool}
 use Rattle.sr_resp.specs.declared.stage.Place.{Place}
 use Rattle.sr_resp.specs.declared.stage.Stage.{Stage}
 use Rattle.sr_resp.specs.declared.scan.Found.{Found}
@@ -34,14 +35,16 @@ unseen_in item founds.Fault = 0
 unseen_in item (founds.Part stage) = 0
 
 -- from a place and a stage on, the bytes up to another place have these words, and lead to another stage
-pub record Scanning (item : List ℕ) (from : ℕ) (entered : Stage) (old new : List Place) (at : ℕ) (stage : Stage) : Type 0 where
+pub record Scanning (item : List ℕ) (from : ℕ) (entered : Stage) (old new : List Place) (at : ℕ) (stage : Stage) : Type
+    0 where
   pub added : List Place
   pub whole : new ≡ old ++ added
   pub before : All (IsBefore at) added
   pub within : at ≤ length item
   pub sound : IsStageAt at stage
   pub reads : (more : List ℕ)
-      → goes_on item from entered (drop from item ++ more) ≡ behind (words_in item added) (goes_on item at stage (drop at item ++ more))
+      → goes_on item from entered (drop from item ++ more)
+      ≡ behind (words_in item added) (goes_on item at stage (drop at item ++ more))
 
 -- all bytes were examined, or the item has ended
 pub record Scans (item : List ℕ) (from : ℕ) (entered : Stage) (old new : List Place) (found : Found) : Type 0 where
@@ -49,30 +52,34 @@ pub record Scans (item : List ℕ) (from : ℕ) (entered : Stage) (old new : Lis
   pub whole : new ≡ old ++ added
   pub before : All (IsBefore (length item)) added
   pub sound : IsFoundIn item found
-  pub reads : (more : List ℕ) → goes_on item from entered (drop from item ++ more) ≡ behind (words_in item added) (found_at item found more)
+  pub reads : (more : List ℕ) → goes_on item from entered (drop from item ++ more)
+      ≡ behind (words_in item added) (found_at item found more)
 
 -- the bytes of an item up to a place have the words at these places, and lead to a stage
 pub record Standing (item : List ℕ) (places : List Place) (at : ℕ) (stage : Stage) : Type 0 where
   pub before : All (IsBefore at) places
   pub within : at ≤ length item
   pub sound : IsStageAt at stage
-  pub reads : (more : List ℕ) → item_at (take at item ++ more) ≡ behind (words_in item places) (goes_on item at stage more)
+  pub reads : (more : List ℕ) → item_at (take at item ++ more)
+      ≡ behind (words_in item places) (goes_on item at stage more)
 
 -- a reader that works stands at the end of its bytes
 abbrev pub IsReaderAt : Bool → List ℕ → List Place → Stage → Type 0
 IsReaderAt failed rest places stage = MatchBool failed (Unit {0}) (Standing rest places (length rest) stage)
 
 -- the requests at the front of some bytes wait now after the others, and the reader stands at the end of the rest
-pub record SortsOut (bytes : List ℕ) (places : List Place) (before after : List Words) (reached : Reached) : Type 0 where
-  pub requests : List Words
-  pub waiting : after ≡ before ++ requests
-  pub start : reached.start ≤ length bytes
-  pub first : reached.first ≤ length places
-  pub parses : Parses bytes requests (drop reached.start bytes) reached.fault
-  pub stands : IsReaderAt reached.fault (drop reached.start bytes) (drop reached.first places) reached.stage
+pub record SortsOut (bytes : List ℕ) (places : List Place) (before after : List Words) (reached : Reached) : Type 0
+  where
+    pub requests : List Words
+    pub waiting : after ≡ before ++ requests
+    pub start : reached.start ≤ length bytes
+    pub first : reached.first ≤ length places
+    pub parses : Parses bytes requests (drop reached.start bytes) reached.fault
+    pub stands : IsReaderAt reached.fault (drop reached.start bytes) (drop reached.first places) reached.stage
 
 -- some items were whole, and the next one is under way
-pub record Sorting (bytes item : List ℕ) (first at : ℕ) (stage : Stage) (places : List Place) (before after : List Words) : Type 0 where
+pub record Sorting (bytes item : List ℕ) (first at : ℕ) (stage : Stage) (places : List Place)
+    (before after : List Words) : Type 0 where
   pub requests : List Words
   pub waiting : after ≡ before ++ requests
   pub splits : Splits bytes requests item

@@ -1,7 +1,8 @@
 -- What is still read of an item from the bytes to come, once some of its bytes have been examined: what Reading reads
 -- there, seen from the middle. Only private clauses cite this.
 
-use Rattle.std.specs.Prelude.{◌≡◌, ℕ, suc, ◌+◌, ◌-◌, ◌<◌, ◌≤◌, List, [], ◌∷◌, ◌++◌, length, map, drop, Option, Some, None, Result, Ok, Err, codes, min, slice_index}
+use Rattle.std.specs.Prelude.{◌≡◌, ℕ, suc, ◌+◌, ◌-◌, ◌<◌, ◌≤◌, List, [], ◌∷◌, ◌++◌, length, map, drop, Option, Some}
+use Rattle.std.specs.Prelude.{None, Result, Ok, Err, codes, min, slice_index}
 use Rattle.std.specs.Char.{digit_value}
 use Rattle.std.specs.List.{slice_range}
 use Rattle.sr_resp.specs.declared.stage.Place.{Place}
@@ -11,7 +12,8 @@ use Rattle.sr_resp.specs.declared.stage.Step.{Step}
 use Rattle.sr_resp.specs.declared.stage.Step.TheVariants as steps
 use Rattle.sr_resp.specs.Reply.{line_end}
 use Rattle.sr_resp.specs.Request.{Words}
-use Rattle.sr_resp.specs.Reading.{Halt, Bad, ◌>>=◌, literal_at, digits_at, bytes_at, words_at, counted_at, array_at, item_at}
+use Rattle.sr_resp.specs.Reading.{Halt, Bad, ◌>>=◌, literal_at, digits_at, bytes_at, words_at, counted_at, array_at}
+use Rattle.sr_resp.specs.Reading.{item_at}
 
 -- the word at a place of an item, and the words at some places
 abbrev pub word_in : List ℕ → Place → List ℕ
@@ -54,7 +56,8 @@ goes_on item at (stages.Word others room) more = others_at (suc others) room mor
 goes_on item at (stages.Length others room digits value) more =
     digits_at (min room 1048576) digits value more >>= λ x. body_at others (room - x.0) [] x.0 x.1
 goes_on item at (stages.LengthEnd others room len) more = line_feed_then (body_at others (room - len) [] len) more
-goes_on item at (stages.Body others room start missing) more = body_at others room (slice_range item start at) missing more
+goes_on item at (stages.Body others room start missing) more = body_at others room (slice_range item start at) missing
+    more
 goes_on item at (stages.BodyEnd others room) more = line_feed_then (others_at others room) more
 
 -- the same after a step that ended at this place

@@ -1,5 +1,6 @@
 //! A reply read back from its bytes.
-ghost use Rattle.std.specs.Prelude.{◌≡◌, ◌≢◌, ◌↔◌, ◌^◌, ◌<◌, ◌++◌, ◌∷◌, ℕ, ℤ, List, decimal, length, IsTrue, IfSome, IfNone, IfOk, Some};
+ghost use Rattle.std.specs.Prelude.{◌≡◌, ◌≢◌, ◌↔◌, ◌^◌, ◌<◌, ◌++◌, ◌∷◌, ℕ, ℤ, List, decimal, length, IsTrue, IfSome};
+ghost use Rattle.std.specs.Prelude.{IfNone, IfOk, Some};
 ghost use Rattle.std.specs.Fmt.{signed_decimal};
 ghost use lib.Signed.{mag};
 ghost use Rattle.sr_resp.specs.Code.{error_text, word_text};

@@ -1,5 +1,6 @@
 ghost use Rattle.std.specs.Prelude.{◌≡◌, ◌∷◌, [], ◌++◌, ◌+◌, ◌<◌, ℕ, List, length, IfOk, OnOk, OnErr, IsTrue, ◌↔◌};
-ghost use Rattle.sr_resp.specs.Reply.{Part, Array, IsReply, bulk_string, integer, null_string, null_array, array_header, reply_text};
+ghost use Rattle.sr_resp.specs.Reply.{Part, Array, IsReply, bulk_string, integer, null_string, null_array};
+ghost use Rattle.sr_resp.specs.Reply.{array_header, reply_text};
 ghost use Rattle.sr_resp.specs.Spelled.{Spells, IsSpelled};
 ghost use Rattle.sr_resp.specs.steps.OneSpelling.{IsSpelled-prop};
 ghost use Rattle.sr_resp.specs.steps.Pieces.{first_part, part_of};

@@ -1,4 +1,5 @@
-ghost use Rattle.std.specs.Prelude.{◌≡◌, ◌<◌, ◌≤◌, ◌⊎◌, ℕ, ◌∷◌, ◌++◌, [], List, Option, false, true, IfNone, IfOk, IfSome, IsErrOf, OnErr, OnOk, length, vec_len, drop};
+ghost use Rattle.std.specs.Prelude.{◌≡◌, ◌<◌, ◌≤◌, ◌⊎◌, ℕ, ◌∷◌, ◌++◌, [], List, Option, false, true, IfNone, IfOk};
+ghost use Rattle.std.specs.Prelude.{IfSome, IsErrOf, OnErr, OnOk, length, vec_len, drop};
 ghost use Rattle.sr_resp.specs.Reading.{Sorts};
 ghost use Rattle.sr_resp.specs.Request.{Words, Spells};
 ghost use Rattle.sr_resp.specs.Stream.{Stands, Advances, LooksOnce, Splits, IsPartial, IsFault};
@@ -67,7 +68,8 @@ impl Model for Reader {
 
     ghost Value = { Progress };
 
-    ghost view = { λ r. record { waiting = r.waiting.items; rest = r.rest.items; failed = r.failed; looked = r.looked } };
+    ghost view = { λ r. record
+        { waiting = r.waiting.items; rest = r.rest.items; failed = r.failed; looked = r.looked } };
 
     ghost use Rattle.sr_resp.specs.Scanning.{IsReaderAt};
 
@@ -147,8 +149,8 @@ impl Reader {
         }
     }
 
-    /// How many bytes were looked at so far, or the greatest number if there were more. Those of a piece that was not taken
-    /// count as well.
+    /// How many bytes were looked at so far, or the greatest number if there were more. Those of a piece that was not
+    /// taken count as well.
     pub fn looked(&self) -> u64
         ensures { result ≡ self.now.looked }
     {

@@ -38,7 +38,8 @@ impl Model for Reply {
 
 impl Reply {
     ghost use Rattle.std.specs.Prelude.{◌≡◌, ◌≤◌, ◌∷◌, [], ◌++◌, List, decimal, length, IfOk, OnOk, OnErr};
-    ghost use Rattle.sr_resp.specs.Reply.{Answer, IsReply, IsArray, simple_string, error_reply, integer, bulk_string, null_string, null_array, array_of};
+    ghost use Rattle.sr_resp.specs.Reply.{Answer, IsReply, IsArray, simple_string, error_reply, integer, bulk_string};
+    ghost use Rattle.sr_resp.specs.Reply.{null_string, null_array, array_of};
     ghost use Rattle.sr_resp.specs.steps.Pieces.{first_part};
 
     /// A simple string. Takes no memory.

@@ -1,5 +1,6 @@
 -- Workers that are told apart by halves. No public clause cites this.
-use Rattle.std.specs.Prelude.{⊤, ◌≡◌, ◌<◌, ◌≤◌, ◌+◌, ◌*◌, ℕ, zero, suc, List, [], ◌∷◌, ◌++◌, length, take, Result, Ok, Err}
+use Rattle.std.specs.Prelude.{⊤, ◌≡◌, ◌<◌, ◌≤◌, ◌+◌, ◌*◌, ℕ, zero, suc, List, [], ◌∷◌, ◌++◌, length, take, Result, Ok}
+use Rattle.std.specs.Prelude.{Err}
 use Rattle.sr_args.specs.declared.call.Call.{Call}
 use Rattle.sr_seats.specs.Held.{SeatState, count_before, count_made, new_seat}
 use Rattle.sr_run.specs.Shared.{RefusesEvent}
@@ -42,7 +43,8 @@ pub record HasWorked (crew : CrewState) (seats : List SeatState) (receipts : Lis
   pub shares : count_made seats ≡ count_calls crew.scripts + 2 * length crew.scripts
   pub fresh : count_before seats ≡ 0
 
--- of these scripts, whose seats count on from this number, the one at this place was stopped, and those before it have receipts
+-- of these scripts, whose seats count on from this number, the one at this place was stopped, and those before it have
+-- receipts
 pub record IsStopped (number : ℕ) (scripts : List (List Call)) (at : ℕ) : Type 0 where
   pub within : at < length scripts
   pub receipts : List (List Receipt)
@@ -66,8 +68,10 @@ first_of fault (faults.Close other) = fault
 first_of fault faults.Thread = faults.Thread
 
 -- what came of a crew, by what came of its halves: the seats and the receipts of both, or a fault
-abbrev pub AreTogether : {X : Type 0} → (X → List SeatState) → (X → List Receipt) → Result X RunFault → Result X RunFault → Result X RunFault → Type 0
-AreTogether seats receipts (Ok one) (Ok two) (Ok all) = (seats all ≡ seats one ++ seats two) × (receipts all ≡ receipts one ++ receipts two)
+abbrev pub AreTogether : {X : Type 0} → (X → List SeatState) → (X → List Receipt) → Result X RunFault
+    → Result X RunFault → Result X RunFault → Type 0
+AreTogether seats receipts (Ok one) (Ok two) (Ok all) = (seats all ≡ seats one ++ seats two)
+    × (receipts all ≡ receipts one ++ receipts two)
 AreTogether seats receipts (Ok one) (Ok two) (Err fault) = fault ≡ faults.Memory
 AreTogether seats receipts (Ok one) (Err other) (Ok all) = ⊥
 AreTogether seats receipts (Ok one) (Err other) (Err fault) = fault ≡ other

@@ -24,7 +24,8 @@ abbrev pub AreWorked : ℕ → List (List Call) → List (List Receipt) → Type
 AreWorked number [] [] = ⊤
 AreWorked number [] (receipts ∷ others) = ⊥
 AreWorked number (script ∷ scripts) [] = ⊥
-AreWorked number (script ∷ scripts) (receipts ∷ others) = IsWorked number script receipts × AreWorked (number + 1) scripts others
+AreWorked number (script ∷ scripts) (receipts ∷ others) = IsWorked number script receipts
+    × AreWorked (number + 1) scripts others
 
 -- the lists one after the other
 abbrev pub joined_up : {X : Type 0} → List (List X) → List X
@@ -34,8 +35,10 @@ joined_up lists = flat_map (λ list. list) lists
 abbrev pub count_calls : List (List Call) → ℕ
 count_calls scripts = sum_by length scripts
 
--- a run of scripts: the receipts of each are those of its calls, each worker made two events besides, and it is closed with all of them
-pub record HasRun (scripts : List (List Call)) (receipts : List (List Receipt)) (book : BookState) (acts skipped : ℕ) : Type 0 where
+-- a run of scripts: the receipts of each are those of its calls, each worker made two events besides, and it is closed
+-- with all of them
+pub record HasRun (scripts : List (List Call)) (receipts : List (List Receipt)) (book : BookState) (acts skipped : ℕ) :
+    Type 0 where
   pub worked : AreWorked 0 scripts receipts
   pub counted : acts ≡ count_calls scripts + 2 * length scripts
   pub closed : IsClosed 0 (joined_up receipts) [] book acts skipped

@@ -165,7 +165,8 @@ pub(crate) fn run_crew<
         {
             let promise = Work(Snapshot::of(&front));
             let theirs = move || -> Result<Finished<L>, RunFault>
-                requires { IsSync R.row × IsSync C.row × IsSync G.row × IsSend L.row × IsSync L.row × (0 < length front.scripts) }
+                requires { IsSync R.row × IsSync C.row × IsSync G.row × IsSend L.row × IsSync L.row
+                    × (0 < length front.scripts) }
                 ensures { MatchResult result
                     (λ finished. HasWorked front finished.seats.items finished.receipts.items)
                     (HasNotWorked front) }

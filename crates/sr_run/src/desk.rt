@@ -15,8 +15,8 @@ use std::sync::ledger::Ledger;
 
 /// A desk over a book behind a lock, at a seat. It shows no book, since others may use it between any two events.
 ///
-/// It keeps the lock from one event to the next until the session pauses, joins or leaves: so the requests of one read are
-/// carried out in one turn. Its `await_reply` waits for as long as the session does.
+/// It keeps the lock from one event to the next until the session pauses, joins or leaves: so the requests of one read
+/// are carried out in one turn. Its `await_reply` waits for as long as the session does.
 #[derive(Drop)]
 pub struct SeatDesk<'a, L: Ledger, R: Wait> {
     rt: &'a R,

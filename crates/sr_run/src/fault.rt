@@ -1,6 +1,7 @@
 use sr_seats::{CloseFault, SeatFault};
 
-/// Why scripts were not run to their ends. A thread that could not be started comes before a worker, and a worker before the closing.
+/// Why scripts were not run to their ends. A thread that could not be started comes before a worker, and a worker
+/// before the closing.
 #[derive(Clone, Copy, Debug, PartialEq, Eq)]
 pub enum RunFault {
     /// The number of scripts is not from 1 to 64.

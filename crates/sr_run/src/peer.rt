@@ -1,7 +1,8 @@
 use std::io::ErrorKind;
 use std::net::TcpStream;
 
-/// Whether a client has closed its connection, or its half of it. Requests that it sent before and that were not read yet hide that.
+/// Whether a client has closed its connection, or its half of it. Requests that it sent before and that were not read
+/// yet hide that.
 pub(crate) fn is_gone(peer: &TcpStream) -> bool {
     if peer.set_nonblocking(true).is_err() {
         return false;

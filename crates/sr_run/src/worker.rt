@@ -11,8 +11,8 @@ use std::alloc::Global;
 use std::sync::Wait;
 use std::sync::ledger::Ledger;
 
-/// Joins, makes the calls of a script in order, and leaves. An event that is refused ends that: the session, if it is open,
-/// leaves, and the fault is told.
+/// Joins, makes the calls of a script in order, and leaves. An event that is refused ends that: the session, if it is
+/// open, leaves, and the fault is told.
 pub(crate) fn work<L: Ledger, C: Clock, G: Gate, R: Wait>(
     rt: &R,
     alloc: Global,

@@ -27,11 +27,12 @@ pub struct Ran {
     pub receipts: Vec<Vec<Receipt>>,
 }
 
-/// Runs from 1 to 64 scripts over a new book, and closes it with all receipts. Each script has a worker in a thread of its own,
-/// which joins, makes the calls of the script in order, and leaves. Which worker's event comes first is not said.
+/// Runs from 1 to 64 scripts over a new book, and closes it with all receipts. Each script has a worker in a thread of
+/// its own, which joins, makes the calls of the script in order, and leaves. Which worker's event comes first is not
+/// said.
 ///
-/// Moments are the clock's. Before each call its worker passes the gate, outside the lock. A worker to which an event is refused
-/// stops there and leaves, and the others go on.
+/// Moments are the clock's. Before each call its worker passes the gate, outside the lock. A worker to which an event
+/// is refused stops there and leaves, and the others go on.
 pub fn run_workers<C: Clock + Sync, G: Gate + Sync, R: Threads + Wait + Sync>(
     rt: &R,
     alloc: Global,

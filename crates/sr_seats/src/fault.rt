@@ -1,6 +1,7 @@
 use sr_book::Event;
 
-/// Why a seat's call was not carried out. The first that holds is told: regress, no session, busy or idle, full, memory.
+/// Why a seat's call was not carried out. The first that holds is told: regress, no session, busy or idle, full,
+/// memory.
 #[derive(Clone, Copy, Debug, PartialEq, Eq)]
 pub enum SeatFault {
     /// The last index of the book, which is below one that the seat has seen.
@@ -35,14 +36,14 @@ pub enum HoldFault {
     Memory,
 }
 
-/// Why a run was not closed. The first that holds is told: short; then receipt by receipt, in their order, strange or else
-/// mismatch; then letter by letter stray.
+/// Why a run was not closed. The first that holds is told: short; then receipt by receipt, in their order, strange or
+/// else mismatch; then letter by letter stray.
 #[derive(Clone, Copy, Debug, PartialEq, Eq)]
 pub enum CloseFault {
     /// A seat is missing.
     Short,
-    /// A receipt, counted from 0, of a record that there is not, that an earlier receipt has, or that does not come after those
-    /// of its seat's earlier receipts.
+    /// A receipt, counted from 0, of a record that there is not, that an earlier receipt has, or that does not come
+    /// after those of its seat's earlier receipts.
     Strange { at: usize },
     /// A receipt, counted from 0, of another session, call or outcome than its record.
     Mismatch { at: usize },

@@ -5,7 +5,8 @@ use std::marker::Model;
 use std::sync::ledger;
 use std::sync::ledger::{Ledger, Share};
 
-/// One of the hands that use a held book. It counts the events that it made, and keeps the greatest index that it has seen.
+/// One of the hands that use a held book. It counts the events that it made, and keeps the greatest index that it has
+/// seen.
 #[derive(Drop)]
 pub struct Seat<L: Ledger> {
     number: u64,
@@ -22,7 +23,8 @@ impl<L: Ledger> Model for Seat<L> {
 
     ghost Value = { SeatState };
 
-    ghost view = { λ s. record { number = s.number; before = s.before; share = s.share.amount - s.before; front = s.front } };
+    ghost view = { λ s. record
+        { number = s.number; before = s.before; share = s.share.amount - s.before; front = s.front } };
 
     ghost invariant = { λ s. (s.share.parts ≡ 1) × (s.before ≤ s.share.amount) };
 }

@@ -59,7 +59,8 @@ fn seats_of<L: Ledger>(
     Ok((made, seats))
 }
 
-/// How many of the events that were there before the seat with this number stands for: the first for all, the others for none.
+/// How many of the events that were there before the seat with this number stands for: the first for all, the others
+/// for none.
 fn part_before(number: usize, before: u64) -> u64
     ensures first { number ≡ 0 → result ≡ before }
     ensures others { 0 < number → result ≡ 0 }

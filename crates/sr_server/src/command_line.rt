@@ -15,8 +15,8 @@ pub(crate) fn words(rt: &(impl Env + AllocGlobal)) -> io::Result<Vec<String>> {
     Ok(env::args(rt)?.collect(rt.alloc())?)
 }
 
-/// Says why there are no words, and answers the status: 1 if memory was refused for them, and otherwise, since they are not UTF-8, as for
-/// any command line that is refused.
+/// Says why there are no words, and answers the status: 1 if memory was refused for them, and otherwise, since they are
+/// not UTF-8, as for any command line that is refused.
 pub(crate) fn refuse_words<E: Write>(err: &mut E, error: Error) -> u8
     ensures memory { error_kind error ≡ ErrorKind.OutOfMemory → result ≡ 1 }
     ensures refused { error_kind error ≢ ErrorKind.OutOfMemory → result ≡ 2 }

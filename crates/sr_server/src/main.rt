@@ -1,14 +1,15 @@
-//! The server as a program: `sr_server --stdio` serves one connection, over standard input and output, and `sr_server --listen`
-//! serves those that come to an address.
+//! The server as a program: `sr_server --stdio` serves one connection, over standard input and output, and `sr_server
+//! --listen` serves those that come to an address.
 //!
 //! - `--stdio` or `--listen ADDR`, an IP address and a port: exactly one of them is given;
 //! - `--policy FILE` names who may take which entries, and without it nobody may take any;
 //! - `--workers N` is how many connections are served at a time, from 1 to 64, and 64 without it;
-//! - `--keep N`, with `--listen` alone, is how many records are kept, from 1 to 1,000,000,000, and without it all of them are.
+//! - `--keep N`, with `--listen` alone, is how many records are kept, from 1 to 1,000,000,000, and without it all of
+//! them are.
 //!
-//! It ends with status 0 at the end of standard input, with 1 after a fault, which is one line on standard error, and with 2
-//! if the command line is refused. Of several faults the first of these ends it: the command line, the random source, the policy,
-//! the address, the threads, and then the session or accepting connections.
+//! It ends with status 0 at the end of standard input, with 1 after a fault, which is one line on standard error, and
+//! with 2 if the command line is refused. Of several faults the first of these ends it: the command line, the random
+//! source, the policy, the address, the threads, and then the session or accepting connections.
 //!
 //! `start` of `sr_start` does all that over any files, network, reader and writers. Those of the system are here.
 #![tactic(auto)]

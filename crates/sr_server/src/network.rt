@@ -14,9 +14,11 @@ use std::sync::Wait;
 use std::thread::{JoinHandle, Threads};
 use std::{rt, thread};
 
-/// Begins to serve the connections of a listener, over this book, with this many workers and records kept, in a thread of its own.
+/// Begins to serve the connections of a listener, over this book, with this many workers and records kept, in a thread
+/// of its own.
 ///
-/// A pointer, since a method of a trait cannot hand its runtime to threads: `main` makes it, and has that runtime itself.
+/// A pointer, since a method of a trait cannot hand its runtime to threads: `main` makes it, and has that runtime
+/// itself.
 pub(crate) type Beginning = fn(
     &HostRuntime,
     TcpListener,
@@ -159,7 +161,8 @@ impl<'a> Network for SystemNetwork<'a> {
     }
 }
 
-/// Begins to serve the connections of a listener in a thread of its own, and answers once all threads stand, or why they do not.
+/// Begins to serve the connections of a listener in a thread of its own, and answers once all threads stand, or why
+/// they do not.
 pub(crate) fn begin_serving<R: Copy + Threads + Wait + rt::Clock + Send + Sync + Drop + 'static>(
     rt: &R,
     alloc: Global,

@@ -48,9 +48,10 @@ first_event session (commands.Call call) = events.Call session call
 first_event session (commands.Board key group) = events.Board session key group
 first_event session (commands.Recover apply tries key group dead) = events.Snapshot session key group dead
 
--- a recovery got its first snapshot, and goes on from there to what is said of its rounds: how many it may make, which is at least
--- one, and what they begin with
-pub record GoesOnToRounds (may_tell : ℕ → Bool) (session : ℕ) (asked : Command) (old : Option BookState) (Then : Bool → ℕ → Shown → Option BookState → Type 0) : Type 0 where
+-- a recovery got its first snapshot, and goes on from there to what is said of its rounds: how many it may make, which
+-- is at least one, and what they begin with
+pub record GoesOnToRounds (may_tell : ℕ → Bool) (session : ℕ) (asked : Command) (old : Option BookState)
+    (Then : Bool → ℕ → Shown → Option BookState → Type 0) : Type 0 where
   pub apply : Bool
   pub tries : ℕ
   pub key : List ℕ
@@ -66,11 +67,20 @@ pub record GoesOnToRounds (may_tell : ℕ → Bool) (session : ℕ) (asked : Com
   pub out : answer.out ≡ outs.Snap shown
   pub rounds : Then apply (max tries 1) shown middle
 
--- a command of a session is answered by this reply: at once, by its letter once it has waited, or after the rounds of a recovery
-pub data Replies (may_tell : ℕ → Bool) (session : ℕ) (asked : Command) (old : Option BookState) (reply : ReplyParts) (new : Option BookState) : Type 0 where
-  at_once : (told : ℕ) (answer : Answer) → IsTrue (may_tell told) → StepsAt old told (first_event session asked) (Ok answer) new → answer.out ≡ outs.Reply reply → IsRecorded session old reply new → Replies may_tell session asked old reply new
-  later : (told : ℕ) (answer : Answer) (middle : Option BookState) (letter : Letter) → IsTrue (may_tell told) → StepsAt old told (first_event session asked) (Ok answer) middle → answer.out ≡ outs.Blocked → AwaitsAt middle session (Ok letter) new → letter.reply ≡ reply → IsRecorded session old reply new → Replies may_tell session asked old reply new
-  in_rounds : GoesOnToRounds may_tell session asked old (λ apply tries shown middle. RepliesIn may_tell session apply tries shown middle reply new) → IsRecorded session old reply new → Replies may_tell session asked old reply new
+-- a command of a session is answered by this reply: at once, by its letter once it has waited, or after the rounds of a
+-- recovery
+pub data Replies (may_tell : ℕ → Bool) (session : ℕ) (asked : Command) (old : Option BookState) (reply : ReplyParts)
+    (new : Option BookState) : Type 0 where
+  at_once : (told : ℕ) (answer : Answer) → IsTrue (may_tell told)
+      → StepsAt old told (first_event session asked) (Ok answer) new → answer.out ≡ outs.Reply reply
+      → IsRecorded session old reply new → Replies may_tell session asked old reply new
+  later : (told : ℕ) (answer : Answer) (middle : Option BookState) (letter : Letter) → IsTrue (may_tell told)
+      → StepsAt old told (first_event session asked) (Ok answer) middle → answer.out ≡ outs.Blocked
+      → AwaitsAt middle session (Ok letter) new → letter.reply ≡ reply → IsRecorded session old reply new
+      → Replies may_tell session asked old reply new
+  in_rounds : GoesOnToRounds may_tell session asked old
+      (λ apply tries shown middle. RepliesIn may_tell session apply tries shown middle reply new)
+      → IsRecorded session old reply new → Replies may_tell session asked old reply new
 
 -- the error that is told of a fault after which the session goes on
 abbrev pub told_of : DeskFault → Option ErrCode
@@ -82,15 +92,28 @@ told_of (desk.Regress index) = None
 told_of desk.Idle = None
 told_of desk.Unread = None
 
--- the text answers one request: it refuses the words; or no index is left for the command that they are; or it is the reply to it;
--- or a recovery broke off in its rounds, for want of memory or of an index, and the text says so
-pub data Answers (may_tell : ℕ → Bool) (blocking : Bool) (session : ℕ) (old : Option BookState) (words : Words) (text : List ℕ) (new : Option BookState) : Type 0 where
-  refuses : (fault : CallFault) → Refuses words fault → text ≡ reply_text (error_reply (code_of fault)) → new ≡ old → Answers may_tell blocking session old words text new
-  is_full : (asked : Command) (told : ℕ) → IsCommand words asked → IsTrue (may_tell told) → StepsAt old told (first_event session (taken_as blocking asked)) (Err desk.Full) new → text ≡ reply_text (error_reply errors.Full) → Answers may_tell blocking session old words text new
-  replies : (asked : Command) (reply : ReplyParts) → IsCommand words asked → Replies may_tell session (taken_as blocking asked) old reply new → text ≡ reply_text reply → Answers may_tell blocking session old words text new
-  breaks_off : (asked : Command) (fault : DeskFault) (code : ErrCode) → IsCommand words asked → GoesOnToRounds may_tell session (taken_as blocking asked) old (λ apply tries shown middle. BreaksIn may_tell session apply tries shown middle fault new) → IsUnrecorded session old new → told_of fault ≡ Some code → text ≡ reply_text (error_reply code) → Answers may_tell blocking session old words text new
+-- the text answers one request: it refuses the words; or no index is left for the command that they are; or it is the
+-- reply to it; or a recovery broke off in its rounds, for want of memory or of an index, and the text says so
+pub data Answers (may_tell : ℕ → Bool) (blocking : Bool) (session : ℕ) (old : Option BookState) (words : Words)
+    (text : List ℕ) (new : Option BookState) : Type 0 where
+  refuses : (fault : CallFault) → Refuses words fault → text ≡ reply_text (error_reply (code_of fault)) → new ≡ old
+      → Answers may_tell blocking session old words text new
+  is_full : (asked : Command) (told : ℕ) → IsCommand words asked → IsTrue (may_tell told)
+      → StepsAt old told (first_event session (taken_as blocking asked)) (Err desk.Full) new
+      → text ≡ reply_text (error_reply errors.Full) → Answers may_tell blocking session old words text new
+  replies : (asked : Command) (reply : ReplyParts) → IsCommand words asked
+      → Replies may_tell session (taken_as blocking asked) old reply new → text ≡ reply_text reply
+      → Answers may_tell blocking session old words text new
+  breaks_off : (asked : Command) (fault : DeskFault) (code : ErrCode) → IsCommand words asked
+      → GoesOnToRounds may_tell session (taken_as blocking asked) old
+      (λ apply tries shown middle. BreaksIn may_tell session apply tries shown middle fault new)
+      → IsUnrecorded session old new → told_of fault ≡ Some code → text ≡ reply_text (error_reply code)
+      → Answers may_tell blocking session old words text new
 
 -- one request is held: its call waits, and nothing answers it. Of a desk that shows no book nothing is known
-pub data Holds (may_tell : ℕ → Bool) (blocking : Bool) (session : ℕ) (old : Option BookState) (words : Words) (new : Option BookState) : Type 0 where
-  waits : (call : Call) (told : ℕ) (answer : Answer) → IsCommand words (commands.Call call) → blocking ≡ true → IsTrue (may_tell told) → StepsAt old told (events.Call session call) (Ok answer) new → answer.out ≡ outs.Blocked → Holds may_tell blocking session old words new
+pub data Holds (may_tell : ℕ → Bool) (blocking : Bool) (session : ℕ) (old : Option BookState) (words : Words)
+    (new : Option BookState) : Type 0 where
+  waits : (call : Call) (told : ℕ) (answer : Answer) → IsCommand words (commands.Call call) → blocking ≡ true
+      → IsTrue (may_tell told) → StepsAt old told (events.Call session call) (Ok answer) new
+      → answer.out ≡ outs.Blocked → Holds may_tell blocking session old words new
   hidden : old ≡ None → new ≡ None → Holds may_tell blocking session old words new

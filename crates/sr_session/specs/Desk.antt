@@ -1,7 +1,8 @@
 -- What an event does at a desk that shows its book, and what little is known at one that shows none.
 -- Source: Redis documentation, the pages of the commands; docs/DEFINITIONS.md, "The one-thread server".
 
-use Rattle.std.specs.Prelude.{⊤, ◌≡◌, ℕ, true, false, List, [], ◌∷◌, drop, length, Option, Some, None, IsSome, Result, Ok, Err}
+use Rattle.std.specs.Prelude.{⊤, ◌≡◌, ℕ, true, false, List, [], ◌∷◌, drop, length, Option, Some, None, IsSome, Result}
+use Rattle.std.specs.Prelude.{Ok, Err}
 use Rattle.sr_resp.specs.Reply.{Answer as ReplyParts}
 use Rattle.sr_waiters.specs.Waiters.{has_session}
 use Rattle.sr_book.specs.Server.{is_open}
@@ -13,8 +14,8 @@ use Rattle.sr_book.specs.declared.event.Event.{Event}
 use Rattle.sr_session.specs.declared.desk.DeskFault.{DeskFault}
 use Rattle.sr_session.specs.declared.desk.DeskFault.TheVariants as faults
 
--- an event at a moment that is handed in: what the book makes of it. A desk that shows its book refuses an event for the book's
--- reasons alone
+-- an event at a moment that is handed in: what the book makes of it. A desk that shows its book refuses an event for
+-- the book's reasons alone
 abbrev pub StepsTo : BookState → ℕ → Event → Result Answer DeskFault → BookState → Type 0
 StepsTo old told event (Ok answer) new = Steps old told event (Ok answer) new
 StepsTo old told event (Err faults.Memory) new = Steps old told event (Err book.Memory) new
@@ -31,7 +32,8 @@ StepsAt None told event result new = new ≡ None
 StepsAt (Some old) told event result None = ⊥
 StepsAt (Some old) told event result (Some new) = StepsTo old told event result new
 
--- what a session that waited was given: its letter. Idle says that there is none, and memory is wanted for one that is there
+-- what a session that waited was given: its letter. Idle says that there is none, and memory is wanted for one that is
+-- there
 abbrev pub AwaitsTo : BookState → ℕ → Result Letter DeskFault → Type 0
 AwaitsTo state session (Ok letter) = letter_for session state.server ≡ Some letter
 AwaitsTo state session (Err faults.Memory) = IsSome (letter_for session state.server)

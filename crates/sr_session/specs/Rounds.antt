@@ -15,7 +15,8 @@ use Rattle.sr_session.specs.declared.desk.DeskFault.{DeskFault}
 use Rattle.sr_session.specs.declared.desk.DeskFault.TheVariants as faults
 
 -- a verdict on this snapshot is concluded, and this is what comes of it
-pub record IsRound (may_tell : ℕ → Bool) (session : ℕ) (apply last : Bool) (shown : Shown) (old : Option BookState) (out : Out) (new : Option BookState) : Type 0 where
+pub record IsRound (may_tell : ℕ → Bool) (session : ℕ) (apply last : Bool) (shown : Shown) (old : Option BookState)
+    (out : Out) (new : Option BookState) : Type 0 where
   pub told : ℕ
   pub judged : Judged
   pub answer : Answer
@@ -25,7 +26,8 @@ pub record IsRound (may_tell : ℕ → Bool) (session : ℕ) (apply last : Bool)
   pub comes : answer.out ≡ out
 
 -- one is made, but the desk refuses to conclude it
-pub record IsRefusedRound (may_tell : ℕ → Bool) (session : ℕ) (apply last : Bool) (shown : Shown) (old : Option BookState) (fault : DeskFault) (new : Option BookState) : Type 0 where
+pub record IsRefusedRound (may_tell : ℕ → Bool) (session : ℕ) (apply last : Bool) (shown : Shown)
+    (old : Option BookState) (fault : DeskFault) (new : Option BookState) : Type 0 where
   pub told : ℕ
   pub judged : Judged
   pub by_clock : IsTrue (may_tell told)
@@ -33,7 +35,8 @@ pub record IsRefusedRound (may_tell : ℕ → Bool) (session : ℕ) (apply last 
   pub step : StepsAt old told (events.Conclude session judged apply last) (Err fault) new
 
 -- the group changed: the fresh snapshot is for the next round, which this is said of
-pub record IsStaleRound (may_tell : ℕ → Bool) (session : ℕ) (apply last : Bool) (shown : Shown) (old : Option BookState) (Then : Shown → Option BookState → Type 0) : Type 0 where
+pub record IsStaleRound (may_tell : ℕ → Bool) (session : ℕ) (apply last : Bool) (shown : Shown)
+    (old : Option BookState) (Then : Shown → Option BookState → Type 0) : Type 0 where
   pub fresh : Shown
   pub middle : Option BookState
   pub round : IsRound may_tell session apply last shown old (outs.Stale fresh) middle
@@ -47,8 +50,8 @@ RepliesIn may_tell session apply (suc rounds) shown old reply new =
     ⊎ IsStaleRound may_tell session apply (rounds == 0) shown old
     (λ fresh middle. RepliesIn may_tell session apply rounds fresh middle reply new)
 
--- in one of at most this many rounds it breaks off: memory is lacking for a verdict, or the desk refuses to conclude one. Of a desk
--- that shows no book nothing is known
+-- in one of at most this many rounds it breaks off: memory is lacking for a verdict, or the desk refuses to conclude
+-- one. Of a desk that shows no book nothing is known
 abbrev pub BreaksIn : (ℕ → Bool) → ℕ → Bool → ℕ → Shown → Option BookState → DeskFault → Option BookState → Type 0
 BreaksIn may_tell session apply zero shown old fault new = (old ≡ None) × (new ≡ None)
 BreaksIn may_tell session apply (suc rounds) shown old fault new =

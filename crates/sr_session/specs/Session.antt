@@ -1,7 +1,7 @@
 -- A whole session: what was written for the bytes that were taken, and how it ended.
 --
--- What answers a request is left open: it is any relation from a state and the words of a request to a text and the next
--- state. So is what holds a request: any relation from a state and the words of a request to the next state.
+-- What answers a request is left open: it is any relation from a state and the words of a request to a text and the
+-- next state. So is what holds a request: any relation from a state and the words of a request to the next state.
 -- Source: RESP2 protocol specification, "Sending commands to a Redis server" and "Multiple commands and pipelining".
 
 use Rattle.std.specs.Prelude.{◌≡◌, ◌≢◌, ℕ, ◌⊎◌, List, [], ◌∷◌, ◌++◌, length, min}
@@ -21,7 +21,8 @@ module _ {S : Type 0} (Answers : S → Words → List ℕ → S → Type 0) wher
   abbrev pub AreAnswered : S → List Words → List ℕ → S → Type 0
   AreAnswered old [] text new = (text ≡ []) × (new ≡ old)
   AreAnswered old (words ∷ requests) text new =
-      (first : List ℕ) × (others : List ℕ) × (middle : S) × Answers old words first middle × AreAnswered middle requests others new × (text ≡ first ++ others)
+      (first : List ℕ) × (others : List ℕ) × (middle : S) × Answers old words first middle
+      × AreAnswered middle requests others new × (text ≡ first ++ others)
 
   -- every request of the bytes taken is answered, and what is left may become another one
   pub record IsAnswered (found : S) (taken written : List ℕ) (now : S) : Type 0 where
@@ -54,8 +55,8 @@ module _ {S : Type 0} (Answers : S → Words → List ℕ → S → Type 0) wher
     pub unsent : List ℕ
     pub carried_out : AreAnswered before requests unsent after
 
-  -- the first requests of the bytes taken are answered; the next ones were carried out, but their answers were not sent;
-  -- and those after them were not carried out
+  -- the first requests of the bytes taken are answered; the next ones were carried out, but their answers were not
+  -- sent; and those after them were not carried out
   pub record IsCutOff (found : S) (taken written : List ℕ) (now : S) : Type 0 where
     pub requests : List Words
     pub silent : List Words
@@ -74,8 +75,8 @@ module _ {S : Type 0} (Answers : S → Words → List ℕ → S → Type 0) wher
     pub count : sent ≡ min (length written) 0xffff_ffff_ffff_ffff
 
 module _ {S : Type 0} (Answers : S → Words → List ℕ → S → Type 0) (Holds : S → Words → S → Type 0) where
-  -- the first requests of the bytes taken are answered; the next ones were carried out, but their answers were not sent; the
-  -- one after them is held; and those after it were not carried out
+  -- the first requests of the bytes taken are answered; the next ones were carried out, but their answers were not
+  -- sent; the one after them is held; and those after it were not carried out
   pub record IsHeld (found : S) (taken written : List ℕ) (now : S) : Type 0 where
     pub requests : List Words
     pub silent : List Words

@@ -1,5 +1,5 @@
--- What the records say of a session's bytes: the text of each request is that of the one reply that the records address to the
--- session for it, or that of an error, and then they address none.
+-- What the records say of a session's bytes: the text of each request is that of the one reply that the records address
+-- to the session for it, or that of an error, and then they address none.
 -- Source: docs/DEFINITIONS.md, "The one-thread server".
 
 use Rattle.std.specs.Prelude.{◌≡◌, ℕ, List, [], ◌∷◌, drop, length}
@@ -24,9 +24,10 @@ replies_in [] = []
 replies_in (reply parts ∷ told) = parts ∷ replies_in told
 replies_in (error code ∷ told) = replies_in told
 
--- each request is told one thing, the text is what they are told, in order, and what of it is in records is exactly what the
--- records that were added address to the session
-pub record AreTold (session : ℕ) (old : BookState) (requests : List Words) (text : List ℕ) (new : BookState) : Type 0 where
+-- each request is told one thing, the text is what they are told, in order, and what of it is in records is exactly
+-- what the records that were added address to the session
+pub record AreTold (session : ℕ) (old : BookState) (requests : List Words) (text : List ℕ)
+    (new : BookState) : Type 0 where
   pub told : List Told
   pub each : length told ≡ length requests
   pub spelled : text ≡ flat_map text_of told

@@ -1,5 +1,6 @@
 -- A whole session at a desk: it joins, answers the requests of the bytes taken, and leaves.
--- Source: RESP2 protocol specification, "Sending commands to a Redis server"; docs/DEFINITIONS.md, "The one-thread server".
+-- Source: RESP2 protocol specification, "Sending commands to a Redis server"; docs/DEFINITIONS.md, "The one-thread
+-- server".
 
 use Rattle.std.specs.Prelude.{◌≡◌, ◌≢◌, ℕ, List, [], Bool, true, false, IsTrue, Option, Result, Ok, Err}
 use Rattle.sr_book.specs.Records.{BookState}
@@ -47,8 +48,13 @@ pub record HasLeft (may_tell : ℕ → Bool) (session : ℕ) (left : Bool) (old 
   pub step : StepsAt old told (events.Leave session) result new
   pub done : left ≡ is_done result
 
--- a session for which these bytes were taken and written: it joins, ends as it does, and leaves at every end; or it cannot
--- join, and nothing is taken and written
-pub data RunsAs (may_tell : ℕ → Bool) (blocking : Bool) (old : Option BookState) (taken written : List ℕ) (ended : Ended) (new : Option BookState) : Type 0 where
-  joins : (session : ℕ) (joined last : Option BookState) → HasJoined may_tell session old joined → EndsAs (Answers may_tell blocking session) (Holds may_tell blocking session) joined taken written last ended.end → HasLeft may_tell session ended.left last new → RunsAs may_tell blocking old taken written ended new
-  joins_not : (told : ℕ) (result : Result Answer DeskFault) → IsTrue (may_tell told) → StepsAt old told events.Join result new → EndsUnjoined result ended.end → taken ≡ [] → written ≡ [] → ended.left ≡ false → RunsAs may_tell blocking old taken written ended new
+-- a session for which these bytes were taken and written: it joins, ends as it does, and leaves at every end; or it
+-- cannot join, and nothing is taken and written
+pub data RunsAs (may_tell : ℕ → Bool) (blocking : Bool) (old : Option BookState) (taken written : List ℕ)
+    (ended : Ended) (new : Option BookState) : Type 0 where
+  joins : (session : ℕ) (joined last : Option BookState) → HasJoined may_tell session old joined
+      → EndsAs (Answers may_tell blocking session) (Holds may_tell blocking session) joined taken written last
+      ended.end → HasLeft may_tell session ended.left last new → RunsAs may_tell blocking old taken written ended new
+  joins_not : (told : ℕ) (result : Result Answer DeskFault) → IsTrue (may_tell told)
+      → StepsAt old told events.Join result new → EndsUnjoined result ended.end → taken ≡ [] → written ≡ []
+      → ended.left ≡ false → RunsAs may_tell blocking old taken written ended new

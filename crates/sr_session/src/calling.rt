@@ -14,8 +14,8 @@ use sr_bytes::Name;
 use sr_resp::Reply;
 use std::alloc::Global;
 
-/// The reply to a command of an open session, at the moments that the clock tells: the desk's; what the session is given once
-/// it has waited; or what a recovery comes to in its rounds.
+/// The reply to a command of an open session, at the moments that the clock tells: the desk's; what the session is
+/// given once it has waited; or what a recovery comes to in its rounds.
 ///
 /// `Unread` says that the command was carried out, and its reply is lost; after `Memory` and `Full` no key changed.
 ///
@@ -114,7 +114,8 @@ fn show_board<D: Desk, C: Clock>(
 
 /// The reply that a session is given once it has waited.
 fn await_letter<D: Desk>(alloc: Global, desk: &mut D, session: u64) -> Result<Reply, DeskFault>
-    ensures ok { IfOk result (λ reply. (letter : Letter) × AwaitsAt (D.shows desk.old) session (Ok letter) (D.shows desk.new)
+    ensures ok { IfOk result (λ reply. (letter : Letter)
+        × AwaitsAt (D.shows desk.old) session (Ok letter) (D.shows desk.new)
         × (letter.reply ≡ reply)) }
     ensures err { IfErr result (λ fault. Loses session (D.shows desk.old) fault (D.shows desk.new)) }
     ensures same { D.borrows desk.new ≡ D.borrows desk.old }

@@ -16,10 +16,11 @@ use sr_policy::Snapshot;
 use sr_resp::Reply;
 use std::alloc::{AllocError, Global};
 
-/// The reply to RECOVER.PLAN, or with `apply` to RECOVER.RUN: that of the verdict on the group as it is, or why there is none.
+/// The reply to RECOVER.PLAN, or with `apply` to RECOVER.RUN: that of the verdict on the group as it is, or why there
+/// is none.
 ///
-/// The verdict is made between two steps and inside none, so that the group may change meanwhile: then the next round has a
-/// fresh snapshot. At most `tries` rounds are made, but one may always be.
+/// The verdict is made between two steps and inside none, so that the group may change meanwhile: then the next round
+/// has a fresh snapshot. At most `tries` rounds are made, but one may always be.
 ///
 /// Source: docs/RECOVERY.md.
 pub(crate) fn recover<D: Desk, C: Clock, G: Gate>(
@@ -34,10 +35,12 @@ pub(crate) fn recover<D: Desk, C: Clock, G: Gate>(
     group: Name,
     dead: Names,
 ) -> Result<Reply, DeskFault>
-    ensures ok { IfOk result (λ reply. Replies (C.may_tell clock.now) session (commands.Recover apply tries key group dead)
+    ensures ok { IfOk result
+        (λ reply. Replies (C.may_tell clock.now) session (commands.Recover apply tries key group dead)
         (D.shows desk.old) reply (D.shows desk.new)) }
     ensures idle { OnOk result (IsIdle session (D.shows desk.old) → IsIdle session (D.shows desk.new)) }
-    ensures err { IfErr result (λ fault. IsUnanswered (C.may_tell clock.now) session (commands.Recover apply tries key group dead)
+    ensures err { IfErr result
+        (λ fault. IsUnanswered (C.may_tell clock.now) session (commands.Recover apply tries key group dead)
         (D.shows desk.old) fault (D.shows desk.new)) }
     ensures same { D.borrows desk.new ≡ D.borrows desk.old }
 {

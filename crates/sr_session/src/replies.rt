@@ -51,7 +51,8 @@ impl Replies {
         ensures gathered { OnOk result (self.new.gathered.items ≡ []) }
         ensures sent { OnOk result (self.new.sent ≡ counted self.old.sent (length self.old.gathered.items)) }
         ensures ok { OnOk result (Appends (W.contents writer.old) (W.contents writer.new) self.old.gathered.items) }
-        ensures err { IfErr result (λ end. (gets : List ℕ) × Appends (W.contents writer.old) (W.contents writer.new) gets
+        ensures err { IfErr result (λ end. (gets : List ℕ)
+            × Appends (W.contents writer.old) (W.contents writer.new) gets
             × BreaksOff self.old.gathered.items self.old.sent gets end) }
         ensures noted { IsNoted result (W.failed writer.old) (W.failed writer.new) }
     {

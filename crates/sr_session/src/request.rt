@@ -31,8 +31,8 @@ fn code_of_fault(fault: CallFault) -> ErrCode
     }
 }
 
-/// Answers one request of an open session that does not wait: its reply is gathered. Replies that were gathered before a
-/// call that may wait are sent first.
+/// Answers one request of an open session that does not wait: its reply is gathered. Replies that were gathered before
+/// a call that may wait are sent first.
 pub(crate) fn answer_asked<W: Sink, D: Desk, C: Clock, G: Gate>(
     alloc: Global,
     writer: &mut W,
@@ -148,7 +148,8 @@ fn reply_to<D: Desk, C: Clock, G: Gate>(
     command: Command,
 ) -> Result<Reply, End>
     requires { IsIdle session (D.shows desk.old) }
-    ensures ok { IfOk result (λ reply. (words : Words) → IsCommand words command → Answers (C.may_tell clock.now) blocking session
+    ensures ok { IfOk result (λ reply. (words : Words) → IsCommand words command
+        → Answers (C.may_tell clock.now) blocking session
         (D.shows desk.old) words (reply_text reply) (D.shows desk.new)) }
     ensures idle { OnOk result (IsIdle session (D.shows desk.new)) }
     ensures err { IfErr result (λ end. (words : Words) → IsCommand words command

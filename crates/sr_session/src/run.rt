@@ -1,4 +1,5 @@
-ghost use Rattle.std.specs.Prelude.{◌≡◌, ◌≢◌, ◌+◌, ◌≤◌, ℕ, List, [], ◌++◌, Option, true, false, IfOk, IfErr, OnOk, OnErr};
+ghost use Rattle.std.specs.Prelude.{◌≡◌, ◌≢◌, ◌+◌, ◌≤◌, ℕ, List, [], ◌++◌, Option, true, false, IfOk, IfErr, OnOk};
+ghost use Rattle.std.specs.Prelude.{OnErr};
 ghost use Rattle.std.specs.Io.KnownBytes.{Appends, Consumes};
 ghost use Rattle.sr_resp.specs.Stream.{Advances, Progress};
 ghost use Rattle.sr_book.specs.Records.{BookState};
@@ -64,8 +65,8 @@ impl From<AllocError> for End {
 /// Serves one connection: joins, reads requests and writes the reply to each, in order, and leaves at every end.
 ///
 /// It reads at most 4,096 bytes at a time, at most `turns` times, and writes the replies to the requests of one read
-/// together, except that those before a call that may wait go out before it. Without `blocking` a call is taken as if BLOCK
-/// was not given. A session that cannot join reads nothing.
+/// together, except that those before a call that may wait go out before it. Without `blocking` a call is taken as if
+/// BLOCK was not given. A session that cannot join reads nothing.
 ///
 /// Source: RESP2 protocol specification, "Sending commands to a Redis server" and "Multiple commands and pipelining".
 pub fn run_session<R: Source, W: Sink, D: Desk, C: Clock, G: Gate>(
@@ -90,8 +91,8 @@ pub fn run_session<R: Source, W: Sink, D: Desk, C: Clock, G: Gate>(
         × (result.end ≡ End.Turns → reads ≡ turns) }
     ensures same { D.borrows desk.new ≡ D.borrows desk.old }
 
-    // Each end has its cause, and no cause is passed over. The two together pin the loop: a session that stops early, or
-    // goes on after a fault, breaks one of them, whatever it wrote.
+    // Each end has its cause, and no cause is passed over. The two together pin the loop: a session that stops early,
+    // or goes on after a fault, breaks one of them, whatever it wrote.
     ensures closed { result.end ≡ End.Closed → R.ended reader.new ≡ true }
     ensures read_fault { result.end ≡ End.ReadFault → R.failed reader.new ≡ true }
     ensures send_fault { (sent : ℕ) → result.end ≡ End.SendFault sent → W.failed writer.new ≡ true }
@@ -239,14 +240,18 @@ fn take_piece<W: Sink, D: Desk, C: Clock, G: Gate>(
     ensures gathered { OnOk result (replies.new.gathered.items ≡ []) }
     ensures ok { OnOk result ((gets : List ℕ) × Appends (W.contents writer.old) (W.contents writer.new) gets
         × ((found : Option BookState) (taken written : List ℕ)
-        → GoesOn (Answers (C.may_tell clock.now) blocking session) found taken written replies.old.sent requests.old (D.shows desk.old)
-        → GoesOn (Answers (C.may_tell clock.now) blocking session) found (taken ++ piece.now) (written ++ gets) replies.new.sent
+        → GoesOn (Answers (C.may_tell clock.now) blocking session) found taken written replies.old.sent requests.old
+        (D.shows desk.old)
+        → GoesOn (Answers (C.may_tell clock.now) blocking session) found (taken ++ piece.now)
+        (written ++ gets) replies.new.sent
         requests.new (D.shows desk.new))) }
     ensures idle { OnOk result (IsIdle session (D.shows desk.new)) }
     ensures err { IfErr result (λ end. (gets : List ℕ) × Appends (W.contents writer.old) (W.contents writer.new) gets
         × ((found : Option BookState) (taken written : List ℕ)
-        → GoesOn (Answers (C.may_tell clock.now) blocking session) found taken written replies.old.sent requests.old (D.shows desk.old)
-        → EndsAs (Answers (C.may_tell clock.now) blocking session) (Holds (C.may_tell clock.now) blocking session) found (taken ++ piece.now) (written ++ gets) (D.shows desk.new) end)) }
+        → GoesOn (Answers (C.may_tell clock.now) blocking session) found taken written replies.old.sent requests.old
+        (D.shows desk.old)
+        → EndsAs (Answers (C.may_tell clock.now) blocking session) (Holds (C.may_tell clock.now) blocking session)
+        found (taken ++ piece.now) (written ++ gets) (D.shows desk.new) end)) }
     ensures end { IfErr result IsPieceEnd }
     ensures noted { IsNoted result (W.failed writer.old) (W.failed writer.new) }
     ensures same { D.borrows desk.new ≡ D.borrows desk.old }
@@ -265,7 +270,8 @@ fn take_piece<W: Sink, D: Desk, C: Clock, G: Gate>(
 
 /// Answers the requests that wait. Their replies are gathered; some may have been sent.
 ///
-/// All of them are read before the first is carried out: a desk may keep others from its server from one event to the next.
+/// All of them are read before the first is carried out: a desk may keep others from its server from one event to the
+/// next.
 fn answer_waiting<W: Sink, D: Desk, C: Clock, G: Gate>(
     alloc: Global,
     requests: &mut Reader,
@@ -281,18 +287,22 @@ fn answer_waiting<W: Sink, D: Desk, C: Clock, G: Gate>(
     requires idle { IsIdle session (D.shows desk.old) }
     ensures ok { OnOk result ((gets : List ℕ) × Appends (W.contents writer.old) (W.contents writer.new) gets
         × ((found : Option BookState) (taken written : List ℕ)
-        → IsAnswering (Answers (C.may_tell clock.now) blocking session) found taken written replies.old.gathered.items replies.old.sent
+        → IsAnswering (Answers (C.may_tell clock.now) blocking session) found taken written replies.old.gathered.items
+        replies.old.sent
         requests.old (D.shows desk.old)
-        → IsAnswering (Answers (C.may_tell clock.now) blocking session) found taken (written ++ gets) replies.new.gathered.items
+        → IsAnswering (Answers (C.may_tell clock.now) blocking session) found taken
+        (written ++ gets) replies.new.gathered.items
         replies.new.sent requests.new (D.shows desk.new))) }
     ensures none_wait { OnOk result (requests.new.waiting ≡ []) }
     ensures failed { requests.new.failed ≡ requests.old.failed }
     ensures idle { OnOk result (IsIdle session (D.shows desk.new)) }
     ensures err { IfErr result (λ end. (gets : List ℕ) × Appends (W.contents writer.old) (W.contents writer.new) gets
         × ((found : Option BookState) (taken written : List ℕ)
-        → IsAnswering (Answers (C.may_tell clock.now) blocking session) found taken written replies.old.gathered.items replies.old.sent
+        → IsAnswering (Answers (C.may_tell clock.now) blocking session) found taken written replies.old.gathered.items
+        replies.old.sent
         requests.old (D.shows desk.old)
-        → EndsAs (Answers (C.may_tell clock.now) blocking session) (Holds (C.may_tell clock.now) blocking session) found taken (written ++ gets) (D.shows desk.new) end)) }
+        → EndsAs (Answers (C.may_tell clock.now) blocking session) (Holds (C.may_tell clock.now) blocking session)
+        found taken (written ++ gets) (D.shows desk.new) end)) }
     ensures end { IfErr result IsPieceEnd }
     ensures noted { IsNoted result (W.failed writer.old) (W.failed writer.new) }
     ensures same { D.borrows desk.new ≡ D.borrows desk.old }
@@ -336,17 +346,23 @@ fn answer_all<W: Sink, D: Desk, C: Clock, G: Gate>(
     requires sound { W.failed writer.old ≡ false }
     requires idle { IsIdle session (D.shows desk.old) }
     ensures ok { OnOk result ((gets : List ℕ) × Appends (W.contents writer.old) (W.contents writer.new) gets
-        × ((progress : Progress) → AreAsked progress.waiting asked.items → (found : Option BookState) (taken written : List ℕ)
-        → IsAnswering (Answers (C.may_tell clock.now) blocking session) found taken written replies.old.gathered.items replies.old.sent
+        × ((progress : Progress) → AreAsked progress.waiting asked.items
+        → (found : Option BookState) (taken written : List ℕ)
+        → IsAnswering (Answers (C.may_tell clock.now) blocking session) found taken written replies.old.gathered.items
+        replies.old.sent
         progress (D.shows desk.old)
-        → IsAnswering (Answers (C.may_tell clock.now) blocking session) found taken (written ++ gets) replies.new.gathered.items
+        → IsAnswering (Answers (C.may_tell clock.now) blocking session) found taken
+        (written ++ gets) replies.new.gathered.items
         replies.new.sent (record progress { waiting = [] }) (D.shows desk.new))) }
     ensures idle { OnOk result (IsIdle session (D.shows desk.new)) }
     ensures err { IfErr result (λ end. (gets : List ℕ) × Appends (W.contents writer.old) (W.contents writer.new) gets
-        × ((progress : Progress) → AreAsked progress.waiting asked.items → (found : Option BookState) (taken written : List ℕ)
-        → IsAnswering (Answers (C.may_tell clock.now) blocking session) found taken written replies.old.gathered.items replies.old.sent
+        × ((progress : Progress) → AreAsked progress.waiting asked.items
+        → (found : Option BookState) (taken written : List ℕ)
+        → IsAnswering (Answers (C.may_tell clock.now) blocking session) found taken written replies.old.gathered.items
+        replies.old.sent
         progress (D.shows desk.old)
-        → EndsAs (Answers (C.may_tell clock.now) blocking session) (Holds (C.may_tell clock.now) blocking session) found taken (written ++ gets) (D.shows desk.new) end)) }
+        → EndsAs (Answers (C.may_tell clock.now) blocking session) (Holds (C.may_tell clock.now) blocking session)
+        found taken (written ++ gets) (D.shows desk.new) end)) }
     ensures end { IfErr result IsPieceEnd }
     ensures noted { IsNoted result (W.failed writer.old) (W.failed writer.new) }
     ensures same { D.borrows desk.new ≡ D.borrows desk.old }

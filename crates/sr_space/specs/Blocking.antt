@@ -34,7 +34,8 @@ abbrev pub finds_nothing : Keys → ℕ → Call → Bool
 finds_nothing keys moment (calls.Xread call) = is_nothing (read_streams call.count keys call.streams)
 finds_nothing keys moment (calls.Xreadgroup call) =
     have_group call.group keys call.streams
-    && is_nothing (listed_of_all (in_63_bits moment) call.group call.consumer (count_of call.count) call.no_ack keys call.streams)
+    && is_nothing (listed_of_all (in_63_bits moment) call.group call.consumer (count_of call.count) call.no_ack keys
+    call.streams)
 finds_nothing keys moment call = false
 
 -- a stream that is read after `$`: after the last id that it has given now
@@ -48,7 +49,8 @@ waiting_as keys (calls.Xread call) =
 waiting_as keys (calls.Xreadgroup call) = calls.Xreadgroup (record call { block = None })
 waiting_as keys call = call
 
--- until when a read waits that blocks for this many milliseconds: 0 has no end, nor has what lies after the greatest moment
+-- until when a read waits that blocks for this many milliseconds: 0 has no end, nor has what lies after the greatest
+-- moment
 abbrev pub deadline_of : ℕ → ℕ → Option ℕ
 deadline_of moment zero = None
 deadline_of moment (suc wait) = if nat_lt (moment + suc wait) (2 ^ 63) then Some (moment + suc wait) else None

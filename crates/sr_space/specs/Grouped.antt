@@ -1,5 +1,6 @@
 -- A command on one consumer group: what it does to the group, and how it is carried out in the group's stream.
--- Source: Redis documentation, "Streams", section "Consumer groups", and the pages of XACK, XCLAIM, XGROUP and XPENDING.
+-- Source: Redis documentation, "Streams", section "Consumer groups", and the pages of XACK, XCLAIM, XGROUP and
+-- XPENDING.
 
 use Rattle.std.specs.Prelude.{ℕ, List, Option, Some, None, pos}
 use Rattle.sr_entries.specs.declared.entry.Entry.{Entry}
@@ -48,7 +49,8 @@ abbrev pub left_in : List ℕ → StreamState → Regrouped → Touched
 left_in name stream left = record { written = regrouped name stream left.written; outcome = left.outcome }
 
 -- a command on the group of this name, if the stream has it
-abbrev pub at_group : Missing → (List Entry → GroupState → Regrouped) → List ℕ → StreamState → Option GroupState → Touched
+abbrev pub at_group : Missing → (List Entry → GroupState → Regrouped) → List ℕ → StreamState → Option GroupState
+    → Touched
 at_group missing f name stream None = replies (for_missing_group missing)
 at_group missing f name stream (Some group) = left_in name stream (f stream.entries group)
 

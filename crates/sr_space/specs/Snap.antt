@@ -1,8 +1,9 @@
--- What a snapshot of a group shows: the entries that the dead have left, those that are gone, and the consumers that could take
--- what was left.
+-- What a snapshot of a group shows: the entries that the dead have left, those that are gone, and the consumers that
+-- could take what was left.
 -- Source: docs/RECOVERY.md.
 
-use Rattle.std.specs.Prelude.{◌≡◌, ℕ, List, [], ◌∷◌, ◌++◌, Bool, not, nat_lt, filter, length, map, Option, Some, None, Result, Ok, Err, if◌then◌else◌}
+use Rattle.std.specs.Prelude.{◌≡◌, ℕ, List, [], ◌∷◌, ◌++◌, Bool, not, nat_lt, filter, length, map, Option, Some, None}
+use Rattle.std.specs.Prelude.{Result, Ok, Err, if◌then◌else◌}
 use Rattle.std.specs.List.{flat_map}
 use Rattle.std.specs.Option.{option_map}
 use Rattle.sr_bytes.specs.Order.{comes_before}
@@ -41,7 +42,8 @@ of_dead dead nacks = filter (λ nack. is_among dead nack.owner) nacks
 abbrev pub stranded_as : Rules → Nack → Option Entry → List Stranded
 stranded_as rules nack None = []
 stranded_as rules nack (Some entry) =
-    record { id = nack.id; owner = nack.owner; weight = weight_of entry.fields; class = class_of rules entry.fields } ∷ []
+    record { id = nack.id; owner = nack.owner; weight = weight_of entry.fields; class = class_of rules entry.fields }
+    ∷ []
 
 -- the entries that are pending for the dead and still in the stream
 abbrev pub stranded_in : Rules → List Text → List Entry → List Nack → List Stranded

@@ -14,8 +14,8 @@ use sr_stream::Stream;
 use std::alloc::{AllocError, Global};
 
 impl Space {
-    /// Carries out a plan at a moment, in milliseconds since 1970: its calls of XCLAIM, one after another. A shortage has none.
-    /// An `Err` leaves every key as it was.
+    /// Carries out a plan at a moment, in milliseconds since 1970: its calls of XCLAIM, one after another. A shortage
+    /// has none. An `Err` leaves every key as it was.
     ///
     /// Source: docs/RECOVERY.md; Redis documentation, command XCLAIM.
     pub fn commit(
@@ -40,8 +40,8 @@ impl Space {
     }
 }
 
-/// Carries out calls of XCLAIM in the group of this name, if the stream has it, as moves of which each has its memory before
-/// the first is made: so after an `Err` the stream shows what it showed.
+/// Carries out calls of XCLAIM in the group of this name, if the stream has it, as moves of which each has its memory
+/// before the first is made: so after an `Err` the stream shows what it showed.
 fn claim_in(
     stream: &mut Stream,
     alloc: Global,

@@ -20,7 +20,8 @@ pub fn one_stream_changes()
         stream_at (with_stream keys key stream) other ≡ stream_at keys other }
 {}
 
-/// Law: if the entries of each stream rise up to its last id, they do so after each command. Calling this has no effect.
+/// Law: if the entries of each stream rise up to its last id, they do so after each command. Calling this has no
+/// effect.
 pub fn streams_stay_sound()
     ensures { (keys : Keys) (moment : ℕ) (call : Call) →
         AreStreams keys → AreStreams (at_once keys moment call).keys }

@@ -19,5 +19,5 @@ pub use laws::{
     one_stream_changes, streams_stay_sound, waiting_finds_nothing, waiting_leaves_the_same,
 };
 pub use outcome::Answered;
-pub use snap::SnapFault;
+pub use snap::{SnapFault, names_in_order, rates_by_class};
 pub use space::Space;

@@ -93,7 +93,8 @@ fn write_entry(draft: &mut Draft, entry: &EntryRef<'_>) -> Result<(), AllocError
 
 /// Adds fields to a draft, each followed by its value.
 fn write_pairs(draft: &mut Draft, mut pairs: Pairs<'_>) -> Result<(), AllocError>
-    ensures { OnOk result (draft.new ≡ draft.old ++ flat_map (λ pair. bulk_string pair.0 ++ bulk_string pair.1) pairs.entry) }
+    ensures { OnOk result (draft.new
+        ≡ draft.old ++ flat_map (λ pair. bulk_string pair.0 ++ bulk_string pair.1) pairs.entry) }
 {
     while let Some((field, value)) = pairs.next() {
         draft.bulk(field)?;

@@ -10,10 +10,10 @@ mod names;
 mod parts;
 
 use crate::Space;
-use names::{is_among, names_in_order};
-use parts::{
-    gone_entries, is_there, live_consumers, pending_for, rates_by_class, stranded_entries,
-};
+use names::is_among;
+pub use names::names_in_order;
+pub use parts::rates_by_class;
+use parts::{gone_entries, is_there, live_consumers, pending_for, stranded_entries};
 use sr_bytes::Name;
 use sr_group::Group;
 use sr_ids::Id;
@@ -36,8 +36,8 @@ pub enum SnapFault {
 }
 
 impl Space {
-    /// What the dead consumers of a group have left, and which other consumers of the policy could take it. A name may stand
-    /// more than once among the dead.
+    /// What the dead consumers of a group have left, and which other consumers of the policy could take it. A name may
+    /// stand more than once among the dead.
     ///
     /// Source: docs/RECOVERY.md.
     pub fn snap(

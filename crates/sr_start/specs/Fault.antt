@@ -1,4 +1,5 @@
--- What the program makes of its policy and of the end of its session: a line of text, if anything went wrong, and a status.
+-- What the program makes of its policy and of the end of its session: a line of text, if anything went wrong, and a
+-- status.
 
 use Rattle.std.specs.Prelude.{◌≡◌, ℕ, Bool, List, [], ◌⊎◌, Option, Some, Result, Ok, Err, true, false}
 use Rattle.sr_book.specs.Records.{BookState, empty_book}
@@ -26,15 +27,17 @@ abbrev pub status_of : Result (Unit {0}) Fault → ℕ
 status_of (Ok done) = 0
 status_of (Err fault) = 1
 
--- the bytes written are what a session that starts with an empty book and these rules writes for the bytes taken, with BLOCK as
--- not given, and its end has this outcome
-pub record Serves (may_tell : ℕ → Bool) (rules : Rules) (taken written : List ℕ) (outcome : Result (Unit {0}) Fault) : Type 0 where
+-- the bytes written are what a session that starts with an empty book and these rules writes for the bytes taken, with
+-- BLOCK as not given, and its end has this outcome
+pub record Serves (may_tell : ℕ → Bool) (rules : Rules) (taken written : List ℕ)
+    (outcome : Result (Unit {0}) Fault) : Type 0 where
   pub ended : Ended
   pub now : Option BookState
   pub session : RunsAs may_tell false (Some (empty_book rules)) taken written ended now
   pub told : outcome ≡ outcome_of ended.end
 
--- the program loads rules and serves a session by them with this outcome; or it does not come to one, and takes and writes nothing
+-- the program loads rules and serves a session by them with this outcome; or it does not come to one, and takes and
+-- writes nothing
 pub data Runs (may_tell : ℕ → Bool) (may_hold : List ℕ → Option (List ℕ) → Bool) (policy : Option (List ℕ))
     (taken written : List ℕ) (outcome : Result (Unit {0}) Fault) : Type 0 where
   serves : (rules : Rules) → Loads may_hold policy (Ok rules) → Serves may_tell rules taken written outcome

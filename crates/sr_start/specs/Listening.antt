@@ -1,4 +1,5 @@
--- What comes of a server for connections: it ends with a fault, at the latest when no further connection can be accepted.
+-- What comes of a server for connections: it ends with a fault, at the latest when no further connection can be
+-- accepted.
 
 use Rattle.std.specs.Prelude.{◌≡◌, ◌++◌, ℕ, Bool, false, IsTrue, true, List, [], ◌⊎◌, codes, Option, Result, Ok, Err}
 use Rattle.std.specs.declared.net.socket_addr.SocketAddr.{SocketAddr}
@@ -32,11 +33,14 @@ Opens may_hold policy (Err fault) = (fault ≡ faults.NoRandomSource) ⊎ Loads 
 abbrev pub line_of : List ℕ → List ℕ
 line_of text = codes "listening on " ++ text ++ codes "\n"
 
--- the program serves the connections that come to an address, from an empty book with the rules of its policy, until that ends; or
--- it does not come to that, since it cannot begin, bind or open, and writes nothing. The line is written whole, unless a write failed
+-- the program serves the connections that come to an address, from an empty book with the rules of its policy, until
+-- that ends; or it does not come to that, since it cannot begin, bind or open, and writes nothing. The line is written
+-- whole, unless a write failed
 pub data Listens (may_hold : List ℕ → Option (List ℕ) → Bool) (may_refuse : SocketAddr → ListenFault → Bool)
-    (may_not_begin may_end : SocketAddr → ℕ → Option ℕ → BookState → ServeFault → Bool) (policy : Option (List ℕ)) (text : List ℕ)
-    (address : SocketAddr) (workers : ℕ) (keep : Option ℕ) (written : List ℕ) (failed : Bool) (fault : Fault) : Type 0 where
+    (may_not_begin may_end : SocketAddr → ℕ → Option ℕ → BookState → ServeFault → Bool)
+    (policy : Option (List ℕ)) (text : List ℕ)
+    (address : SocketAddr) (workers : ℕ) (keep : Option ℕ) (written : List ℕ) (failed : Bool)
+    (fault : Fault) : Type 0 where
   ends : (rules : Rules) (end : ServeFault) → Loads may_hold policy (Ok rules)
       → IsTrue (may_end address workers keep (empty_book rules) end) → (failed ≡ false → written ≡ line_of text)
       → fault ≡ fault_of_serving end
@@ -44,7 +48,8 @@ pub data Listens (may_hold : List ℕ → Option (List ℕ) → Bool) (may_refus
   begins_not : (rules : Rules) (end : ServeFault) → Loads may_hold policy (Ok rules)
       → IsTrue (may_not_begin address workers keep (empty_book rules) end) → written ≡ [] → fault ≡ fault_of_serving end
       → Listens may_hold may_refuse may_not_begin may_end policy text address workers keep written failed fault
-  binds_not : (rules : Rules) (refused : ListenFault) → Loads may_hold policy (Ok rules) → IsTrue (may_refuse address refused)
+  binds_not : (rules : Rules) (refused : ListenFault) → Loads may_hold policy (Ok rules)
+      → IsTrue (may_refuse address refused)
       → written ≡ [] → fault ≡ fault_of_listening refused
       → Listens may_hold may_refuse may_not_begin may_end policy text address workers keep written failed fault
   opens_not : Opens may_hold policy (Err fault) → written ≡ []

@@ -25,11 +25,13 @@ abbrev pub loaded_from : Option (List ℕ) → Result Rules Fault
 loaded_from None = Err faults.PolicyUnreadable
 loaded_from (Some text) = told_of (meaning_of text)
 
--- what is loaded: without a file no rules; and with one what comes of a text that it may hold, unless an allocation fails
+-- what is loaded: without a file no rules; and with one what comes of a text that it may hold, unless an allocation
+-- fails
 abbrev pub Loads : (List ℕ → Option (List ℕ) → Bool) → Option (List ℕ) → Result Rules Fault → Type 0
 Loads may_hold None loaded = loaded ≡ Ok no_rules
 Loads may_hold (Some path) loaded =
-    (loaded ≡ Err faults.PolicyMemory) ⊎ ((held : Option (List ℕ)) × IsTrue (may_hold path held) × (loaded ≡ loaded_from held))
+    (loaded ≡ Err faults.PolicyMemory) ⊎ ((held : Option (List ℕ)) × IsTrue (may_hold path held)
+    × (loaded ≡ loaded_from held))
 
 -- a file of the system may hold any text, or none that can be read
 abbrev pub any_text : List ℕ → Option (List ℕ) → Bool

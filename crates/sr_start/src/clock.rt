@@ -9,8 +9,9 @@ use std::time::Duration;
 
 /// The system's clock, which does not stand still when that is set back. It tells 0 if it cannot be read.
 ///
-/// It tells the time that has passed, and beside it the most by which the system's time was ever ahead of that. So it goes forward
-/// with the system's clock, and where that is behind what was told, it goes on by the time that passes. Threads share one.
+/// It tells the time that has passed, and beside it the most by which the system's time was ever ahead of that. So it
+/// goes forward with the system's clock, and where that is behind what was told, it goes on by the time that passes.
+/// Threads share one.
 #[derive(Drop)]
 pub struct SystemClock<'a, R> {
     rt: &'a R,

@@ -1,6 +1,6 @@
-//! The server as a function of its command line, files, network, reader and writers: the status that it ends with. And the serving
-//! of a listener's connections, each from one of several threads, over one book, while a timer answers the reads that have waited for
-//! long enough.
+//! The server as a function of its command line, files, network, reader and writers: the status that it ends with. And
+//! the serving of a listener's connections, each from one of several threads, over one book, while a timer answers the
+//! reads that have waited for long enough.
 #![tactic(auto)]
 
 mod clock;

@@ -34,7 +34,8 @@ where
     requires unwritten { O.failed writer.old ≡ false }
     ensures listened { (written : List ℕ)
         × Appends (O.contents writer.old) (O.contents writer.new) written
-        × Listens (F.may_hold files.old) N.may_refuse N.may_not_begin N.may_end (option_map (λ path. path.now) policy.entry)
+        × Listens (F.may_hold files.old) N.may_refuse N.may_not_begin N.may_end
+        (option_map (λ path. path.now) policy.entry)
         asked.now.text.now asked.now.address asked.now.workers asked.now.keep written (O.failed writer.new) result }
 {
     let book = match open_book(rt, files, policy) {

@@ -53,8 +53,8 @@ pub trait Network {
     /// Whether listening at an address may be refused for this cause.
     ghost may_refuse: { SocketAddr → ListenFault → Bool };
 
-    /// Whether serving at an address, with so many connections at a time, so many records kept and from this book on, may not begin
-    /// for this cause.
+    /// Whether serving at an address, with so many connections at a time, so many records kept and from this book on,
+    /// may not begin for this cause.
     ghost may_not_begin: { SocketAddr → ℕ → Option ℕ → BookState → ServeFault → Bool };
 
     /// Whether serving that has begun so may end in this way.
@@ -65,8 +65,8 @@ pub trait Network {
         ensures ok { IfOk result (λ bound. bound.address ≡ address) }
         ensures err { IfErr result (λ fault. IsTrue (may_refuse address fault)) };
 
-    /// Begins to serve the connections that come, at most `workers` at a time, over one book, which keeps `keep` records, or all of
-    /// them. When it answers, the threads stand.
+    /// Begins to serve the connections that come, at most `workers` at a time, over one book, which keeps `keep`
+    /// records, or all of them. When it answers, the threads stand.
     fn begin(
         &mut self,
         bound: Bound<Self::Listener>,

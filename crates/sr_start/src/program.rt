@@ -1,4 +1,5 @@
-ghost use Rattle.std.specs.Prelude.{◌≡◌, ◌≤◌, ◌↔◌, ◌⊎◌, ℕ, List, ◌∷◌, map, true, false, Option, option_map, Result, IsOk, IfErr, IsErrOf};
+ghost use Rattle.std.specs.Prelude.{◌≡◌, ◌≤◌, ◌↔◌, ◌⊎◌, ℕ, List, ◌∷◌, map, true, false, Option, option_map, Result};
+ghost use Rattle.std.specs.Prelude.{IsOk, IfErr, IsErrOf};
 ghost use Rattle.std.specs.Io.KnownBytes.{Appends, Consumes};
 ghost use Rattle.sr_start.specs.Fault.{Serves, Runs, is_of_session, status_of};
 ghost use Rattle.sr_start.specs.Moment.{any_moment};
@@ -30,8 +31,9 @@ use std::rt;
 /// Whether a read may wait: nobody else could answer it over standard input and output.
 const BLOCKING: bool = false;
 
-/// Runs the program: reads the command line, whose first word is the program's name, and the policy file that it names, and
-/// serves one connection, or those that come to an address, and then keeps all records, or makes checkpoints (`--keep N`).
+/// Runs the program: reads the command line, whose first word is the program's name, and the policy file that it names,
+/// and serves one connection, or those that come to an address, and then keeps all records, or makes checkpoints
+/// (`--keep N`).
 ///
 /// Answers the status that it ends with. What is said besides the replies and the line for the address goes to `err`.
 pub fn start<R, S, F, N, I, O, E>(
@@ -55,7 +57,8 @@ where
     requires unwritten { O.failed writer.old ≡ false }
 
     // --stdio: what was taken from the reader and written to the writer, and the status for it
-    ensures served { (name : List ℕ) (flags : List Flag) → map S.text words.now ≡ name ∷ map word_of flags → AreOnce flags
+    ensures served { (name : List ℕ) (flags : List Flag) → map S.text words.now ≡ name ∷ map word_of flags
+        → AreOnce flags
         → AsksForStdio (asked_by flags)
         → (taken written : List ℕ)
         × Consumes (I.remaining reader.old) (I.remaining reader.new) taken
@@ -68,23 +71,26 @@ where
         × (IsErrOf outcome Fault.NoRandomSource → files.new ≡ files.old) }
 
     // --listen: what was asked of the network, and what became of it
-    ensures listened { (name : List ℕ) (flags : List Flag) → map S.text words.now ≡ name ∷ map word_of flags → AreOnce flags
+    ensures listened { (name : List ℕ) (flags : List Flag) → map S.text words.now ≡ name ∷ map word_of flags
+        → AreOnce flags
         → AsksForAddress (asked_by flags)
         → (text : List ℕ) × (address : SocketAddr) × (workers : ℕ) × (keep : Option ℕ)
         × AsksToListen (asked_by flags) text address workers keep
         × (written : List ℕ)
         × Appends (O.contents writer.old) (O.contents writer.new) written
         × (fault : Fault)
-        × Listens (F.may_hold files.old) N.may_refuse N.may_not_begin N.may_end (asked_by flags).policy text address workers keep
+        × Listens (F.may_hold files.old) N.may_refuse N.may_not_begin N.may_end (asked_by flags).policy text address
+        workers keep
         written (O.failed writer.new) fault
         × (result ≡ 1)
         × (reader.new ≡ reader.old) }
 
-    // both of these or neither, no address and port, too few or many workers or records, or records that one session keeps: no file is
-    // read, and nothing is read or written
+    // both of these or neither, no address and port, too few or many workers or records, or records that one session
+    // keeps: no file is read, and nothing is read or written
     ensures both { (name : List ℕ) (flags : List Flag) → map S.text words.now ≡ name ∷ map word_of flags → AreOnce flags
         → AsksForNothing (asked_by flags)
-        → (1 ≤ result) × (files.new ≡ files.old) × (network.new ≡ network.old) × (reader.new ≡ reader.old) × (writer.new ≡ writer.old) }
+        → (1 ≤ result) × (files.new ≡ files.old) × (network.new ≡ network.old) × (reader.new ≡ reader.old)
+        × (writer.new ≡ writer.old) }
 
     // whatever the command line: status 0 exactly if the reader came to its end, and 1 if a read or a write failed
     ensures ok { (result ≡ 0) ↔ (I.ended reader.new ≡ true) }
@@ -92,7 +98,8 @@ where
 
     // status 2: no file is read, nothing is asked of the network, and nothing is read or written
     ensures refused { result ≡ 2
-        → (files.new ≡ files.old) × (network.new ≡ network.old) × (reader.new ≡ reader.old) × (writer.new ≡ writer.old) }
+        → (files.new ≡ files.old) × (network.new ≡ network.old) × (reader.new ≡ reader.old)
+        × (writer.new ≡ writer.old) }
 {
     let options = match read_options(rt.alloc(), words) {
         Ok(options) => options,
@@ -130,7 +137,8 @@ where
     ensures ok { IsOk result ↔ (I.ended reader.new ≡ true) }
     ensures read { IsErrOf result Fault.Read ↔ (I.failed reader.new ≡ true) }
     ensures write { IsErrOf result Fault.Write ↔ (O.failed writer.new ≡ true) }
-    ensures refused { IfErr result (λ fault. is_of_session fault ≡ false → (reader.new ≡ reader.old) × (writer.new ≡ writer.old)) }
+    ensures refused { IfErr result (λ fault. is_of_session fault ≡ false → (reader.new ≡ reader.old)
+        × (writer.new ≡ writer.old)) }
     ensures random { IsErrOf result Fault.NoRandomSource → files.new ≡ files.old }
 {
     match open_book(rt, files, policy) {

@@ -22,12 +22,12 @@ pub(crate) const TURNS: u64 = 1 << 40;
 /// How long the timer sleeps between two looks at the deadlines, in milliseconds.
 const TICK: u64 = 10;
 
-/// How many records that are kept no longer are let go between two looks at the deadlines. That takes some milliseconds, so that no
-/// deadline is late by more than a tick.
+/// How many records that are kept no longer are let go between two looks at the deadlines. That takes some
+/// milliseconds, so that no deadline is late by more than a tick.
 const PART: usize = 20_000;
 
-/// How many accepted connections are kept for a free worker, beside the one with which the accepting thread waits. Further ones wait at
-/// the listener and take nothing of this process, so no number of them can use up its descriptors.
+/// How many accepted connections are kept for a free worker, beside the one with which the accepting thread waits.
+/// Further ones wait at the listener and take nothing of this process, so no number of them can use up its descriptors.
 const QUEUE: usize = 1;
 
 /// Whether a read may wait: what other connections add may answer it.
@@ -36,8 +36,8 @@ const BLOCKING: bool = true;
 /// How long the accepting thread sleeps after a failed accept that is the moment's, in milliseconds.
 const RETRY: u64 = 10;
 
-/// The faults that are a listener's own, after which no accept succeeds: no descriptor or not one of a socket that listens, a bad
-/// address in memory, or an operation that it does not have. Their numbers are Linux's (accept(2)).
+/// The faults that are a listener's own, after which no accept succeeds: no descriptor or not one of a socket that
+/// listens, a bad address in memory, or an operation that it does not have. Their numbers are Linux's (accept(2)).
 const LISTENERS_OWN: &[i32] = &[
     9, // EBADF
     14, // EFAULT
@@ -93,12 +93,13 @@ pub enum ServeFault {
     Thread,
 }
 
-/// Serves the connections of a listener until this many were accepted, and answers their number once all of them have ended.
+/// Serves the connections of a listener until this many were accepted, and answers their number once all of them have
+/// ended.
 ///
 /// Each of the `workers` threads, 1 to 64, serves one connection at a time, and further ones wait for a free worker. A
-/// timer thread answers the reads whose deadline is reached, and makes a checkpoint if more than `keep` records are kept. A session that
-/// ends closes its own connection alone. A failed accept is tried again, unless it is the listener's own fault: then no connection is
-/// accepted any more, and those that are served are shut down.
+/// timer thread answers the reads whose deadline is reached, and makes a checkpoint if more than `keep` records are
+/// kept. A session that ends closes its own connection alone. A failed accept is tried again, unless it is the
+/// listener's own fault: then no connection is accepted any more, and those that are served are shut down.
 pub fn serve<R: Threads + Wait + rt::Clock + Sync>(
     rt: &R,
     alloc: Global,
@@ -220,8 +221,8 @@ fn serve_timed<L: Ledger + Send + Sync, R: Threads + Wait + rt::Clock + Sync>(
     )
 }
 
-/// Starts a worker at each of the seats, and hands the connections to them as they come. If no further one can come, those that are
-/// served are shut down.
+/// Starts a worker at each of the seats, and hands the connections to them as they come. If no further one can come,
+/// those that are served are shut down.
 fn serve_all<L: Ledger + Send + Sync, R: Threads + Wait + rt::Clock + Sync>(
     rt: &R,
     alloc: Global,
@@ -315,8 +316,8 @@ fn accept_all<R: Wait + rt::Clock>(
 
 /// The next connection, whose replies leave as soon as they are written.
 ///
-/// A client that went away before it was accepted is passed over. Where the process or the system is short of something it is tried
-/// again a little later.
+/// A client that went away before it was accepted is passed over. Where the process or the system is short of something
+/// it is tried again a little later.
 fn accept<R: Wait + rt::Clock>(rt: &R, listener: &TcpListener) -> Result<TcpStream, ServeFault>
     ensures err { IfErr result (λ fault. fault ≡ ServeFault.Accept) }
 {
@@ -439,8 +440,8 @@ fn serve_connection<L: Ledger, R: Wait + rt::Clock>(
     )
 }
 
-/// At each tick, answers the reads whose deadline is reached and makes a checkpoint if there are more records than are kept, until it is
-/// told to stop.
+/// At each tick, answers the reads whose deadline is reached and makes a checkpoint if there are more records than are
+/// kept, until it is told to stop.
 fn keep_time<L: Ledger, R: Wait + rt::Clock>(
     rt: &R,
     alloc: Global,
@@ -467,8 +468,9 @@ fn keep_time<L: Ledger, R: Wait + rt::Clock>(
     }
 }
 
-/// Lets go of a part of the records that are kept no longer, and answers whether some of them are left. If not, makes a checkpoint if
-/// more than `keep` records are kept: then `dropped` has these, and the next ones come into the storage that it had.
+/// Lets go of a part of the records that are kept no longer, and answers whether some of them are left. If not, makes a
+/// checkpoint if more than `keep` records are kept: then `dropped` has these, and the next ones come into the storage
+/// that it had.
 fn forget<L: Ledger, R: Wait>(
     rt: &R,
     shared: &Shared<L>,

@@ -1,7 +1,8 @@
 -- The groups of a stream by name, in byte order.
 -- Source: Redis documentation, "Streams", section "Consumer groups", and the pages of XGROUP and XINFO GROUPS.
 
-use Rattle.std.specs.Prelude.{⊤, ℕ, IsTrue, List, [], ◌∷◌, ◌++◌, Option, Some, None, Bool, not, if◌then◌else◌, map, filter}
+use Rattle.std.specs.Prelude.{⊤, ℕ, IsTrue, List, [], ◌∷◌, ◌++◌, Option, Some, None, Bool, not, if◌then◌else◌, map}
+use Rattle.std.specs.Prelude.{filter}
 use Rattle.std.specs.List.{list_any}
 use Rattle.sr_bytes.specs.Order.{comes_before}
 use Rattle.sr_ids.specs.declared.id.Id.{Id}
@@ -24,7 +25,8 @@ group_with name (named ∷ groups) = if is_same_name named.0 name then Some name
 -- the group is there under this name: those before it, the group, and those after it
 abbrev pub with_group : {G : Type 0} → List ℕ → G → ByName G → ByName G
 with_group name group groups =
-    filter (λ other. comes_before other.0 name) groups ++ (name, group) ∷ filter (λ other. comes_before name other.0) groups
+    filter (λ other. comes_before other.0 name) groups ++ (name, group)
+    ∷ filter (λ other. comes_before name other.0) groups
 
 -- without the group of this name
 abbrev pub without_group : {G : Type 0} → List ℕ → ByName G → ByName G

@@ -49,12 +49,13 @@ impl Stream {
         self.groups.as_slice()
     }
 
-    /// The group of this name, to be changed. The stream ends with what is written through it, and is as it was if there is
-    /// no such group.
+    /// The group of this name, to be changed. The stream ends with what is written through it, and is as it was if
+    /// there is no such group.
     pub fn group_mut(&mut self, name: &Name) -> Option<&mut Group>
         ensures* writes_back { sem 𝓛 (LendsGroup self.entry name.now result) }
         ensures value { option_copied_mut result ≡ group_with name.now self.old.groups }
-        ensures shown { option_map (λ g. g.shown) (option_copied_mut result) ≡ group_with name.now self.old.shown.groups }
+        ensures shown { option_map (λ g. g.shown) (option_copied_mut result)
+            ≡ group_with name.now self.old.shown.groups }
         ensures there { is_some result ≡ by_name.has_group name.now self.old.shown.groups }
     {
         match self.place(name) {
@@ -66,8 +67,8 @@ impl Stream {
         }
     }
 
-    /// The stream's entries, and beside them its group of this name, to be changed: what is delivered to a group is read
-    /// from the entries. The stream ends with what is written through the group.
+    /// The stream's entries, and beside them its group of this name, to be changed: what is delivered to a group is
+    /// read from the entries. The stream ends with what is written through the group.
     pub fn entries_and_group(&mut self, name: &Name) -> (&Entries, &mut Group)
         requires there { IsTrue (by_name.has_group name.now self.old.shown.groups) }
         ensures* writes_back { sem 𝓛 (LendsGroupBeside self.entry name.now result) }

@@ -1,4 +1,5 @@
-ghost use Rattle.std.specs.Prelude.{◌≡◌, ◌+◌, ◌<◌, ◌≤◌, IsTrue, true, false, IfSome, IfNone, IfOk, OnOk, vec_len, vec_capacity};
+ghost use Rattle.std.specs.Prelude.{◌≡◌, ◌+◌, ◌<◌, ◌≤◌, IsTrue, true, false, IfSome, IfNone, IfOk, OnOk, vec_len};
+ghost use Rattle.std.specs.Prelude.{vec_capacity};
 ghost use Rattle.std.specs.List.{insert};
 ghost use Rattle.sr_stream.specs.Groups.{AreInOrder, has_group, shown_groups, with_group, without_group};
 ghost use Rattle.sr_stream.specs.steps.Places.{IsPlace, before};

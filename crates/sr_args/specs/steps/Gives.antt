@@ -8,7 +8,8 @@ use Rattle.sr_args.specs.Place.{Word, HasNumbers, HasIds}
 use Rattle.sr_args.specs.Form.{Form, Reading, Values, places, Reads, Means}
 
 -- the words fit the form, and what they mean is this
-pub record GivesCall {C : Type 0} (form : Form) (call_of : Values form → C) (words : List Word) (call : C) : Type 0 where
+pub record GivesCall {C : Type 0} (form : Form) (call_of : Values form
+    → C) (words : List Word) (call : C) : Type 0 where
   pub reading : Reading form
   pub reads : Reads form words reading
   pub values : Values form

@@ -110,11 +110,12 @@ pub record GoesOn (written others : List Written) (left : List Word) (places : L
   pub fits : Fits left (flat_map option_places tail ++ places)
 
 -- the words begin with the options written, and every reading of them goes on after these
-pub record BeginsOptions (set : OptionSet) (words : List Word) (written : List Written) (left : List Word) : Type 0 where
-  pub right : AreOptionsFit set written
-  pub fits : (places : List Place) → Fits left places → Fits words (flat_map option_places written ++ places)
-  pub only : (others : List Written) (places : List Place) → AreOptionsFit set others → IsPast set places →
-      Fits words (flat_map option_places others ++ places) → GoesOn written others left places
+pub record BeginsOptions (set : OptionSet) (words : List Word) (written : List Written) (left : List Word) : Type 0
+  where
+    pub right : AreOptionsFit set written
+    pub fits : (places : List Place) → Fits left places → Fits words (flat_map option_places written ++ places)
+    pub only : (others : List Written) (places : List Place) → AreOptionsFit set others → IsPast set places →
+        Fits words (flat_map option_places others ++ places) → GoesOn written others left places
 
 -- the words begin with the options written and no more: they are the one reading, and what is left follows them
 pub record EndsOptions (set : OptionSet) (words : List Word) (written : List Written) (left : List Word) : Type 0 where

@@ -20,7 +20,8 @@ impl Machine {
     ghost use Rattle.sr_check.specs.PlanReply.{verdict_answer};
     ghost use Rattle.sr_space.specs.Keys.{group_at};
     ghost use Rattle.sr_space.specs.Snap.{snapped};
-    ghost use Rattle.sr_book.specs.Server.{after_call, board_reply, concluded, fresh_snapshot, is_open, keys_after, replied};
+    ghost use Rattle.sr_book.specs.Server.{after_call, board_reply, concluded, fresh_snapshot, is_open, keys_after};
+    ghost use Rattle.sr_book.specs.Server.{replied};
     ghost use Rattle.sr_book.specs.Server.{snapped_for, unreplied};
 
     /// The board of a group, as the policy and the moment of the record give it.
@@ -102,8 +103,8 @@ impl Machine {
         }
     }
 
-    /// Replies a verdict, and carries it out if that is asked, exactly if the group is as the verdict's snapshot shows it.
-    /// If not, the fresh snapshot is the answer, or an error in the last round.
+    /// Replies a verdict, and carries it out if that is asked, exactly if the group is as the verdict's snapshot shows
+    /// it. If not, the fresh snapshot is the answer, or an error in the last round.
     ///
     /// Source: docs/RECOVERY.md.
     pub(super) fn conclude(

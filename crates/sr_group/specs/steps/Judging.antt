@@ -13,7 +13,8 @@ use Rattle.sr_group.specs.declared.claim.Judgement.{Judgement}
 use Rattle.sr_group.specs.declared.claim.Judgement.TheVariants.{Stays, Leaves, Moves}
 use Rattle.sr_group.specs.declared.shown.Act.{Act}
 use Rattle.sr_group.specs.declared.shown.Act.TheVariants.{Give, Touch, Forget, Only}
-use Rattle.sr_group.specs.Claim.{Fate, Skipped, Dropped, GivenOver, after_claim, fate_with, after_fate, listed_claim, listed_with}
+use Rattle.sr_group.specs.Claim.{Fate, Skipped, Dropped, GivenOver, after_claim, fate_with, after_fate, listed_claim}
+use Rattle.sr_group.specs.Claim.{listed_with}
 use Rattle.sr_group.specs.Shown.{after_acts, listed_of}
 use Rattle.sr_group.specs.steps.Showing.{IsActOf}
 
@@ -60,8 +61,10 @@ delivery_after (Only listed) id before = before
 module _ (claim : Claim) (claimer : List ℕ) (moment : ℕ) (entries : List Entry) where
   -- one more id was judged: the acts do to the entry what its fate is, and list it so
   pub record Judges (nacks : List Nack) (id : Id) (old new : List Act) : Type 0 where
-    pub after : after_acts new nacks ≡ after_fate (fate_with claim claimer moment entries id (after_acts old nacks)) id (after_acts old nacks)
-    pub listed : listed_of new ≡ listed_of old ++ listed_with (fate_with claim claimer moment entries id (after_acts old nacks)) id
+    pub after : after_acts new nacks ≡ after_fate (fate_with claim claimer moment entries id (after_acts old nacks)) id
+        (after_acts old nacks)
+    pub listed : listed_of new ≡ listed_of old
+        ++ listed_with (fate_with claim claimer moment entries id (after_acts old nacks)) id
     pub own : All (IsActOf claimer) new
 
   -- the acts so far, and then the claim of the ids that are left, do what the claim of all ids does

@@ -10,7 +10,8 @@ use Rattle.sr_group.specs.Claim.{id_behind, scanned, up_to_taken}
 module _ (claim : Claim) (claimer : List ℕ) (moment : ℕ) (entries : List Entry) (count : ℕ) (found : List Nack) where
   -- these ids, and then those of the entries that are still to be looked at, are those that the scan looks at
   pub record IsLooked (ids : List Id) (left : ℕ) (rest : List Nack) : Type 0 where
-    pub all : ids ++ map (λ nack. nack.id) (up_to_taken claim claimer moment entries left (take (10 * count - length ids) rest))
+    pub all : ids ++ map (λ nack. nack.id)
+        (up_to_taken claim claimer moment entries left (take (10 * count - length ids) rest))
         ≡ map (λ nack. nack.id) (scanned claim claimer moment entries count found)
     pub behind : drop (length ids) found ≡ rest
 

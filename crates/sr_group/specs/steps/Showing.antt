@@ -50,4 +50,5 @@ delivery_of reader moment noack entry = delivery_act reader moment noack entry.i
 -- a pending entry is shown once more: delivered now if the stream still has it
 abbrev pub again : ℕ → List Entry → Nack → Act
 again moment list nack =
-    if has_id nack.id list then Touch nack.id moment (raised nack.count) else Only (record { id = nack.id; found = false })
+    if has_id nack.id list then Touch nack.id moment (raised nack.count)
+    else Only (record { id = nack.id; found = false })

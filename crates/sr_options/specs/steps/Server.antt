@@ -12,5 +12,7 @@ abbrev pub valued_rule : Text → Rule
 valued_rule name = record (new_rule name) { long = Some name; action = Some Set; value_names = 1 }
 
 abbrev pub server : App
-server = with_rule (with_rule (with_rule (with_rule (with_rule (new_app (codes "sr_server")) (plain_rule (codes "stdio")))
-    (valued_rule (codes "listen"))) (valued_rule (codes "policy"))) (valued_rule (codes "workers"))) (valued_rule (codes "keep"))
+server = with_rule (with_rule
+    (with_rule (with_rule (with_rule (new_app (codes "sr_server")) (plain_rule (codes "stdio")))
+    (valued_rule (codes "listen"))) (valued_rule (codes "policy"))) (valued_rule (codes "workers")))
+    (valued_rule (codes "keep"))

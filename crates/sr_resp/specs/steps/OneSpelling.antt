@@ -1,6 +1,7 @@
 -- A text spells at most one list of parts: each part is a mark, a line, and for a bulk string its bytes and a line end.
 -- Only the ghost field of a draft, and the lemmas on it, cite this.
-use Rattle.std.proofs.Common.{◌≡◌, ℕ, ◌+◌, ◌%◌, ◌^◌, ◌<◌, ◌≤◌, suc, subst, ℤ, pos, negsuc, Bool, true, false, cond, ltb, nat_eq}
+use Rattle.std.proofs.Common.{◌≡◌, ℕ, ◌+◌, ◌%◌, ◌^◌, ◌<◌, ◌≤◌, suc, subst, ℤ, pos, negsuc, Bool, true, false, cond}
+use Rattle.std.proofs.Common.{ltb, nat_eq}
 use Rattle.std.proofs.Common.{List, [], ◌∷◌, ◌++◌, length, take, drop, codes, refl, sym, ap, ◌∙◌, arith, append_assoc}
 use Rattle.std.specs.Prelude.{decimal}
 use Rattle.std.specs.Fmt.{signed_decimal}
@@ -34,7 +35,8 @@ IsAbove-tested : (low : ℕ) (bytes : List ℕ) → is_above low bytes ≡ true 
 IsAbove-tested low [] e = tt
 IsAbove-tested low (b ∷ bytes) e = by (IsAbove-tested low bytes) (ltb low b) refl e
   where
-    by : (is_above low bytes ≡ true → IsAbove low bytes) → (test : Bool) → ltb low b ≡ test → cond test (is_above low bytes) false ≡ true → (low < b) × IsAbove low bytes
+    by : (is_above low bytes ≡ true → IsAbove low bytes) → (test : Bool) → ltb low b ≡ test
+        → cond test (is_above low bytes) false ≡ true → (low < b) × IsAbove low bytes
     by more true t rest = (ltb-true low b t, more rest)
     by more false t rest = absurd cc
 
@@ -57,10 +59,12 @@ IsAbove-decimal n small = decimal_by_steps (λ n ds. IsAbove 47 ds) one more n s
 
 IsAbove-signed : (n : ℤ) → mag n < 2 ^ 63 → IsAbove 13 (signed_decimal n)
 IsAbove-signed (pos n) small = IsAbove-lower 47 13 (decimal n) (omega arith) (IsAbove-decimal n (omega arith))
-IsAbove-signed (negsuc n) small = (omega arith, IsAbove-lower 47 13 (decimal (suc n)) (omega arith) (IsAbove-decimal (suc n) (omega arith)))
+IsAbove-signed (negsuc n) small =
+    (omega arith, IsAbove-lower 47 13 (decimal (suc n)) (omega arith) (IsAbove-decimal (suc n) (omega arith)))
 
 -- a line ends at its first line end
-one_line : (a b x y : List ℕ) → IsAbove 13 a → IsAbove 13 b → a ++ (13 ∷ 10 ∷ x) ≡ b ++ (13 ∷ 10 ∷ y) → (a ≡ b) × (x ≡ y)
+one_line : (a b x y : List ℕ) → IsAbove 13 a → IsAbove 13 b → a ++ (13 ∷ 10 ∷ x) ≡ b ++ (13 ∷ 10 ∷ y) → (a ≡ b)
+    × (x ≡ y)
 one_line [] [] x y p q e = (refl, cc)
 one_line [] (d ∷ b) x y p q e =
     let same : 13 ≡ d = cc in
@@ -78,7 +82,9 @@ one_line (c ∷ a) (d ∷ b) x y p q e =
 
 abbrev pub each_error : List ErrCode
 each_error =
-    errors.Unknown ∷ errors.Arity ∷ errors.Syntax ∷ errors.Number ∷ errors.BadId ∷ errors.Protocol ∷ errors.IdZero ∷ errors.IdSmall ∷ errors.Exhausted ∷ errors.NoKey ∷ errors.NoGroup ∷ errors.BusyGroup ∷ errors.Memory ∷ errors.Full ∷ errors.Stale ∷ errors.TooMany ∷ []
+    errors.Unknown ∷ errors.Arity ∷ errors.Syntax ∷ errors.Number ∷ errors.BadId ∷ errors.Protocol ∷ errors.IdZero
+    ∷ errors.IdSmall ∷ errors.Exhausted ∷ errors.NoKey ∷ errors.NoGroup ∷ errors.BusyGroup ∷ errors.Memory
+    ∷ errors.Full ∷ errors.Stale ∷ errors.TooMany ∷ []
 
 abbrev look_up : List ℕ → List ErrCode → ErrCode
 look_up text [] = errors.Unknown
@@ -103,7 +109,8 @@ look_up-error_text errors.Stale = refl
 look_up-error_text errors.TooMany = refl
 
 pub error_text-injective : (c d : ErrCode) → error_text c ≡ error_text d → c ≡ d
-error_text-injective c d e = sym (look_up-error_text c) ∙ ap (λ (text : List ℕ). look_up text each_error) e ∙ look_up-error_text d
+error_text-injective c d e = sym (look_up-error_text c) ∙ ap
+    (λ (text : List ℕ). look_up text each_error) e ∙ look_up-error_text d
 
 pub word_text-injective : (v w : Word) → word_text v ≡ word_text w → v ≡ w
 word_text-injective words.Ok words.Ok e = refl
@@ -162,7 +169,8 @@ pub IsAbove-line : (part : Part) → IsSpellable part → IsAbove 13 (line part)
 IsAbove-line (Simple word) fits = IsAbove-word_text word
 IsAbove-line (Error code) fits = IsAbove-tested 13 (error_text code) (is_above-error_text code)
 IsAbove-line (Int n) fits = IsAbove-signed n fits
-IsAbove-line (Bulk bytes) fits = IsAbove-lower 47 13 (decimal (length bytes)) (omega arith) (IsAbove-decimal (length bytes) fits)
+IsAbove-line (Bulk bytes) fits = IsAbove-lower 47 13 (decimal (length bytes)) (omega arith)
+    (IsAbove-decimal (length bytes) fits)
 IsAbove-line NullBulk fits = IsAbove-tested 13 (45 ∷ 49 ∷ []) refl
 IsAbove-line NullArray fits = IsAbove-tested 13 (45 ∷ 49 ∷ []) refl
 IsAbove-line (Array items) fits = IsAbove-lower 47 13 (decimal items) (omega arith) (IsAbove-decimal items fits)
@@ -170,7 +178,8 @@ IsAbove-line (Array items) fits = IsAbove-lower 47 13 (decimal items) (omega ari
 short_text : (text behind : List ℕ) → (text ++ (13 ∷ 10 ∷ [])) ++ behind ≡ text ++ (13 ∷ 10 ∷ behind)
 short_text text behind = append_assoc text (13 ∷ 10 ∷ []) behind
 
-pub part_text-lines : (part : Part) (behind : List ℕ) → part_text part ++ behind ≡ mark part ∷ (line part ++ (13 ∷ 10 ∷ tail part behind))
+pub part_text-lines : (part : Part) (behind : List ℕ) → part_text part ++ behind
+    ≡ mark part ∷ (line part ++ (13 ∷ 10 ∷ tail part behind))
 part_text-lines (Simple word) behind = ap (λ (t : List ℕ). 43 ∷ t) (short_text (word_text word) behind)
 part_text-lines (Error code) behind = ap (λ (t : List ℕ). 45 ∷ t) (short_text (error_text code) behind)
 part_text-lines (Int n) behind = ap (λ (t : List ℕ). 58 ∷ t) (short_text (signed_decimal n) behind)
@@ -198,7 +207,8 @@ no_length n small e =
     let digits : IsAbove 47 (45 ∷ 49 ∷ []) = subst (IsAbove 47) e (IsAbove-decimal n small) in
     absurd (omega (arith, digits.0))
 
-same_part : (p q : Part) (x y : List ℕ) → IsSpellable p → IsSpellable q → mark p ≡ mark q → line p ≡ line q → tail p x ≡ tail q y → (p ≡ q) × (x ≡ y)
+same_part : (p q : Part) (x y : List ℕ) → IsSpellable p → IsSpellable q → mark p ≡ mark q → line p ≡ line q → tail p x
+    ≡ tail q y → (p ≡ q) × (x ≡ y)
 same_part (Simple v) (Simple w) x y f g m l t = (ap Simple (word_text-injective v w l), t)
 same_part (Error c) (Error d) x y f g m l t = (ap Error (error_text-injective c d l), t)
 same_part (Int a) (Int b) x y f g m l t = (ap Int (signed_decimal_injective a b f g l), t)
@@ -214,9 +224,11 @@ same_part (Array a) NullArray x y f g m l t = absurd (no_length a f l)
 same_part NullArray (Array b) x y f g m l t = absurd (no_length b g (sym l))
 same_part p q x y f g m l t = absurd (omega (arith, m))
 
-pub one_part : (p q : Part) (x y : List ℕ) → IsSpellable p → IsSpellable q → part_text p ++ x ≡ part_text q ++ y → (p ≡ q) × (x ≡ y)
+pub one_part : (p q : Part) (x y : List ℕ) → IsSpellable p → IsSpellable q → part_text p ++ x ≡ part_text q ++ y
+    → (p ≡ q) × (x ≡ y)
 one_part p q x y f g e =
-    let whole : mark p ∷ (line p ++ (13 ∷ 10 ∷ tail p x)) ≡ mark q ∷ (line q ++ (13 ∷ 10 ∷ tail q y)) = sym (part_text-lines p x) ∙ e ∙ part_text-lines q y in
+    let whole : mark p ∷ (line p ++ (13 ∷ 10 ∷ tail p x))
+    ≡ mark q ∷ (line q ++ (13 ∷ 10 ∷ tail q y)) = sym (part_text-lines p x) ∙ e ∙ part_text-lines q y in
     let marks : mark p ≡ mark q = cc whole in
     let lines : line p ++ (13 ∷ 10 ∷ tail p x) ≡ line q ++ (13 ∷ 10 ∷ tail q y) = cc whole in
     let split = one_line (line p) (line q) (tail p x) (tail q y) (IsAbove-line p f) (IsAbove-line q g) lines in
@@ -258,4 +270,5 @@ Spells-prop text parts a b = λ i. record {
 }
 
 pub IsSpelled-prop : (text : List ℕ) → IsProp (IsSpelled text)
-IsSpelled-prop text a b = Σ_prop_path (Spells-prop text) (one_spelling a.0 b.0 a.1.fit b.1.fit (sym a.1.spelled ∙ b.1.spelled))
+IsSpelled-prop text a b = Σ_prop_path (Spells-prop text)
+    (one_spelling a.0 b.0 a.1.fit b.1.fit (sym a.1.spelled ∙ b.1.spelled))

@@ -1,5 +1,6 @@
-// The tests of `sr_start` that no program can show: the line of each fault, since not each can be brought about, and what
-// the clock tells. What the program makes of its command line, of addresses, and of readers and writers that fail is in tests/program.py.
+// The tests of `sr_start` that no program can show: the line of each fault, since not each can be brought about, and
+// what the clock tells. What the program makes of its command line, of addresses, and of readers and writers that fail
+// is in tests/program.py.
 use sr_start::{Fault, SystemClock, report};
 use std::alloc::Global;
 use std::io::{self, Error, ErrorKind};
@@ -100,7 +101,8 @@ fn a_clock_that_is_set_back_goes_on(rt: HostRuntime) {
         passed: AtomicU64::new(0),
     };
     let clock = SystemClock::new(&set);
-    // The system's time, the time that has passed, and what is told: from the third row on it is set back, then ahead, and back again.
+    // The system's time, the time that has passed, and what is told: from the third row on it is set back, then ahead,
+    // and back again.
     let rows = [
         (1_000, 10, 1_000),
         (1_100, 110, 1_100),

@@ -1,4 +1,5 @@
-// The tests of `sr_seats` and `sr_run`: what no clause says, that calls succeed while there is memory, and histories that were worked out by hand.
+// The tests of `sr_seats` and `sr_run`: what no clause says, that calls succeed while there is memory, and histories
+// that were worked out by hand.
 use sr_args::{Call, Command, read_call};
 use sr_book::Book;
 use sr_bytes::Words;

@@ -1,5 +1,5 @@
-// The tests of `sr_session`, what no clause says and no program shows: what a session makes of readers and writers that fail, how often it reads, and, in the
-// modules, what it makes of a desk's answers.
+// The tests of `sr_session`, what no clause says and no program shows: what a session makes of readers and writers that
+// fail, how often it reads, and, in the modules, what it makes of a desk's answers.
 ghost use Rattle.std.specs.Prelude.{◌≡◌, ◌≤◌, None, true, false, IfOk};
 
 use sr_book::Book;
@@ -158,8 +158,8 @@ fn is_told(found: End, end: End, written: &[u8], text: &[u8]) -> bool {
     found == end && written == text
 }
 
-/// Whether a session at a server without keys ends so, and what it writes is this. Books are made in functions of one exit: at each
-/// exit a book is dear to prove.
+/// Whether a session at a server without keys ends so, and what it writes is this. Books are made in functions of one
+/// exit: at each exit a book is dear to prove.
 fn ends_over(
     alloc: Global,
     hasher: RandomState,

@@ -26,7 +26,8 @@ fault_of book.NoSession = faults.NoSession
 
 -- a session that waited gets no reply: its letter cannot be read, or it has none
 pub data Loses (session : ℕ) (old : Option BookState) (fault : DeskFault) (new : Option BookState) : Type 0 where
-  unread : (letter : Letter) → fault ≡ faults.Unread → AwaitsAt old session (Ok letter) new → Loses session old fault new
+  unread : (letter : Letter) → fault ≡ faults.Unread → AwaitsAt old session (Ok letter) new
+      → Loses session old fault new
   idle : fault ≡ faults.Idle → new ≡ old → Loses session old fault new
   hidden : old ≡ None → new ≡ None → Loses session old fault new
 
@@ -41,7 +42,8 @@ made_of faults.Idle = Err ends.Desk
 made_of faults.Unread = Err ends.Memory
 
 -- a session cannot join, and ends so
-pub record FailsToJoin (may_tell : ℕ → Bool) (old : Option BookState) (end : End) (new : Option BookState) : Type 0 where
+pub record FailsToJoin (may_tell : ℕ → Bool) (old : Option BookState) (end : End)
+    (new : Option BookState) : Type 0 where
   pub told : ℕ
   pub result : Result Answer DeskFault
   pub by_clock : IsTrue (may_tell told)
@@ -59,8 +61,10 @@ IsDeskEnd ends.Memory = Unit {0}
 IsDeskEnd ends.Desk = Unit {0}
 
 -- no answer to a request is gathered, and the session ends: it was carried out and its reply is lost, or it is held
-pub data Fails {S : Type 0} (Answers : S → Words → List ℕ → S → Type 0) (Holds : S → Words → S → Type 0) (before : S) (words : Words) (end : End) (after : S) : Type 0 where
-  unread : (text : List ℕ) → Answers before words text after → end ≡ ends.Memory → Fails Answers Holds before words end after
+pub data Fails {S : Type 0} (Answers : S → Words → List ℕ → S → Type 0)
+    (Holds : S → Words → S → Type 0) (before : S) (words : Words) (end : End) (after : S) : Type 0 where
+  unread : (text : List ℕ) → Answers before words text after → end ≡ ends.Memory
+      → Fails Answers Holds before words end after
   held : Holds before words after → end ≡ ends.Desk → Fails Answers Holds before words end after
 
 -- where the book is shown: records were added, and these are the replies to the session in them

@@ -33,16 +33,22 @@ IsNoted (Err Memory) old new = new ≡ old
 IsNoted (Err Desk) old new = new ≡ old
 
 -- the answer to a request is gathered; the replies before it may have gone to the writer, which got these bytes
-pub record Gathers {S : Type 0} (Answers : S → Words → List ℕ → S → Type 0) (old : List ℕ) (sent : ℕ) (before : S) (words : Words) (gets new : List ℕ) (total : ℕ) (after : S) : Type 0 where
+pub record Gathers {S : Type 0} (Answers : S → Words → List ℕ → S → Type 0)
+    (old : List ℕ) (sent : ℕ) (before : S) (words : Words) (gets new : List ℕ) (total : ℕ) (after : S) : Type 0 where
   pub left : List ℕ
   pub text : List ℕ
   pub moves : Moves old sent gets left total
   pub answers : Answers before words text after
   pub appended : new ≡ left ++ text
 
--- the session ends at a request: it was carried out, and memory is lacking for its reply; it was not carried out, since the
--- writer failed; or it is held
-pub data Stops {S : Type 0} (Answers : S → Words → List ℕ → S → Type 0) (Holds : S → Words → S → Type 0) (gathered : List ℕ) (sent : ℕ) (before : S) (words : Words) (gets : List ℕ) (end : End) (after : S) : Type 0 where
-  silent : (left : List ℕ) (total : ℕ) (text : List ℕ) → Moves gathered sent gets left total → Answers before words text after → end ≡ Memory → Stops Answers Holds gathered sent before words gets end after
-  breaks : BreaksOff gathered sent gets end → after ≡ before → Stops Answers Holds gathered sent before words gets end after
-  waits : (left : List ℕ) (total : ℕ) → Moves gathered sent gets left total → Holds before words after → end ≡ Desk → Stops Answers Holds gathered sent before words gets end after
+-- the session ends at a request: it was carried out, and memory is lacking for its reply; it was not carried out, since
+-- the writer failed; or it is held
+pub data Stops {S : Type 0} (Answers : S → Words → List ℕ → S → Type 0)
+    (Holds : S → Words → S → Type 0) (gathered : List ℕ) (sent : ℕ) (before : S) (words : Words) (gets : List ℕ)
+    (end : End) (after : S) : Type 0 where
+  silent : (left : List ℕ) (total : ℕ) (text : List ℕ) → Moves gathered sent gets left total
+      → Answers before words text after → end ≡ Memory → Stops Answers Holds gathered sent before words gets end after
+  breaks : BreaksOff gathered sent gets end → after ≡ before
+      → Stops Answers Holds gathered sent before words gets end after
+  waits : (left : List ℕ) (total : ℕ) → Moves gathered sent gets left total → Holds before words after → end ≡ Desk
+      → Stops Answers Holds gathered sent before words gets end after

@@ -20,7 +20,8 @@ IsPieceEnd Desk = Unit {0}
 module _ {S : Type 0} (Answers : S → Words → List ℕ → S → Type 0) where
   -- the requests handed out so far were carried out: the answers to the first of them were written, those to the others
   -- are gathered
-  pub record IsAnswering (found : S) (taken written gathered : List ℕ) (sent : ℕ) (progress : Progress) (now : S) : Type 0 where
+  pub record IsAnswering (found : S) (taken written gathered : List ℕ) (sent : ℕ) (progress : Progress)
+      (now : S) : Type 0 where
     pub told : List Words
     pub held : List Words
     pub between : S

@@ -34,7 +34,12 @@ time_of (asked.At time) = times.At time
 
 abbrev pub claim_of : ℤ → TimeAsked → Option ℕ → Bool → Claim
 claim_of least_idle time count just_ids =
-    record { least_idle = at_least_0 least_idle; time = time_of time; count = option_map in_63_bits count; just_ids = just_ids }
+    record {
+      least_idle = at_least_0 least_idle;
+      time = time_of time;
+      count = option_map in_63_bits count;
+      just_ids = just_ids;
+    }
 
 -- an entry of the stream, if it has it
 abbrev pub entry_reply : Option Entry → List Answer
@@ -78,7 +83,8 @@ module _ (moment : ℕ) (consumer : List ℕ) (claim : Claim) where
   claimed_of_scan found looked entries group =
       let ids = map (λ nack. nack.id) looked in
       regroups (group_after_claim claim consumer moment entries ids group)
-      (scan_answer entries (listed_claim claim consumer moment entries ids group.nacks) (id_behind (length looked) found))
+      (scan_answer entries (listed_claim claim consumer moment entries ids group.nacks)
+      (id_behind (length looked) found))
 
   abbrev pub autoclaimed : Id → ℕ → List Entry → GroupState → Regrouped
   autoclaimed start count entries group =

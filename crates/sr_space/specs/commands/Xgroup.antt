@@ -32,7 +32,8 @@ yes_or_no false = integer (pos 0)
 abbrev pub made_in : List ℕ → Position → StreamState → Touched
 made_in group from stream =
     if has_group group stream.groups then refuses errors.BusyGroup
-    else writes (with_groups (with_group group (new_group (id_of from stream)) stream.groups) stream) (simple_string words.Ok)
+    else writes (with_groups (with_group group (new_group (id_of from stream)) stream.groups) stream)
+    (simple_string words.Ok)
 
 -- CREATE: with MKSTREAM a missing key is made, with an empty stream
 abbrev pub xgroup_create : List ℕ → Position → Bool → Option StreamState → Touched

@@ -1,4 +1,5 @@
--- XINFO tells of a stream, of its groups, and of the consumers of a group. Each map is a flat array of names and values.
+-- XINFO tells of a stream, of its groups, and of the consumers of a group. Each map is a flat array of names and
+-- values.
 -- Source: Redis documentation, the pages of XINFO STREAM, XINFO GROUPS and XINFO CONSUMERS.
 
 use Rattle.std.specs.Prelude.{ℕ, ◌-◌, List, [], ◌∷◌, length, map, Option, Some, None, codes, pos, slice_get}

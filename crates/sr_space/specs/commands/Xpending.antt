@@ -1,7 +1,8 @@
 -- XPENDING tells what is pending in a group: in sum, or a line for each entry of a range.
 -- Source: Redis documentation, the page of XPENDING.
 
-use Rattle.std.specs.Prelude.{ℕ, zero, suc, ℤ, List, [], ◌∷◌, length, map, take, Option, Some, None, pos, negsuc, decimal}
+use Rattle.std.specs.Prelude.{ℕ, zero, suc, ℤ, List, [], ◌∷◌, length, map, take, Option, Some, None, pos, negsuc}
+use Rattle.std.specs.Prelude.{decimal}
 use Rattle.std.specs.List.{flat_map}
 use Rattle.sr_args.specs.declared.commands.xpending.PendingAsked.{PendingAsked}
 use Rattle.sr_group.specs.declared.consumer.Consumer.{Consumer}

@@ -53,8 +53,8 @@ have_group name keys [] = true
 have_group name keys (stream ∷ streams) = has_group_in name (stream_at keys stream.0) && have_group name keys streams
 
 module _ (moment : ℕ) (name consumer : List ℕ) (count : Option ℕ) (no_ack : Bool) where
-  -- `>`: entries that the group has not delivered yet are delivered, and listed if there are some. A written id: what is
-  -- pending for the consumer above it is listed, and counts as delivered once more.
+  -- `>`: entries that the group has not delivered yet are delivered, and listed if there are some. A written id: what
+  -- is pending for the consumer above it is listed, and counts as delivered once more.
   abbrev pub read_group : ReadAsked → Key → List Entry → GroupState → GroupRead
   read_group asked.New key entries group =
       let new = new_entries group.last count entries in
@@ -80,7 +80,8 @@ module _ (moment : ℕ) (name consumer : List ℕ) (count : Option ℕ) (no_ack 
 
   -- what is listed of the streams, in the order in which they are named
   abbrev pub listed_of_all : Keys → List (Key × ReadAsked) → List Answer
-  listed_of_all keys streams = flat_map (λ stream. (read_stream stream.1 stream.0 (stream_at keys stream.0)).listed) streams
+  listed_of_all keys streams = flat_map (λ stream. (read_stream stream.1 stream.0 (stream_at keys stream.0)).listed)
+      streams
 
   -- the keys with what is written of each stream. Streams are named once each, so that none sees what another leaves.
   abbrev pub after_reads : Keys → List (Key × ReadAsked) → Keys

@@ -26,12 +26,14 @@ IsClaim call = (key : Key) × ((name : List ℕ) × IsClaimIn key name call)
 -- a group after a call of XCLAIM in it; no other call changes it here
 abbrev pub group_after : ℕ → List Entry → GroupState → Call → GroupState
 group_after moment entries group (calls.Xclaim claim) = group_after_claim
-    (claim_of claim.least_idle claim.time claim.count claim.just_ids) claim.consumer (in_63_bits moment) entries claim.ids group
+    (claim_of claim.least_idle claim.time claim.count claim.just_ids) claim.consumer (in_63_bits moment) entries
+    claim.ids group
 group_after moment entries group call = group
 
 -- the move does what the call does
 pub record IsMoveOf (call : Call) (move : MoveState) : Type 0 where
-  pub same : (moment : ℕ) (entries : List Entry) (group : GroupState) → after_move (in_63_bits moment) entries group move ≡ group_after moment entries group call
+  pub same : (moment : ℕ) (entries : List Entry) (group : GroupState)
+      → after_move (in_63_bits moment) entries group move ≡ group_after moment entries group call
   pub count : HasCount move
 
 -- so does each of these moves for its call

@@ -46,7 +46,8 @@ by_read r = xreadgroup.xreadgroup (in_63_bits r.moment) r.group.now r.consumer.n
 -- a key with pending entries that are listed
 abbrev pub history_item : Key → List Entry → List Listed → Answer
 history_item key entries listed =
-    array_of (bulk_string key ∷ array_of (map (λ item. xreadgroup.again_answer item.id (entry_with item.id entries)) listed) ∷ [])
+    array_of (bulk_string key
+    ∷ array_of (map (λ item. xreadgroup.again_answer item.id (entry_with item.id entries)) listed) ∷ [])
 
 -- a stream whose group has changed as a call shows
 abbrev pub with_shown : List ℕ → ShownState → StreamState → Option GroupState → StreamState

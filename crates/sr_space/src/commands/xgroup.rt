@@ -3,7 +3,8 @@ ghost use Rattle.sr_resp.specs.declared.code.Word.TheVariants as words;
 ghost use Rattle.sr_resp.specs.Reply.{simple_string};
 ghost use Rattle.sr_space.specs.Bounds as bounds;
 ghost use Rattle.sr_space.specs.Touched.{left_of, reply_of};
-ghost use Rattle.sr_space.specs.commands.Xgroup.{consumer_made, consumer_removed, id_of as position_of, made_in, xgroup_create, xgroup_destroy, xgroup_set_id, yes_or_no};
+ghost use Rattle.sr_space.specs.commands.Xgroup.{consumer_made, consumer_removed, id_of as position_of, made_in};
+ghost use Rattle.sr_space.specs.commands.Xgroup.{xgroup_create, xgroup_destroy, xgroup_set_id, yes_or_no};
 
 use crate::Answered;
 use crate::bounds::in_63_bits;
@@ -138,7 +139,8 @@ fn create(
     group: &Name,
     from: Position,
 ) -> Result<Answered, AllocError>
-    ensures stream { OnOk result (stream.new.shown ≡ left_of stream.old.shown (made_in group.now from stream.old.shown).written) }
+    ensures stream { OnOk result (stream.new.shown
+        ≡ left_of stream.old.shown (made_in group.now from stream.old.shown).written) }
     ensures outcome { IfOk result (λ outcome. outcome ≡ (made_in group.now from stream.old.shown).outcome) }
     ensures err { OnErr result (stream.new.shown ≡ stream.old.shown) }
 {

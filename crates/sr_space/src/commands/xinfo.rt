@@ -3,7 +3,8 @@ ghost use Rattle.std.specs.Option.{option_copied};
 ghost use Rattle.sr_resp.specs.Reply.{array_of};
 ghost use Rattle.sr_space.specs.{reply_of, shown_of};
 ghost use Rattle.sr_space.specs.Bounds as bounds;
-ghost use Rattle.sr_space.specs.commands.Xinfo.{consumer_line, consumers_answer, entry_or_null as entry_reply_or_null, group_answer, stream_answer};
+ghost use Rattle.sr_space.specs.commands.Xinfo.{consumer_line, consumers_answer};
+ghost use Rattle.sr_space.specs.commands.Xinfo.{entry_or_null as entry_reply_or_null, group_answer, stream_answer};
 ghost use Rattle.sr_space.specs.commands.Xinfo.{xinfo_consumers, xinfo_groups, xinfo_stream};
 
 use crate::Answered;

@@ -9,7 +9,8 @@ ghost use Rattle.sr_space.specs.Keys.{shown_keys, stream_at, with_stream};
 ghost use Rattle.sr_space.specs.commands.Xread.{listed_or_null};
 ghost use Rattle.sr_space.specs.commands.Xreadgroup as groups;
 ghost use Rattle.sr_space.specs.steps.Reading.{HasRoomAt, HasRoomIn, StayBeside, StayBesideAll, Writes, WritesAt};
-ghost use Rattle.sr_space.specs.steps.Reading.{after_call, history_item, in_group, in_stream, keys_after, listed_by, named_by};
+ghost use Rattle.sr_space.specs.steps.Reading.{after_call, history_item, in_group, in_stream, keys_after, listed_by};
+ghost use Rattle.sr_space.specs.steps.Reading.{named_by};
 ghost use Rattle.sr_space.specs.steps.Waiting as waiting;
 
 use crate::Space;
@@ -89,8 +90,8 @@ fn lists_stream(stream: &Stream, name: &Name, asked: ReadAsked) -> bool
 /// XREADGROUP of streams that have the group, in the order in which they are named. `send` has what those before them
 /// list, and ends as the reply; `keep` ends as an equal one.
 ///
-/// Each stream makes its growths on the way to the last one, where the replies are made, and its effect on the way back: so
-/// none has changed if memory is refused. A call may name some 2,000 streams, so the frame is kept small.
+/// Each stream makes its growths on the way to the last one, where the replies are made, and its effect on the way
+/// back: so none has changed if memory is refused. A call may name some 2,000 streams, so the frame is kept small.
 ///
 /// Source: Redis documentation, command XREADGROUP.
 pub(crate) fn read_all(
@@ -104,7 +105,8 @@ pub(crate) fn read_all(
     requires array { IsArray send.old }
     requires different { AreDifferent (named_by streams.now) }
     requires there { IsTrue (groups.have_group read.now.group.now (shown_keys keys.old.entries) streams.now) }
-    ensures keys { OnOk result (shown_keys keys.new.entries ≡ keys_after read.now (shown_keys keys.old.entries) streams.now) }
+    ensures keys { OnOk result (shown_keys keys.new.entries
+        ≡ keys_after read.now (shown_keys keys.old.entries) streams.now) }
     ensures send { OnOk result ((items : List Answer) → send.old ≡ array_of items
         → send.new ≡ listed_or_null (items ++ listed_by read.now (shown_keys keys.old.entries) streams.now)) }
     ensures keep { OnOk result (keep.new ≡ send.new) }
@@ -140,7 +142,8 @@ fn prepare_at(
     ensures written { IfOk result (λ shown.
         WritesAt read.now asked key.now shown (stream_at (shown_keys keys.old.entries) key.now)) }
     ensures listed { OnOk result ((items : List Answer) → listed.old ≡ array_of items → listed.new
-        ≡ array_of (items ++ (in_stream read.now asked key.now (stream_at (shown_keys keys.old.entries) key.now)).listed)) }
+        ≡ array_of (items ++ (in_stream read.now asked key.now
+        (stream_at (shown_keys keys.old.entries) key.now)).listed)) }
 {
     match keys.get_mut(key) {
         Some(stream) => prepare(stream, alloc, read, key, asked, listed),

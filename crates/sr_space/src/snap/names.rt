@@ -17,8 +17,10 @@ pub(super) fn is_among(names: &[Name], name: &Name) -> bool
     names.iter().any(|other| *other == *name)
 }
 
-/// Copies of the names in byte order, each once.
-pub(super) fn names_in_order(alloc: Global, names: &[Name]) -> Result<Vec<Name>, AllocError>
+/// Copies of the names in byte order, each once: the dead consumers as a snapshot has them.
+///
+/// Source: docs/RECOVERY.md.
+pub fn names_in_order(alloc: Global, names: &[Name]) -> Result<Vec<Name>, AllocError>
     ensures { IfOk result (λ list. list.items ≡ in_order names.now) }
 {
     let mut list = Vec::new(alloc);

@@ -148,8 +148,10 @@ fn push_live(
     Ok(())
 }
 
-/// For each class of the stranded entries, in byte order, the rates of the live consumers.
-pub(super) fn rates_by_class(
+/// For each class of the stranded entries, in byte order, the rates of the live consumers, as a snapshot has them.
+///
+/// Source: docs/RECOVERY.md.
+pub fn rates_by_class(
     alloc: Global,
     policy: &Policy,
     live: &[Live],

@@ -1,5 +1,6 @@
-// What no clause says and no program shows: that the calls of a plan are made, worked by hand, and whether a plan that is checked was carried
-// out. What verdicts are replied as is in tests/commands/recover.run.session, and what replies are worth in tests/plan_check.py.
+// What no clause says and no program shows: that the calls of a plan are made, worked by hand, and whether a plan that
+// is checked was carried out. What verdicts are replied as is in tests/commands/recover.run.session, and what replies
+// are worth in tests/plan_check.py.
 use crate::tests::run::records::snapshot_of;
 use crate::tests::run::rows::Line;
 use crate::tests::run::{TWO, book_under};

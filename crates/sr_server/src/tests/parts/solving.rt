@@ -1,4 +1,5 @@
-// What no clause says: that a problem is solved while there is memory, the greatest ones too, and totals that were worked out by hand.
+// What no clause says: that a problem is solved while there is memory, the greatest ones too, and totals that were
+// worked out by hand.
 use sr_solver::solve;
 use sr_transport::{Problem, Solved, Tier, check};
 use std::alloc::{AllocError, Global};
@@ -44,8 +45,8 @@ const EVEN: &[(usize, u64, usize, u64, Option<u64>)] = &[
 /// Of the first two entries one finds no place.
 const UNEVEN: &[Option<u64>] = &[Some(1), None, Some(1), None, Some(5), Some(5)];
 
-/// Two consumers of three places each, one of the first without a fee; both entries cost 2 at the first and 8 at the second. The
-/// fee, and the least total: both at the first, or one at each.
+/// Two consumers of three places each, one of the first without a fee; both entries cost 2 at the first and 8 at the
+/// second. The fee, and the least total: both at the first, or one at each.
 const FEES: &[(u64, u64)] = &[(0, 4), (5, 9), (6, 10), (7, 10)];
 
 /// The tiers of this many consumers with one room each.

@@ -1,4 +1,5 @@
-// What no program does and no clause says: that a stream is copied while there is memory, with its entries, its groups and what is pending.
+// What no program does and no clause says: that a stream is copied while there is memory, with its entries, its groups
+// and what is pending.
 use sr_bytes::{Fields, Name};
 use sr_ids::{Id, Spec};
 use sr_stream::Stream;

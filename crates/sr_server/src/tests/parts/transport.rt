@@ -1,10 +1,11 @@
-// That the definitions mean what they should: the limits of a problem, each with the number that is just taken and the one
-// that is just refused. No program asks for more.
+// That the definitions mean what they should: the limits of a problem, each with the number that is just taken and the
+// one that is just refused. No program asks for more.
 use sr_transport::{Problem, Tier};
 use std::alloc::{AllocError, Global};
 use std::test::Fail;
 
-/// What is tried: how many consumers, their room, how many entries, how many costs, each cost, and whether that is taken.
+/// What is tried: how many consumers, their room, how many entries, how many costs, each cost, and whether that is
+/// taken.
 type Limit = (&'static str, usize, u64, usize, usize, u64, bool);
 
 const LIMITS: &[Limit] = &[

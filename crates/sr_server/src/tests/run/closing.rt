@@ -1,4 +1,5 @@
-// Rows over a book behind a lock, and how their runs end. Each call of it is one of a held book, whose contract tells what comes of it.
+// Rows over a book behind a lock, and how their runs end. Each call of it is one of a held book, whose contract tells
+// what comes of it.
 ghost use Rattle.std.specs.Prelude.{◌≡◌};
 
 use super::records::{are_driven, driven};
@@ -71,7 +72,8 @@ fn missing<L: Ledger>(seats: &mut Vec<Seat<L>>, altered: Altered) -> Option<Seat
     }
 }
 
-/// Closes a run with what was told, altered. If it is refused so, what was handed back is closed with all that was told.
+/// Closes a run with what was told, altered. If it is refused so, what was handed back is closed with all that was
+/// told.
 fn close<L: Ledger>(
     alloc: Global,
     shared: Shared<L>,
@@ -147,7 +149,8 @@ fn is_of_row(
     Ok(same && closed.acts == row.acts && closed.skipped == row.skipped)
 }
 
-/// Fails the test unless a row behind a lock, closed with this altered, has this fault, and then its events and records.
+/// Fails the test unless a row behind a lock, closed with this altered, has this fault, and then its events and
+/// records.
 fn closes_by<L: Ledger, R: AllocGlobal + Abort + RandomSource + Wait>(
     rt: &R,
     blank: Blank,

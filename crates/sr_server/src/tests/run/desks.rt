@@ -1,4 +1,5 @@
-// What a seat is told of letters, and when it gives up its turn. That a session at a seat writes what it writes alone is in tests/listening.py.
+// What a seat is told of letters, and when it gives up its turn. That a session at a seat writes what it writes alone
+// is in tests/listening.py.
 ghost use Rattle.std.specs.Prelude.{◌≡◌, None};
 
 use super::{LOOKS, TWO, book_under, call};
@@ -105,8 +106,8 @@ fn pause<L: Ledger, R: AllocGlobal + Abort + Clock + Wait>(
     Ok(())
 }
 
-/// What happens at two seats at once: session 1 makes the calls before, and then, in a thread of its own, one meanwhile, once the session of
-/// the requests at the other seat waits, or is between two rounds of a recovery.
+/// What happens at two seats at once: session 1 makes the calls before, and then, in a thread of its own, one
+/// meanwhile, once the session of the requests at the other seat waits, or is between two rounds of a recovery.
 #[derive(Clone, Copy, Drop)]
 struct Both {
     before: &'static [&'static str],
@@ -231,8 +232,8 @@ impl<D: Desk> Desk for Telling<'_, D> {
     }
 }
 
-/// Makes a call of session 1 once the other seat's session has begun, and a little later, so that one that waits sleeps by then and has
-/// to be woken. If it is refused the other leaves, since it could wait for good.
+/// Makes a call of session 1 once the other seat's session has begun, and a little later, so that one that waits sleeps
+/// by then and has to be woken. If it is refused the other leaves, since it could wait for good.
 fn call_meanwhile<L: Ledger, R: AllocGlobal + Clock + Wait>(
     rt: &R,
     shared: &Shared<L>,
@@ -398,7 +399,8 @@ fn another_seat_has_its_turn_while_a_desk_pauses(rt: HostRuntime) -> Result<(), 
     plays(&rt, Scene::Pause)
 }
 
-/// A session that made its plan under the lock, or came to the gate before it paused, would wait for the other's call in vain.
+/// A session that made its plan under the lock, or came to the gate before it paused, would wait for the other's call
+/// in vain.
 #[test]
 fn no_plan_under_the_lock(rt: HostRuntime) -> Result<(), Fail> {
     plays(&rt, Scene::Both(RECOVERY))

@@ -8,8 +8,8 @@ use std::hash::RandomState;
 use std::mem;
 use std::test::Fail;
 
-/// Drives a book by a list of events, and keeps the last snapshot that one gives. A refused event is passed over, but not one that is refused
-/// memory.
+/// Drives a book by a list of events, and keeps the last snapshot that one gives. A refused event is passed over, but
+/// not one that is refused memory.
 fn drive(
     alloc: Global,
     book: &mut Book,
@@ -33,7 +33,8 @@ pub(super) fn keep(answer: Answer, snapshot: &mut Option<Snapshot>) {
     }
 }
 
-/// Drives a book by the events of lines, all in one list, or in two if there is a verdict, since it is made of a snapshot that the first gives.
+/// Drives a book by the events of lines, all in one list, or in two if there is a verdict, since it is made of a
+/// snapshot that the first gives.
 fn drive_all(
     alloc: Global,
     book: &mut Book,
@@ -136,8 +137,8 @@ pub(super) fn driven(alloc: Global, book: Book, lines: &[Line]) -> Result<Book, 
     }
 }
 
-/// Whether a closed book has the records of one that is driven by the events of lines, but for those up to its last checkpoint, and counts as
-/// many events. The driven book is dropped here alone.
+/// Whether a closed book has the records of one that is driven by the events of lines, but for those up to its last
+/// checkpoint, and counts as many events. The driven book is dropped here alone.
 pub(super) fn are_driven(
     alloc: Global,
     book: Book,

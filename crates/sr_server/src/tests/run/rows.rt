@@ -16,8 +16,8 @@ use std::test::Fail;
 /// A moment, a session, its call or what else happens, and what is said of it.
 pub(crate) type Line = (u64, u64, &'static str, &'static str);
 
-/// A run: the events of the book before it is opened, what happens then, how many events of seats there are, and how many receipts and
-/// letters are of records that are kept no longer.
+/// A run: the events of the book before it is opened, what happens then, how many events of seats there are, and how
+/// many receipts and letters are of records that are kept no longer.
 #[derive(Clone, Copy, Drop)]
 pub(super) struct Row {
     pub(super) before: &'static [Line],
@@ -87,7 +87,8 @@ pub(super) const DEADLINE: Row = Row {
     skipped: 0,
 };
 
-/// D dies with an entry of each class, of weight 2. B takes the first at 4 and A the second at 2; the other way round it were 2 and 200.
+/// D dies with an entry of each class, of weight 2. B takes the first at 4 and A the second at 2; the other way round
+/// it were 2 and 200.
 pub(super) const RECOVERY: Row = Row {
     before: &[],
     lines: &[
@@ -104,8 +105,8 @@ pub(super) const RECOVERY: Row = Row {
     skipped: 0,
 };
 
-/// Session 1 adds an entry, and session 2, at the other seat, reads it later: a call's moment is that which it is told. Then session 1
-/// waits, and leaves meanwhile.
+/// Session 1 adds an entry, and session 2, at the other seat, reads it later: a call's moment is that which it is told.
+/// Then session 1 waits, and leaves meanwhile.
 pub(super) const TWO_SEATS: Row = Row {
     before: &[],
     lines: &[
@@ -157,7 +158,8 @@ pub(super) const SCRIPTS: Row = Row {
     skipped: 0,
 };
 
-/// A checkpoint is made at record 3, since more than no record is kept, and none before it, since no more than a thousand are.
+/// A checkpoint is made at record 3, since more than no record is kept, and none before it, since no more than a
+/// thousand are.
 pub(super) const CHECKPOINT: Row = Row {
     before: &[],
     lines: &[
@@ -345,7 +347,8 @@ fn keep_receipt(alloc: Global, told: &mut Told, receipt: Receipt) -> Result<Vec<
     }
 }
 
-/// Carries out an event. It counts as refused for memory if a reader was not served for that: it would be waited for in vain.
+/// Carries out an event. It counts as refused for memory if a reader was not served for that: it would be waited for in
+/// vain.
 fn carried_out<L: Ledger, R: AllocGlobal + Wait>(
     rt: &R,
     shared: &Shared<L>,

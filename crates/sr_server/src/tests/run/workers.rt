@@ -66,7 +66,8 @@ impl Calls {
         self.gave_up.store(true, Ordering::SeqCst);
     }
 
-    /// Whether nobody was held in vain, and the calls were come to that have these receipts, each by the session that made it.
+    /// Whether nobody was held in vain, and the calls were come to that have these receipts, each by the session that
+    /// made it.
     fn are_those_of(&self, receipts: &[Vec<Receipt>]) -> bool {
         let (mut count, mut sum) = (0u64, 0u64);
         for receipts in receipts {
@@ -193,8 +194,8 @@ fn two_scripts_have_their_replies(rt: HostRuntime) -> Result<(), Fail> {
 /// Three calls for each of two workers.
 const PINGS: &[&[&str]] = &[&["PING", "PING", "PING"], &["PING", "PING", "PING"]];
 
-/// The first worker that comes to a call is held until the other has come to two: if workers went one by one, or came to a call under the
-/// lock, it would be held in vain. Each is told to be the session as which it joined.
+/// The first worker that comes to a call is held until the other has come to two: if workers went one by one, or came
+/// to a call under the lock, it would be held in vain. Each is told to be the session as which it joined.
 #[test]
 fn no_workers_one_by_one(rt: HostRuntime) -> Result<(), Fail> {
     let scripts = scripts(rt.alloc(), PINGS)?;
@@ -336,8 +337,8 @@ const STOPPED: &[(usize, u64, &[&[&str]])] = &[
     (0, 3, &[WAITS, &["PING"]]),
 ];
 
-/// A worker calls for a session that waits, and is stopped there, before its third call. The others make all their calls, and the first
-/// that was stopped is told.
+/// A worker calls for a session that waits, and is stopped there, before its third call. The others make all their
+/// calls, and the first that was stopped is told.
 #[test]
 fn a_worker_is_stopped_by_a_refused_call_and_the_other_goes_on(
     rt: HostRuntime,

@@ -116,8 +116,8 @@ fn answer_to(alloc: Global, asked: Asked, count: usize) -> Answer {
     }
 }
 
-/// Answers each call that it does not refuse by the number of bytes that were written before it. A call with BLOCK waits, and is answered
-/// so too.
+/// Answers each call that it does not refuse by the number of bytes that were written before it. A call with BLOCK
+/// waits, and is answered so too.
 #[derive(Drop)]
 struct Noting<'a> {
     count: &'a Cell<usize>,
@@ -232,7 +232,8 @@ const NO_MEMORY: &str = "-OOM out of memory\r\n-OOM out of memory\r\n-OOM out of
 
 const NO_INDEX: &str = "-OOM history is full\r\n-OOM history is full\r\n-OOM history is full\r\n";
 
-/// What a desk refuses, how a session of three calls ends of which the second waits, whether its leave was carried out, and what it writes.
+/// What a desk refuses, how a session of three calls ends of which the second waits, whether its leave was carried out,
+/// and what it writes.
 const FAULTS: &[(Refused, End, bool, &str)] = &[
     (Refused::Nothing, End::Closed, true, THREE),
     (
@@ -282,8 +283,9 @@ const FAULTS: &[(Refused, End, bool, &str)] = &[
     ),
 ];
 
-/// Memory and a full history are answered as errors, and the session goes on; every other fault of a call ends it. So does a letter that is
-/// not there; if memory is lacking for one, that is how it ends. A session that cannot join reads and writes nothing.
+/// Memory and a full history are answered as errors, and the session goes on; every other fault of a call ends it. So
+/// does a letter that is not there; if memory is lacking for one, that is how it ends. A session that cannot join reads
+/// and writes nothing.
 #[test]
 fn faults_of_a_desk(rt: HostRuntime) -> Result<(), Fail> {
     let bytes = spelled(rt.alloc(), "PING\nXREAD BLOCK 0 STREAMS s $\nPING")?;
@@ -313,8 +315,9 @@ impl Clock for Counting {
     }
 }
 
-/// A desk over a book, which notes what it is asked: `s` for a step at the moment that the clock told last, `m` for one at another moment, `a` for
-/// a letter and `p` for a pause. Before each it notes `w` if something was written meanwhile, and `g` if the gate was passed between two rounds.
+/// A desk over a book, which notes what it is asked: `s` for a step at the moment that the clock told last, `m` for one
+/// at another moment, `a` for a letter and `p` for a pause. Before each it notes `w` if something was written
+/// meanwhile, and `g` if the gate was passed between two rounds.
 #[derive(Drop)]
 struct Watched<'a> {
     book: &'a mut Book,
@@ -434,8 +437,8 @@ const PAUSES: &[(&str, &str)] = &[
 ];
 
 /// No pause comes between the requests of one read. One comes after them all, before their replies are written; one
-/// before the replies that go out before a call that may wait; and one before a plan is made, after which the gate is passed. The clock is asked once for each step, and so
-/// not for words that are not a command, which have none.
+/// before the replies that go out before a call that may wait; and one before a plan is made, after which the gate is
+/// passed. The clock is asked once for each step, and so not for words that are not a command, which have none.
 #[test]
 fn a_pause_comes_before_a_write_and_before_a_plan(rt: HostRuntime) -> Result<(), Fail> {
     for (lines, want) in PAUSES {

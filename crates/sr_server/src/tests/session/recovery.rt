@@ -48,8 +48,8 @@ fn meddle(alloc: Global, book: &mut Book, requests: &[u8]) {
     );
 }
 
-/// A book at which others act too while a recovery goes on: between a snapshot and its verdict they have their requests answered, in the
-/// first round the first requests, and so on.
+/// A book at which others act too while a recovery goes on: between a snapshot and its verdict they have their requests
+/// answered, in the first round the first requests, and so on.
 #[derive(Drop)]
 struct Scene {
     alloc: Global,
@@ -148,8 +148,9 @@ impl Desk for Lent<'_> {
     fn pause(&mut self) {}
 }
 
-/// What was answered before, what other sessions do meanwhile in each round, the commands, how their replies begin, what comes after the price of A, which is from 0
-/// to 2 then (nothing, if that is not compared), and what was noted of them.
+/// What was answered before, what other sessions do meanwhile in each round, the commands, how their replies begin,
+/// what comes after the price of A, which is from 0 to 2 then (nothing, if that is not compared), and what was noted of
+/// them.
 #[derive(Clone, Copy, Drop)]
 struct Meanwhile<'a> {
     before: &'a str,
@@ -275,7 +276,8 @@ struct Sent<'a> {
     commands: &'a [u8],
 }
 
-/// Whether the commands of a row are answered as it wants, at a book under this policy. It has one exit, since it holds a book.
+/// Whether the commands of a row are answered as it wants, at a book under this policy. It has one exit, since it holds
+/// a book.
 fn is_answered(
     alloc: Global,
     hasher: RandomState,
