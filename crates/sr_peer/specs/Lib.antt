@@ -1,0 +1,6 @@
+pub mod Arriving
+pub mod Exchange
+pub mod Reply
+pub mod Shown
+pub mod Spelled
+pub mod steps

@@ -1,0 +1,19 @@
+//! The RESP2 replies of another server, read as they arrive, and requests spelled to it.
+#![tactic(auto)]
+
+mod answers;
+mod first;
+mod line;
+mod number;
+mod part;
+mod parts;
+mod peer;
+mod request;
+#[cfg(test)]
+mod tests;
+
+pub use answers::{Answers, MOST_BYTES, TakeFault};
+pub use part::Part;
+pub use parts::Parts;
+pub use peer::{Peer, PeerFault, ask};
+pub use request::{append_header, append_number, append_word, requests_are_read};
