@@ -1,0 +1,9 @@
+pub mod SaidLemmas
+pub mod AlikeLemmas
+pub mod BoundsLemmas
+pub mod GapLemmas
+pub mod LackLemmas
+pub mod TiersLemmas
+pub mod WorkLemmas
+pub mod LookingLemmas
+pub mod TalkLemmas

@@ -1,0 +1,256 @@
+-- How a group is looked up: what one more word, entry or reply adds to what was asked and answered.
+use Rattle.std.proofs.Common.{◌≡◌, ℕ, ◌+◌, ◌<◌, ◌≤◌, List, [], ◌∷◌, ◌++◌, length, get_or, map, take, drop, codes}
+use Rattle.std.proofs.Common.{Option, Result, Ok, refl, sym, ap, ◌∙◌, subst}
+use Rattle.std.proofs.Common.{append-nil, append_assoc, take-append-drop}
+use Rattle.std.proofs.lemmas.List.{flat_map_more, map-append, take_all, take_more}
+use Rattle.std.proofs.lemmas.List.Concat.{flat_map-append}
+use Rattle.std.proofs.lemmas.Result.{IfOk-at_ok, IfOk-weaker}
+use Rattle.std.specs.Io.KnownBytes.{Appends}
+use Rattle.std.specs.List.{flat_map}
+use Rattle.std.specs.Result.{IfOk}
+use Rattle.sr_ids.specs.declared.id.Id.{Id}
+use Rattle.sr_ids.specs.Spelling.{spelling}
+use Rattle.sr_policy.specs.Rules.{Text}
+use Rattle.sr_peer.specs.Reply.{Part, part_text, request_text}
+use Rattle.sr_live.specs.declared.looked.Row.{Row}
+use Rattle.sr_live.specs.Looking.{Exchange, LooksEntries, Talks, answered_of, asked_of, entry_call}
+use Rattle.sr_live.specs.Said.{SayEntries, SaysEntry}
+use Rattle.sr_live.proofs.TalkLemmas.{Talks-none, Talks-trans}
+
+-- ---- what a call says is understood
+
+pub understood-says : {T E F : Type 0} (said : Result T E) (result : Result T F) (P : T → Type 0)
+    → IfOk result (λ value. said ≡ Ok value) → IfOk said P → IfOk result P
+understood-says said result P understood says =
+    IfOk-weaker result (λ value. said ≡ Ok value) P (λ value is. IfOk-at_ok P is says) understood
+
+-- ---- a text that is written item by item
+
+-- one more item is written, which is read with some default
+written-at : {X Y : Type 0} (f : X → List Y) (xs : List X) (i : ℕ) (d : X) (old before now : List Y)
+    → i < length xs → before ≡ old ++ flat_map f (take i xs) → now ≡ before ++ f (get_or xs i d)
+    → now ≡ old ++ flat_map f (take (i + 1) xs)
+written-at {X} {Y} f xs i d old before now within so_far pushed =
+    let push : (old ++ flat_map f (take i xs)) ++ f (get_or xs i d)
+    ≡ old ++ flat_map f (take i xs ++ get_or xs i d ∷ []) =
+    flat_map_more f old (take i xs) (get_or xs i d) in
+    pushed ∙ ap (λ (l : List Y). l ++ f (get_or xs i d)) so_far ∙ push
+    ∙ ap (λ (l : List X). old ++ flat_map f l) (sym (take_more xs i d within))
+
+-- the same of an item that owns memory
+pub written-next : {X Y : Type 0} (f : X → List Y) (xs : List X) (i : ℕ) (x : X) (old before now : List Y)
+    → i < length xs → x ≡ get_or xs i x → before ≡ old ++ flat_map f (take i xs) → now ≡ before ++ f x
+    → now ≡ old ++ flat_map f (take (i + 1) xs)
+written-next f xs i x old before now within read so_far pushed =
+    written-at f xs i x old before now within so_far (pushed ∙ ap (λ y. before ++ f y) read)
+
+-- all items are written
+pub written-all : {X Y : Type 0} (f : X → List Y) (xs : List X) (i : ℕ) (old now : List Y) → length xs ≤ i
+    → now ≡ old ++ flat_map f (take i xs) → now ≡ old ++ flat_map f xs
+written-all {X} f xs i old now all so_far = so_far ∙ ap (λ (l : List X). old ++ flat_map f l) (take_all i xs all)
+
+-- ---- requests
+
+-- the words of a call for one entry
+pub entry-words : (old now : List ℕ) (key named text : Text) (id : Id) → named ≡ key → text ≡ spelling id
+    → now ≡ old ++ request_text (codes "XRANGE" ∷ named ∷ text ∷ text ∷ [])
+    → now ≡ old ++ request_text (entry_call key id)
+entry-words old now key named text id same spells is =
+    is ∙ ap (λ (t : Text). old ++ request_text (codes "XRANGE" ∷ t ∷ text ∷ text ∷ [])) same
+    ∙ ap (λ (t : Text). old ++ request_text (codes "XRANGE" ∷ key ∷ t ∷ t ∷ [])) spells
+
+-- ---- replies, one for each entry
+
+-- a row without its fields
+abbrev pub listed_of : Row → Id × Text
+listed_of row = (row.id, row.owner)
+
+-- these entries were read, and their rows added
+abbrev pub AreSaid : List Part → List Part → List (Id × Text) → List Row → List Row → Type 0
+AreSaid all left listed old now =
+    (replies : List (List Part)) × (more : List Row) × SayEntries replies more
+    × (all ≡ flat_map (λ reply. reply) replies ++ left) × (map (λ row. (row.id, row.owner)) more ≡ listed)
+    × (now ≡ old ++ more)
+
+pub AreSaid-none : (all : List Part) (old : List Row) → AreSaid all all [] old old
+AreSaid-none all old = ([], [], tt, refl, refl, sym (append-nil old))
+
+SayEntries-push : (replies : List (List Part)) (rows : List Row) (parts : List Part) (row : Row)
+    → SayEntries replies rows → SaysEntry parts row.id row.fields
+    → SayEntries (replies ++ parts ∷ []) (rows ++ row ∷ [])
+SayEntries-push [] [] parts row before says = (says, tt)
+SayEntries-push [] (r ∷ rows) parts row before says = absurd before
+SayEntries-push (p ∷ replies) [] parts row before says = absurd before
+SayEntries-push (p ∷ replies) (r ∷ rows) parts row before says =
+    (before.0, SayEntries-push replies rows parts row before.1 says)
+
+-- one more reply is read
+replies-next : (replies : List (List Part)) (front all left rest : List Part)
+    → all ≡ flat_map (λ reply. reply) replies ++ left → left ≡ front ++ rest
+    → all ≡ flat_map (λ reply. reply) (replies ++ front ∷ []) ++ rest
+replies-next replies front all left rest before next =
+    let same = λ (reply : List Part). reply in
+    let push : flat_map same replies ++ front ≡ flat_map same (replies ++ front ∷ []) =
+    flat_map_more same [] replies front in
+    before ∙ ap (λ (l : List Part). flat_map same replies ++ l) next
+    ∙ sym (append_assoc (flat_map same replies) front rest) ∙ ap (λ (l : List Part). l ++ rest) push
+
+pub AreSaid-next : (all left rest : List Part) (listed : List (Id × Text)) (i : ℕ) (entry : Id × Text) (row : Row)
+    (old before now : List Row) → i < length listed → entry ≡ get_or listed i entry → listed_of row ≡ entry
+    → now ≡ before ++ row ∷ [] → AreSaid all left (take i listed) old before
+    → (front : List Part) × SaysEntry front row.id row.fields × (left ≡ front ++ rest)
+    → AreSaid all rest (take (i + 1) listed) old now
+AreSaid-next all left rest listed i entry row old before now within read same pushed
+    (replies, more, say, spelled, are, is) (front, says, next) = (
+      replies ++ front ∷ [],
+      more ++ row ∷ [],
+      SayEntries-push replies more front row say says,
+      replies-next replies front all left rest spelled next,
+      map-append listed_of more (row ∷ []) ∙ ap (λ (l : List (Id × Text)). l ++ listed_of row ∷ []) are
+          ∙ ap (λ (e : Id × Text). take i listed ++ e ∷ []) (same ∙ read) ∙ sym (take_more listed i entry within),
+      pushed ∙ ap (λ (l : List Row). l ++ row ∷ []) is ∙ append_assoc old more (row ∷ []),
+    )
+
+-- every entry is read, and nothing is left
+pub AreSaid-all : (all left : List Part) (listed : List (Id × Text)) (i : ℕ) (old now : List Row) → length listed ≤ i
+    → left ≡ [] → AreSaid all left (take i listed) old now
+    → (replies : List (List Part)) × (more : List Row) × SayEntries replies more
+    × (all ≡ flat_map (λ reply. reply) replies) × (map (λ row. (row.id, row.owner)) more ≡ listed)
+    × (now ≡ old ++ more)
+AreSaid-all all left listed i old now whole none (replies, more, say, spelled, are, is) = (
+  replies,
+  more,
+  say,
+  spelled ∙ ap (λ (l : List Part). flat_map (λ reply. reply) replies ++ l) none
+      ∙ append-nil (flat_map (λ reply. reply) replies),
+  are ∙ take_all i listed whole,
+  is,
+)
+
+-- ---- the calls with their replies
+
+-- each call for an entry with its reply
+abbrev pub talk_of : Text → List (List Part) → List Row → List Exchange
+talk_of key [] rows = []
+talk_of key (reply ∷ replies) [] = []
+talk_of key (reply ∷ replies) (row ∷ rows) = (entry_call key row.id, reply) ∷ talk_of key replies rows
+
+talk-looks : (key : Text) (replies : List (List Part)) (rows : List Row) → SayEntries replies rows
+    → LooksEntries key rows (talk_of key replies rows)
+talk-looks key [] [] say = refl
+talk-looks key [] (row ∷ rows) say = absurd say
+talk-looks key (reply ∷ replies) [] say = absurd say
+talk-looks key (reply ∷ replies) (row ∷ rows) say =
+    (reply, talk_of key replies rows, say.0, talk-looks key replies rows say.1, refl)
+
+-- the call for one entry
+abbrev call_text : Text → Id × Text → List ℕ
+call_text key entry = request_text (entry_call key entry.0)
+
+talk-asked : (key : Text) (replies : List (List Part)) (rows : List Row) → SayEntries replies rows
+    → flat_map (call_text key) (map listed_of rows) ≡ asked_of (talk_of key replies rows)
+talk-asked key [] [] say = refl
+talk-asked key [] (row ∷ rows) say = absurd say
+talk-asked key (reply ∷ replies) [] say = absurd say
+talk-asked key (reply ∷ replies) (row ∷ rows) say =
+    ap (λ (l : List ℕ). request_text (entry_call key row.id) ++ l) (talk-asked key replies rows say.1)
+
+talk-answered : (key : Text) (replies : List (List Part)) (rows : List Row) → SayEntries replies rows
+    → flat_map part_text (flat_map (λ reply. reply) replies) ≡ answered_of (talk_of key replies rows)
+talk-answered key [] [] say = refl
+talk-answered key [] (row ∷ rows) say = absurd say
+talk-answered key (reply ∷ replies) [] say = absurd say
+talk-answered key (reply ∷ replies) (row ∷ rows) say =
+    flat_map-append part_text reply (flat_map (λ reply. reply) replies)
+    ∙ ap (λ (l : List ℕ). flat_map part_text reply ++ l) (talk-answered key replies rows say.1)
+
+-- requests for these entries, sent together, and their replies
+pub looks-together : (key : Text) (sent got sent_then got_then : Option (List ℕ)) (requests answers : List ℕ)
+    (parts : List Part) (listed : List (Id × Text)) (old now : List Row)
+    → requests ≡ flat_map (λ entry. request_text (entry_call key entry.0)) listed
+    → Appends sent sent_then requests → Appends got got_then answers → answers ≡ flat_map part_text parts
+    → (replies : List (List Part)) × (more : List Row) × SayEntries replies more
+    × (parts ≡ flat_map (λ reply. reply) replies) × (map (λ row. (row.id, row.owner)) more ≡ listed)
+    × (now ≡ old ++ more)
+    → (talk : List Exchange) × (more : List Row) × Talks sent got sent_then got_then talk
+    × LooksEntries key more talk × (map (λ row. (row.id, row.owner)) more ≡ listed) × (now ≡ old ++ more)
+looks-together key sent got sent_then got_then requests answers parts listed old now asked was_sent has_come spelled
+    (replies, more, say, read, are, is) = (
+      talk_of key replies more,
+      more,
+      record {
+        asked = subst (Appends sent sent_then)
+            (asked ∙ ap (flat_map (call_text key)) (sym are) ∙ talk-asked key replies more say) was_sent;
+        answered = subst (Appends got got_then)
+            (spelled ∙ ap (flat_map part_text) read ∙ talk-answered key replies more say) has_come;
+      },
+      talk-looks key replies more say,
+      are,
+      is,
+    )
+
+-- ---- one entry after another
+
+LooksEntries-append : (key : Text) (rows more : List Row) (front behind : List Exchange) → LooksEntries key rows front
+    → LooksEntries key more behind → LooksEntries key (rows ++ more) (front ++ behind)
+LooksEntries-append key [] more front behind none looks =
+    subst (LooksEntries key more) (ap (λ (l : List Exchange). l ++ behind) (sym none)) looks
+LooksEntries-append key (row ∷ rows) more front behind (parts, others, says, rest, spelled) looks = (
+  parts,
+  others ++ behind,
+  says,
+  LooksEntries-append key rows more others behind rest looks,
+  ap (λ (l : List Exchange). l ++ behind) spelled,
+)
+
+-- some of the entries were looked up, and these are left
+abbrev pub AreLooked : Text → Option (List ℕ) → Option (List ℕ) → Option (List ℕ) → Option (List ℕ) → List Row
+    → List (Id × Text) → List (Id × Text) → Type 0
+AreLooked key sent got sent_then got_then rows left listed =
+    (talk : List Exchange) × Talks sent got sent_then got_then talk × LooksEntries key rows talk
+    × (map (λ row. (row.id, row.owner)) rows ++ left ≡ listed)
+
+pub AreLooked-none : (key : Text) (sent got : Option (List ℕ)) (rows : List Row) (listed : List (Id × Text))
+    → rows ≡ [] → AreLooked key sent got sent got rows listed listed
+AreLooked-none key sent got rows listed none =
+    subst (λ (l : List Row). AreLooked key sent got sent got l listed listed) (sym none)
+    ([], Talks-none sent got, refl, refl)
+
+-- a list that is split in two
+pub parted-at : {X : Type 0} (n : ℕ) (left together rest : List X) → together ≡ take n left → rest ≡ drop n left
+    → left ≡ together ++ rest
+parted-at {X} n left together rest front back =
+    sym (take-append-drop n left) ∙ ap (λ (l : List X). l ++ drop n left) (sym front)
+    ∙ ap (λ (l : List X). together ++ l) (sym back)
+
+-- some more of them were looked up
+pub AreLooked-next : (key : Text) (sent got sent_then got_then sent_last got_last : Option (List ℕ))
+    (before now : List Row) (left together rest listed : List (Id × Text)) → left ≡ together ++ rest
+    → AreLooked key sent got sent_then got_then before left listed
+    → (talk : List Exchange) × (more : List Row) × Talks sent_then got_then sent_last got_last talk
+    × LooksEntries key more talk × (map (λ row. (row.id, row.owner)) more ≡ together) × (now ≡ before ++ more)
+    → AreLooked key sent got sent_last got_last now rest listed
+AreLooked-next key sent got sent_then got_then sent_last got_last before now left together rest listed parted
+    (front, talked, looked, are) (behind, more, talks, looks, new, is) = (
+      front ++ behind,
+      Talks-trans sent got sent_then got_then sent_last got_last front behind talked talks,
+      subst (λ (l : List Row). LooksEntries key l (front ++ behind)) (sym is)
+          (LooksEntries-append key before more front behind looked looks),
+      ap (λ (l : List Row). map listed_of l ++ rest) is
+          ∙ ap (λ (l : List (Id × Text)). l ++ rest) (map-append listed_of before more)
+          ∙ append_assoc (map listed_of before) (map listed_of more) rest
+          ∙ ap (λ (l : List (Id × Text)). map listed_of before ++ (l ++ rest)) new
+          ∙ ap (λ (l : List (Id × Text)). map listed_of before ++ l) (sym parted) ∙ are,
+    )
+
+pub AreLooked-all : (key : Text) (sent got sent_then got_then : Option (List ℕ)) (rows : List Row)
+    (left listed : List (Id × Text)) → left ≡ [] → AreLooked key sent got sent_then got_then rows left listed
+    → (talk : List Exchange) × Talks sent got sent_then got_then talk × LooksEntries key rows talk
+    × (map (λ row. (row.id, row.owner)) rows ≡ listed)
+AreLooked-all key sent got sent_then got_then rows left listed none (talk, talks, looks, are) = (
+  talk,
+  talks,
+  looks,
+  sym (append-nil (map listed_of rows))
+      ∙ ap (λ (l : List (Id × Text)). map listed_of rows ++ l) (sym none) ∙ are,
+)

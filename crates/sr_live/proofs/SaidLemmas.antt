@@ -1,0 +1,150 @@
+-- Replies read part by part: what one more consumer, entry or field adds to what was read.
+use Rattle.std.proofs.Common.{◌≡◌, ℕ, ◌+◌, ◌*◌, ℤ, Bool, true, false, cond, List, [], ◌∷◌, ◌++◌, length}
+use Rattle.std.proofs.Common.{Option, Some, None, refl, sym, ap, ◌∙◌, subst, nat_eq}
+use Rattle.std.proofs.Common.{append-nil, append_assoc, length-append}
+use Rattle.std.proofs.lemmas.List.{flat_map_more}
+use Rattle.std.specs.List.{flat_map}
+use Rattle.std.specs.Option.{option_or}
+use Rattle.std.specs.Cmp.Lexicographic.{pointwise}
+use Rattle.sr_ids.specs.declared.id.Id.{Id}
+use Rattle.sr_ids.specs.Spelling.{SpellsId}
+use Rattle.sr_policy.specs.Rules.{Text, value_at}
+use Rattle.sr_peer.specs.Reply.{Part, Array, Bulk, Int}
+use Rattle.sr_live.specs.Said.{ArePendingRows, IsPendingRow, SayConsumers, SaysConsumer, SaysEntry}
+use Rattle.sr_live.specs.Said.{consumer_parts, pairs_parts}
+
+-- ---- the first field with a name, after one more field
+
+-- what one pair says of a name
+abbrev held_by : {V : Type 0} → Text → Text × V → Option V
+held_by name pair = cond (pointwise nat_eq name pair.0) (Some pair.1) None
+
+value_at-push : {V : Type 0} (name : Text) (pairs : List (Text × V)) (pair : Text × V)
+    → value_at name (pairs ++ pair ∷ []) ≡ option_or (value_at name pairs) (held_by name pair)
+value_at-push name [] pair = refl
+value_at-push {V} name (first ∷ pairs) pair =
+    ap (λ rest. cond (pointwise nat_eq name first.0) (Some first.1) rest) (value_at-push name pairs pair)
+    ∙ by (pointwise nat_eq name first.0) (value_at name pairs)
+  where
+    by : (test : Bool) (rest : Option V) → cond test (Some first.1) (option_or rest (held_by name pair))
+        ≡ option_or (cond test (Some first.1) rest) (held_by name pair)
+    by true rest = refl
+    by false rest = refl
+
+pub first-named : {V : Type 0} (name : Text) (pairs : List (Text × V)) (field : Text) (value : V) (before : Option V)
+    → before ≡ value_at name pairs → pointwise nat_eq name field ≡ true
+    → option_or before (Some value) ≡ value_at name (pairs ++ (field, value) ∷ [])
+first-named name pairs field value before so_far same =
+    ap (λ found. option_or found (Some value)) so_far
+    ∙ ap (λ test. option_or (value_at name pairs) (cond test (Some value) None)) (sym same)
+    ∙ sym (value_at-push name pairs (field, value))
+
+option_or-none : {V : Type 0} (found : Option V) → option_or found None ≡ found
+option_or-none None = refl
+option_or-none (Some held) = refl
+
+pub first-other : {V : Type 0} (name : Text) (pairs : List (Text × V)) (field : Text) (value : V) (before : Option V)
+    → before ≡ value_at name pairs → pointwise nat_eq name field ≡ false
+    → before ≡ value_at name (pairs ++ (field, value) ∷ [])
+first-other name pairs field value before so_far other =
+    so_far ∙ sym (option_or-none (value_at name pairs))
+    ∙ ap (λ test. option_or (value_at name pairs) (cond test (Some value) None)) (sym other)
+    ∙ sym (value_at-push name pairs (field, value))
+
+-- ---- a list that is spelled item by item
+
+-- one more item is read
+pub spelled-next : {X Y : Type 0} (f : X → List Y) (xs : List X) (x : X) (all left rest : List Y)
+    → all ≡ flat_map f xs ++ left → left ≡ f x ++ rest → all ≡ flat_map f (xs ++ x ∷ []) ++ rest
+spelled-next f xs x all left rest before next =
+    let push : flat_map f xs ++ f x ≡ flat_map f (xs ++ x ∷ []) = flat_map_more f [] xs x in
+    before ∙ ap (λ l. flat_map f xs ++ l) next ∙ sym (append_assoc (flat_map f xs) (f x) rest)
+    ∙ ap (λ l. l ++ rest) push
+
+pub length-push : {X : Type 0} (xs : List X) (x : X) (n : ℕ) → length xs ≡ n → length (xs ++ x ∷ []) ≡ n + 1
+length-push xs x n is = length-append xs (x ∷ []) ∙ ap (λ k. k + 1) is
+
+-- ---- consumers
+
+pub SayConsumers-push : (consumers : List (List (Text × Part))) (numbers : List (Text × ℕ))
+    (fields : List (Text × Part)) (number : Text × ℕ) → SayConsumers consumers numbers → SaysConsumer fields number
+    → SayConsumers (consumers ++ fields ∷ []) (numbers ++ number ∷ [])
+SayConsumers-push [] [] fields number before says = (says, tt)
+SayConsumers-push [] (n ∷ numbers) fields number before says = absurd before
+SayConsumers-push (c ∷ consumers) [] fields number before says = absurd before
+SayConsumers-push (c ∷ consumers) (n ∷ numbers) fields number before says =
+    (before.0, SayConsumers-push consumers numbers fields number before.1 says)
+
+-- the consumers so far, and one more
+pub consumers-next : (all left rest : List Part) (numbers now : List (Text × ℕ)) (number : Text × ℕ) (n : ℕ)
+    → now ≡ numbers ++ number ∷ []
+    → (consumers : List (List (Text × Part))) × SayConsumers consumers numbers × (length consumers ≡ n)
+    × (all ≡ flat_map consumer_parts consumers ++ left)
+    → (fields : List (Text × Part)) × SaysConsumer fields number × (left ≡ consumer_parts fields ++ rest)
+    → (consumers : List (List (Text × Part))) × SayConsumers consumers now × (length consumers ≡ n + 1)
+    × (all ≡ flat_map consumer_parts consumers ++ rest)
+consumers-next all left rest numbers now number n pushed (consumers, before, count, spelled) (fields, says, next) = (
+  consumers ++ fields ∷ [],
+  subst (SayConsumers (consumers ++ fields ∷ [])) (sym pushed)
+      (SayConsumers-push consumers numbers fields number before says),
+  length-push consumers fields n count,
+  spelled-next consumer_parts consumers fields all left rest spelled next,
+)
+
+-- ---- pending entries
+
+-- a row, read part by part
+pub IsPendingRow-from : (id : Id) (owner named text : Text) (places : ℕ) (idle count : ℤ)
+    → (all a b c d rest : List Part) → SpellsId 0 text id → named ≡ owner → places ≡ 4 → all ≡ Array places ∷ a
+    → a ≡ Bulk text ∷ b → b ≡ Bulk named ∷ c → c ≡ Int idle ∷ d → d ≡ Int count ∷ rest
+    → (front : List Part) × IsPendingRow front id owner × (all ≡ front ++ rest)
+IsPendingRow-from id owner named text places idle count all a b c d rest spells same four one two three next last = (
+  Array 4 ∷ Bulk text ∷ Bulk owner ∷ Int idle ∷ Int count ∷ [],
+  record { text = text; idle = idle; count = count; spells = spells; spelled = refl },
+  (cc),
+)
+
+pub ArePendingRows-push : (parts : List Part) (owner : Text) (ids : List Id) (front : List Part) (id : Id)
+    → ArePendingRows parts owner ids → IsPendingRow front id owner
+    → ArePendingRows (parts ++ front) owner (ids ++ id ∷ [])
+ArePendingRows-push parts owner [] front id before row =
+    (front, [], row, refl, ap (λ l. l ++ front) before ∙ sym (append-nil front))
+ArePendingRows-push parts owner (x ∷ ids) front id (one, others, is, rows, spelled) row = (
+  one,
+  others ++ front,
+  is,
+  ArePendingRows-push others owner ids front id rows row,
+  ap (λ l. l ++ front) spelled ∙ append_assoc one others front,
+)
+
+-- the rows so far, and one more
+pub rows-next : (all left rest : List Part) (owner : Text) (ids now : List Id) (id : Id) (n : ℕ) → now ≡ ids ++ id ∷ []
+    → (rows : List Part) × ArePendingRows rows owner ids × (length ids ≡ n) × (all ≡ rows ++ left)
+    → (front : List Part) × IsPendingRow front id owner × (left ≡ front ++ rest)
+    → (rows : List Part) × ArePendingRows rows owner now × (length now ≡ n + 1) × (all ≡ rows ++ rest)
+rows-next all left rest owner ids now id n pushed (rows, before, count, spelled) (front, row, next) = (
+  rows ++ front,
+  subst (ArePendingRows (rows ++ front) owner) (sym pushed) (ArePendingRows-push rows owner ids front id before row),
+  ap length pushed ∙ length-push ids id n count,
+  spelled ∙ ap (λ l. rows ++ l) next ∙ sym (append_assoc rows front rest),
+)
+
+-- ---- an entry
+
+-- an entry's header, id and fields, read one after another
+pub fields-spelled : (text : List ℕ) (fields : List (Text × Text)) (n places : ℕ) (all a b c rest : List Part) → n ≡ 2
+    → places ≡ 2 * length fields → all ≡ Array n ∷ a → a ≡ Bulk text ∷ b → b ≡ Array places ∷ c
+    → c ≡ pairs_parts fields ++ rest
+    → all ≡ Array 2 ∷ Bulk text ∷ Array (2 * length fields) ∷ pairs_parts fields ++ rest
+fields-spelled text fields n places all a b c rest two count header first second pairs = cc
+
+pub SaysEntry-one : (id : Id) (fields : List (Text × Text)) (n : ℕ) (all left rest : List Part) → n ≡ 1
+    → all ≡ Array n ∷ left
+    → (text : List ℕ) × SpellsId 0 text id
+    × (left ≡ Array 2 ∷ Bulk text ∷ Array (2 * length fields) ∷ pairs_parts fields ++ rest)
+    → (front : List Part) × SaysEntry front id (Some fields) × (all ≡ front ++ rest)
+SaysEntry-one id fields n all left rest one header (text, spells, spelled) = (
+  Array 1 ∷ Array 2 ∷ Bulk text ∷ Array (2 * length fields) ∷ pairs_parts fields,
+  (text, spells, refl),
+  (cc),
+)

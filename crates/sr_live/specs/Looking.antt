@@ -1,0 +1,93 @@
+-- How a group is looked up: which calls are made, and what their replies say.
+-- Source: Redis documentation, commands XINFO CONSUMERS, XPENDING and XRANGE.
+
+use Rattle.std.specs.Prelude.{◌≡◌, ℕ, ◌<◌, ◌≤◌, List, [], ◌∷◌, ◌++◌, length, map, codes, Option}
+use Rattle.std.specs.Io.KnownBytes.{Appends}
+use Rattle.std.specs.List.{flat_map}
+use Rattle.std.specs.List.Sorted.{IsPermutation}
+use Rattle.sr_ids.specs.declared.id.Id.{Id}
+use Rattle.sr_ids.specs.Spelling.{spelling}
+use Rattle.sr_policy.specs.Rules.{Text}
+use Rattle.sr_peer.specs.Reply.{Part, part_text, request_text}
+use Rattle.sr_live.specs.declared.looked.Row.{Row}
+use Rattle.sr_live.specs.Said.{SaysEntry, SaysNumbers, SaysPending}
+
+-- a call in words, and the parts of its reply
+abbrev pub Exchange : Type 0
+Exchange = List Text × List Part
+
+-- the bytes of these calls, and of their replies
+abbrev pub asked_of : List Exchange → List ℕ
+asked_of talk = flat_map (λ exchange. request_text exchange.0) talk
+
+abbrev pub answered_of : List Exchange → List ℕ
+answered_of talk = flat_map (λ exchange. flat_map part_text exchange.1) talk
+
+-- between two moments these calls were sent, and these replies came: `sent` and `got` are the bytes up to the first
+-- moment, as far as they are known, and then up to the second one
+pub record Talks (sent got sent_then got_then : Option (List ℕ)) (talk : List Exchange) : Type 0 where
+  pub asked : Appends sent sent_then (asked_of talk)
+  pub answered : Appends got got_then (answered_of talk)
+
+-- ---- the calls
+
+abbrev pub consumers_call : Text → Text → List Text
+consumers_call key group = codes "XINFO" ∷ codes "CONSUMERS" ∷ key ∷ group ∷ []
+
+abbrev pub pending_call : Text → Text → Text → Text → List Text
+pending_call key group start name =
+    codes "XPENDING" ∷ key ∷ group ∷ start ∷ codes "+" ∷ codes "1000" ∷ name ∷ []
+
+abbrev pub entry_call : Text → Id → List Text
+entry_call key id = codes "XRANGE" ∷ key ∷ spelling id ∷ spelling id ∷ []
+
+-- ---- what is looked up
+
+-- how many entries one call lists
+abbrev pub page : ℕ
+page = 1000
+
+-- behind the last of these ids
+abbrev pub start_behind : List Id → Text
+start_behind [] = codes "-"
+start_behind (id ∷ []) = codes "(" ++ spelling id
+start_behind (id ∷ next ∷ ids) = start_behind (next ∷ ids)
+
+-- the entries that are pending for the consumer from this start on, page by page: the last page is not full
+abbrev pub ListsPages : Text → Text → Text → Text → List Exchange → List Id → Type 0
+ListsPages key group name start [] ids = ⊥
+ListsPages key group name start (exchange ∷ []) ids =
+    (exchange.0 ≡ pending_call key group start name) × SaysPending exchange.1 name ids × (length ids < page)
+ListsPages key group name start (exchange ∷ next ∷ talk) ids =
+    (front : List Id) × (behind : List Id) × (exchange.0 ≡ pending_call key group start name)
+    × SaysPending exchange.1 name front × (page ≤ length front)
+    × ListsPages key group name (start_behind front) (next ∷ talk) behind × (ids ≡ front ++ behind)
+
+-- the same of several consumers, one after another, each entry with its owner
+abbrev pub ListsDead : Text → Text → List Text → List Exchange → List (Id × Text) → Type 0
+ListsDead key group [] talk listed = (talk ≡ []) × (listed ≡ [])
+ListsDead key group (name ∷ dead) talk listed =
+    (own : List Exchange) × (others : List Exchange) × (ids : List Id) × (rest : List (Id × Text))
+    × ListsPages key group name (codes "-") own ids × ListsDead key group dead others rest
+    × (talk ≡ own ++ others) × (listed ≡ map (λ id. (id, name)) ids ++ rest)
+
+-- each of these entries as it is in the stream
+abbrev pub LooksEntries : Text → List Row → List Exchange → Type 0
+LooksEntries key [] talk = talk ≡ []
+LooksEntries key (row ∷ rows) talk =
+    (parts : List Part) × (others : List Exchange) × SaysEntry parts row.id row.fields
+    × LooksEntries key rows others × (talk ≡ (entry_call key row.id, parts) ∷ others)
+
+-- what was looked up of a group by these calls: how many entries are pending for each consumer, and which are pending
+-- for the dead, in another order, with what the stream has at their ids
+pub record IsLooked (key group : Text) (dead : List Text) (talk : List Exchange) (numbers : List (Text × ℕ))
+    (rows : List Row) : Type 0 where
+  pub parts : List Part
+  pub pending : List Exchange
+  pub entries : List Exchange
+  pub listed : List (Id × Text)
+  pub says : SaysNumbers parts numbers
+  pub lists : ListsDead key group dead pending listed
+  pub same : IsPermutation listed (map (λ row. (row.id, row.owner)) rows)
+  pub looks : LooksEntries key rows entries
+  pub spelled : talk ≡ (consumers_call key group, parts) ∷ pending ++ entries

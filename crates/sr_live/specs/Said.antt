@@ -1,0 +1,81 @@
+-- What the replies of Redis say of a group.
+-- Source: Redis documentation, commands XINFO CONSUMERS, XPENDING and XRANGE.
+
+use Rattle.std.specs.Prelude.{◌≡◌, ⊤, ℕ, ◌*◌, ℤ, pos, List, [], ◌∷◌, ◌++◌, length, codes, Option, Some, None}
+use Rattle.std.specs.List.{flat_map}
+use Rattle.sr_ids.specs.declared.id.Id.{Id}
+use Rattle.sr_ids.specs.Spelling.{SpellsId}
+use Rattle.sr_policy.specs.Rules.{Text, value_at}
+use Rattle.sr_peer.specs.Reply.{Part, Array, Bulk, Int}
+use Rattle.sr_live.specs.declared.looked.Row.{Row}
+
+-- ---- XINFO CONSUMERS: an array of consumers, each an array of fields with their values
+
+-- fields, each with a value that is one part
+abbrev pub fields_parts : List (Text × Part) → List Part
+fields_parts fields = flat_map (λ field. Bulk field.0 ∷ field.1 ∷ []) fields
+
+abbrev pub consumer_parts : List (Text × Part) → List Part
+consumer_parts fields = Array (2 * length fields) ∷ fields_parts fields
+
+abbrev pub consumers_parts : List (List (Text × Part)) → List Part
+consumers_parts consumers = Array (length consumers) ∷ flat_map consumer_parts consumers
+
+-- the fields say the name of a consumer, and how many entries are pending for it; the first of a name counts
+pub record SaysConsumer (fields : List (Text × Part)) (number : Text × ℕ) : Type 0 where
+  pub name : value_at (codes "name") fields ≡ Some (Bulk number.0)
+  pub pending : value_at (codes "pending") fields ≡ Some (Int (pos number.1))
+
+-- each of them says one
+abbrev pub SayConsumers : List (List (Text × Part)) → List (Text × ℕ) → Type 0
+SayConsumers [] [] = ⊤
+SayConsumers (fields ∷ others) (number ∷ numbers) = SaysConsumer fields number × SayConsumers others numbers
+SayConsumers [] (number ∷ numbers) = ⊥
+SayConsumers (fields ∷ others) [] = ⊥
+
+-- the reply says how many entries are pending for each consumer of the group
+pub record SaysNumbers (parts : List Part) (numbers : List (Text × ℕ)) : Type 0 where
+  pub consumers : List (List (Text × Part))
+  pub spelled : parts ≡ consumers_parts consumers
+  pub says : SayConsumers consumers numbers
+
+-- ---- XPENDING with a consumer: an array of entries, each with its id, owner, idle time and delivery count
+
+pub record IsPendingRow (parts : List Part) (id : Id) (owner : Text) : Type 0 where
+  pub text : List ℕ
+  pub idle : ℤ
+  pub count : ℤ
+  pub spells : SpellsId 0 text id
+  pub spelled : parts ≡ Array 4 ∷ Bulk text ∷ Bulk owner ∷ Int idle ∷ Int count ∷ []
+
+-- the parts are such entries, one after another, all of this owner
+abbrev pub ArePendingRows : List Part → Text → List Id → Type 0
+ArePendingRows parts owner [] = parts ≡ []
+ArePendingRows parts owner (id ∷ ids) =
+    (front : List Part) × (behind : List Part) × IsPendingRow front id owner × ArePendingRows behind owner ids
+    × (parts ≡ front ++ behind)
+
+-- the reply says which entries are pending for the owner, as far as it was asked
+pub record SaysPending (parts : List Part) (owner : Text) (ids : List Id) : Type 0 where
+  pub body : List Part
+  pub spelled : parts ≡ Array (length ids) ∷ body
+  pub rows : ArePendingRows body owner ids
+
+-- ---- XRANGE from an id to the same id: no entry, or this one with its fields
+
+abbrev pub pairs_parts : List (Text × Text) → List Part
+pairs_parts pairs = flat_map (λ pair. Bulk pair.0 ∷ Bulk pair.1 ∷ []) pairs
+
+-- the parts say what the stream has at this id: nothing, or an entry with these fields
+abbrev pub SaysEntry : List Part → Id → Option (List (Text × Text)) → Type 0
+SaysEntry parts id None = parts ≡ Array 0 ∷ []
+SaysEntry parts id (Some fields) =
+    (text : List ℕ) × SpellsId 0 text id
+    × (parts ≡ Array 1 ∷ Array 2 ∷ Bulk text ∷ Array (2 * length fields) ∷ pairs_parts fields)
+
+-- each of these replies says what the stream has at the id of its row
+abbrev pub SayEntries : List (List Part) → List Row → Type 0
+SayEntries [] [] = ⊤
+SayEntries (parts ∷ replies) (row ∷ rows) = SaysEntry parts row.id row.fields × SayEntries replies rows
+SayEntries [] (row ∷ rows) = ⊥
+SayEntries (parts ∷ replies) [] = ⊥

@@ -1,0 +1,184 @@
+-- Carries out a plan that was made of a snapshot, if that is right at this moment; otherwise changes nothing.
+--
+-- KEYS[1] is the key. ARGV, one word after another; a list is its length and then its items:
+--   group, within (decimal)
+--   last    `+`, or an id: what is pending for the dead above it is not compared
+--   dead    for each its name, and a list of rows: an id, and `1` if the entry is in the stream, `0` if it is gone
+--   live    for each its name, its limit, its soft limit or `-`, how many entries the plan gives it, how many of these
+--           without a fee, the price of its first tier, that of its second (0 if it has none), and their ids
+--
+-- Compared: exactly these rows are pending for the dead, and exactly these entries are gone; each live consumer has
+-- room for what it is given, and as many of its entries are without a fee. Then the plan is still an assignment at the
+-- total that it had. No plan of this moment costs less than it by more than the gap, which is price times free places,
+-- summed over all tiers; at a gap of 0 it is still cheapest.
+--
+-- Answers:  done, how many entries were claimed, the gap
+--           stale, and then  group NAME    there is no such group, or no such key
+--                            pending NAME  other entries are pending for this dead consumer
+--                            entry ID      this entry is gone, or is there although it was gone
+--                            room NAME     this live consumer has too little room
+--                            fee NAME      of what this live consumer is given, another number is without a fee
+--                            gap NUMBER    the gap, which is above `within`, or 2^53 if it is that or more
+--           an error of Redis, as it is: no permission, another kind of key, a replica. Nothing is changed then either
+--
+-- Numbers are doubles. Sums below 2^53 are exact, and a greater one never comes out below 2^53.
+
+local MOST_ROWS = 1000 -- asked for, or claimed, in one call: `unpack` has a bound, and replies take memory
+local EXACT = 2 ^ 53
+
+local key = KEYS[1]
+local place = 0
+
+local function word()
+  place = place + 1
+  return ARGV[place]
+end
+
+local function number()
+  return tonumber(word())
+end
+
+-- A list of what `read` reads.
+local function list(read)
+  local items = {}
+  for at = 1, number() do
+    items[at] = read()
+  end
+  return items
+end
+
+local function read_row()
+  local id = word()
+  return { id = id, is_there = word() == '1' }
+end
+
+local function read_dead()
+  local name = word()
+  return { name = name, rows = list(read_row) }
+end
+
+local function read_live()
+  local one = { name = word() }
+  one.limit = number()
+  one.soft = number() -- nil if it is `-`
+  one.load = number()
+  one.free_load = number()
+  one.first_price = number()
+  one.next_price = number()
+  one.ids = {}
+  for at = 1, one.load do
+    one.ids[at] = word()
+  end
+  return one
+end
+
+-- How many entries are pending for each consumer, by name; or nil and the error. Fields are found by name, since newer
+-- versions have more of them.
+local function pending_numbers(group)
+  local consumers = redis.pcall('XINFO', 'CONSUMERS', key, group)
+  if consumers.err then
+    return nil, consumers
+  end
+  local numbers = {}
+  for _, consumer in ipairs(consumers) do
+    local fields = {}
+    for at = 1, #consumer, 2 do
+      fields[consumer[at]] = consumer[at + 1]
+    end
+    numbers[fields.name] = fields.pending
+  end
+  return numbers
+end
+
+-- Whether exactly these rows are pending for the consumer. It asks for one more than these.
+local function are_pending(group, last, dead)
+  local seen, start = 0, '-'
+  repeat
+    local count = math.min(MOST_ROWS, #dead.rows + 1 - seen)
+    local found = redis.call('XPENDING', key, group, start, last, count, dead.name)
+    for at, pending in ipairs(found) do
+      local row = dead.rows[seen + at]
+      if not row or row.id ~= pending[1] then
+        return false
+      end
+      start = '(' .. row.id
+    end
+    seen = seen + #found
+  until #found < count
+  return seen == #dead.rows
+end
+
+-- What is not as it was with a dead consumer, as two words, or nil.
+local function change_of(group, last, dead)
+  if not are_pending(group, last, dead) then
+    return 'pending', dead.name
+  end
+  for _, row in ipairs(dead.rows) do
+    local is_there = #redis.call('XRANGE', key, row.id, row.id) > 0
+    if is_there ~= row.is_there then
+      return 'entry', row.id
+    end
+  end
+end
+
+-- What is in the way of giving a live consumer its entries, or nil; and what its free places are worth then. Neither
+-- number of free places is below 0 here, since there is room and a soft limit is not above its limit.
+local function judge(live, pending)
+  local room = math.max(0, live.limit - pending)
+  local free_room = live.soft and math.max(0, live.soft - pending) or room
+  if live.load > 0 and pending + live.load > live.limit then
+    return 'room'
+  end
+  if math.min(live.load, free_room) ~= live.free_load then
+    return 'fee'
+  end
+  local first_left = free_room - live.free_load
+  local next_left = (room - free_room) - (live.load - live.free_load)
+  return nil, live.first_price * first_left + live.next_price * next_left
+end
+
+-- How many of the entries were claimed, whose delivery counts stay as they are (JUSTID).
+local function carry_out(group, one)
+  local claimed = 0
+  for from = 1, #one.ids, MOST_ROWS do
+    local to = math.min(from + MOST_ROWS - 1, #one.ids)
+    local words = { 'XCLAIM', key, group, one.name, 0, unpack(one.ids, from, to) }
+    table.insert(words, 'JUSTID')
+    claimed = claimed + #redis.call(unpack(words))
+  end
+  return claimed
+end
+
+local function conclude()
+  local group, within, last = word(), number(), word()
+  local dead, live = list(read_dead), list(read_live)
+  local numbers, fault = pending_numbers(group)
+  if fault then
+    local is_missing = fault.err == 'ERR no such key' or fault.err:find('^NOGROUP')
+    return is_missing and { 'stale', 'group', group } or fault
+  end
+  for _, one in ipairs(dead) do
+    local what, which = change_of(group, last, one)
+    if what then
+      return { 'stale', what, which }
+    end
+  end
+  local gap = 0
+  for _, one in ipairs(live) do
+    local what, worth = judge(one, numbers[one.name] or 0)
+    if what then
+      return { 'stale', what, one.name }
+    end
+    gap = gap + worth
+  end
+  if gap >= EXACT or gap > within then
+    return { 'stale', 'gap', string.format('%.0f', math.min(gap, EXACT)) }
+  end
+  local claimed = 0
+  for _, one in ipairs(live) do
+    claimed = claimed + carry_out(group, one)
+  end
+  return { 'done', claimed, gap }
+end
+
+return conclude()

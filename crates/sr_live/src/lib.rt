@@ -1,0 +1,23 @@
+//! Plans for the groups of another Redis: what its replies say of a group, the snapshot that they give, the words that
+//! ask it to carry out a plan, if the group is still as the snapshot shows it, and the rounds in which this is done.
+#![tactic(auto)]
+
+mod bounds;
+mod conclusion;
+mod fault;
+mod looked;
+mod looking;
+mod rounds;
+mod said;
+mod script;
+mod snapshot;
+mod words;
+
+pub use bounds::{at_most_worse, still_cheapest};
+pub use conclusion::{Concluded, conclude};
+pub use fault::{LiveCall, LiveFault};
+pub use looked::{Asked, Looked, Row};
+pub use looking::{look, look_numbers};
+pub use rounds::{Planned, Ran, Terms, plan, run};
+pub use snapshot::{SnapshotFault, snapshot_of};
+pub use words::{Limits, script_words};

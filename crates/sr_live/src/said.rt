@@ -1,0 +1,345 @@
+//! What the replies of Redis say of a group.
+ghost use Rattle.std.specs.Prelude.{◌≡◌, ◌++◌, ◌∷◌, ◌*◌, [], ℕ, List, pos, codes, length, option_map, IfOk, OnOk};
+ghost use Rattle.sr_ids.specs.Spelling.{SpellsId};
+ghost use Rattle.sr_policy.specs.Rules.{value_at};
+ghost use Rattle.sr_peer.specs.Reply as wire;
+ghost use Rattle.sr_peer.specs.Reply.{Array, Bulk, Int};
+ghost use Rattle.sr_peer.specs.Shown.{part_of};
+ghost use Rattle.sr_live.specs.Conclusion.{SaysConcluded};
+ghost use Rattle.sr_live.specs.Said.{IsPendingRow, SaysConsumer, SaysEntry, SaysNumbers, SaysPending};
+ghost use Rattle.sr_live.specs.Said.{consumer_parts, fields_parts, pairs_parts};
+
+use crate::conclusion::Concluded;
+use sr_bytes::{Fields, Name};
+use sr_ids::{Id, parse_strict};
+use sr_peer::{Part, Parts};
+use std::alloc::{AllocError, AllocFailed, Global};
+
+/// Why a reply says nothing.
+#[derive(Drop)]
+pub(crate) enum Misread {
+    /// A failed allocation.
+    Memory,
+    /// It is an error, with this text.
+    Told(Name),
+    /// It has another shape.
+    Shape,
+}
+
+impl From<AllocError> for Misread {
+    fn from(_: AllocError) -> Misread {
+        Misread::Memory
+    }
+}
+
+impl<T: Drop> From<AllocFailed<T>> for Misread {
+    fn from(_: AllocFailed<T>) -> Misread {
+        Misread::Memory
+    }
+}
+
+/// How many entries are pending for each consumer, as XINFO CONSUMERS replies.
+///
+/// Source: Redis documentation, command XINFO CONSUMERS.
+pub(crate) fn numbers_said(alloc: Global, mut parts: Parts<'_>) -> Result<Vec<(Name, u64)>, Misread>
+    ensures { IfOk result (λ numbers. SaysNumbers parts.entry numbers.items) }
+{
+    let count = header(alloc, &mut parts)?;
+    let mut numbers = Vec::new(alloc);
+    for _ in 0..count {
+        numbers.push(consumer_said(alloc, &mut parts)?)?;
+    }
+    end(&mut parts)?;
+    Ok(numbers)
+}
+
+/// The name of the next consumer, and how many entries are pending for it.
+fn consumer_said(alloc: Global, parts: &mut Parts<'_>) -> Result<(Name, u64), Misread>
+    ensures { IfOk result (λ number. (fields : List (List ℕ × wire.Part)) × SaysConsumer fields number
+        × (parts.old ≡ consumer_parts fields ++ parts.new)) }
+{
+    let places = header(alloc, parts)?;
+    if places % 2 != 0 {
+        return Err(Misread::Shape);
+    }
+    let found = fields_found(parts, places / 2)?;
+    match (found.name, found.pending) {
+        (Some(Part::Bulk(name)), Some(Part::Int(pending))) => {
+            number_of(name_of(alloc, name)?, pending)
+        }
+        _ => Err(Misread::Shape),
+    }
+}
+
+/// The consumer with this number of pending entries, if that is not below 0.
+fn number_of(name: Name, pending: i64) -> Result<(Name, u64), Misread>
+    ensures { IfOk result (λ number. (number.0 ≡ name) × (pos number.1 ≡ pending)) }
+{
+    if pending < 0 {
+        return Err(Misread::Shape);
+    }
+    Ok((name, pending as u64))
+}
+
+/// What the fields of a consumer say, as far as they are asked for.
+#[derive(Drop)]
+struct Found<'a> {
+    /// The value of `name`.
+    name: Option<Part<'a>>,
+    /// The value of `pending`.
+    pending: Option<Part<'a>>,
+}
+
+/// What the next fields say, which are so many.
+fn fields_found<'a>(parts: &mut Parts<'a>, count: usize) -> Result<Found<'a>, Misread>
+    ensures { IfOk result (λ found. (fields : List (List ℕ × wire.Part)) × (length fields ≡ count)
+        × (option_map part_of found.name ≡ value_at (codes "name") fields)
+        × (option_map part_of found.pending ≡ value_at (codes "pending") fields)
+        × (parts.old ≡ fields_parts fields ++ parts.new)) }
+{
+    let mut found = Found {
+        name: None,
+        pending: None,
+    };
+    for _ in 0..count {
+        let (field, value) = field_said(parts)?;
+        found = with_field(found, field, value);
+    }
+    Ok(found)
+}
+
+/// What is found with one more field: the first of a name counts.
+fn with_field<'a>(found: Found<'a>, field: &[u8], value: Part<'a>) -> Found<'a>
+    ensures name { (fields : List (List ℕ × wire.Part))
+        → option_map part_of found.entry.name ≡ value_at (codes "name") fields
+        → option_map part_of result.name
+        ≡ value_at (codes "name") (fields ++ (field.now, part_of value.entry) ∷ []) }
+    ensures pending { (fields : List (List ℕ × wire.Part))
+        → option_map part_of found.entry.pending ≡ value_at (codes "pending") fields
+        → option_map part_of result.pending
+        ≡ value_at (codes "pending") (fields ++ (field.now, part_of value.entry) ∷ []) }
+{
+    Found {
+        name: first_of(found.name, b"name", field, value),
+        pending: first_of(found.pending, b"pending", field, value),
+    }
+}
+
+/// The value of the first field with this name: the one before, if there is one, or else the value of this field, if it
+/// has the name.
+fn first_of<'a>(
+    before: Option<Part<'a>>,
+    name: &[u8],
+    field: &[u8],
+    value: Part<'a>,
+) -> Option<Part<'a>>
+    ensures { (fields : List (List ℕ × wire.Part)) → option_map part_of before.entry ≡ value_at name.now fields
+        → option_map part_of result ≡ value_at name.now (fields ++ (field.now, part_of value.entry) ∷ []) }
+{
+    if name == field {
+        before.or(Some(value))
+    } else {
+        before
+    }
+}
+
+/// The next field with its value, which is one part.
+fn field_said<'a>(parts: &mut Parts<'a>) -> Result<(&'a [u8], Part<'a>), Misread>
+    ensures { IfOk result (λ field. parts.old ≡ Bulk field.0.now ∷ part_of field.1 ∷ parts.new) }
+{
+    let field = string(parts)?;
+    match parts.next() {
+        Some(value) => Ok((field, value)),
+        None => Err(Misread::Shape),
+    }
+}
+
+/// The entries that are pending for the owner, as XPENDING replies.
+///
+/// Source: Redis documentation, command XPENDING.
+pub(crate) fn pending_said(
+    alloc: Global,
+    mut parts: Parts<'_>,
+    owner: &Name,
+) -> Result<Vec<Id>, Misread>
+    ensures { IfOk result (λ ids. SaysPending parts.entry owner.now ids.items) }
+{
+    let count = header(alloc, &mut parts)?;
+    let mut ids = Vec::new(alloc);
+    for _ in 0..count {
+        ids.push(row_said(alloc, &mut parts, owner)?)?;
+    }
+    end(&mut parts)?;
+    Ok(ids)
+}
+
+/// The id of the next entry that is pending, if it is for the owner.
+fn row_said(alloc: Global, parts: &mut Parts<'_>, owner: &Name) -> Result<Id, Misread>
+    ensures { IfOk result (λ id. (front : List wire.Part) × IsPendingRow front id owner.now
+        × (parts.old ≡ front ++ parts.new)) }
+{
+    if header(alloc, parts)? != 4 {
+        return Err(Misread::Shape);
+    }
+    let id = id_said(parts)?;
+    if string(parts)? != owner.as_slice() {
+        return Err(Misread::Shape);
+    }
+    integer(parts)?;
+    integer(parts)?;
+    Ok(id)
+}
+
+/// The fields of the entry with this id, as XRANGE from it to it replies. `None` if there is none.
+///
+/// Source: Redis documentation, command XRANGE.
+pub(crate) fn entry_said(
+    alloc: Global,
+    parts: &mut Parts<'_>,
+    id: Id,
+) -> Result<Option<Fields>, Misread>
+    ensures { IfOk result (λ fields. (front : List wire.Part) × SaysEntry front id fields
+        × (parts.old ≡ front ++ parts.new)) }
+{
+    match header(alloc, parts)? {
+        0 => Ok(None),
+        1 => Ok(Some(fields_said(alloc, parts, id)?)),
+        _ => Err(Misread::Shape),
+    }
+}
+
+/// The fields of the next entry, if it has this id.
+fn fields_said(alloc: Global, parts: &mut Parts<'_>, id: Id) -> Result<Fields, Misread>
+    ensures { IfOk result (λ fields. (text : List ℕ) × SpellsId 0 text id
+        × (parts.old ≡ Array 2 ∷ Bulk text ∷ Array (2 * length fields) ∷ pairs_parts fields ++ parts.new)) }
+{
+    if header(alloc, parts)? != 2 {
+        return Err(Misread::Shape);
+    }
+    if id_said(parts)? != id {
+        return Err(Misread::Shape);
+    }
+    let places = header(alloc, parts)?;
+    if places % 2 != 0 {
+        return Err(Misread::Shape);
+    }
+    pairs_said(alloc, parts, places / 2)
+}
+
+/// The next fields with their values, which are so many.
+fn pairs_said(alloc: Global, parts: &mut Parts<'_>, count: usize) -> Result<Fields, Misread>
+    ensures { IfOk result (λ fields. (length fields ≡ count) × (parts.old ≡ pairs_parts fields ++ parts.new)) }
+{
+    let mut fields = Fields::new(alloc);
+    for _ in 0..count {
+        let field = string(parts)?;
+        let value = string(parts)?;
+        fields.add(field, value)?;
+    }
+    Ok(fields)
+}
+
+/// The number of items of the next array.
+fn header(alloc: Global, parts: &mut Parts<'_>) -> Result<usize, Misread>
+    ensures { IfOk result (λ count. parts.old ≡ Array count ∷ parts.new) }
+{
+    match parts.next() {
+        Some(Part::Array(count)) => Ok(count),
+        Some(Part::Error(text)) => Err(Misread::Told(name_of(alloc, text)?)),
+        _ => Err(Misread::Shape),
+    }
+}
+
+/// The next bulk string.
+fn string<'a>(parts: &mut Parts<'a>) -> Result<&'a [u8], Misread>
+    ensures { IfOk result (λ text. parts.old ≡ Bulk text.now ∷ parts.new) }
+{
+    match parts.next() {
+        Some(Part::Bulk(text)) => Ok(text),
+        _ => Err(Misread::Shape),
+    }
+}
+
+/// The next integer.
+fn integer(parts: &mut Parts<'_>) -> Result<i64, Misread>
+    ensures { IfOk result (λ number. parts.old ≡ Int number ∷ parts.new) }
+{
+    match parts.next() {
+        Some(Part::Int(number)) => Ok(number),
+        _ => Err(Misread::Shape),
+    }
+}
+
+/// The next id.
+fn id_said(parts: &mut Parts<'_>) -> Result<Id, Misread>
+    ensures { IfOk result (λ id. (text : List ℕ) × SpellsId 0 text id × (parts.old ≡ Bulk text ∷ parts.new)) }
+{
+    match parse_strict(string(parts)?) {
+        Some(id) => Ok(id),
+        None => Err(Misread::Shape),
+    }
+}
+
+/// A name of these bytes.
+fn name_of(alloc: Global, text: &[u8]) -> Result<Name, AllocError>
+    ensures { IfOk result (λ name. name ≡ text.now) }
+{
+    Ok(Name::new(Vec::from_slice(alloc, text)?))
+}
+
+/// Nothing is left.
+pub(crate) fn end(parts: &mut Parts<'_>) -> Result<(), Misread>
+    ensures { OnOk result (parts.old ≡ []) }
+{
+    match parts.next() {
+        None => Ok(()),
+        Some(_) => Err(Misread::Shape),
+    }
+}
+
+/// What came of a script, as it replies.
+///
+/// Source: docs/LIVE.md.
+pub(crate) fn conclusion_said(alloc: Global, mut parts: Parts<'_>) -> Result<Concluded, Misread>
+    ensures { IfOk result (SaysConcluded parts.entry) }
+{
+    if header(alloc, &mut parts)? != 3 {
+        return Err(Misread::Shape);
+    }
+    match string(&mut parts)? {
+        b"done" => done_said(&mut parts),
+        b"stale" => stale_said(alloc, &mut parts),
+        _ => Err(Misread::Shape),
+    }
+}
+
+/// How many entries were claimed, and the gap.
+fn done_said(parts: &mut Parts<'_>) -> Result<Concluded, Misread>
+    ensures { IfOk result (λ said. SaysConcluded (Array 3 ∷ Bulk (codes "done") ∷ parts.old) said) }
+{
+    let claimed = natural(parts)?;
+    let gap = natural(parts)?;
+    end(parts)?;
+    Ok(Concluded::Done { claimed, gap })
+}
+
+/// What is not as it was looked up, and of what.
+fn stale_said(alloc: Global, parts: &mut Parts<'_>) -> Result<Concluded, Misread>
+    ensures { IfOk result (λ said. SaysConcluded (Array 3 ∷ Bulk (codes "stale") ∷ parts.old) said) }
+{
+    let what = name_of(alloc, string(parts)?)?;
+    let of = name_of(alloc, string(parts)?)?;
+    end(parts)?;
+    Ok(Concluded::Stale { what, of })
+}
+
+/// The next integer, if it is not below 0.
+fn natural(parts: &mut Parts<'_>) -> Result<u64, Misread>
+    ensures { IfOk result (λ number. parts.old ≡ Int (pos number) ∷ parts.new) }
+{
+    let number = integer(parts)?;
+    if number < 0 {
+        return Err(Misread::Shape);
+    }
+    Ok(number as u64)
+}
