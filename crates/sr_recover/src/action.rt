@@ -1,0 +1,247 @@
+//! What the program does.
+use crate::board::print_board;
+use crate::check::print_check;
+use crate::fault::{Fault, live_fault};
+use crate::options::{Action, Options};
+use crate::print::{print_done, print_plan, print_stale, print_unknown};
+use crate::wire::{Wire, authenticate, connect, select};
+use sr_bytes::Name;
+use sr_live::{Asked, Planned, Ran, Terms, look_numbers, plan, run};
+use sr_policy::Policy;
+use sr_space::names_in_order;
+use std::alloc::{AllocError, Global};
+use std::{env, fs};
+
+/// How many times the key may have moved to another node.
+const MAX_MOVES: usize = 16;
+
+/// How it ended.
+#[derive(Clone, Copy, PartialEq, Eq)]
+pub(crate) enum Status {
+    /// There is a plan, it was carried out, or the board was shown.
+    Done,
+    /// No plan exists.
+    Impossible,
+    /// The group changed at each try.
+    Stale,
+}
+
+impl Status {
+    /// The status that the program ends with.
+    pub(crate) fn code(self) -> u8 {
+        match self {
+            Status::Done => 0,
+            Status::Impossible => 3,
+            Status::Stale => 4,
+        }
+    }
+}
+
+/// Does what is asked for, at the node that has the key.
+pub(crate) fn act(rt: &HostRuntime, options: &Options<'_>) -> Result<Status, Fault> {
+    let policy = read_policy(rt, options.policy)?;
+    let password = password(rt, options)?;
+    if options.user.is_some() && password.is_none() {
+        return Err(Fault::Asked(
+            "--user: it needs a password, from --password-file or REDISCLI_AUTH",
+        ));
+    }
+    let asked = asked(rt.alloc(), options)?;
+    let mut place = String::from_str(rt.alloc(), options.redis)?;
+    for _ in 0..=MAX_MOVES {
+        let mut wire = connect(rt, place.as_str(), options.timeout)?;
+        authenticate(
+            &mut wire,
+            rt.alloc(),
+            options.user,
+            password.as_ref().map(|text| text.as_bytes()),
+        )?;
+        select(&mut wire, rt.alloc(), options.database)?;
+        match act_at(rt, options, &policy, &asked, &mut wire) {
+            Err(Fault::Moved(to)) => place = place_of(rt.alloc(), place.as_str(), to)?,
+            ended => return ended,
+        }
+    }
+    Err(Fault::Moves)
+}
+
+/// Where a node is that a node at this place names. A cluster that does not know its hosts names a port alone.
+fn place_of(alloc: Global, asked: &str, named: String) -> Result<String, AllocError> {
+    if !named.as_bytes().starts_with(b":") {
+        return Ok(named);
+    }
+    let mut place = match asked.rsplit_once(':') {
+        Some((host, _port)) => String::from_str(alloc, host)?,
+        None => String::from_str(alloc, asked)?,
+    };
+    place.push_str(named.as_str())?;
+    Ok(place)
+}
+
+/// Does what is asked for, at this node.
+fn act_at(
+    rt: &HostRuntime,
+    options: &Options<'_>,
+    policy: &Policy,
+    asked: &Asked,
+    wire: &mut Wire,
+) -> Result<Status, Fault> {
+    match options.action {
+        Action::Board => show_board(rt, policy, asked, wire),
+        Action::Plan => show_plan(rt, options, policy, asked, wire),
+        Action::Run => carry_out(rt, options, policy, asked, wire),
+    }
+}
+
+/// Shows what each consumer has.
+fn show_board(
+    rt: &HostRuntime,
+    policy: &Policy,
+    asked: &Asked,
+    wire: &mut Wire,
+) -> Result<Status, Fault> {
+    match look_numbers(wire, rt.alloc(), &asked.key, &asked.group) {
+        Ok(numbers) => {
+            print_board(&mut rt.stdout(), rt.alloc(), policy, numbers.as_slice())?;
+            Ok(Status::Done)
+        }
+        Err(fault) => Err(live_fault(rt.alloc(), fault)),
+    }
+}
+
+/// Makes a plan, and prints it.
+fn show_plan(
+    rt: &HostRuntime,
+    options: &Options<'_>,
+    policy: &Policy,
+    asked: &Asked,
+    wire: &mut Wire,
+) -> Result<Status, Fault> {
+    match plan(wire, rt.alloc(), policy, asked, options.at_most) {
+        Ok(planned) => print_planned(rt, options, asked, &planned, false),
+        Err(fault) => Err(live_fault(rt.alloc(), fault)),
+    }
+}
+
+/// Prints a plan, or that there is none.
+fn print_planned(
+    rt: &HostRuntime,
+    options: &Options<'_>,
+    asked: &Asked,
+    planned: &Planned,
+    done: bool,
+) -> Result<Status, Fault> {
+    print_unknown(
+        &mut rt.stderr(),
+        rt.alloc(),
+        asked.dead.as_slice(),
+        planned.looked.numbers.as_slice(),
+    )?;
+    let mut out = rt.stdout();
+    if options.check {
+        print_check(&mut out, rt.alloc(), &planned.verdict, done)?;
+    } else {
+        print_plan(&mut out, rt.alloc(), &planned.verdict)?;
+    }
+    if planned.verdict.total().is_some() {
+        Ok(Status::Done)
+    } else {
+        Ok(Status::Impossible)
+    }
+}
+
+/// Makes a plan, and has Redis carry it out.
+fn carry_out(
+    rt: &HostRuntime,
+    options: &Options<'_>,
+    policy: &Policy,
+    asked: &Asked,
+    wire: &mut Wire,
+) -> Result<Status, Fault> {
+    let terms = Terms {
+        tries: options.tries,
+        within: options.within,
+        at_most: options.at_most,
+    };
+    match run(wire, rt.alloc(), policy, asked, terms) {
+        Ok(
+            Ran::Done {
+                planned,
+                claimed,
+                gap,
+            },
+        ) => {
+            match print_carried_out(rt, options, asked, &planned, (claimed, gap)) {
+                Err(Fault::Output) => Err(Fault::OutputOfDone),
+                printed => printed,
+            }
+        }
+        Ok(Ran::Impossible(planned)) => print_planned(rt, options, asked, &planned, false),
+        Ok(Ran::Stale { what, of }) => {
+            print_stale(&mut rt.stdout(), rt.alloc(), what.as_slice(), of.as_slice())?;
+            Ok(Status::Stale)
+        }
+        Err(fault) => Err(live_fault(rt.alloc(), fault)),
+    }
+}
+
+/// Prints a plan that was carried out: how many entries were claimed, and at which gap.
+fn print_carried_out(
+    rt: &HostRuntime,
+    options: &Options<'_>,
+    asked: &Asked,
+    planned: &Planned,
+    done: (u64, u64),
+) -> Result<Status, Fault> {
+    let (claimed, gap) = done;
+    let status = print_planned(rt, options, asked, planned, true)?;
+    if !options.check {
+        print_done(&mut rt.stdout(), claimed, gap)?;
+    }
+    Ok(status)
+}
+
+/// The policy that a file holds.
+fn read_policy(rt: &HostRuntime, path: &str) -> Result<Policy, Fault> {
+    match fs::read_to_string(rt, path) {
+        Ok(text) => Ok(Policy::read(rt.alloc(), text.as_str())?),
+        Err(_) => Err(Fault::PolicyUnreadable),
+    }
+}
+
+/// The password: what the file holds, without a line end behind it, or what the environment has.
+fn password(rt: &HostRuntime, options: &Options<'_>) -> Result<Option<String>, Fault> {
+    let Some(path) = options.password_file else {
+        return match env::var(rt, "REDISCLI_AUTH") {
+            Ok(text) => Ok(Some(text)),
+            Err(_) => Ok(None),
+        };
+    };
+    match fs::read_to_string(rt, path) {
+        Ok(text) => Ok(Some(String::from_str(rt.alloc(), without_line_end(text.as_str()))?)),
+        Err(_) => Err(Fault::PasswordUnreadable),
+    }
+}
+
+/// The text without the line ends behind it.
+fn without_line_end(text: &str) -> &str {
+    text.trim_end_matches(|one: char| one == '\n' || one == '\r')
+}
+
+/// Of which group a plan is asked.
+fn asked(alloc: Global, options: &Options<'_>) -> Result<Asked, Fault> {
+    let mut dead = Vec::new(alloc);
+    for name in &options.dead {
+        dead.push(name_of(alloc, name)?)?;
+    }
+    Ok(Asked {
+        key: name_of(alloc, options.key)?,
+        group: name_of(alloc, options.group)?,
+        dead: names_in_order(alloc, dead.as_slice())?,
+    })
+}
+
+/// The text as a name.
+fn name_of(alloc: Global, text: &str) -> Result<Name, AllocError> {
+    Ok(Name::new(Vec::from_slice(alloc, text.as_bytes())?))
+}

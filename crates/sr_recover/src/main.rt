@@ -1,0 +1,50 @@
+//! Plans for the groups of a Redis that already runs: `sr_recover plan` makes a cheapest plan for what dead consumers
+//! of a group have left, and prints it with the prices that show it; `sr_recover run` also has Redis carry it out, at
+//! one moment, if the group is still as the plan saw it; `sr_recover board` shows what each consumer has.
+//!
+//! It ends with status 0 if there is a plan, or it was carried out; 1 after a fault, which is one line on standard
+//! error; 2 if the command line is refused; 3 if no plan exists; 4 if the group changed at each try; and 5 if the plan
+//! was sent, and no answer came.
+#![tactic(auto)]
+
+mod action;
+mod board;
+mod check;
+mod fault;
+mod options;
+mod print;
+mod table;
+mod wire;
+
+use crate::action::{Status, act};
+use crate::fault::Fault;
+use crate::options::read_options;
+use std::env;
+use std::io::Write;
+use std::net::Net;
+use std::process::ExitCode;
+use std::rt::{Env, Files};
+
+fn main(rt: HostRuntime) -> ExitCode {
+    match start(&rt) {
+        Ok(status) => ExitCode::from(status.code()),
+        Err(Fault::Help(text)) => {
+            let _ = print!(rt; "{text}");
+            ExitCode::SUCCESS
+        }
+        Err(fault) => {
+            let _ = eprintln!(rt; "{fault}");
+            ExitCode::from(fault.code())
+        }
+    }
+}
+
+/// Reads the command line, and does what it asks for.
+fn start(rt: &HostRuntime) -> Result<Status, Fault> {
+    let words: Vec<String> = match env::args(rt) {
+        Ok(words) => words.collect(rt.alloc())?,
+        Err(_) => return Err(Fault::Words),
+    };
+    let options = read_options(rt.alloc(), words.as_slice())?;
+    act(rt, &options)
+}
