@@ -1,6 +1,6 @@
 # All that is needed is the Rattle toolchain, whose command is `rt`, and the python3 that it runs on; for the whole gate also a C compiler, `cc`.
 
-.PHONY: run help try demo install test replay histories plans check memory refusals compare clients soak
+.PHONY: run help try demo demo-live install test replay histories plans check memory refusals compare clients live soak
 .PHONY: bench bench-net bench-solver check-solver
 .PHONY: given given-server given-driver given-checker given-demo given-sessions given-requests given-groups given-moves given-streams
 .PHONY: given-room given-refused given-tests given-histories given-refusals given-plans
@@ -9,6 +9,7 @@
 SERVER = crates/sr_server/out/sr_server
 DRIVER = crates/book_driver/out/book_driver
 CHECKER = crates/plan_check/out/plan_check
+RECOVER = crates/sr_recover/out/sr_recover
 TESTS = crates/sr_server/out/sr_server_tests
 TWO = $(MAKE) --no-print-directory --output-sync -j2
 
@@ -44,6 +45,12 @@ demo:
 	@cd crates/plan_check && rt run < stdin > /dev/null
 	@scripts/demo $(SERVER) $(CHECKER)
 
+# Shows a recovery in a Redis that already runs. A worker dies with ten jobs, sr_recover has Redis move them, and other workers finish them
+# (Debian: redis-server).
+demo-live:
+	@cd crates/sr_recover && rt run -- --help > /dev/null
+	@scripts/demo-live $(RECOVER)
+
 # Installs the proved server, plan_check, the systemd unit, policies and pages. `make demo` builds the programs; then: make install, or
 # make install PREFIX=/opt/sr DESTDIR=/tmp/package
 install:
@@ -60,6 +67,7 @@ install:
 # demo has to print what the README shows.
 test:
 	@scripts/links
+	@scripts/lines
 	@command -v cc > /dev/null || { echo 'test: FAILED, since there is no C compiler, cc, with which memory is refused'; exit 1; }
 	rt ci
 	@$(TWO) given
@@ -175,6 +183,14 @@ compare:
 clients:
 	@cd crates/sr_server && rt run -- --stdio < /dev/null
 	@scripts/clients $(SERVER)
+
+# Has sr_recover plan for Redis servers of its own while other clients act. What it prints and does is judged by the state that the script
+# saw, and its plans are compared with those of the server (docs/LIVE.md; Debian: redis-server redis-tools).
+live:
+	@cd crates/sr_recover && rt run -- --help > /dev/null
+	@tests/live_script.py
+	@tests/live.py
+	@tests/server_live.py
 
 # Misuses the server over sockets for a minute, beside two honest workers who may lose nothing. By hand for longer, or again with the seed
 # that was printed: make soak SECONDS=3600 SEED=7

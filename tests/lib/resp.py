@@ -1,5 +1,7 @@
 """RESP2 as a client has it: requests are spelled, and replies are spelled and read."""
 
+import io
+
 
 class Fault(Exception):
     """Bytes that are not a reply."""
@@ -75,6 +77,15 @@ class Replies:
         if text[length:] != b"\r\n":
             raise Fault(f"a bulk string of {length} bytes ends with {text[length:]!r}")
         return text[:-2]
+
+
+def value_of(text):
+    """The one reply that these bytes are."""
+    file = io.BytesIO(text)
+    reply = Replies(file).reply()
+    if file.read():
+        raise Fault("there is more than one reply")
+    return reply
 
 
 class Kept:

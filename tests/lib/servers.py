@@ -144,15 +144,15 @@ class Server(Process):
 
 
 class Redis(Process):
-    """A Redis server (Debian: redis-server) that keeps nothing."""
+    """A Redis server (Debian: redis-server) that keeps nothing. Further options are as on its command line."""
 
     name = "Redis"
 
-    def __init__(self):
-        self.port = free_port()
+    def __init__(self, *more, port=None):
+        self.port = port or free_port()
         self.folder = tempfile.TemporaryDirectory()
         options = ["--bind", HOST, "--port", str(self.port), "--save", "", "--appendonly", "no", "--dir", self.folder.name]
-        self.process = subprocess.Popen(["redis-server", *options], stdout=subprocess.DEVNULL)
+        self.process = subprocess.Popen(["redis-server", *options, *more], stdout=subprocess.DEVNULL)
         until = time.monotonic() + SECONDS
         while not self.answers():
             if not self.alive() or time.monotonic() > until:

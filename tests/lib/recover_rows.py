@@ -1,0 +1,409 @@
+"""What sr_recover does, row by row, with what it should print and its status: each row worked out by hand."""
+
+import os
+import socket
+import subprocess
+import tempfile
+import time
+
+from . import live_rows as script_rows
+from .live import Dump, Live, all_replies
+from .live_rows import FEE_LIVE, FIRST_ROWS, SOFT, SOFT_LIVE, TWO, TWO_LIVE, lines
+from .recover import PROGRAM, ROOT, Printed, Proxy, Sent, ended, passed_on, policy_text, run, words_of
+from .servers import HOST, Redis
+
+GROUP = ["s", "g", "D"]
+PLAN = (
+    b"consumer  entries  cost  price\n"
+    b"A               1     2      2\n"
+    b"B               1     4      0\n"
+    b"total           2     6\n"
+)
+UNKNOWN = b"redis: the plan was sent, and what came of it is not known: %s. Plan again to see what is left\n"
+SECRET = "s3cret word"
+CHECKER = os.environ.get("PLAN_CHECK", os.path.join(ROOT, "crates", "plan_check", "out", "plan_check"))
+LIVE_PAGE = os.path.join(ROOT, "docs", "LIVE.md")
+LARGE, TAKERS = 4096, 64
+LATE = 0.5  # seconds that the program may take beside its timeout, on a machine with other work
+
+# What another client does right before the script, options, and the answer: in the setting of TWO where nothing else is
+# said. Those of live_rows come on top.
+GAPS = [
+    ("A acknowledges, within less than the gap", "XACK s g 0-1", ["--within", 1], script_rows.stale(b"gap", b"2")),
+    ("A acknowledges, within the gap", "XACK s g 0-1", ["--within", 2], script_rows.done(2, 2)),
+    ("A acknowledges, within more than the gap", "XACK s g 0-1", ["--within", 2**64 - 1], script_rows.done(2, 2)),
+]
+
+
+class Bench:
+    """A Redis, the program before it, and what is compared."""
+
+    def __init__(self, tally, connection):
+        self.tally, self.connection, self.check = tally, connection, tally.check
+        self.port = connection.socket.getpeername()[1]
+
+    def begin(self, setting=TWO):
+        replies = all_replies(self.connection, [["FLUSHALL"], *setting])
+        faults = [reply for reply in replies if isinstance(reply, Exception)]
+        if faults:
+            raise SystemExit(f"a setting was refused: {faults[0]}")
+
+    def expect(self, what, wanted, found):
+        """Compares a status and what is printed, in which a text may be a part of what is wanted."""
+        status, out, errors = wanted
+        self.check(f"{what}: status", status, found.status)
+        self.check(f"{what}: {out} in {found.out}", True, out in found.out)
+        self.check(f"{what}: {errors} in {found.errors}", True, errors in found.errors if errors else not found.errors)
+
+    def plan(self, *options, action="plan", lives=TWO_LIVE, names=GROUP, env=None, port=None):
+        return run(port or self.port, policy_text(lives), action, names, *options, env=env)
+
+    def dump(self, key="s"):
+        return Dump(self.connection, key).text
+
+
+def before_script(connection, changes):
+    """Has another client do this right before the program calls the script for the first time."""
+    left = [changes]
+
+    def act(call):
+        if call.words[0] == b"EVALSHA" and left:
+            all_replies(connection, lines(left.pop()))
+        return passed_on(call)
+
+    return act
+
+
+def answered(found):
+    """The answer of the script, as the program printed it."""
+    printed = Printed(found.out)
+    return [b"done", *printed.done] if printed.done else printed.stale
+
+
+def between(bench, proxy):
+    """The table of docs/LIVE.md, and more: something happens between snapshot and script."""
+    rows = [(TWO, TWO_LIVE, what, changes, [], wanted) for what, changes, wanted in script_rows.TWO_ROWS]
+    rows += [(SOFT, SOFT_LIVE, what, changes, [], wanted) for what, changes, wanted in script_rows.SOFT_ROWS]
+    rows += [(SOFT, FEE_LIVE, what, changes, [], wanted) for what, changes, wanted in script_rows.FEE_ROWS]
+    rows += [(TWO, TWO_LIVE, what, changes, ["--at-most", 1], wanted) for what, changes, wanted in FIRST_ROWS]
+    rows += [(TWO, TWO_LIVE, what, changes, options, wanted) for what, changes, options, wanted in GAPS]
+    for setting, lives, what, changes, options, wanted in rows:
+        bench.begin(setting)
+        proxy.begin(before_script(bench.connection, changes))
+        found = bench.plan(*options, action="run", lives=lives, port=proxy.port)
+        bench.check(what, wanted, answered(found))
+        bench.check(f"{what}: status", (0, b"") if wanted[0] == b"done" else (4, b""), (found.status, found.errors))
+
+
+def statuses(bench, proxy):
+    """Each status once, with the text that belongs to it."""
+    bench.begin()
+    before = bench.dump()
+    bench.expect("a plan", (0, PLAN, b""), bench.plan())
+    bench.check("a plan is all that is printed", PLAN, bench.plan().out)
+    for found in (bench.plan("--check"), bench.plan("--at-most", 1), board(bench)):
+        bench.check("plan and board change nothing", (0, before), (found.status, bench.dump()))
+    told = b"redis: XINFO CONSUMERS is answered with an error: "
+    bench.expect("no such key", (1, b"", told + b"ERR no such key"), bench.plan(names=["t", "g", "D"]))
+    group = b"NOGROUP No such consumer group 'h' for key name 's'"
+    bench.expect("no such group", (1, b"", told + group), bench.plan(names=["s", "h", "D"]))
+    bench.expect("options", (2, b"", b"error: --tries: a number from 1 to 16\n"), bench.plan("--tries", 17))
+    short = b"none: too few places for\n0-1\n1-1\n2-1\n"
+    bench.expect("no plan", (3, short, b""), bench.plan(names=["s", "g", "A", "D"]))
+    bench.expect("no plan to run", (3, short, b""), bench.plan(action="run", names=["s", "g", "A", "D"]))
+    bench.check("nothing of that changes anything", before, bench.dump())
+    proxy.begin(before_script(bench.connection, "XACK s g 2-1"))
+    stale = b"stale: pending D, nothing was changed\n"
+    bench.expect("stale", (4, stale, b""), bench.plan(action="run", port=proxy.port))
+    bench.begin()
+    proxy.begin(lambda call: Sent(b"", "close") if call.is_script() else passed_on(call))
+    text = UNKNOWN % b"it closed the connection"
+    bench.expect("no answer", (5, b"", text), bench.plan(action="run", port=proxy.port))
+    bench.expect("done", (0, PLAN + b"done, claimed 2, gap 0\n", b""), bench.plan(action="run"))
+    bench.expect("nothing is left", (0, b"done, claimed 0, gap 0\n", b""), bench.plan(action="run"))
+
+
+def board(bench, *options):
+    return run(bench.port, policy_text(SOFT_LIVE), "board", GROUP[:2], *options)
+
+
+def other_names(bench, _):
+    """A name that no consumer has, one that is named twice, other databases, and the board."""
+    bench.begin()
+    nobody = bench.plan(names=["s", "g", "E"])
+    bench.check("an unknown name: an empty plan", (0, 0), (nobody.status, Printed(nobody.out).total))
+    bench.check("an unknown name is told", b"note: the group has no consumer E\n", nobody.errors)
+    bench.check("a name is given twice", bench.plan().out, bench.plan(names=["s", "g", "D", "D"]).out)
+    short = b"none: too few places for\n0-1\n0-2\n1-1\n2-1\n"
+    bench.expect("all are dead", (3, short, b""), bench.plan(names=["s", "g", "A", "B", "D"]))
+    wanted = (
+        b"consumer  pending  limit  soft  room\n"
+        b"A               1      4     2     3\n"
+        b"B               1      4     -     3\n"
+        b"D               2      -     -     -\n"
+    )
+    bench.check("the board", (0, wanted, b""), board(bench)[:3])
+    bench.expect("another database", (1, b"", b"ERR no such key"), bench.plan("--db", 3))
+    all_replies(bench.connection, lines("MOVE s 3"))
+    bench.check("the key's database", (0, PLAN), bench.plan("--db", 3)[:2])
+    error = b"redis: SELECT is answered with an error: ERR DB index is out of range"
+    bench.expect("no such database", (1, b"", error), bench.plan("--db", 99))
+
+
+POLICIES = [
+    ("[limits\n", b"policy: not TOML\n"),
+    ("limits = 3\n", b"policy: wrong shape\n"),
+    ("[rates.x]\nA = 1\n", b"policy: wrong shape\n"),
+    ("[limits]\nA = -1\n", b"policy: a value is out of its range\n"),
+    ("version = 3\n", b"policy: a value is out of its range\n"),
+]
+
+
+def policies(bench, _):
+    """Policies that are refused, before Redis is asked anything; and an empty one."""
+    for text, wanted in POLICIES:
+        bench.check(f"policy {text!r}", (1, b"", wanted), run(1, text, "plan", GROUP)[:3])
+    missing = ended(words_of(bench.port, "/nonexistent/policy.toml", "plan", GROUP, []))
+    bench.check("no policy file", (1, b"", b"policy: cannot read the file\n"), missing[:3])
+    bench.begin()
+    short = b"none: too few places for\n1-1\n2-1\n"
+    bench.expect("an empty policy", (3, short, b""), run(bench.port, "", "plan", GROUP))
+
+
+OPTIONS = [
+    "--tries 0",
+    "--tries 17",
+    "--tries x",
+    "--within -1",
+    f"--within {2**64}",
+    "--at-most 0",
+    "--at-most 4097",
+    "--timeout 0",
+    "--timeout 600001",
+    "--db -1",
+    "--nonsense",
+    "--password word",
+]
+LINES = ["", "stop", "plan", "plan s g D", "run --policy /dev/null s g"]
+LINES += ["board --policy /dev/null s", "board --policy /dev/null s g D"]
+
+
+def command_lines(bench, _):
+    """Command lines that are refused, and help."""
+    for options in OPTIONS:
+        found = bench.plan(*options.split())
+        bench.check(options, (2, b"", True), (found.status, found.out, found.errors.startswith(b"error: ")))
+    for line in LINES:
+        found = ended([PROGRAM, *line.split()])
+        bench.check(f"sr_recover {line}", (2, b"", True), (found.status, found.out, found.errors != b""))
+    for place in ("127.0.0.1", "no such host:1", "127.0.0.1:99999"):
+        bench.check(place, (1, b"", b"redis: no such address\n"), at_place(place)[:3])
+    bench.check("nobody listens", (1, b"", b"redis: cannot connect\n"), at_place(f"{HOST}:1")[:3])
+    found = ended([PROGRAM, "--help"])
+    bench.check("help", (0, True, b""), (found.status, b"board" in found.out, found.errors))
+
+
+def at_place(place):
+    words = words_of(1, "/dev/null", "plan", GROUP, [])
+    return ended([place if word == f"{HOST}:1" else word for word in words])
+
+
+def passwords(bench, _):
+    """A password from a file and from the environment, and wrong ones. None is ever printed."""
+    bench.begin()
+    bench.connection.call("CONFIG", "SET", "requirepass", SECRET)
+    bench.connection.call("ACL", "SETUSER", "planner", "reset", "on", f">{SECRET}2", "allkeys", "allcommands")
+    refused = b"redis: the user's name or the password is refused: WRONGPASS"
+    with tempfile.TemporaryDirectory() as folder:
+        path = os.path.join(folder, "password")
+        rows = [
+            ("a password in a file", SECRET, {}, [], (0, PLAN, b"")),
+            ("a line end after it", SECRET + "\n", {}, [], (0, PLAN, b"")),
+            ("a line end of two bytes", SECRET + "\r\n", {}, [], (0, PLAN, b"")),
+            ("in the environment", None, {"REDISCLI_AUTH": SECRET}, [], (0, PLAN, b"")),
+            ("the file is what counts", SECRET, {"REDISCLI_AUTH": "other"}, [], (0, PLAN, b"")),
+            ("of another user", SECRET + "2\n", {}, ["--user", "planner"], (0, PLAN, b"")),
+            ("a wrong one", SECRET + "3", {}, [], (1, b"", refused)),
+            ("a wrong one in the environment", None, {"REDISCLI_AUTH": SECRET + "4"}, [], (1, b"", refused)),
+            ("another user's", SECRET, {}, ["--user", "planner"], (1, b"", refused)),
+            ("a user without one", None, {}, ["--user", "planner"], (2, b"", b"error: --user: it needs a password")),
+            ("none", None, {}, [], (1, b"", b"NOAUTH Authentication required. (give a password: --password-file")),
+        ]
+        for what, text, env, options, wanted in rows:
+            if text is not None:
+                with open(path, "w", encoding="utf-8") as file:
+                    file.write(text)
+                options = [*options, "--password-file", path]
+            found = bench.plan(*options, env=env)
+            bench.expect(what, wanted, found)
+            bench.check(f"{what}: the password is not printed", False, SECRET.encode() in found.out + found.errors)
+    found = bench.plan("--password-file", "/nonexistent/password")
+    bench.check("no password file", (1, b"", b"password: cannot read the file\n"), found[:3])
+    bench.connection.call("CONFIG", "SET", "requirepass", "")
+    bench.connection.call("ACL", "DELUSER", "planner")
+
+
+def echoing(bench, _):
+    """A Redis that does not know AUTH tells with what words it was called. The password is not printed all the same."""
+    with Redis("--rename-command", "AUTH", "") as server:
+        found = bench.plan(env={"REDISCLI_AUTH": SECRET}, port=server.port)
+        bench.check("AUTH is unknown", (1, b""), found[:2])
+        bench.check("AUTH is unknown: the password is not printed", False, SECRET.encode() in found.out + found.errors)
+
+
+def users():
+    """The two lines of docs/LIVE.md that make a user: its name, and the words after that."""
+    with open(LIVE_PAGE, encoding="utf-8") as page:
+        for line in page:
+            if line.startswith("    ACL SETUSER "):
+                name, *words = line.split()[2:]
+                yield name, [word.replace("SECRET", SECRET).replace("~jobs", "~s") for word in words]
+
+
+RIGHTS = [
+    ("+xinfo|consumers", "NOPERM this user has no permissions to run the 'xinfo|consumers' command"),
+    ("+xpending", "NOPERM this user has no permissions to run the 'xpending' command"),
+    ("+xrange", "NOPERM this user has no permissions to run the 'xrange' command"),
+    ("+xclaim", "ERR The user executing the script can't run this command or subcommand"),
+    ("+evalsha", "NOPERM this user has no permissions to run the 'evalsha' command"),
+    ("+eval", "NOPERM this user has no permissions to run the 'eval' command"),
+    ("~s", "NOPERM this user has no permissions to access one of the keys used as arguments"),
+]
+ADVICE = b"(the user lacks a right: docs/LIVE.md has the line for ACL SETUSER)\n"
+
+
+def rights(bench, _):
+    """The users of docs/LIVE.md, and the first one with each right missing in turn."""
+    (recover, granted), (planner, reading) = users()
+    tried = sorted(right for right, _ in RIGHTS)
+    bench.check("the rights that are tried", tried, sorted(word for word in granted if word[0] in "+~"))
+    for missing, wanted in [*RIGHTS, (None, None)]:
+        left = [word for word in granted if word != missing]
+        bench.begin([*TWO, ["SCRIPT", "FLUSH"], ["ACL", "SETUSER", recover, "reset", *left]])
+        before = bench.dump()
+        found = bench.plan("--user", recover, action="run", env={"REDISCLI_AUTH": SECRET})
+        if missing:
+            bench.expect(f"without {missing}", (1, b"", wanted.encode()), found)
+            bench.check(f"without {missing}: advice", ADVICE, found.errors[-len(ADVICE) :])
+            bench.check(f"without {missing}: nothing has changed", before, bench.dump())
+        else:
+            bench.expect("with all rights", (0, b"done, claimed 2, gap 0\n", b""), found)
+    bench.begin([*TWO, ["ACL", "SETUSER", recover, "-eval"]])
+    found = bench.plan("--user", recover, action="run", env={"REDISCLI_AUTH": SECRET})
+    bench.expect("the script is known", (0, b"done, claimed 2", b""), found)
+    bench.begin([*TWO, ["ACL", "SETUSER", planner, "reset", *reading]])
+    for action, names, wanted in (("plan", GROUP, 0), ("board", GROUP[:2], 0), ("run", GROUP, 1)):
+        found = bench.plan("--user", planner, action=action, names=names, env={"REDISCLI_AUTH": SECRET})
+        bench.check(f"{action} of a user that only reads", wanted, found.status)
+    bench.connection.call("ACL", "DELUSER", recover, planner)
+
+
+def firsts(bench, _):
+    """--at-most, run after run: three entries, of which the second is gone."""
+    bench.begin([*TWO, *lines("XADD s 3-1 c x\nXADD s 4-1 c x\nXREADGROUP GROUP g D COUNT 9 STREAMS s >\nXDEL s 2-1")])
+    lives = [Live(b"B", 9, None, {b"x": 1})]
+    bench.check("the first", [b"1-1"], moved(bench, lives, 1))
+    bench.check("the next two", [b"3-1", b"4-1"], moved(bench, lives, 2))
+    bench.check("none is left", [], moved(bench, lives, 4096))
+
+
+def moved(bench, lives, most):
+    """The ids that are pending for B after a run, and were not before."""
+    ids = [{row[0] for row in bench.connection.call("XPENDING", "s", "g", "-", "+", 99, "B")}]
+    bench.plan("--at-most", most, action="run", lives=lives)
+    ids.append({row[0] for row in bench.connection.call("XPENDING", "s", "g", "-", "+", 99, "B")})
+    return sorted(ids[1] - ids[0])
+
+
+def rounds(bench, proxy):
+    """--tries: another client acts in the first rounds alone."""
+    for busy, tries, wanted in ((1, 1, 4), (1, 2, 0), (2, 2, 4), (2, 3, 0), (15, 16, 0), (16, 16, 4)):
+        bench.begin()
+        left = list(range(busy))
+
+        def act(call, left=left):
+            if call.words[0] == b"EVALSHA" and left:
+                added = f"XADD s {100 - left.pop()}-2 c x"
+                all_replies(bench.connection, lines(f"{added}\nXREADGROUP GROUP g D STREAMS s >"))
+            return passed_on(call)
+
+        proxy.begin(act)
+        lives = [Live(b"B", 99, None, {b"x": 1, b"y": 1})]
+        found = bench.plan("--tries", tries, action="run", lives=lives, port=proxy.port)
+        calls = sum(words[0] == b"EVALSHA" for words in proxy.calls)
+        bench.check(f"busy in {busy} rounds, {tries} tries", (wanted, min(busy + 1, tries)), (found.status, calls))
+        bench.check("each round is a snapshot of its own", calls, sum(words[0] == b"XINFO" for words in proxy.calls))
+
+
+def within_snapshot(bench, proxy):
+    """An entry is claimed by one dead consumer of the other while they are looked up: it is seen twice."""
+    for tries, wanted in ((1, 4), (2, 0)):
+        bench.begin()
+        pages = []
+
+        def act(call, pages=pages):
+            text = call.forward()
+            if call.words[0] == b"XPENDING" and not pages:
+                pages.append(all_replies(bench.connection, lines("XCLAIM s g E 0 1-1")))
+            return Sent(text)
+
+        proxy.begin(act)
+        found = bench.plan("--tries", tries, action="run", names=["s", "g", "D", "E"], port=proxy.port)
+        text = b"group: it changed while it was looked at: try again\n"
+        bench.check(f"seen twice, {tries} tries", (wanted, text if wanted else b""), (found.status, found.errors))
+
+
+def checked(bench, _):
+    """--check, as plan_check finds it: a plan, one that was carried out, and a shortage."""
+    if not os.access(CHECKER, os.X_OK):
+        print("plan_check is not built: what --check prints is not given to it")
+        return
+    bench.begin()
+    rows = [("plan", GROUP, b"cheapest, total 6\n"), ("plan", ["s", "g", "A", "D"], b"impossible")]
+    for action, names, wanted in [*rows, ("run", GROUP, b"cheapest, total 6\n")]:
+        text = bench.plan("--check", action=action, names=names).out
+        found = subprocess.run([CHECKER], input=text, capture_output=True, timeout=60, check=False)
+        is_right = found.returncode == 0 and found.stdout.startswith(wanted)
+        bench.check(f"plan_check of {action} {names}: {found.stdout}", True, is_right)
+
+
+def silence(bench, _):
+    """--timeout with a Redis that never answers, and one that answers late."""
+    with socket.create_server((HOST, 0)) as server:
+        for wait in (100, 500, 1500):
+            found = bench.plan("--timeout", wait, port=server.getsockname()[1])
+            bench.check(f"silence, {wait} ms", (1, b"", b"redis: no answer in time (--timeout)\n"), found[:3])
+            late = found.seconds - wait / 1000
+            bench.check(f"silence, {wait} ms: {found.seconds:.2f} seconds", True, 0 <= late < LATE)
+    bench.begin()
+    with Proxy(bench.port, lambda call: (time.sleep(0.1), passed_on(call))[1]) as proxy:
+        found = bench.plan("--timeout", 2000, action="run", port=proxy.port)
+        bench.expect("each answer is late, but in time", (0, PLAN + b"done", b""), found)
+
+
+def large(bench, _):
+    """As many stranded entries as may be, and one more; and consumers as many as may be."""
+    commands, lives, *_ = script_rows.planted(LARGE, TAKERS, 0)
+    bench.begin(commands)
+    for action in ("plan", "run"):
+        found = bench.plan("--timeout", 60000, action=action, lives=lives)
+        print(f"{action} of {LARGE} entries and {TAKERS} consumers: {found.seconds:.1f} seconds", flush=True)
+        printed = Printed(found.out)
+        moved_in_all = sum(own[0] for own in printed.shares.values())
+        bench.check(f"{action} of a large group", (0, b"", LARGE), (found.status, found.errors, moved_in_all))
+        bench.check(f"{action}: claimed", (LARGE, 0) if action == "run" else None, printed.done)
+    bench.begin([*commands, *lines("XADD s 9999-1 c k0 v v\nXREADGROUP GROUP g D STREAMS s >")])
+    text = b"group: too many entries: 100,000 may be pending for the dead, and without --at-most 4,096 stranded\n"
+    bench.expect("one entry more", (1, b"", text), bench.plan("--timeout", 60000, lives=lives))
+    found = bench.plan("--timeout", 60000, "--at-most", 100, action="run", lives=lives)
+    bench.expect("the first hundred", (0, b"done, claimed 100, gap", b""), found)
+
+
+def compare(tally, connection):
+    """Compares all rows."""
+    bench = Bench(tally, connection)
+    looks = between, statuses, other_names, policies, command_lines, passwords, echoing, rights
+    parts = *looks, firsts, rounds, within_snapshot, checked, silence, large
+    with Proxy(bench.port) as proxy:
+        for part in parts:
+            part(bench, proxy)
