@@ -1,9 +1,12 @@
 //! A connection to Redis.
+ghost use Rattle.std.specs.Prelude.{None};
+ghost use Rattle.sr_peer.specs.Exchange.{IsOfConnection};
+
 use crate::fault::{Fault, peer_fault, text_of};
 use sr_peer::{Part, Peer, PeerFault, append_header, append_number, append_word, ask};
 use std::alloc::{AllocError, Global};
 use std::io::{ErrorKind, Read, Write};
-use std::net::{SocketAddr, TcpStream, ToSocketAddrs};
+use std::net::{TcpStream, ToSocketAddrs};
 use std::time::Duration;
 
 /// How many bytes one read takes at most.
@@ -41,7 +44,9 @@ impl Peer for Wire {
 }
 
 /// Why a read or a write did not succeed.
-fn fault_of(kind: ErrorKind) -> PeerFault {
+fn fault_of(kind: ErrorKind) -> PeerFault
+    ensures { IsOfConnection result }
+{
     match kind {
         ErrorKind::OutOfMemory => PeerFault::Memory,
         ErrorKind::WouldBlock | ErrorKind::TimedOut => PeerFault::Silent,
