@@ -155,7 +155,10 @@ fn print_shortage<W: Write>(out: &mut W, verdict: &Verdict) -> Result<(), Fault>
     let Some(mut ids) = verdict.shortage() else {
         return Ok(());
     };
-    while let Some(id) = ids.next() {
+    for _ in 0..ids.len() {
+        let Some(id) = ids.next() else {
+            break;
+        };
         print_id(out, id)?;
         say(out, b"\n")?;
     }
