@@ -107,7 +107,7 @@ def statuses(bench, proxy):
     bench.expect("no such key", (1, b"", told + b"ERR no such key"), bench.plan(names=["t", "g", "D"]))
     group = b"NOGROUP No such consumer group 'h' for key name 's'"
     bench.expect("no such group", (1, b"", told + group), bench.plan(names=["s", "h", "D"]))
-    bench.expect("options", (2, b"", b"error: --tries: a number from 1 to 16\n"), bench.plan("--tries", 17))
+    bench.expect("options", (2, b"", b"error: --tries: a number from 1 to 16\n"), bench.plan("--tries", 17, action="run"))
     short = b"none: too few places for\n0-1\n1-1\n2-1\n"
     bench.expect("no plan", (3, short, b""), bench.plan(names=["s", "g", "A", "D"]))
     bench.expect("no plan to run", (3, short, b""), bench.plan(action="run", names=["s", "g", "A", "D"]))
