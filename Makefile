@@ -1,9 +1,9 @@
 # All that is needed is the Rattle toolchain, whose command is `rt`, and the python3 that it runs on; for the whole gate also a C compiler, `cc`.
 
-.PHONY: run help try demo demo-live install test replay histories plans check memory refusals compare clients live soak
+.PHONY: run help try demo demo-live try-live install test replay histories plans check memory refusals compare clients live soak
 .PHONY: bench bench-net bench-solver check-solver
 .PHONY: given given-server given-driver given-checker given-demo given-sessions given-requests given-groups given-moves given-streams
-.PHONY: given-room given-refused given-tests given-histories given-refusals given-plans
+.PHONY: given-room given-refused given-tests given-histories given-refusals given-plans given-live
 
 # The programs, where a proof leaves them, and a make that does two things at a time.
 SERVER = crates/sr_server/out/sr_server
@@ -51,6 +51,10 @@ demo-live:
 	@cd crates/sr_recover && rt run -- --help > /dev/null
 	@scripts/demo-live $(RECOVER)
 
+# The same in some five minutes, with a program without proofs that is built for each command and not kept.
+try-live:
+	@scripts/demo-live
+
 # Installs the proved server, plan_check, the systemd unit, policies and pages. `make demo` builds the programs; then: make install, or
 # make install PREFIX=/opt/sr DESTDIR=/tmp/package
 install:
@@ -74,6 +78,8 @@ test:
 	@tests/listening.py $(SERVER)
 	@tests/faults.py $(SERVER)
 	@tests/waiting.py $(SERVER)
+	@if command -v redis-server > /dev/null; then $(MAKE) --no-print-directory given-live; \
+	    else echo 'test: there is no redis-server, so sr_recover was not tried with one (make live)'; fi
 
 # What the programs are given, each by itself, and first what takes longest. They have to be proved and built before.
 given: given-driver given-server given-checker given-demo
@@ -187,7 +193,11 @@ clients:
 # Has sr_recover plan for Redis servers of its own while other clients act. What it prints and does is judged by the state that the script
 # saw, and its plans are compared with those of the server (docs/LIVE.md; Debian: redis-server redis-tools).
 live:
+	@cd crates/sr_server && rt run -- --stdio < /dev/null
 	@cd crates/sr_recover && rt run -- --help > /dev/null
+	@$(MAKE) --no-print-directory given-live
+
+given-live:
 	@tests/live_script.py
 	@tests/live.py
 	@tests/server_live.py
@@ -209,6 +219,8 @@ bench:
 	@python3 bench/records.py $(SERVER)
 	@cd crates/book_driver && rt run -- < /dev/null
 	@python3 bench/recovery.py $(SERVER) $(DRIVER)
+	@cd crates/sr_recover && rt run -- --help > /dev/null
+	@bench/live.py $(RECOVER)
 
 # Times the server over sockets, by turns with a Redis server. (Debian: redis-server redis-tools; alone if there is none.)
 bench-net:

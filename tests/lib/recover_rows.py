@@ -150,12 +150,26 @@ def other_names(bench, _):
     bench.expect("no such database", (1, b"", error), bench.plan("--db", 99))
 
 
+TOML, SHAPE, RANGE = b"policy: not TOML", b"policy: wrong shape", b"policy: a value is out of its range"
+TIERS = "version = 2\n[limits]\nA = 2\n[soft]\nA = 1\n[fees]\nA = 1\n"
+
+# Each with the first key for which it is refused, its line, and what is wrong there.
 POLICIES = [
-    ("[limits\n", b"policy: not TOML\n"),
-    ("limits = 3\n", b"policy: wrong shape\n"),
-    ("[rates.x]\nA = 1\n", b"policy: wrong shape\n"),
-    ("[limits]\nA = -1\n", b"policy: a value is out of its range\n"),
-    ("version = 3\n", b"policy: a value is out of its range\n"),
+    ("[limits\n", TOML + b", line 1\n"),
+    ("version = 1\n\n[limits]\nA = 1\nA = 2\n", TOML + b", line 5\n"),
+    ("limits = 3\n", SHAPE + b": limits, line 1: it has to be a table\n"),
+    ("version = 3\n[limit]\nA = 1\n", SHAPE + b": limit, line 2: a policy has no such key\n"),
+    ("[limits]\nA = 1\n\n[rates.x]\nA = 1\nB = 1\n", SHAPE + b": rates.x.B, line 6: the consumer has no limit\n"),
+    ("[limits]\nA = 1\n[rates.x]\nA = 1.5\n", SHAPE + b": rates.x.A, line 4: it has to be an integer\n"),
+    ("rates.x = [\n1,\n2]\n", SHAPE + b": rates.x, line 1: it has to be a table\n"),
+    ("[rates]\n'a.b' = { C = 1 }\n", SHAPE + b": rates.a.b.C, line 2: the consumer has no limit\n"),
+    (TIERS.replace("version = 2\n", ""), SHAPE + b": soft, line 3: it has to stand in a file of version 2\n"),
+    (TIERS + "B = 1\n", SHAPE + b": fees.B, line 8: the consumer has no soft limit\n"),
+    (TIERS.replace("[fees]\nA = 1\n", ""), SHAPE + b": soft, line 4: there are no fees\n"),
+    (TIERS.replace("A = 1", "A = 3", 1), RANGE + b": soft.A, line 5: it has to be 0 to the consumer's limit\n"),
+    ("# below\n[limits]\nA = -1\n", RANGE + b": limits.A, line 3: it has to be 0 to 1000000000\n"),
+    ("[limits]\nA = 1\n[rates.'*']\nA = 1048577\n", RANGE + b": rates.*.A, line 4: it has to be 0 to 1048576\n"),
+    ("version = 3\n", RANGE + b": version, line 1: it has to be 1 or 2\n"),
 ]
 
 

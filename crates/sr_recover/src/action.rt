@@ -1,4 +1,5 @@
 //! What the program does.
+use crate::blame::policy_fault;
 use crate::board::print_board;
 use crate::check::print_check;
 use crate::fault::{Fault, live_fault};
@@ -203,9 +204,12 @@ fn print_carried_out(
 
 /// The policy that a file holds.
 fn read_policy(rt: &HostRuntime, path: &str) -> Result<Policy, Fault> {
-    match fs::read_to_string(rt, path) {
-        Ok(text) => Ok(Policy::read(rt.alloc(), text.as_str())?),
-        Err(_) => Err(Fault::PolicyUnreadable),
+    let Ok(text) = fs::read_to_string(rt, path) else {
+        return Err(Fault::PolicyUnreadable);
+    };
+    match Policy::read(rt.alloc(), text.as_str()) {
+        Ok(policy) => Ok(policy),
+        Err(fault) => Err(policy_fault(rt.alloc(), fault, text.as_str())),
     }
 }
 

@@ -1,7 +1,6 @@
 //! What went wrong. Its text is the line on standard error.
 use sr_live::{LiveCall, LiveFault};
 use sr_peer::PeerFault;
-use sr_policy::PolicyFault;
 use std::alloc::{AllocError, AllocFailed, Global};
 use thiserror::Error;
 
@@ -19,12 +18,8 @@ pub(crate) enum Fault {
     Help(String),
     #[error("policy: cannot read the file")]
     PolicyUnreadable,
-    #[error("policy: not TOML")]
-    PolicyNotToml,
-    #[error("policy: wrong shape")]
-    PolicyShape,
-    #[error("policy: a value is out of its range")]
-    PolicyRange,
+    #[error("policy: {0}")]
+    Policy(String),
     #[error("password: cannot read the file")]
     PasswordUnreadable,
     #[error("redis: no such address")]
@@ -77,17 +72,6 @@ impl From<AllocError> for Fault {
 impl<T: Drop> From<AllocFailed<T>> for Fault {
     fn from(_: AllocFailed<T>) -> Fault {
         Fault::Memory
-    }
-}
-
-impl From<PolicyFault> for Fault {
-    fn from(fault: PolicyFault) -> Fault {
-        match fault {
-            PolicyFault::Toml => Fault::PolicyNotToml,
-            PolicyFault::Shape => Fault::PolicyShape,
-            PolicyFault::Range => Fault::PolicyRange,
-            PolicyFault::Memory => Fault::Memory,
-        }
     }
 }
 

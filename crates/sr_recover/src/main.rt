@@ -8,6 +8,7 @@
 #![tactic(auto)]
 
 mod action;
+mod blame;
 mod board;
 mod check;
 mod fault;
