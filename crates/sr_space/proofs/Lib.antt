@@ -19,6 +19,7 @@ pub mod ReadingLemmas
 pub mod ReadGroupLemmas
 pub mod WaitingLemmas
 pub mod WaitingLaws
+pub mod ReaderLaws
 pub mod RisingLemmas
 pub mod NameOrderLemmas
 pub mod DeadLemmas

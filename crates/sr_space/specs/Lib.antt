@@ -8,6 +8,7 @@ pub mod commands
 pub mod steps
 pub mod Effect
 pub mod Blocking
+pub mod Readers
 pub mod Commit
 pub mod Snap
 pub use Rattle.sr_space.specs.Blocking.{executed, Called}

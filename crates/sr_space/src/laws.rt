@@ -1,4 +1,4 @@
-ghost use Rattle.std.specs.Prelude.{◌≡◌, ◌≢◌, ◌↔◌, ℕ, IsTrue, List, Option, Some, IsSome};
+ghost use Rattle.std.specs.Prelude.{◌≡◌, ◌≢◌, ◌↔◌, ℕ, IsTrue, List, Option, Some, IsSome, false};
 ghost use Rattle.sr_args.specs.declared.call.Call.{Call};
 ghost use Rattle.sr_args.specs.declared.call.Call.TheVariants as calls;
 ghost use Rattle.sr_args.specs.declared.commands.xread.Xread.{Xread};
@@ -11,6 +11,7 @@ ghost use Rattle.sr_space.specs.Blocking.{finds_nothing};
 ghost use Rattle.sr_space.specs.declared.blocking.Outcome.TheVariants as outcomes;
 ghost use Rattle.sr_space.specs.Keys.{Key, Keys, AreStreams};
 ghost use Rattle.sr_space.specs.PendingAt.{AskForNew, pending_at};
+ghost use Rattle.sr_space.specs.Readers.{asks, key_of};
 
 /// Law: a changed stream is at its key, and the streams at other keys stay. Calling this has no effect.
 pub fn one_stream_changes()
@@ -68,4 +69,17 @@ pub fn waiting_finds_nothing()
     ensures { (keys : Keys) (moment later : ℕ) (call again : Call) (deadline : Option ℕ) →
         (executed keys moment call).outcome ≡ outcomes.Blocked again deadline →
         IsTrue (finds_nothing (executed keys moment call).keys later again) }
+{}
+
+/// Law: whether a read finds nothing is the same at each moment. Calling this has no effect.
+pub fn moments_find_the_same()
+    ensures { (keys : Keys) (moment later : ℕ) (read : Call) →
+        finds_nothing keys later read ≡ finds_nothing keys moment read }
+{}
+
+/// Law: a call on one key changes nothing for the reads that do not ask its stream. Calling this has no effect.
+pub fn others_find_the_same()
+    ensures { (keys : Keys) (moment earlier later : ℕ) (call read : Call) (key : Key) → key_of call ≡ Some key →
+        asks key read ≡ false →
+        finds_nothing (executed keys moment call).keys later read ≡ finds_nothing keys earlier read }
 {}
