@@ -13,3 +13,4 @@ pub mod SessionLaws
 pub mod SessionLemmas
 pub mod SnapLemmas
 pub mod TwiceLemmas
+pub mod WatchedLemmas

@@ -6,3 +6,4 @@ pub mod Sent
 pub mod Server
 pub mod Settled
 pub mod Taken
+pub mod Watched

@@ -13,6 +13,7 @@ mod record;
 mod replies;
 mod sent;
 mod sessions;
+mod watched;
 
 pub use answer::{Answer, Letter, Status, StepFault};
 pub use book::Book;
