@@ -25,6 +25,11 @@ names_are_keys : (es : List Entry) → map string_bytes (keys_of es) ≡ map (λ
 names_are_keys [] = refl
 names_are_keys (e ∷ es) = ap (λ names. string_bytes e.0 ∷ names) (names_are_keys es)
 
+-- and so are the names of a table of rates
+classes_are_keys : (es : List Entry) → map string_bytes (keys_of es) ≡ map (λ pair. pair.0) (rates_of (members_view es))
+classes_are_keys [] = refl
+classes_are_keys (e ∷ es) = ap (λ names. string_bytes e.0 ∷ names) (classes_are_keys es)
+
 keys_in_order : (ks : List (String Global)) → IsStrictlySortedBy string_cmp ks
     → AreInOrder ComesBefore (map string_bytes ks)
 keys_in_order [] sorted k d lt = absurd (omega arith)
@@ -36,10 +41,14 @@ keys_in_order (a ∷ b ∷ ks) sorted (suc k) d lt =
     subst (λ n. ComesBefore (get_or names (suc k) d) (get_or names n d)) e
     (keys_in_order (b ∷ ks) (sorted_tail string_cmp a (b ∷ ks) sorted) k d (omega arith))
 
--- the keys of a map rise, and with them the names of a table of numbers
+-- the keys of a map rise, and with them the names of a table of numbers or of rates
 pub names_in_order : (es : List Entry) → IsStrictlySortedBy string_cmp (keys_of es)
     → AreInOrder ComesBefore (map (λ pair. pair.0) (numbers_of (members_view es)))
 names_in_order es sorted = subst (AreInOrder ComesBefore) (names_are_keys es) (keys_in_order (keys_of es) sorted)
+
+pub classes_in_order : (es : List Entry) → IsStrictlySortedBy string_cmp (keys_of es)
+    → AreInOrder ComesBefore (map (λ pair. pair.0) (rates_of (members_view es)))
+classes_in_order es sorted = subst (AreInOrder ComesBefore) (classes_are_keys es) (keys_in_order (keys_of es) sorted)
 
 -- the table that a value is, or one without pairs
 pub table_found : {B : Type 0} (f : B → Members) (found : Option B) (table : Option Members) (m : B)

@@ -134,10 +134,11 @@ soft_small limits soft h consumer =
     by (Some value) None most same h = tt
     by (Some value) (Some limit) most same h = rw same at h
 
--- the rules of a file in range, with their consumers in order, are those of a policy
+-- the rules of a file in range, with their consumers and their classes in order, are those of a policy
 pub in_range_is_policy : (file : Members) (rules : Rules) → rules ≡ rules_of file → is_in_range file ≡ true
-    → AreInOrder ComesBefore (map (λ limit. limit.0) rules.limits) → IsPolicy rules
-in_range_is_policy file rules same in_range in_order =
+    → AreInOrder ComesBefore (map (λ limit. limit.0) rules.limits)
+    → AreInOrder ComesBefore (map (λ class. class.0) rules.rates) → IsPolicy rules
+in_range_is_policy file rules same in_range in_order classes =
     let with_fees = and_parts _ _ in_range in
     let with_soft = and_parts _ _ with_fees.0 in
     let with_rates = and_parts _ _ with_soft.0 in
@@ -146,8 +147,11 @@ in_range_is_policy file rules same in_range in_order =
     let with_consumers = and_parts _ _ with_classes.0 in
     let AreOrdered : Rules → Type 0 = λ r. AreInOrder ComesBefore (map (λ limit. limit.0) r.limits) in
     let ordered : AreOrdered (rules_of file) = subst AreOrdered same in_order in
+    let AreClasses : Rules → Type 0 = λ r. AreInOrder ComesBefore (map (λ class. class.0) r.rates) in
+    let classed : AreClasses (rules_of file) = subst AreClasses same classes in
     subst IsPolicy (sym same) (record {
       in_order = ordered;
+      classes = classed;
       few_consumers = rw (length-map (pairs_of (limits_in file)) _) (leb-true _ _ with_consumers.1);
       few_classes = rw (length-map (pairs_of (rates_in file)) _) (leb-true _ _ with_classes.1);
       limits = numbers_small most_limit (limits_in file) with_limits.1;

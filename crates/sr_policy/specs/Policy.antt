@@ -1,5 +1,5 @@
--- What holds of every policy: its consumers are in order, no list is too long, no number too great, and no soft limit
--- above its limit.
+-- What holds of every policy: its consumers and its classes are in order, no list is too long, no number too great, and
+-- no soft limit above its limit.
 -- Source: docs/POLICY.md.
 
 use Rattle.std.specs.Prelude.{◌≤◌, All, IfSome, length, map}
@@ -15,6 +15,7 @@ AreSoft rules =
 
 pub record IsPolicy (rules : Rules) : Type 0 where
   pub in_order : AreInOrder ComesBefore (map (λ limit. limit.0) rules.limits)
+  pub classes : AreInOrder ComesBefore (map (λ class. class.0) rules.rates)
   pub few_consumers : length rules.limits ≤ most_consumers
   pub few_classes : length rules.rates ≤ most_classes
   pub limits : All (λ limit. limit.1 ≤ most_limit) rules.limits

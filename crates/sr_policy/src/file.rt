@@ -76,14 +76,10 @@ fn policy_of(alloc: Global, file: &Table) -> Result<Policy, AllocError>
         Some(text) => Some(name_of(alloc, text)?),
         None => None,
     };
-    let rates = match table_at(file, "rates") {
-        Some(classes) => rates_of(alloc, classes)?,
-        None => Vec::new(alloc),
-    };
     let parts = Parts {
         class_field,
         limits: numbers_at(alloc, file, "limits")?,
-        rates,
+        rates: rates_at(alloc, file, "rates")?,
         soft: numbers_at(alloc, file, "soft")?,
         fees: numbers_at(alloc, file, "fees")?,
     };
@@ -101,9 +97,21 @@ fn numbers_at(alloc: Global, file: &Table, key: &str) -> Result<Numbers, AllocEr
     }
 }
 
+/// The rates of each class in the table at a key: none if it is missing.
+fn rates_at(alloc: Global, file: &Table, key: &str) -> Result<Vec<(Name, Numbers)>, AllocError>
+    ensures value { IfOk result (λ rates. rates.items ≡ rates_in_table (table_in key.now (table_view file.now))) }
+    ensures order { IfOk result (λ rates. AreInOrder ComesBefore (map (λ class. class.0) rates.items)) }
+{
+    match table_at(file, key) {
+        Some(classes) => rates_of(alloc, classes),
+        None => Ok(Vec::new(alloc)),
+    }
+}
+
 /// The rates of each class.
 fn rates_of(alloc: Global, classes: &Table) -> Result<Vec<(Name, Numbers)>, AllocError>
-    ensures { IfOk result (λ rates. rates.items ≡ rates_in_table (table_view classes.now)) }
+    ensures value { IfOk result (λ rates. rates.items ≡ rates_in_table (table_view classes.now)) }
+    ensures order { IfOk result (λ rates. AreInOrder ComesBefore (map (λ class. class.0) rates.items)) }
 {
     let mut rates = Vec::with_capacity(alloc, classes.len())?;
     for (class, value) in classes.iter() {

@@ -129,8 +129,8 @@ impl Policy {
         })
     }
 
-    /// Law: the consumers are in order, no list is too long, no number too great, and no soft limit above its limit.
-    /// Calling this has no effect.
+    /// Law: consumers and classes are in order, no list is too long, no number too great, and no soft limit above its
+    /// limit. Calling this has no effect.
     pub fn sound(&self)
         ensures { IsPolicy self.now }
     {

@@ -1,14 +1,18 @@
-use Rattle.std.proofs.Common.{◌≡◌, ◌∙◌, ap, unwrap_or}
+use Rattle.std.proofs.Common.{◌≡◌, ◌∙◌, ap, map, subst, sym, unwrap_or}
 use Rattle.std.proofs.lemmas.Result.{IfOk-from_err}
 use Rattle.toml.specs.Data.{no_members, as_table}
 use Rattle.toml.specs.View.{view}
+use Rattle.sr_bytes.specs.Order.{AreInOrder, ComesBefore}
 use Rattle.sr_policy.specs.File.{numbers_of}
-use Rattle.sr_policy.proofs.FileLemmas.{table_found, no_table, rates_more, rates_all}
+use Rattle.sr_policy.proofs.FileLemmas.{classes_in_order, table_found, no_table, rates_more, rates_all}
 use Rattle.sr_policy.proofs.file.rates_of.Goals as goal
 use Rattle.sr_policy.proofs.file.rates_of.Goals.{in-Some-as_table+in_ok-numbers-in-Some-as_table, in-None-as_table}
 
-pub returns-in_err-rates : goal.returns-in_err-rates
-returns-in_err-rates c = IfOk-from_err _ _ c.from_residual.ensures.0
+pub returns-in_err-rates-clause-value : goal.returns-in_err-rates-clause-value
+returns-in_err-rates-clause-value c = IfOk-from_err _ _ c.from_residual.ensures.0
+
+pub returns-in_err-rates-clause-order : goal.returns-in_err-rates-clause-order
+returns-in_err-rates-clause-order c = IfOk-from_err _ _ c.from_residual.ensures.0
 
 pub loop-class-preserved : goal.loop-class-preserved
 loop-class-preserved c =
@@ -28,6 +32,13 @@ loop-class-preserved c =
     (c.in_ok-name_of.ensures ∙ c.as_str.ensures.value)
     counted c.loop-class.invariant c.in_ok-push.ensures.items
 
-pub returns : goal.returns
-returns c = rates_all c.args.classes.now.entries c.loop-class.class-iterator c.loop-class.rates.items
+pub returns-clause-value : goal.returns-clause-value
+returns-clause-value c = rates_all c.args.classes.now.entries c.loop-class.class-iterator c.loop-class.rates.items
     c.in-None.ensures.steps.0 c.loop-class.invariant
+
+pub returns-clause-order : goal.returns-clause-order
+returns-clause-order c =
+    let is = rates_all c.args.classes.now.entries c.loop-class.class-iterator c.loop-class.rates.items
+    c.in-None.ensures.steps.0 c.loop-class.invariant in
+    subst (λ classes. AreInOrder ComesBefore (map (λ class. class.0) classes)) (sym is)
+    (classes_in_order c.args.classes.now.entries c.len.ensures.ordered)
