@@ -1,3 +1,4 @@
 pub mod FileLemmas
+pub mod NameLemmas
 pub mod PolicyLemmas
 pub mod ProblemLemmas

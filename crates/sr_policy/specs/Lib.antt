@@ -5,3 +5,4 @@ pub mod File
 pub mod Snapshot
 pub mod Problem
 pub mod Same
+pub mod steps

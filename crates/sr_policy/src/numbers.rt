@@ -1,8 +1,9 @@
-ghost use Rattle.std.specs.Prelude.{◌≡◌, IfOk, option_map, map};
+ghost use Rattle.std.specs.Prelude.{◌≡◌, ◌≤◌, IfOk, length, option_map, map};
 ghost use Rattle.toml.specs.View.{table_view};
 ghost use Rattle.sr_bytes.specs.Order.{AreInOrder, ComesBefore};
 ghost use Rattle.sr_policy.specs.Rules.{value_at};
 ghost use Rattle.sr_policy.specs.File.{numbers_of as numbers_in};
+ghost use Rattle.sr_policy.specs.steps.Search.{IsPlace};
 
 use crate::table::{name_of, natural_of};
 use sr_bytes::Name;
@@ -10,18 +11,21 @@ use std::alloc::{AllocError, Global};
 use std::marker::Model;
 use toml::Table;
 
-/// Numbers by name: the limits of consumers, their soft limits or fees, or their rates for a class.
+/// Numbers by name, in byte order: the limits of consumers, their soft limits or fees, or their rates for a class.
 #[derive(Drop)]
 pub(crate) struct Numbers {
     pairs: Vec<(Name, u64)>,
 }
 
 impl Model for Numbers {
-    ghost use Rattle.std.specs.Prelude.{List, ℕ};
+    ghost use Rattle.std.specs.Prelude.{List, ℕ, map};
+    ghost use Rattle.sr_bytes.specs.Order.{AreInOrder, ComesBefore};
 
     ghost Value = { List (List ℕ × ℕ) };
 
     ghost view = { λ n. n.pairs.items };
+
+    ghost invariant = { λ n. AreInOrder ComesBefore (map (λ pair. pair.0) n.pairs.items) };
 }
 
 impl Numbers {
@@ -48,20 +52,26 @@ impl Numbers {
     pub(crate) fn get(&self, name: &Name) -> Option<u64>
         ensures { result ≡ value_at name.now self.now }
     {
-        found(self.as_slice(), name).copied()
+        found(self.pairs.as_slice(), name).copied()
     }
 }
 
-/// What the first of the pairs with this name holds.
+/// What the first of the pairs with this name holds, found by binary search.
 pub(crate) fn found<'a, V>(pairs: &'a [(Name, V)], name: &Name) -> Option<&'a V>
+    requires { AreInOrder ComesBefore (map (λ pair. pair.0) pairs.now) }
     ensures { option_map (λ value. value.now) result ≡ value_at name.now pairs.now }
 {
-    for (other, value) in pairs {
-        if name == other {
-            return Some(value);
-        }
-    }
-    None
+    let (other, value) = pairs.get(place_for(pairs, name))?;
+    if name == other { Some(value) } else { None }
+}
+
+/// How many of the pairs have names that come before this one, found by binary search.
+fn place_for<V>(pairs: &[(Name, V)], name: &Name) -> usize
+    requires { AreInOrder ComesBefore (map (λ pair. pair.0) pairs.now) }
+    ensures bound { result ≤ length pairs.now }
+    ensures place { IsPlace (λ pair. pair.0) name.now pairs.now result }
+{
+    pairs.partition_point(|pair| pair.0.comes_before(name))
 }
 
 /// The numbers of a table of a file, by key.

@@ -11,6 +11,13 @@ loop-key-preserved c =
     (c.unwrap_or.ensures ∙ ap (λ found. unwrap_or found 0) c.natural_of.ensures) c.loop-key.invariant
     c.in_ok-push.ensures.items
 
+pub invariant_of-result : goal.invariant_of-result
+invariant_of-result c =
+    let is = numbers_all c.args.table.now.entries c.loop-key.key-iterator c.loop-key.pairs.items
+    c.in-None.ensures.steps.0 c.loop-key.invariant in
+    subst (λ pairs. AreInOrder ComesBefore (map (λ pair. pair.0) pairs)) (sym is)
+    (names_in_order c.args.table.now.entries c.len.ensures.ordered)
+
 pub returns-clause-value : goal.returns-clause-value
 returns-clause-value c = numbers_all c.args.table.now.entries c.loop-key.key-iterator c.loop-key.pairs.items
     c.in-None.ensures.steps.0 c.loop-key.invariant

@@ -1,0 +1,2 @@
+-- What only private clauses cite: where a search ends.
+pub mod Search
