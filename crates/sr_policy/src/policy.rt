@@ -1,8 +1,9 @@
-ghost use Rattle.std.specs.Prelude.{◌≡◌, IfOk, option_map};
+ghost use Rattle.std.specs.Prelude.{◌≡◌, IfOk, map, option_and_then, option_map};
 ghost use Rattle.sr_policy.specs.Rules.{other_class as all_others, value_at};
 
 use crate::live::Live;
 use crate::numbers::{Numbers, found, names_of};
+use crate::rates::Rates;
 use sr_bytes::{Name, Pairs};
 use std::alloc::{AllocError, Global};
 use std::marker::Model;
@@ -85,7 +86,7 @@ impl Model for Parts {
 }
 
 impl Policy {
-    ghost use Rattle.std.specs.Prelude.{◌≡◌, IfOk, option_map};
+    ghost use Rattle.std.specs.Prelude.{◌≡◌, IfOk, map, option_map};
     ghost use Rattle.sr_bytes.specs.Order.{AreInOrder, ComesBefore};
     ghost use Rattle.sr_policy.specs.Policy.{IsPolicy};
     ghost use Rattle.sr_policy.specs.Rules.{no_rules, value_at, consumers_of, limit_of, live_of, rate_of};
@@ -197,10 +198,14 @@ impl Policy {
     pub fn rate(&self, class: &Name, consumer: &Name) -> Option<u64>
         ensures { result ≡ rate_of self.now class.now consumer.now }
     {
-        match self.rates_for(class) {
-            Some(rates) => rates.get(consumer),
-            None => None,
-        }
+        rate_in(self.rates_for(class), consumer)
+    }
+
+    /// For a class the rate of each of the consumers, in their order, `None` for one that may not take it.
+    pub fn rates_of(&self, alloc: Global, class: &Name, live: &[Live]) -> Result<Rates, AllocError>
+        ensures { IfOk result (λ rates. rates ≡ map (λ consumer. rate_of self.now class.now consumer.name) live.now) }
+    {
+        rates_in(alloc, self.rates_for(class), live)
     }
 
     /// The class of an entry with these fields.
@@ -234,6 +239,28 @@ impl Policy {
             None => None,
         }
     }
+}
+
+/// The rate of a consumer among those of a class, if the class has rates.
+fn rate_in(row: Option<&Numbers>, consumer: &Name) -> Option<u64>
+    ensures { result ≡ option_and_then (value_at consumer.now) (option_map (λ rates. rates.now) row.entry) }
+{
+    match row {
+        Some(rates) => rates.get(consumer),
+        None => None,
+    }
+}
+
+/// The rate of each of the consumers among those of a class, if the class has rates.
+fn rates_in(alloc: Global, row: Option<&Numbers>, live: &[Live]) -> Result<Rates, AllocError>
+    ensures { IfOk result (λ rates. rates
+        ≡ map (λ consumer. option_and_then (value_at consumer.name) (option_map (λ r. r.now) row.entry)) live.now) }
+{
+    let mut rates = Vec::with_capacity(alloc, live.len())?;
+    for consumer in live {
+        rates.push(rate_in(row, &consumer.name))?;
+    }
+    Ok(Rates::new(rates))
 }
 
 /// The value of the first pair with this field.
