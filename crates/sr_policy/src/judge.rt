@@ -3,6 +3,7 @@ ghost use Rattle.std.specs.Prelude.{◌≡◌, ◌↔◌, ◌≤◌, length, IsT
 ghost use Rattle.sr_ids.specs.Id.{IsBelow};
 ghost use Rattle.sr_policy.specs.Bounds.{most_limit};
 ghost use Rattle.sr_policy.specs.Snapshot as spec;
+ghost use Rattle.sr_policy.specs.steps.Search.{IsPlace};
 
 use crate::bounds::{
     MAX_CLASSES, MAX_CONSUMERS, MAX_FEE, MAX_LIMIT, MAX_RATE, MAX_STRANDED, MAX_WEIGHT,
@@ -86,6 +87,7 @@ fn are_classes_rising(classes: &[(Name, Rates)]) -> bool
 
 /// Whether every owner is dead.
 fn are_owners_dead(parts: &Parts) -> bool
+    requires { spec.AreInOrder spec.ComesBefore parts.now.dead }
     ensures { IsTrue result ↔ spec.AreOwnersDead parts.now }
 {
     are_stranded_owners(parts.dead.as_slice(), parts.stranded.as_slice())
@@ -94,6 +96,7 @@ fn are_owners_dead(parts: &Parts) -> bool
 
 /// Whether each stranded entry has one of the names as its owner.
 fn are_stranded_owners(names: &[Name], entries: &[Stranded]) -> bool
+    requires { spec.AreInOrder spec.ComesBefore names.now }
     ensures { IsTrue result ↔ All (λ entry. IsTrue (spec.is_among names.now entry.owner)) entries.now }
 {
     entries.iter().all(|entry| is_among(names, &entry.owner))
@@ -101,16 +104,30 @@ fn are_stranded_owners(names: &[Name], entries: &[Stranded]) -> bool
 
 /// Whether each gone entry has one of the names as its owner.
 fn are_gone_owners(names: &[Name], entries: &[(Id, Name)]) -> bool
+    requires { spec.AreInOrder spec.ComesBefore names.now }
     ensures { IsTrue result ↔ All (λ entry. IsTrue (spec.is_among names.now entry.1)) entries.now }
 {
     entries.iter().all(|entry| is_among(names, &entry.1))
 }
 
-/// Whether a name is one of the names.
+/// Whether a name is one of the names, found by binary search.
 fn is_among(names: &[Name], name: &Name) -> bool
+    requires { spec.AreInOrder spec.ComesBefore names.now }
     ensures { result ≡ spec.is_among names.now name.now }
 {
-    names.iter().any(|other| *other == *name)
+    match names.get(place_for(names, name)) {
+        Some(other) => other == name,
+        None => false,
+    }
+}
+
+/// How many of the names come before this one, found by binary search.
+fn place_for(names: &[Name], name: &Name) -> usize
+    requires { spec.AreInOrder spec.ComesBefore names.now }
+    ensures bound { result ≤ length names.now }
+    ensures place { IsPlace (λ other. other) name.now names.now result }
+{
+    names.partition_point(|other| other.comes_before(name))
 }
 
 /// Whether no list is too long and no number too great.
