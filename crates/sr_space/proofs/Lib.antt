@@ -21,7 +21,9 @@ pub mod WaitingLemmas
 pub mod WaitingLaws
 pub mod ReaderLaws
 pub mod RisingLemmas
+pub mod SortedLemmas
 pub mod NameOrderLemmas
+pub mod SortedNameLemmas
 pub mod DeadLemmas
 pub mod SnapLemmas
 pub mod CommitLemmas

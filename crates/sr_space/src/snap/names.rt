@@ -23,11 +23,28 @@ pub(super) fn is_among(names: &[Name], name: &Name) -> bool
 pub fn names_in_order(alloc: Global, names: &[Name]) -> Result<Vec<Name>, AllocError>
     ensures { IfOk result (λ list. list.items ≡ in_order names.now) }
 {
-    let mut list = Vec::new(alloc);
-    for place in (0..names.len()).rev() {
-        add_name(&mut list, alloc, &names[place])?;
+    let mut list = copies_of(alloc, names)?;
+    put_in_order(&mut list);
+    Ok(list)
+}
+
+/// Copies of the names.
+fn copies_of(alloc: Global, names: &[Name]) -> Result<Vec<Name>, AllocError>
+    ensures { IfOk result (λ list. list.items ≡ names.now) }
+{
+    let mut list = Vec::with_capacity(alloc, names.len())?;
+    for name in names {
+        list.push(name.copy(alloc)?)?;
     }
     Ok(list)
+}
+
+/// Puts the names in byte order, each once. It takes no memory.
+fn put_in_order(names: &mut Vec<Name>)
+    ensures { names.new.items ≡ in_order names.old.items }
+{
+    names.sort_unstable_by(|a, b| a.as_slice().cmp(&b.as_slice()));
+    names.dedup();
 }
 
 /// The classes of the entries in byte order, each once.
