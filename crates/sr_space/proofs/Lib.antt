@@ -25,5 +25,6 @@ pub mod SortedLemmas
 pub mod NameOrderLemmas
 pub mod SortedNameLemmas
 pub mod DeadLemmas
+pub mod OwnLemmas
 pub mod SnapLemmas
 pub mod CommitLemmas

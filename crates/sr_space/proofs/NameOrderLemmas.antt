@@ -1,7 +1,7 @@
 -- Names in byte order, each once: they rise, the same names are among them, and they are no more than a list that has them all.
-use Rattle.std.proofs.Common.{◌≡◌, ℕ, zero, suc, ◌+◌, ◌<◌, ◌≤◌, Bool, true, false, cond, not, ◌||◌, List, [], ◌∷◌, ◌++◌, length, filter, get_or, take, drop, slice_get, Some, None, inl, inr, ◌⊎◌, refl, ap, subst, sym, ◌∙◌, nat_eq, arith}
+use Rattle.std.proofs.Common.{◌≡◌, ℕ, zero, suc, ◌<◌, ◌≤◌, Bool, true, false, cond, not, ◌||◌, List, [], ◌∷◌, ◌++◌, length, filter, get_or, take, drop, slice_get, Some, None, inl, inr, ◌⊎◌, refl, ap, subst, sym, ◌∙◌, nat_eq, arith}
 use Rattle.std.specs.Cmp.Lexicographic.{pointwise}
-use Rattle.std.specs.List.{insert, list_any}
+use Rattle.std.specs.List.{insert}
 use Rattle.std.specs.List.Sorted.{IsPartitionedBy}
 use Rattle.std.proofs.Math.Seq.{take-nil}
 use Rattle.std.proofs.lemmas.List.Folds.{list_any-append}
@@ -234,7 +234,7 @@ before_first (x ∷ xs) name rises (suc i) (suc j) d le within earlier = before_
 pub splits_before : (names : List Text) (name : Text) → NamesRise names → Splits (λ (other : Text). comes_before other name) names (count_before name names)
 splits_before names name rises = Splits-counted (λ (other : Text). comes_before other name) names (before_first names name rises)
 
-not_among-after : (name : Text) (names : List Text) → AreNamesAfter name names → is_among names name ≡ false
+pub not_among-after : (name : Text) (names : List Text) → AreNamesAfter name names → is_among names name ≡ false
 not_among-after name [] later = refl
 not_among-after name (x ∷ xs) later = rw (is_same_name-after x name later.0) (not_among-after name xs later.1)
 

@@ -1,9 +1,9 @@
 -- What is gathered for a snapshot is one, if not too many entries are stranded.
-use Rattle.std.proofs.Common.{◌≡◌, ℕ, zero, suc, ◌+◌, ◌<◌, ◌≤◌, ◌^◌, Bool, true, false, cond, not, ◌&&◌, ◌||◌, List, [], ◌∷◌, ◌++◌, length, map, filter, Option, Some, None, is_some, option_map, option_and_then, min, max, IfSome, All, refl, ap, subst, sym, ◌∙◌, nat_eq, nat_lt, Result, Ok, Err, arith, append-nil, length-append}
+use Rattle.std.proofs.Common.{◌≡◌, ℕ, ◌+◌, ◌≤◌, ◌^◌, Bool, true, false, cond, not, ◌||◌, List, [], ◌∷◌, ◌++◌, length, map, filter, Option, Some, None, is_some, option_map, option_and_then, IfSome, All, refl, ap, subst, sym, ◌∙◌, nat_eq, nat_lt, Result, Ok, Err, arith, length-append}
 use Rattle.std.specs.Cmp.Lexicographic.{pointwise}
-use Rattle.std.specs.List.{flat_map, list_any}
+use Rattle.std.specs.List.{flat_map}
 use Rattle.std.proofs.lemmas.List.{length-map}
-use Rattle.std.proofs.lemmas.List.Elements.{All-append, All-cons, All-head, All-map, All-nil, All-tail, All-weaker, filter_agree, filter_passes}
+use Rattle.std.proofs.lemmas.List.Elements.{All-append, All-cons, All-head, All-map, All-nil, All-tail, filter_agree, filter_passes}
 use Rattle.std.proofs.lemmas.List.Filters.{length-filter_both}
 use Rattle.sr_bytes.specs.Order.{AreInOrder, ComesBefore}
 use Rattle.sr_ids.specs.declared.id.Id.{Id}
@@ -11,7 +11,7 @@ use Rattle.sr_ids.specs.Id.{IsBelow}
 use Rattle.sr_entries.specs.declared.entry.Entry.{Entry}
 use Rattle.sr_entries.specs.Entries.{entry_with, has_id, is_same_id}
 use Rattle.sr_pending.specs.declared.nack.Nack.{Nack}
-use Rattle.sr_pending.specs.Pending.{AreAbove, AreRising, owned_by}
+use Rattle.sr_pending.specs.Pending.{AreRising, owned_by}
 use Rattle.sr_group.specs.Group.{GroupState}
 use Rattle.sr_group.proofs.NameLemmas.{is_same_name-refl, is_same_name-true}
 use Rattle.sr_stream.specs.Groups.{group_with}
@@ -20,15 +20,16 @@ use Rattle.sr_policy.specs.Bounds.{most_stranded}
 use Rattle.sr_policy.specs.declared.live.Live.{Live}
 use Rattle.sr_policy.specs.declared.stranded.Stranded.{Stranded}
 use Rattle.sr_policy.specs.Policy.{IsPolicy}
-use Rattle.sr_policy.specs.Rules.{Rules, Text, class_of, class_of_value, classed_by, consumers_of, limit_of, live_of, other_class, rate_of, size_of, tier_of, value_at, weight_of}
+use Rattle.sr_policy.specs.Rules.{Rules, Text, class_of_value, classed_by, consumers_of, limit_of, live_of, other_class, rate_of, tier_of, value_at, weight_of}
 use Rattle.sr_policy.proofs.PolicyLemmas.{live_of-tier}
 use Rattle.sr_policy.specs.Snapshot.{AreIdsInOrder, AreNamesInOrder, AreOwnersDead, AreRates, IsSnapshot, IsTier, IsWeight, IsWithinBounds, Shown, is_among}
 use Rattle.sr_space.specs.declared.snap.SnapFault.{SnapFault}
 use Rattle.sr_space.specs.declared.snap.SnapFault.TheVariants as faults
 use Rattle.sr_space.specs.Snap.{IsSnapFault, gone_in, if_few, in_order, listed, snapped_group, snapped_stream, live_in, of_dead, rates_in, shown_with, stranded_as, stranded_in}
-use Rattle.sr_space.specs.steps.Snapping.{left_in}
-use Rattle.sr_space.proofs.RisingLemmas.{AreAfter, AtMostOne, Rises, Rises-filter, Rises-flat_map, Rises-map, in_order-rising, length-flat_map_one}
-use Rattle.sr_space.proofs.NameOrderLemmas.{AreAmong, AreAmong-in_order, NamesRise, NamesRise-in_order, is_among-in_order, length-among, names_in_order, names_rise}
+use Rattle.sr_space.specs.steps.Snapping.{few_of, left_in}
+use Rattle.sr_space.proofs.RisingLemmas.{AtMostOne, Rises, Rises-filter, Rises-flat_map, Rises-map, in_order-rising, length-flat_map_one}
+use Rattle.sr_space.proofs.OwnLemmas.{NacksRise-rising}
+use Rattle.sr_space.proofs.NameOrderLemmas.{AreAmong, AreAmong-in_order, NamesRise-in_order, is_among-in_order, length-among, names_rise}
 
 -- ---- the same are dead in byte order
 
@@ -61,24 +62,18 @@ length-stranded rules entries (x ∷ xs) =
     by rest one true e = let here : length (stranded_as rules x (entry_with x.id entries)) ≡ 1 = rw e at one in omega arith
     by rest one false e = let here : length (stranded_as rules x (entry_with x.id entries)) ≡ 0 = rw e at one in omega arith
 
-pub length-stranded_in : (rules : Rules) (dead : List Text) (entries : List Entry) (nacks : List Nack) → length (stranded_in rules (in_order dead) entries nacks) ≡ length (left_in dead entries nacks)
-length-stranded_in rules dead entries nacks =
-    length-stranded rules entries (of_dead (in_order dead) nacks)
-    ∙ ap (λ (l : List Nack). length (filter (λ (nack : Nack). has_id nack.id entries) l)) (of_dead-in_order dead nacks)
+pub length-stranded_in : (rules : Rules) (dead : List Text) (entries : List Entry) (nacks : List Nack) → length (stranded_in rules dead entries nacks) ≡ length (left_in dead entries nacks)
+length-stranded_in rules dead entries nacks = length-stranded rules entries (of_dead dead nacks)
+
+-- in byte order or not
+left_in-in_order : (dead : List Text) (entries : List Entry) (nacks : List Nack) → left_in (in_order dead) entries nacks ≡ left_in dead entries nacks
+left_in-in_order dead entries nacks = ap (λ (l : List Nack). filter (λ (nack : Nack). has_id nack.id entries) l) (of_dead-in_order dead nacks)
 
 -- ---- ids rise
 
-AreAfter-nacks : (id : Id) (nacks : List Nack) → AreAbove id nacks → AreAfter IsBelow (λ (nack : Nack). nack.id) id nacks
-AreAfter-nacks id [] above = tt
-AreAfter-nacks id (x ∷ xs) above = (above.0, AreAfter-nacks id xs above.1)
-
-Rises-nacks : (nacks : List Nack) → AreRising nacks → Rises IsBelow (λ (nack : Nack). nack.id) nacks
-Rises-nacks [] rising = tt
-Rises-nacks (x ∷ xs) rising = (AreAfter-nacks x.id xs rising.0, Rises-nacks xs rising.1)
-
 Rises-dead : (dead : List Text) (nacks : List Nack) → AreRising nacks → Rises IsBelow (λ (nack : Nack). nack.id) (of_dead dead nacks)
 Rises-dead dead nacks rising =
-    Rises-filter IsBelow (λ (nack : Nack). nack.id) (λ nack. is_among dead nack.owner) nacks (Rises-nacks nacks rising)
+    Rises-filter IsBelow (λ (nack : Nack). nack.id) (λ nack. is_among dead nack.owner) nacks (NacksRise-rising nacks rising)
 
 one_stranded : (rules : Rules) (nack : Nack) (found : Option Entry) → AtMostOne (λ (entry : Stranded). entry.id ≡ nack.id) (stranded_as rules nack found)
 one_stranded rules nack None = tt
@@ -114,11 +109,11 @@ Rises-rates rules live stranded =
     Rises-map ComesBefore (λ (class : Text × List (Option ℕ)). class.0) (λ class. (class, map (λ consumer. rate_of rules class consumer.name) live))
     (in_order (map (λ entry. entry.class) stranded)) (NamesRise-in_order (map (λ entry. entry.class) stranded))
 
-names_rising : (rules : Rules) (key group : Text) (dead : List Text) (entries : List Entry) (nacks : List Nack) → IsPolicy rules → AreNamesInOrder (shown_with rules key group (in_order dead) entries nacks)
-names_rising rules key group dead entries nacks policy = record {
-  dead = names_in_order (in_order dead) (NamesRise-in_order dead);
-  live = in_order-rising ComesBefore (λ (consumer : Live). consumer.name) (live_in rules (in_order dead) nacks) (Rises-live rules (in_order dead) nacks policy);
-  rates = in_order-rising ComesBefore (λ (class : Text × List (Option ℕ)). class.0) _ (Rises-rates rules (live_in rules (in_order dead) nacks) (stranded_in rules (in_order dead) entries nacks));
+names_rising : (rules : Rules) (key group : Text) (dead : List Text) (entries : List Entry) (nacks : List Nack) → IsPolicy rules → AreInOrder ComesBefore dead → AreNamesInOrder (shown_with rules key group dead entries nacks)
+names_rising rules key group dead entries nacks policy order = record {
+  dead = order;
+  live = in_order-rising ComesBefore (λ (consumer : Live). consumer.name) (live_in rules dead nacks) (Rises-live rules dead nacks policy);
+  rates = in_order-rising ComesBefore (λ (class : Text × List (Option ℕ)). class.0) _ (Rises-rates rules (live_in rules dead nacks) (stranded_in rules dead entries nacks));
 }
 
 -- ---- owners are dead
@@ -293,22 +288,45 @@ within_bounds rules key group dead entries nacks policy few =
           (λ k d lt. are_rates rules live _ policy);
     }
 
-pub is_snapshot : (rules : Rules) (key group : Text) (dead : List Text) (entries : List Entry) (nacks : List Nack) → IsPolicy rules → AreRising nacks → length (left_in dead entries nacks) ≤ 4096
-    → IsSnapshot (shown_with rules key group (in_order dead) entries nacks)
-is_snapshot rules key group dead entries nacks policy rising few = record {
-  ids = ids_in_order rules key group (in_order dead) entries nacks rising;
-  names = names_rising rules key group dead entries nacks policy;
-  owners = owners_dead rules key group (in_order dead) entries nacks;
-  bounds = within_bounds rules key group (in_order dead) entries nacks policy (rw (length-stranded_in rules dead entries nacks) few);
+pub is_snapshot : (rules : Rules) (key group : Text) (dead : List Text) (entries : List Entry) (nacks : List Nack) → IsPolicy rules → AreRising nacks → AreInOrder ComesBefore dead
+    → length (left_in dead entries nacks) ≤ 4096 → IsSnapshot (shown_with rules key group dead entries nacks)
+is_snapshot rules key group dead entries nacks policy rising order few = record {
+  ids = ids_in_order rules key group dead entries nacks rising;
+  names = names_rising rules key group dead entries nacks policy order;
+  owners = owners_dead rules key group dead entries nacks;
+  bounds = within_bounds rules key group dead entries nacks policy (rw (length-stranded_in rules dead entries nacks) few);
 }
 
 -- ---- what is answered
 
-if_few-many : (shown : Shown) → nat_lt most_stranded (length shown.stranded) ≡ true → if_few shown ≡ Err faults.TooMany
-if_few-many shown many = rw many refl
+-- the test that there are too many, of what is left and of what is stranded
+pub same_test : (rules : Rules) (key name : Text) (dead : List Text) (entries : List Entry) (nacks : List Nack)
+    → nat_lt most_stranded (length (shown_with rules key name dead entries nacks).stranded) ≡ nat_lt most_stranded (length (left_in dead entries nacks))
+same_test rules key name dead entries nacks = ap (λ (n : ℕ). nat_lt most_stranded n) (length-stranded_in rules dead entries nacks)
 
-if_few-few : (shown : Shown) → nat_lt most_stranded (length shown.stranded) ≡ false → if_few shown ≡ Ok shown
-if_few-few shown few = rw few refl
+pub few_of-many : (shown : Shown) → nat_lt most_stranded (length shown.stranded) ≡ true → None ≡ few_of shown
+few_of-many shown many = rw many refl
+
+pub few_of-few : (shown : Shown) → nat_lt most_stranded (length shown.stranded) ≡ false → Some shown ≡ few_of shown
+few_of-few shown few = rw few refl
+
+if_few-some : (shown snapshot : Shown) → Some snapshot ≡ few_of shown → if_few shown ≡ Ok snapshot
+if_few-some shown snapshot is = by (nat_lt most_stranded (length shown.stranded)) is
+  where
+    by : (many : Bool) → Some snapshot ≡ cond many None (Some shown) → cond many (Err faults.TooMany) (Ok shown) ≡ Ok snapshot
+    by true none = absurd cc
+    by false some = cc
+
+if_few-none : (shown : Shown) → None ≡ few_of shown → IsSnapFault (if_few shown) faults.TooMany
+if_few-none shown is = by (nat_lt most_stranded (length shown.stranded)) is
+  where
+    by : (many : Bool) → None ≡ cond many None (Some shown) → IsSnapFault (cond many (Err faults.TooMany) (Ok shown)) faults.TooMany
+    by true none = refl
+    by false some = absurd cc
+
+if_few-refused : (shown : Shown) (test : Bool) (fault : SnapFault) → nat_lt most_stranded (length shown.stranded) ≡ test → fault ≡ cond test faults.TooMany faults.Memory → IsSnapFault (if_few shown) fault
+if_few-refused shown true fault many is = rw many is
+if_few-refused shown false fault few is = rw few is
 
 module _ (rules : Rules) (key name : Text) (dead : List Text) (found : Option StreamState) (stream : StreamState) (group : GroupState) (at : found ≡ Some stream) (here : group_with name stream.groups ≡ Some group) where
   abbrev shown_here : Shown
@@ -317,44 +335,25 @@ module _ (rules : Rules) (key name : Text) (dead : List Text) (found : Option St
   snapped_at : snapped_stream rules key name dead found ≡ if_few shown_here
   snapped_at = ap (snapped_stream rules key name dead) at ∙ ap (snapped_group rules key name dead stream.entries) here
 
-  -- as many are stranded as are left, as a test
-  same_test : (test : Bool) → test ≡ nat_lt most_stranded (length (left_in dead stream.entries group.nacks)) → nat_lt most_stranded (length shown_here.stranded) ≡ test
-  same_test test is = ap (λ (n : ℕ). nat_lt most_stranded n) (length-stranded_in rules dead stream.entries group.nacks) ∙ sym is
+  pub snapped-some : (snapshot : Shown) → Some snapshot ≡ few_of shown_here → snapped_stream rules key name dead found ≡ Ok snapshot
+  snapped-some snapshot is = snapped_at ∙ if_few-some shown_here snapshot is
 
-  pub snapped-many : (test : Bool) → test ≡ nat_lt most_stranded (length (left_in dead stream.entries group.nacks)) → test ≡ true → IsSnapFault (snapped_stream rules key name dead found) faults.TooMany
-  snapped-many test is many =
-      let answer : snapped_stream rules key name dead found ≡ Err faults.TooMany = snapped_at ∙ if_few-many shown_here (same_test test is ∙ many) in
-      subst (λ (r : Result Shown SnapFault). IsSnapFault r faults.TooMany) (sym answer) refl
+  pub snapped-none : None ≡ few_of shown_here → IsSnapFault (snapped_stream rules key name dead found) faults.TooMany
+  snapped-none is = subst (λ (r : Result Shown SnapFault). IsSnapFault r faults.TooMany) (sym snapped_at) (if_few-none shown_here is)
 
-  pub snapped-few : (test : Bool) → test ≡ nat_lt most_stranded (length (left_in dead stream.entries group.nacks)) → test ≡ false → snapped_stream rules key name dead found ≡ Ok shown_here
-  snapped-few test is few = snapped_at ∙ if_few-few shown_here (same_test test is ∙ few)
-
-  pub snapped-memory : (test : Bool) → test ≡ nat_lt most_stranded (length (left_in dead stream.entries group.nacks)) → test ≡ false → IsSnapFault (snapped_stream rules key name dead found) faults.Memory
-  snapped-memory test is few = subst (λ (r : Result Shown SnapFault). IsSnapFault r faults.Memory) (sym (snapped-few test is few)) refl
+  pub snapped-refused : (fault : SnapFault) → fault ≡ cond (nat_lt most_stranded (length (left_in dead stream.entries group.nacks))) faults.TooMany faults.Memory
+      → IsSnapFault (snapped_stream rules key name dead found) fault
+  snapped-refused fault is =
+      let test : nat_lt most_stranded (length shown_here.stranded) ≡ nat_lt most_stranded (length (left_in dead stream.entries group.nacks)) =
+      same_test rules key name (in_order dead) stream.entries group.nacks
+      ∙ ap (λ (l : List Nack). nat_lt most_stranded (length l)) (left_in-in_order dead stream.entries group.nacks) in
+      subst (λ (r : Result Shown SnapFault). IsSnapFault r fault) (sym snapped_at) (if_few-refused shown_here _ fault test is)
 
 -- parts that were gathered one after another
-pub gathered : (rules : Rules) (key group : Text) (dead : List Text) (entries : List Entry) (nacks : List Nack) (k g : Text) (d : List Text) (stranded : List Stranded) (gone : List (Id × Text)) (live : List Live) (rates : List (Text × List (Option ℕ)))
-    → k ≡ key → g ≡ group → d ≡ in_order dead → stranded ≡ stranded_in rules d entries nacks → gone ≡ gone_in d entries nacks → live ≡ live_in rules d nacks → rates ≡ rates_in rules live stranded
-    → record { key = k; group = g; dead = d; stranded = stranded; gone = gone; live = live; rates = rates } ≡ shown_with rules key group (in_order dead) entries nacks
-gathered rules key group dead entries nacks k g d stranded gone live rates is_key is_group is_dead is_stranded is_gone is_live is_rates =
-    let all_stranded = is_stranded ∙ ap (λ (l : List Text). stranded_in rules l entries nacks) is_dead in
-    let all_gone = is_gone ∙ ap (λ (l : List Text). gone_in l entries nacks) is_dead in
-    let all_live = is_live ∙ ap (λ (l : List Text). live_in rules l nacks) is_dead in
-    let all_rates : rates ≡ rates_in rules (live_in rules (in_order dead) nacks) (stranded_in rules (in_order dead) entries nacks) =
-    is_rates ∙ ap (λ (l : List Live). rates_in rules l stranded) all_live ∙ ap (λ (s : List Stranded). rates_in rules (live_in rules (in_order dead) nacks) s) all_stranded in
+pub gathered : (rules : Rules) (key group : Text) (dead : List Text) (entries : List Entry) (nacks : List Nack) (k g : Text) (stranded : List Stranded) (gone : List (Id × Text)) (live : List Live) (rates : List (Text × List (Option ℕ)))
+    → k ≡ key → g ≡ group → stranded ≡ stranded_in rules dead entries nacks → gone ≡ gone_in dead entries nacks → live ≡ live_in rules dead nacks → rates ≡ rates_in rules live stranded
+    → record { key = k; group = g; dead = dead; stranded = stranded; gone = gone; live = live; rates = rates } ≡ shown_with rules key group dead entries nacks
+gathered rules key group dead entries nacks k g stranded gone live rates is_key is_group is_stranded is_gone is_live is_rates =
+    let all_rates : rates ≡ rates_in rules (live_in rules dead nacks) (stranded_in rules dead entries nacks) =
+    is_rates ∙ ap (λ (l : List Live). rates_in rules l stranded) is_live ∙ ap (λ (s : List Stranded). rates_in rules (live_in rules dead nacks) s) is_stranded in
     cc
-
--- ---- one pending entry of the dead
-
-module _ (rules : Rules) (nack : Nack) (found : Option Entry) (old : List Stranded) where
-  -- the stream has it: it is added with the weight and the class of its fields
-  pub stranded-there : (entry : Entry) (fields : List (Text × Text)) (now : List Stranded) (made : Stranded) → Some entry ≡ found → fields ≡ entry.fields
-      → made ≡ record { id = nack.id; owner = nack.owner; weight = weight_of fields; class = class_of rules fields } → now ≡ old ++ made ∷ [] → now ≡ old ++ stranded_as rules nack found
-  stranded-there entry fields now made there read is pushed =
-      pushed ∙ ap (λ (s : Stranded). old ++ s ∷ []) is
-      ∙ ap (λ (pairs : List (Text × Text)). old ++ record { id = nack.id; owner = nack.owner; weight = weight_of pairs; class = class_of rules pairs } ∷ []) read
-      ∙ ap (λ (o : Option Entry). old ++ stranded_as rules nack o) there
-
-  -- nothing is added for one that the stream has no longer
-  pub stranded-gone : None ≡ found → old ≡ old ++ stranded_as rules nack found
-  stranded-gone none = sym (append-nil old) ∙ ap (λ (o : Option Entry). old ++ stranded_as rules nack o) none

@@ -1,9 +1,8 @@
 -- A list that rises is known by its elements: any list that has the same ones and rises too is that list.
-use Rattle.std.proofs.Common.{◌≡◌, ℕ, zero, suc, ◌+◌, ◌<◌, ◌≤◌, Bool, true, false, cond, List, [], ◌∷◌, length, get_or, map, inl, inr, ◌⊎◌, refl, ap, sym, subst, ◌∙◌, arith}
-use Rattle.std.specs.List.{Contains, count_by, sum_by}
+use Rattle.std.proofs.Common.{◌≡◌, ℕ, zero, suc, ◌<◌, List, [], ◌∷◌, length, get_or, inl, inr, ◌⊎◌, refl, ap, sym, subst, ◌∙◌, arith}
+use Rattle.std.specs.List.{Contains}
 use Rattle.std.specs.List.Sorted.{IsPermutation}
-use Rattle.std.proofs.lemmas.List.Sorted.{Contains-permutation, IsPermutation-sym, sum_by-IsPermutation}
-use Rattle.std.proofs.lemmas.List.Sums.{sum_by-cons}
+use Rattle.std.proofs.lemmas.List.Sorted.{Contains-permutation, IsPermutation-sym}
 use Rattle.sr_space.proofs.RisingLemmas.{AreAfter, Rises}
 
 -- the element is one of these
@@ -55,8 +54,8 @@ module _ {T X : Type 0} (R : T → T → Type 0) (key : X → T) (one_way : (a b
   Rises-same (x ∷ xs) (y ∷ ys) rises rise there back =
       let first : x ≡ y = first_same x y xs ys rises.0 rise.0 (there x (inl refl)) (back y (inl refl)) in
       let rest : xs ≡ ys = Rises-same xs ys rises.1 rise.1
-          (λ z is. later_in x y z xs ys first rises.0 is (there z (inr is)))
-          (λ z is. later_in y x z ys xs (sym first) rise.0 is (back z (inr is))) in
+      (λ z is. later_in x y z xs ys first rises.0 is (there z (inr is)))
+      (λ z is. later_in y x z ys xs (sym first) rise.0 is (back z (inr is))) in
       ap (λ (u : X). u ∷ xs) first ∙ ap (λ (l : List X). y ∷ l) rest
 
   -- a list that rises and one with its elements in another order, which rises too, are one

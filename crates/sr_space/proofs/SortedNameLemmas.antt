@@ -1,15 +1,15 @@
 -- Names that are sorted, and then each left once, are the names in byte order.
 use Rattle.std.proofs.Common.{◌≡◌, Bool, true, false, ◌||◌, List, [], ◌∷◌, inl, inr, refl, ap, sym, ◌∙◌, nat_eq}
 use Rattle.std.specs.Cmp.Lexicographic.{pointwise, slice_cmp, texts_ties}
-use Rattle.std.specs.List.{AllByRecursion, Contains, dedup}
+use Rattle.std.specs.List.{AllByRecursion, dedup}
 use Rattle.std.specs.List.Sorted.{IsPermutation, IsSorted, IsStrictlySortedBy}
 use Rattle.std.specs.Ordering.{is_lt, nat_cmp}
 use Rattle.std.specs.declared.cmp.Ordering.TheVariants.{Less}
 use Rattle.std.proofs.lemmas.Cmp.{nat_list_cmp_total, nat_list_eq_equiv}
 use Rattle.std.proofs.lemmas.List.Kept.{Contains-dedup, Contains-from_dedup, IsStrictlySortedBy-dedup}
 use Rattle.std.proofs.lemmas.List.Sorted.{IsPermutation-sym}
-use Rattle.sr_bytes.specs.Order.{ComesBefore, comes_before}
-use Rattle.sr_group.proofs.NameLemmas.{comes_before-itself, comes_before-one_way, is_same_name-refl, is_same_name-true}
+use Rattle.sr_bytes.specs.Order.{ComesBefore}
+use Rattle.sr_group.proofs.NameLemmas.{comes_before-one_way, is_same_name-refl, is_same_name-true}
 use Rattle.sr_policy.specs.Rules.{Text}
 use Rattle.sr_policy.specs.Snapshot.{is_among}
 use Rattle.sr_space.specs.Snap.{in_order}

@@ -1,10 +1,13 @@
-ghost use Rattle.std.specs.Prelude.{◌≡◌, ◌≤◌, Ok, IfOk, IfErr, length, nat_lt};
+ghost use Rattle.std.specs.Prelude.{◌≡◌, ◌+◌, ◌<◌, ◌≤◌, Ok, IfOk, IfErr, IfSome, IfNone, length, nat_lt};
+ghost use Rattle.std.specs.Prelude.{if◌then◌else◌};
 ghost use Rattle.std.specs.Option.{option_copied};
+ghost use Rattle.sr_bytes.specs.Order.{AreInOrder, ComesBefore};
 ghost use Rattle.sr_policy.specs.Bounds.{most_stranded};
 ghost use Rattle.sr_policy.specs.Snapshot.{IsSnapshot};
 ghost use Rattle.sr_space.specs.Keys.{shown_of};
-ghost use Rattle.sr_space.specs.Snap.{IsSnapFault, in_order, shown_with, snapped, snapped_stream, stranded_in};
-ghost use Rattle.sr_space.specs.steps.Snapping.{left_in};
+ghost use Rattle.sr_space.specs.Snap.{IsSnapFault, in_order, shown_with, snapped, snapped_stream};
+ghost use Rattle.sr_space.specs.declared.snap.SnapFault.TheVariants.{Memory, TooMany};
+ghost use Rattle.sr_space.specs.steps.Snapping.{few_of, left_in, there_in};
 
 mod names;
 mod parts;
@@ -13,10 +16,11 @@ use crate::Space;
 use names::is_among;
 pub use names::names_in_order;
 pub use parts::rates_by_class;
-use parts::{gone_entries, is_there, live_consumers, pending_for, stranded_entries};
+use parts::{Left, is_there, left_entries, live_consumers, pending_for};
 use sr_bytes::Name;
 use sr_group::Group;
 use sr_ids::Id;
+use sr_pending::Nacks;
 use sr_policy::{Live, Policy, Rates, Snapshot, Stranded};
 use sr_stream::Stream;
 use std::alloc::{AllocError, Global};
@@ -75,17 +79,27 @@ fn snap_stream(
     let Some(group) = stream.group(name) else {
         return Err(SnapFault::NoGroup);
     };
-    // Too many are told before memory is asked for.
-    if are_too_many(stream, group, dead) {
-        return Err(SnapFault::TooMany);
-    }
     match snap_group(alloc, stream, group, key, name, dead, policy) {
-        Ok(snapshot) => Ok(snapshot),
-        Err(_) => Err(SnapFault::Memory),
+        Ok(Some(snapshot)) => Ok(snapshot),
+        Ok(None) => Err(SnapFault::TooMany),
+        Err(_) => Err(refused(stream, group, dead)),
     }
 }
 
-/// Whether more entries are stranded than a snapshot may have. It takes no memory.
+/// Why there is no snapshot if memory was refused: too many entries are told first.
+fn refused(stream: &Stream, group: &Group, dead: &[Name]) -> SnapFault
+    ensures { result ≡ (if nat_lt most_stranded
+        (length (left_in dead.now stream.now.shown.entries group.now.shown.nacks)) then TooMany else Memory) }
+{
+    if are_too_many(stream, group, dead) {
+        SnapFault::TooMany
+    } else {
+        SnapFault::Memory
+    }
+}
+
+/// Whether more entries are stranded than a snapshot may have. It takes no memory, and compares each pending entry with
+/// each of the dead, so it is asked only if memory was refused.
 fn are_too_many(stream: &Stream, group: &Group, dead: &[Name]) -> bool
     ensures { result ≡ nat_lt most_stranded
         (length (left_in dead.now stream.now.shown.entries group.now.shown.nacks)) }
@@ -103,7 +117,7 @@ fn are_too_many(stream: &Stream, group: &Group, dead: &[Name]) -> bool
     false
 }
 
-/// The snapshot of a group in which not too many entries are stranded.
+/// The snapshot of a group. None if more entries are stranded than a snapshot may have.
 fn snap_group(
     alloc: Global,
     stream: &Stream,
@@ -112,20 +126,76 @@ fn snap_group(
     name: &Name,
     dead: &[Name],
     policy: &Policy,
+) -> Result<Option<Snapshot>, AllocError>
+    ensures { IfOk result (λ found. found ≡ few_of (shown_with
+        policy.now key.now name.now (in_order dead.now) stream.now.shown.entries group.now.shown.nacks)) }
+{
+    let dead = names_in_order(alloc, dead)?;
+    if own_are_too_many(stream, group, dead.as_slice()) {
+        return Ok(None);
+    }
+    let snapshot = snap_few(alloc, stream, group, key, name, dead, policy)?;
+    Ok(Some(snapshot))
+}
+
+/// Whether more entries are stranded than a snapshot may have, of dead consumers in order. It takes no memory, and looks
+/// at their own entries alone.
+fn own_are_too_many(stream: &Stream, group: &Group, dead: &[Name]) -> bool
+    requires { AreInOrder ComesBefore dead.now }
+    ensures { result ≡ nat_lt most_stranded
+        (length (left_in dead.now stream.now.shown.entries group.now.shown.nacks)) }
+{
+    let mut room = MAX_STRANDED;
+    for name in dead {
+        match room_after(stream, group.pending().of(name), room) {
+            None => return true,
+            Some(left) => room = left,
+        }
+    }
+    false
+}
+
+/// For how many stranded entries there is still room after these. None if there are too many of them.
+fn room_after(stream: &Stream, nacks: Nacks<'_>, room: usize) -> Option<usize>
+    ensures some { IfSome result (λ left. left + length (there_in stream.now.shown.entries nacks.entry) ≡ room) }
+    ensures none { IfNone result (room < length (there_in stream.now.shown.entries nacks.entry)) }
+{
+    let mut nacks = nacks;
+    let mut room = room;
+    while let Some(nack) = nacks.next() {
+        if is_there(stream, nack.id) {
+            if room == 0 {
+                return None;
+            }
+            room -= 1;
+        }
+    }
+    Some(room)
+}
+
+/// The snapshot of a group in which not too many entries are stranded, with the dead consumers in order.
+fn snap_few(
+    alloc: Global,
+    stream: &Stream,
+    group: &Group,
+    key: &Name,
+    name: &Name,
+    dead: Vec<Name>,
+    policy: &Policy,
 ) -> Result<Snapshot, AllocError>
-    requires few { length (left_in dead.now stream.now.shown.entries group.now.shown.nacks) ≤ most_stranded }
-    ensures { IfOk result (λ snapshot. snapshot
-        ≡ shown_with policy.now key.now name.now (in_order dead.now) stream.now.shown.entries group.now.shown.nacks) }
+    requires order { AreInOrder ComesBefore dead.items }
+    requires few { length (left_in dead.items stream.now.shown.entries group.now.shown.nacks) ≤ most_stranded }
+    ensures { IfOk result (λ snapshot. snapshot ≡ shown_with
+        policy.now key.now name.now dead.items stream.now.shown.entries group.now.shown.nacks) }
 {
     policy.sound();
     group.sound();
-    let dead = names_in_order(alloc, dead)?;
-    let stranded = stranded_entries(alloc, policy, dead.as_slice(), stream, group)?;
-    let gone = gone_entries(alloc, dead.as_slice(), stream, group)?;
+    let left = left_entries(alloc, policy, dead.as_slice(), stream, group)?;
     let live = live_consumers(alloc, policy, dead.as_slice(), group)?;
-    let rates = rates_by_class(alloc, policy, live.as_slice(), stranded.as_slice())?;
+    let rates = rates_by_class(alloc, policy, live.as_slice(), left.stranded.as_slice())?;
     let key = key.copy(alloc)?;
     let name = name.copy(alloc)?;
+    let Left { stranded, gone } = left;
     Ok(snapshot_of(key, name, dead, stranded, gone, live, rates))
 }
 

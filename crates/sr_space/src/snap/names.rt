@@ -17,6 +17,14 @@ pub(super) fn is_among(names: &[Name], name: &Name) -> bool
     names.iter().any(|other| *other == *name)
 }
 
+/// Whether a name is one of names in byte order, found by binary search.
+pub(super) fn is_listed(names: &[Name], name: &Name) -> bool
+    requires { AreInOrder ComesBefore names.now }
+    ensures { result ≡ among names.now name.now }
+{
+    is_at(names, place_for(names, name), name)
+}
+
 /// Copies of the names in byte order, each once: the dead consumers as a snapshot has them.
 ///
 /// Source: docs/RECOVERY.md.

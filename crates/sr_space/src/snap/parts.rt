@@ -1,11 +1,13 @@
 //! The parts of a snapshot: what the dead have left, and the consumers that could take it.
 ghost use Rattle.std.specs.Prelude.{◌≡◌, ◌++◌, IfOk, OnOk, length, map};
+ghost use Rattle.sr_bytes.specs.Order.{AreInOrder, ComesBefore};
 ghost use Rattle.sr_entries.specs.Entries.{entry_with, has_id};
 ghost use Rattle.sr_pending.specs.Pending.{owned_by};
 ghost use Rattle.sr_policy.specs.Rules.{class_of, live_of, rate_of, weight_of as weight};
 ghost use Rattle.sr_space.specs.Snap.{gone_in, listed, live_in, of_dead, rates_in, stranded_as, stranded_in};
+ghost use Rattle.sr_space.specs.steps.Snapping.{gone_as, there_in};
 
-use crate::snap::names::{classes_of, is_among};
+use crate::snap::names::{classes_of, is_listed};
 use sr_bytes::{Name, Pairs};
 use sr_group::Group;
 use sr_ids::Id;
@@ -34,40 +36,95 @@ pub(super) fn pending_for<'a>(group: &'a Group, dead: &'a [Name]) -> Nacks<'a>
     }
 }
 
-/// The entries that are pending for the dead and still in the stream.
-pub(super) fn stranded_entries(
+/// What the dead have left.
+#[derive(Drop)]
+pub(super) struct Left {
+    /// The entries that are still in the stream.
+    pub(super) stranded: Vec<Stranded>,
+    /// The entries that are no longer in the stream, each with its owner.
+    pub(super) gone: Vec<(Id, Name)>,
+}
+
+/// What is pending for the dead, by rising id: what is still in the stream, and what is gone.
+pub(super) fn left_entries(
     alloc: Global,
     policy: &Policy,
     dead: &[Name],
     stream: &Stream,
     group: &Group,
-) -> Result<Vec<Stranded>, AllocError>
-    ensures { IfOk result (λ list. list.items
+) -> Result<Left, AllocError>
+    requires { AreInOrder ComesBefore dead.now }
+    ensures stranded { IfOk result (λ left. left.stranded.items
         ≡ stranded_in policy.now dead.now stream.now.shown.entries group.now.shown.nacks) }
+    ensures gone { IfOk result (λ left. left.gone.items
+        ≡ gone_in dead.now stream.now.shown.entries group.now.shown.nacks) }
 {
-    let mut list = Vec::new(alloc);
-    let mut nacks = pending_for(group, dead);
-    while let Some(nack) = nacks.next() {
-        if is_among(dead, nack.owner.name()) {
-            push_stranded(&mut list, alloc, policy, stream, nack)?;
-        }
+    let mut left = Left {
+        stranded: Vec::new(alloc),
+        gone: Vec::new(alloc),
+    };
+    for nack in pending_of_dead(alloc, group, dead)? {
+        push_left(&mut left, alloc, policy, stream, nack)?;
     }
+    Ok(left)
+}
+
+/// What is pending for the dead, by rising id. It looks at their own entries alone.
+fn pending_of_dead<'a>(
+    alloc: Global,
+    group: &'a Group,
+    dead: &'a [Name],
+) -> Result<Vec<&'a Nack>, AllocError>
+    requires { AreInOrder ComesBefore dead.now }
+    ensures { IfOk result (λ list. map (λ nack. nack.now) list.items ≡ of_dead dead.now group.now.shown.nacks) }
+{
+    group.sound();
+    let mut list = Vec::new(alloc);
+    for name in dead {
+        push_own(&mut list, group, name)?;
+    }
+    list.sort_by_key(|nack| nack.id)?;
     Ok(list)
 }
 
-/// Adds the entry that is pending, if it is still in the stream.
-fn push_stranded(
-    list: &mut Vec<Stranded>,
+/// Adds what is pending for this consumer.
+fn push_own<'a>(
+    list: &mut Vec<&'a Nack>,
+    group: &'a Group,
+    name: &'a Name,
+) -> Result<(), AllocError>
+    ensures { OnOk result (map (λ nack. nack.now) list.new.items
+        ≡ map (λ nack. nack.now) list.old.items ++ owned_by name.now group.now.shown.nacks) }
+{
+    let mut own = group.pending().of(name);
+    while let Some(nack) = own.next() {
+        list.push(nack)?;
+    }
+    Ok(())
+}
+
+/// Adds the pending entry to what is stranded, or to what is gone if it is no longer in the stream.
+fn push_left(
+    left: &mut Left,
     alloc: Global,
     policy: &Policy,
     stream: &Stream,
     nack: &Nack,
 ) -> Result<(), AllocError>
-    ensures { OnOk result (list.new.items
-        ≡ list.old.items ++ stranded_as policy.now nack.now (entry_with nack.now.id stream.now.shown.entries)) }
+    ensures stranded { OnOk result (left.new.stranded.items ≡ left.old.stranded.items
+        ++ stranded_as policy.now nack.now (entry_with nack.now.id stream.now.shown.entries)) }
+    ensures gone { OnOk result (left.new.gone.items ≡ left.old.gone.items
+        ++ gone_as nack.now (entry_with nack.now.id stream.now.shown.entries)) }
 {
-    if let Some(entry) = stream.entries().get(nack.id) {
-        list.push(stranded_entry(alloc, policy, nack, entry.fields())?)?;
+    match stream.entries().get(nack.id) {
+        Some(entry) => {
+            let entry = stranded_entry(alloc, policy, nack, entry.fields())?;
+            left.stranded.push(entry)?;
+        }
+        None => {
+            let owner = nack.owner.name().copy(alloc)?;
+            left.gone.push((nack.id, owner))?;
+        }
     }
     Ok(())
 }
@@ -94,25 +151,6 @@ fn stranded_entry(
     })
 }
 
-/// The entries that are pending for the dead and no longer in the stream, each with its owner.
-pub(super) fn gone_entries(
-    alloc: Global,
-    dead: &[Name],
-    stream: &Stream,
-    group: &Group,
-) -> Result<Vec<(Id, Name)>, AllocError>
-    ensures { IfOk result (λ list. list.items ≡ gone_in dead.now stream.now.shown.entries group.now.shown.nacks) }
-{
-    let mut list = Vec::new(alloc);
-    let mut nacks = pending_for(group, dead);
-    while let Some(nack) = nacks.next() {
-        if is_among(dead, nack.owner.name()) && !is_there(stream, nack.id) {
-            list.push((nack.id, nack.owner.name().copy(alloc)?))?;
-        }
-    }
-    Ok(list)
-}
-
 /// The consumers of the policy that are not dead, each with how many entries are pending for it.
 pub(super) fn live_consumers(
     alloc: Global,
@@ -120,11 +158,12 @@ pub(super) fn live_consumers(
     dead: &[Name],
     group: &Group,
 ) -> Result<Vec<Live>, AllocError>
+    requires { AreInOrder ComesBefore dead.now }
     ensures { IfOk result (λ list. list.items ≡ live_in policy.now dead.now group.now.shown.nacks) }
 {
     let mut list = Vec::new(alloc);
     for name in policy.consumers() {
-        if !is_among(dead, name) {
+        if !is_listed(dead, name) {
             push_live(&mut list, alloc, policy, group, name)?;
         }
     }

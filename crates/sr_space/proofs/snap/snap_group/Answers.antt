@@ -1,25 +1,24 @@
-use Rattle.std.proofs.Common.{◌≡◌, List, sym, subst, ◌∙◌}
-use Rattle.sr_ids.specs.declared.id.Id.{Id}
-use Rattle.sr_policy.specs.declared.live.Live.{Live}
-use Rattle.sr_policy.specs.declared.stranded.Stranded.{Stranded}
+use Rattle.std.proofs.Common.{◌≡◌, List, length, nat_lt, ap, sym, ◌∙◌}
+use Rattle.sr_policy.specs.Bounds.{most_stranded}
 use Rattle.sr_policy.specs.Rules.{Text}
-use Rattle.sr_policy.specs.Snapshot.{IsSnapshot}
-use Rattle.sr_space.specs.Snap.{gone_in, live_in, rates_in, stranded_in}
-use Rattle.sr_space.proofs.SnapLemmas.{gathered, is_snapshot}
+use Rattle.sr_space.specs.Snap.{in_order, shown_with}
+use Rattle.sr_space.specs.steps.Snapping.{left_in}
+use Rattle.sr_space.proofs.NameOrderLemmas.{in_order-same}
+use Rattle.sr_space.proofs.SnapLemmas.{few_of-many, same_test}
 use Rattle.sr_space.proofs.snap.snap_group.Goals as goal
 
-pub snapshot_of-requires : goal.snapshot_of-requires
-snapshot_of-requires c =
-    let rules = c.args.policy.now in
+pub own_are_too_many-requires : goal.own_are_too_many-requires
+own_are_too_many-requires c = in_order-same c.as_slice.result.now c.args.dead.now (c.as_slice.ensures.value ∙ c.in_ok-dead.ensures)
+
+pub snap_few-requires-clause-order : goal.snap_few-requires-clause-order
+snap_few-requires-clause-order c = in_order-same c.in_ok-dead.dead.items c.args.dead.now c.in_ok-dead.ensures
+
+pub returns-then-own_are_too_many : goal.returns-then-own_are_too_many
+returns-then-own_are_too_many c =
     let entries = c.args.stream.now.shown.entries in
     let nacks = c.args.group.now.shown.nacks in
-    let dead = c.in_ok-dead.dead.items in
-    let stranded : c.in_ok-stranded.stranded.items ≡ stranded_in rules dead entries nacks = rw c.as_slice.ensures.value at c.in_ok-stranded.ensures in
-    let gone : c.in_ok-gone.gone.items ≡ gone_in dead entries nacks = rw c.as_slice-2.ensures.value at c.in_ok-gone.ensures in
-    let live : c.in_ok-live.live.items ≡ live_in rules dead nacks = rw c.as_slice-3.ensures.value at c.in_ok-live.ensures in
-    let rates : c.in_ok-rates.rates.items ≡ rates_in rules c.in_ok-live.live.items c.in_ok-stranded.stranded.items =
-    rw (c.as_slice-4.ensures.value, c.as_slice-5.ensures.value) at c.in_ok-rates.ensures in
-    let parts = gathered rules c.args.key.now c.args.name.now c.args.dead.now entries nacks c.in_ok-key.key c.in_ok-name.name dead
-    c.in_ok-stranded.stranded.items c.in_ok-gone.gone.items c.in_ok-live.live.items c.in_ok-rates.rates.items
-    c.in_ok-key.ensures c.in_ok-name.ensures c.in_ok-dead.ensures stranded gone live rates in
-    subst IsSnapshot (sym parts) (is_snapshot rules c.args.key.now c.args.name.now c.args.dead.now entries nacks c.sound.ensures c.sound-2.ensures.rising c.requires.few)
+    let shown = shown_with c.args.policy.now c.args.key.now c.args.name.now (in_order c.args.dead.now) entries nacks in
+    let dead : c.as_slice.result.now ≡ in_order c.args.dead.now = c.as_slice.ensures.value ∙ c.in_ok-dead.ensures in
+    few_of-many shown
+    (same_test c.args.policy.now c.args.key.now c.args.name.now (in_order c.args.dead.now) entries nacks
+    ∙ ap (λ (names : List Text). nat_lt most_stranded (length (left_in names entries nacks))) (sym dead) ∙ sym c.own_are_too_many.ensures ∙ c.if-own_are_too_many.true)

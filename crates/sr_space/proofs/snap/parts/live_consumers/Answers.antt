@@ -1,4 +1,4 @@
-use Rattle.std.proofs.Common.{◌≡◌, ℕ, suc, ◌+◌, ◌<◌, Bool, true, false, cond, not, List, ◌∷◌, ◌++◌, length, drop, get_or, add-one, drop-cons, append_assoc, refl, ap, sym, ◌∙◌}
+use Rattle.std.proofs.Common.{◌≡◌, ℕ, suc, ◌+◌, ◌<◌, true, false, List, ◌∷◌, ◌++◌, length, drop, get_or, add-one, drop-cons, append_assoc, refl, ap, sym, ◌∙◌}
 use Rattle.std.proofs.lemmas.List.{drop_all}
 use Rattle.std.proofs.lemmas.Result.{IfOk-from_err}
 use Rattle.sr_pending.specs.declared.nack.Nack.{Nack}
@@ -9,7 +9,7 @@ use Rattle.sr_policy.specs.Snapshot.{is_among}
 use Rattle.sr_space.specs.Snap.{listed}
 use Rattle.sr_space.specs.steps.Snapping.{live_among}
 use Rattle.sr_space.proofs.LoopLemmas.{left-ended}
-use Rattle.sr_space.proofs.snap.parts.live_consumers.Goals.{then-not-is_among+in_ok-push_live, else-not-is_among}
+use Rattle.sr_space.proofs.snap.parts.live_consumers.Goals.{then-not-is_listed+in_ok-push_live, else-not-is_listed}
 use Rattle.sr_space.proofs.snap.parts.live_consumers.Goals as goal
 
 rest_at : (names : List Text) (i : ℕ) (name : Text) → i < length names → name ≡ get_or names i name → drop i names ≡ name ∷ drop (i + 1) names
@@ -49,8 +49,8 @@ loop-name-preserved c =
     let all = live_among rules dead nacks names in
     let before : c.loop-name.list.items ++ live_among rules dead nacks (name ∷ rest) ≡ all =
     ap (λ (l : List Text). c.loop-name.list.items ++ live_among rules dead nacks l) (sym next) ∙ c.loop-name.invariant in
-    elim c.if-not-is_among.branch [
-      | then-not-is_among+in_ok-push_live w ↦ rw w.list-is
-          (added rules dead nacks name rest c.loop-name.list.items w.push_live.new.list.items all (sym c.is_among.ensures ∙ w.if-not-is_among.true) w.in_ok-push_live.ensures before)
-      | else-not-is_among w ↦ rw w.list-is (passed rules dead nacks name rest c.loop-name.list.items all (sym c.is_among.ensures ∙ w.if-not-is_among.false) before)
+    elim c.if-not-is_listed.branch [
+      | then-not-is_listed+in_ok-push_live w ↦ rw w.list-is
+          (added rules dead nacks name rest c.loop-name.list.items w.push_live.new.list.items all (sym c.is_listed.ensures ∙ w.if-not-is_listed.true) w.in_ok-push_live.ensures before)
+      | else-not-is_listed w ↦ rw w.list-is (passed rules dead nacks name rest c.loop-name.list.items all (sym c.is_listed.ensures ∙ w.if-not-is_listed.false) before)
     ]
