@@ -52,7 +52,7 @@ none_with_id id (x ∷ xs) after =
     let rest : with_id id xs ≡ 0 = none_with_id id xs after.1 in
     rw (with_id-cons id x xs, apart) (omega (arith, rest))
 
--- in entries that rise an id is there once
+-- in entries that rise an id is there at most once
 once : (id : Id) (xs : List Nack) → NacksRise xs → with_id id xs ≤ 1
 once id [] rises = omega arith
 once id (x ∷ xs) rises = by (once id xs rises.1) (is_same_id x.id id) refl
@@ -82,7 +82,7 @@ twice (x ∷ y ∷ ys) (suc k) d within same =
 abbrev pub AreSorted : List Nack → Type 0
 AreSorted xs = (k : ℕ) (d : Nack) → k + 1 < length xs → is_below (get_or xs (k + 1) d).id (get_or xs k d).id ≡ false
 
--- sorted entries rise if each id is there once
+-- sorted entries rise if each id is there at most once
 NacksRise-sorted : (xs : List Nack) → AreSorted xs → ((id : Id) → with_id id xs ≤ 1) → NacksRise xs
 NacksRise-sorted xs sorted one =
     rising-in_order IsBelow (λ (nack : Nack). nack.id) (λ a b c p q. IsBelow-trans a b c p q) xs
@@ -129,7 +129,7 @@ module _ {X : Type 0} (now : X → Nack) where
 
 -- ---- the own entries of consumers, one after the other
 
--- who is among two is among them in one go
+-- what passes one test and then another is what passes both
 filter-both : (a b both : Nack → Bool) → ((x : Nack) → (b x && a x) ≡ both x) → (xs : List Nack) → filter a (filter b xs) ≡ filter both xs
 filter-both a b both is [] = refl
 filter-both a b both is (x ∷ xs) = by (filter-both a b both is xs) (b x) (a x) (both x) refl refl (is x)

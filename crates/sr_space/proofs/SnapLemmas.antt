@@ -1,5 +1,5 @@
 -- What is gathered for a snapshot is one, if not too many entries are stranded.
-use Rattle.std.proofs.Common.{◌≡◌, ℕ, ◌+◌, ◌≤◌, ◌^◌, Bool, true, false, cond, not, ◌||◌, List, [], ◌∷◌, ◌++◌, length, map, filter, Option, Some, None, is_some, option_map, option_and_then, IfSome, All, refl, ap, subst, sym, ◌∙◌, nat_eq, nat_lt, Result, Ok, Err, arith, length-append}
+use Rattle.std.proofs.Common.{◌≡◌, ℕ, ◌+◌, ◌≤◌, ◌^◌, Bool, true, false, cond, not, ◌||◌, List, [], ◌∷◌, ◌++◌, length, map, filter, Option, Some, None, is_some, option_map, option_and_then, IfSome, All, refl, ap, sym, ◌∙◌, nat_eq, nat_lt, arith, length-append}
 use Rattle.std.specs.Cmp.Lexicographic.{pointwise}
 use Rattle.std.specs.List.{flat_map}
 use Rattle.std.proofs.lemmas.List.{length-map}
@@ -12,10 +12,7 @@ use Rattle.sr_entries.specs.declared.entry.Entry.{Entry}
 use Rattle.sr_entries.specs.Entries.{entry_with, has_id, is_same_id}
 use Rattle.sr_pending.specs.declared.nack.Nack.{Nack}
 use Rattle.sr_pending.specs.Pending.{AreRising, owned_by}
-use Rattle.sr_group.specs.Group.{GroupState}
 use Rattle.sr_group.proofs.NameLemmas.{is_same_name-refl, is_same_name-true}
-use Rattle.sr_stream.specs.Groups.{group_with}
-use Rattle.sr_stream.specs.Stream.{StreamState}
 use Rattle.sr_policy.specs.Bounds.{most_stranded}
 use Rattle.sr_policy.specs.declared.live.Live.{Live}
 use Rattle.sr_policy.specs.declared.stranded.Stranded.{Stranded}
@@ -25,8 +22,8 @@ use Rattle.sr_policy.proofs.PolicyLemmas.{live_of-tier}
 use Rattle.sr_policy.specs.Snapshot.{AreIdsInOrder, AreNamesInOrder, AreOwnersDead, AreRates, IsSnapshot, IsTier, IsWeight, IsWithinBounds, Shown, is_among}
 use Rattle.sr_space.specs.declared.snap.SnapFault.{SnapFault}
 use Rattle.sr_space.specs.declared.snap.SnapFault.TheVariants as faults
-use Rattle.sr_space.specs.Snap.{IsSnapFault, gone_in, if_few, in_order, listed, snapped_group, snapped_stream, live_in, of_dead, rates_in, shown_with, stranded_as, stranded_in}
-use Rattle.sr_space.specs.steps.Snapping.{few_of, left_in}
+use Rattle.sr_space.specs.Snap.{IsSnapFault, gone_in, if_few, in_order, listed, live_in, of_dead, rates_in, shown_with, stranded_as, stranded_in}
+use Rattle.sr_space.specs.steps.Snapping.{left_in}
 use Rattle.sr_space.proofs.RisingLemmas.{AtMostOne, Rises, Rises-filter, Rises-flat_map, Rises-map, in_order-rising, length-flat_map_one}
 use Rattle.sr_space.proofs.OwnLemmas.{NacksRise-rising}
 use Rattle.sr_space.proofs.NameOrderLemmas.{AreAmong, AreAmong-in_order, NamesRise-in_order, is_among-in_order, length-among, names_rise}
@@ -299,55 +296,29 @@ is_snapshot rules key group dead entries nacks policy rising order few = record 
 
 -- ---- what is answered
 
--- the test that there are too many, of what is left and of what is stranded
-pub same_test : (rules : Rules) (key name : Text) (dead : List Text) (entries : List Entry) (nacks : List Nack)
-    → nat_lt most_stranded (length (shown_with rules key name dead entries nacks).stranded) ≡ nat_lt most_stranded (length (left_in dead entries nacks))
-same_test rules key name dead entries nacks = ap (λ (n : ℕ). nat_lt most_stranded n) (length-stranded_in rules dead entries nacks)
+module _ (rules : Rules) (key name : Text) (dead : List Text) (entries : List Entry) (nacks : List Nack) where
+  abbrev shown : Shown
+  shown = shown_with rules key name (in_order dead) entries nacks
 
-pub few_of-many : (shown : Shown) → nat_lt most_stranded (length shown.stranded) ≡ true → None ≡ few_of shown
-few_of-many shown many = rw many refl
+  -- as many are stranded as are left, as a test
+  same_test : (test : Bool) → test ≡ nat_lt most_stranded (length (left_in (in_order dead) entries nacks)) → nat_lt most_stranded (length shown.stranded) ≡ test
+  same_test test is = ap (λ (n : ℕ). nat_lt most_stranded n) (length-stranded_in rules (in_order dead) entries nacks) ∙ sym is
 
-pub few_of-few : (shown : Shown) → nat_lt most_stranded (length shown.stranded) ≡ false → Some shown ≡ few_of shown
-few_of-few shown few = rw few refl
+  pub if_few-many : (test : Bool) → test ≡ nat_lt most_stranded (length (left_in (in_order dead) entries nacks)) → test ≡ true → IsSnapFault (if_few shown) faults.TooMany
+  if_few-many test is many = rw (same_test test is ∙ many) refl
 
-if_few-some : (shown snapshot : Shown) → Some snapshot ≡ few_of shown → if_few shown ≡ Ok snapshot
-if_few-some shown snapshot is = by (nat_lt most_stranded (length shown.stranded)) is
-  where
-    by : (many : Bool) → Some snapshot ≡ cond many None (Some shown) → cond many (Err faults.TooMany) (Ok shown) ≡ Ok snapshot
-    by true none = absurd cc
-    by false some = cc
+  pub if_few-memory : (test : Bool) → test ≡ nat_lt most_stranded (length (left_in (in_order dead) entries nacks)) → test ≡ false → IsSnapFault (if_few shown) faults.Memory
+  if_few-memory test is few = rw (same_test test is ∙ few) refl
 
-if_few-none : (shown : Shown) → None ≡ few_of shown → IsSnapFault (if_few shown) faults.TooMany
-if_few-none shown is = by (nat_lt most_stranded (length shown.stranded)) is
-  where
-    by : (many : Bool) → None ≡ cond many None (Some shown) → IsSnapFault (cond many (Err faults.TooMany) (Ok shown)) faults.TooMany
-    by true none = refl
-    by false some = absurd cc
-
-if_few-refused : (shown : Shown) (test : Bool) (fault : SnapFault) → nat_lt most_stranded (length shown.stranded) ≡ test → fault ≡ cond test faults.TooMany faults.Memory → IsSnapFault (if_few shown) fault
-if_few-refused shown true fault many is = rw many is
-if_few-refused shown false fault few is = rw few is
-
-module _ (rules : Rules) (key name : Text) (dead : List Text) (found : Option StreamState) (stream : StreamState) (group : GroupState) (at : found ≡ Some stream) (here : group_with name stream.groups ≡ Some group) where
-  abbrev shown_here : Shown
-  shown_here = shown_with rules key name (in_order dead) stream.entries group.nacks
-
-  snapped_at : snapped_stream rules key name dead found ≡ if_few shown_here
-  snapped_at = ap (snapped_stream rules key name dead) at ∙ ap (snapped_group rules key name dead stream.entries) here
-
-  pub snapped-some : (snapshot : Shown) → Some snapshot ≡ few_of shown_here → snapped_stream rules key name dead found ≡ Ok snapshot
-  snapped-some snapshot is = snapped_at ∙ if_few-some shown_here snapshot is
-
-  pub snapped-none : None ≡ few_of shown_here → IsSnapFault (snapped_stream rules key name dead found) faults.TooMany
-  snapped-none is = subst (λ (r : Result Shown SnapFault). IsSnapFault r faults.TooMany) (sym snapped_at) (if_few-none shown_here is)
-
-  pub snapped-refused : (fault : SnapFault) → fault ≡ cond (nat_lt most_stranded (length (left_in dead stream.entries group.nacks))) faults.TooMany faults.Memory
-      → IsSnapFault (snapped_stream rules key name dead found) fault
-  snapped-refused fault is =
-      let test : nat_lt most_stranded (length shown_here.stranded) ≡ nat_lt most_stranded (length (left_in dead stream.entries group.nacks)) =
-      same_test rules key name (in_order dead) stream.entries group.nacks
-      ∙ ap (λ (l : List Nack). nat_lt most_stranded (length l)) (left_in-in_order dead stream.entries group.nacks) in
-      subst (λ (r : Result Shown SnapFault). IsSnapFault r fault) (sym snapped_at) (if_few-refused shown_here _ fault test is)
+  -- memory was refused before it was known whether there are too many
+  pub if_few-refused : (fault : SnapFault) → fault ≡ cond (nat_lt most_stranded (length (left_in dead entries nacks))) faults.TooMany faults.Memory → IsSnapFault (if_few shown) fault
+  if_few-refused fault is =
+      by (nat_lt most_stranded (length (left_in dead entries nacks))) is
+      (same_test _ (ap (λ (l : List Nack). nat_lt most_stranded (length l)) (sym (left_in-in_order dead entries nacks))))
+    where
+      by : (test : Bool) → fault ≡ cond test faults.TooMany faults.Memory → nat_lt most_stranded (length shown.stranded) ≡ test → IsSnapFault (if_few shown) fault
+      by true told many = rw many told
+      by false told few = rw few told
 
 -- parts that were gathered one after another
 pub gathered : (rules : Rules) (key group : Text) (dead : List Text) (entries : List Entry) (nacks : List Nack) (k g : Text) (stranded : List Stranded) (gone : List (Id × Text)) (live : List Live) (rates : List (Text × List (Option ℕ)))

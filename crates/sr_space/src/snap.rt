@@ -5,9 +5,9 @@ ghost use Rattle.sr_bytes.specs.Order.{AreInOrder, ComesBefore};
 ghost use Rattle.sr_policy.specs.Bounds.{most_stranded};
 ghost use Rattle.sr_policy.specs.Snapshot.{IsSnapshot};
 ghost use Rattle.sr_space.specs.Keys.{shown_of};
-ghost use Rattle.sr_space.specs.Snap.{IsSnapFault, in_order, shown_with, snapped, snapped_stream};
+ghost use Rattle.sr_space.specs.Snap.{IsSnapFault, if_few, in_order, shown_with, snapped, snapped_stream};
 ghost use Rattle.sr_space.specs.declared.snap.SnapFault.TheVariants.{Memory, TooMany};
-ghost use Rattle.sr_space.specs.steps.Snapping.{few_of, left_in, there_in};
+ghost use Rattle.sr_space.specs.steps.Snapping.{left_in, there_in};
 
 mod names;
 mod parts;
@@ -79,10 +79,33 @@ fn snap_stream(
     let Some(group) = stream.group(name) else {
         return Err(SnapFault::NoGroup);
     };
-    match snap_group(alloc, stream, group, key, name, dead, policy) {
-        Ok(Some(snapshot)) => Ok(snapshot),
-        Ok(None) => Err(SnapFault::TooMany),
-        Err(_) => Err(refused(stream, group, dead)),
+    snap_group(alloc, stream, group, key, name, dead, policy)
+}
+
+/// The snapshot of a group, unless more entries are stranded than a snapshot may have.
+fn snap_group(
+    alloc: Global,
+    stream: &Stream,
+    group: &Group,
+    key: &Name,
+    name: &Name,
+    dead: &[Name],
+    policy: &Policy,
+) -> Result<Snapshot, SnapFault>
+    ensures ok { IfOk result (λ snapshot. if_few (shown_with policy.now
+        key.now name.now (in_order dead.now) stream.now.shown.entries group.now.shown.nacks) ≡ Ok snapshot) }
+    ensures err { IfErr result (IsSnapFault (if_few (shown_with policy.now
+        key.now name.now (in_order dead.now) stream.now.shown.entries group.now.shown.nacks))) }
+{
+    let Ok(names) = names_in_order(alloc, dead) else {
+        return Err(refused(stream, group, dead));
+    };
+    if own_are_too_many(stream, group, names.as_slice()) {
+        return Err(SnapFault::TooMany);
+    }
+    match snap_few(alloc, stream, group, key, name, names, policy) {
+        Ok(snapshot) => Ok(snapshot),
+        Err(_) => Err(SnapFault::Memory),
     }
 }
 
@@ -98,8 +121,8 @@ fn refused(stream: &Stream, group: &Group, dead: &[Name]) -> SnapFault
     }
 }
 
-/// Whether more entries are stranded than a snapshot may have. It takes no memory, and compares each pending entry with
-/// each of the dead, so it is asked only if memory was refused.
+/// Whether more entries are stranded than a snapshot may have, of dead consumers in any order. It takes no memory, but
+/// compares each pending entry with each of the dead, so it is asked only if memory was refused.
 fn are_too_many(stream: &Stream, group: &Group, dead: &[Name]) -> bool
     ensures { result ≡ nat_lt most_stranded
         (length (left_in dead.now stream.now.shown.entries group.now.shown.nacks)) }
@@ -117,29 +140,7 @@ fn are_too_many(stream: &Stream, group: &Group, dead: &[Name]) -> bool
     false
 }
 
-/// The snapshot of a group. None if more entries are stranded than a snapshot may have.
-fn snap_group(
-    alloc: Global,
-    stream: &Stream,
-    group: &Group,
-    key: &Name,
-    name: &Name,
-    dead: &[Name],
-    policy: &Policy,
-) -> Result<Option<Snapshot>, AllocError>
-    ensures { IfOk result (λ found. found ≡ few_of (shown_with
-        policy.now key.now name.now (in_order dead.now) stream.now.shown.entries group.now.shown.nacks)) }
-{
-    let dead = names_in_order(alloc, dead)?;
-    if own_are_too_many(stream, group, dead.as_slice()) {
-        return Ok(None);
-    }
-    let snapshot = snap_few(alloc, stream, group, key, name, dead, policy)?;
-    Ok(Some(snapshot))
-}
-
-/// Whether more entries are stranded than a snapshot may have, of dead consumers in order. It takes no memory, and looks
-/// at their own entries alone.
+/// The same of dead consumers in byte order, from their own entries alone. It takes no memory.
 fn own_are_too_many(stream: &Stream, group: &Group, dead: &[Name]) -> bool
     requires { AreInOrder ComesBefore dead.now }
     ensures { result ≡ nat_lt most_stranded
@@ -156,12 +157,10 @@ fn own_are_too_many(stream: &Stream, group: &Group, dead: &[Name]) -> bool
 }
 
 /// For how many stranded entries there is still room after these. None if there are too many of them.
-fn room_after(stream: &Stream, nacks: Nacks<'_>, room: usize) -> Option<usize>
+fn room_after(stream: &Stream, mut nacks: Nacks<'_>, mut room: usize) -> Option<usize>
     ensures some { IfSome result (λ left. left + length (there_in stream.now.shown.entries nacks.entry) ≡ room) }
     ensures none { IfNone result (room < length (there_in stream.now.shown.entries nacks.entry)) }
 {
-    let mut nacks = nacks;
-    let mut room = room;
     while let Some(nack) = nacks.next() {
         if is_there(stream, nack.id) {
             if room == 0 {
@@ -173,7 +172,7 @@ fn room_after(stream: &Stream, nacks: Nacks<'_>, room: usize) -> Option<usize>
     Some(room)
 }
 
-/// The snapshot of a group in which not too many entries are stranded, with the dead consumers in order.
+/// The snapshot of a group in which not too many entries are stranded, with the dead consumers in byte order.
 fn snap_few(
     alloc: Global,
     stream: &Stream,

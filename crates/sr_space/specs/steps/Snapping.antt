@@ -1,6 +1,6 @@
 -- Private clauses alone cite this: what is gathered for a snapshot, step by step.
 
-use Rattle.std.specs.Prelude.{ℕ, List, [], ◌∷◌, not, nat_lt, filter, length, Option, Some, None, if◌then◌else◌}
+use Rattle.std.specs.Prelude.{ℕ, List, [], ◌∷◌, not, filter, length, Option, Some, None}
 use Rattle.std.specs.List.{count_by, flat_map}
 use Rattle.sr_bytes.specs.Order.{comes_before}
 use Rattle.sr_ids.specs.declared.id.Id.{Id}
@@ -9,9 +9,8 @@ use Rattle.sr_entries.specs.Entries.{has_id}
 use Rattle.sr_pending.specs.declared.nack.Nack.{Nack}
 use Rattle.sr_pending.specs.Pending.{owned_by}
 use Rattle.sr_policy.specs.declared.live.Live.{Live}
-use Rattle.sr_policy.specs.Bounds.{most_stranded}
 use Rattle.sr_policy.specs.Rules.{Rules, Text, live_of}
-use Rattle.sr_policy.specs.Snapshot.{Shown, is_among}
+use Rattle.sr_policy.specs.Snapshot.{is_among}
 use Rattle.sr_space.specs.Snap.{listed, of_dead}
 
 -- what is pending for these consumers, one after the other
@@ -36,10 +35,6 @@ abbrev pub live_among : Rules → List Text → List Nack → List Text → List
 live_among rules dead nacks names =
     flat_map (λ name. listed (live_of rules name (length (owned_by name nacks))))
     (filter (λ name. not (is_among dead name)) names)
-
--- the snapshot, if not too many entries are stranded
-abbrev pub few_of : Shown → Option Shown
-few_of shown = if nat_lt most_stranded (length shown.stranded) then None else Some shown
 
 -- how many of the names come before this one
 abbrev pub count_before : Text → List Text → ℕ
