@@ -1,4 +1,4 @@
-use Rattle.std.proofs.Common.{◌≡◌, ◌∙◌, List, ℕ, IfOk, Result, subst, sym}
+use Rattle.std.proofs.Common.{◌∙◌, IfOk, Result, subst, sym}
 use Rattle.std.proofs.lemmas.Result.{IfOk-weaker}
 use Rattle.sr_live.specs.declared.conclusion.Concluded.{Concluded}
 use Rattle.sr_live.specs.declared.said.Misread.{Misread}

@@ -1,6 +1,6 @@
-use Rattle.std.proofs.Common.{◌≡◌, ◌++◌, ◌∷◌, [], List, ℕ, IfOk}
+use Rattle.std.proofs.Common.{◌∷◌, []}
 use Rattle.std.proofs.lemmas.Result.{IfOk-weaker}
-use Rattle.sr_live.specs.Conclusion.{SaysConcluded, script_call}
+use Rattle.sr_live.specs.Conclusion.{script_call}
 use Rattle.sr_live.proofs.TalkLemmas.{Talks-trans}
 use Rattle.sr_live.proofs.conclusion.run_script.Goals as goal
 
