@@ -7,3 +7,4 @@ pub mod TiersLemmas
 pub mod WorkLemmas
 pub mod LookingLemmas
 pub mod TalkLemmas
+pub mod ServerLemmas

@@ -4,4 +4,5 @@ pub mod Looked
 pub mod Looking
 pub mod Rounds
 pub mod Said
+pub mod Server
 pub mod Words

@@ -2,7 +2,7 @@
 -- entries and numbers of pending entries are those that were looked up.
 -- Source: docs/RECOVERY.md.
 
-use Rattle.std.specs.Prelude.{◌≡◌, ℕ, List, [], ◌∷◌, All, false, length, map, Option, Some, None, option_map, unwrap_or}
+use Rattle.std.specs.Prelude.{ℕ, List, [], ◌∷◌, Option, Some, None, unwrap_or}
 use Rattle.std.specs.Prelude.{if◌then◌else◌}
 use Rattle.std.specs.List.{flat_map}
 use Rattle.sr_ids.specs.declared.id.Id.{Id}

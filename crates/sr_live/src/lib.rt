@@ -10,6 +10,7 @@ mod looking;
 mod rounds;
 mod said;
 mod script;
+mod server;
 mod snapshot;
 mod words;
 
@@ -19,5 +20,6 @@ pub use fault::{LiveCall, LiveFault};
 pub use looked::{Asked, Looked, Row};
 pub use looking::{look, look_numbers};
 pub use rounds::{Planned, Ran, Terms, plan, run};
+pub use server::shows_as_the_server;
 pub use snapshot::{SnapshotFault, snapshot_of};
 pub use words::{Limits, script_words};
