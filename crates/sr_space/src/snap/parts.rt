@@ -201,24 +201,8 @@ pub fn rates_by_class(
     let classes = classes_of(alloc, stranded)?;
     let mut list = Vec::with_capacity(alloc, classes.len())?;
     for class in classes {
-        let rates = rates_for(alloc, policy, &class, live)?;
+        let rates = policy.rates_of(alloc, &class, live)?;
         list.push((class, rates))?;
     }
     Ok(list)
-}
-
-/// The rates of the live consumers for a class.
-fn rates_for(
-    alloc: Global,
-    policy: &Policy,
-    class: &Name,
-    live: &[Live],
-) -> Result<Rates, AllocError>
-    ensures { IfOk result (λ rates. rates ≡ map (λ consumer. rate_of policy.now class.now consumer.name) live.now) }
-{
-    let mut rates = Vec::with_capacity(alloc, live.len())?;
-    for consumer in live {
-        rates.push(policy.rate(class, &consumer.name))?;
-    }
-    Ok(Rates::new(rates))
 }
