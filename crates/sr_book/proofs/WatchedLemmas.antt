@@ -1,6 +1,6 @@
 -- After an event that leaves the streams, or one on a key whose readers have no answer, no waiting read has an answer if
 -- none had one before.
-use Rattle.std.proofs.Common.{◌≡◌, ℕ, Bool, true, false, cond, ◌&&◌, not, List, [], ◌∷◌, ◌++◌, filter, Option, Some, None, IsTrue, refl, ap, sym, subst, ◌∙◌, true≢false}
+use Rattle.std.proofs.Common.{◌≡◌, ℕ, Bool, true, false, cond, ◌&&◌, not, List, [], ◌∷◌, ◌++◌, filter, Option, Some, None, refl, ap, sym, subst, ◌∙◌}
 use Rattle.std.specs.Prelude.{Result, Ok, Err, IfNone, IfSome, ◌==◌}
 use Rattle.sr_args.specs.declared.call.Call.{Call}
 use Rattle.sr_args.specs.declared.call.Call.TheVariants as calls
@@ -13,13 +13,13 @@ use Rattle.sr_space.specs.declared.blocking.Outcome.TheVariants as outcomes
 use Rattle.sr_space.specs.declared.snap.SnapFault.{SnapFault}
 use Rattle.sr_space.proofs.ReaderLaws.{finds-moment, finds-others}
 use Rattle.sr_space.proofs.WaitingLaws.{waiting-nothing}
-use Rattle.sr_waiters.specs.Waiters.{Waiting, first_that, is_due, without_session}
+use Rattle.sr_waiters.specs.Waiters.{Waiting, first_that, is_due}
 use Rattle.sr_space.specs.Snap.{snapped}
 use Rattle.sr_book.specs.declared.event.Event.{Event}
 use Rattle.sr_book.specs.declared.event.Event.TheVariants as events
 use Rattle.sr_book.specs.Records.{IsSettled}
 use Rattle.sr_book.specs.Server.{Server, acted, called, snapped_for}
-use Rattle.sr_book.specs.Watched.{IsPing, IsQuietAfter, IsQuietAt, StaysSettled}
+use Rattle.sr_book.specs.Watched.{IsPing, IsQuietAt, StaysSettled}
 
 -- ---- no read passes a test
 

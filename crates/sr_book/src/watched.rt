@@ -9,8 +9,8 @@ use std::alloc::{AllocError, Global};
 use std::hash::RandomState;
 use std::marker::Model;
 
-/// The state of the one-thread server, which knows whether a waiting read has an answer: so an event asks the readers of
-/// its key alone, and one that changes no key asks nobody.
+/// The state of the one-thread server, which knows whether a waiting read has an answer: so an event asks the readers
+/// of its key alone, and one that changes no key asks nobody.
 pub(crate) struct Watched {
     machine: Machine,
     /// Whether no waiting read has an answer.
@@ -47,7 +47,12 @@ impl Watched {
     ghost use Rattle.sr_book.specs.Records.{IsCertain, IsSettled, letter_for, status_of};
 
     /// A server with this policy, without sessions and keys. Takes no memory.
-    pub(crate) fn new(alloc: Global, policy: Policy, keys: RandomState, waiters: RandomState) -> Watched
+    pub(crate) fn new(
+        alloc: Global,
+        policy: Policy,
+        keys: RandomState,
+        waiters: RandomState,
+    ) -> Watched
         ensures { result ≡ empty_server policy }
     {
         Watched {

@@ -1,6 +1,6 @@
 -- A read finds the same at each moment, and wherever the streams that it asks are the same. A call on one key leaves the
 -- streams at other keys.
-use Rattle.std.proofs.Common.{◌≡◌, ◌≢◌, ℕ, ℤ, Bool, true, false, cond, ◌&&◌, ◌||◌, not, List, [], ◌∷◌, nat_eq, Option, Some, None, refl, ap, sym, ◌∙◌, true≢false}
+use Rattle.std.proofs.Common.{◌≡◌, ◌≢◌, ℕ, Bool, true, false, cond, ◌&&◌, ◌||◌, not, List, [], ◌∷◌, nat_eq, Option, Some, None, refl, ap, sym, ◌∙◌, true≢false}
 use Rattle.std.specs.Cmp.Lexicographic.{pointwise, bytes_decides}
 use Rattle.sr_args.specs.declared.call.Call.{Call}
 use Rattle.sr_args.specs.declared.call.Call.TheVariants as calls
@@ -14,7 +14,7 @@ use Rattle.sr_stream.specs.Stream.{StreamState}
 use Rattle.sr_space.specs.Blocking.{executed, finds_nothing, is_nothing}
 use Rattle.sr_space.specs.Bounds.{in_63_bits}
 use Rattle.sr_space.specs.Effect.{at_once}
-use Rattle.sr_space.specs.Keys.{Key, Keys, entries_of, stream_at, with_stream}
+use Rattle.sr_space.specs.Keys.{Key, Keys, stream_at}
 use Rattle.sr_space.specs.Readers.{asks, has_key, key_of, only_key}
 use Rattle.sr_space.specs.Touched.{Executed, Touched, at_key, left_at, reply_of, unchanged}
 use Rattle.sr_args.specs.declared.commands.xclaim.TimeAsked.TheVariants.{Now}
@@ -83,9 +83,9 @@ module _ (keys now : Keys) (key : Key) (same : (other : Key) → other ≢ key �
   grouped-same moment later read apart =
       let listed : Keys → ℕ → List Answer = λ at time. listed_of_all (in_63_bits time) read.group read.consumer (count_of read.count) read.no_ack at read.streams in
       let lists : is_nothing (listed now later) ≡ is_nothing (listed keys moment) =
-          nothing-if (listed now later) (listed keys moment)
-          (lists_any-read (in_63_bits later) read.group read.consumer read.count read.no_ack now read.streams ∙ lists_any-same read.group read.streams apart
-          ∙ sym (lists_any-read (in_63_bits moment) read.group read.consumer read.count read.no_ack keys read.streams)) in
+      nothing-if (listed now later) (listed keys moment)
+      (lists_any-read (in_63_bits later) read.group read.consumer read.count read.no_ack now read.streams ∙ lists_any-same read.group read.streams apart
+      ∙ sym (lists_any-read (in_63_bits moment) read.group read.consumer read.count read.no_ack keys read.streams)) in
       ap (λ (b : Bool). b && is_nothing (listed now later)) (have_group-same read.group read.streams apart)
       ∙ ap (λ (b : Bool). have_group read.group keys read.streams && b) lists
 

@@ -1,4 +1,4 @@
-use Rattle.std.proofs.Common.{◌≡◌, inl, inr, ◌⊎◌, IsTrue}
+use Rattle.std.proofs.Common.{inl, inr, ◌⊎◌}
 use Rattle.sr_book.specs.Records.{IsSettled}
 use Rattle.sr_book.specs.Server.{Server, moment_after}
 use Rattle.sr_book.specs.Watched.{StaysSettled}
@@ -15,7 +15,9 @@ pub invariant_of-self-2 : goal.invariant_of-self-2
 invariant_of-self-2 c =
     let old = c.self.inside.machine in
     let new = c.act.new.self in
-    let event = c.args.event.now in
-    (λ told. either new event
-        (λ was stays. settled-stays old (moment_after old.last c.args.told) (c.self.invariant.0 was) c.args.index event new c.in_ok-acted.ensures.server stays)
-        (c.settled_after-self-inside.ensures.known told), c.settled_after-self-inside.ensures.all)
+    let event = c.args.event.now in (
+      λ told. either new event
+          (λ was stays. settled-stays old (moment_after old.last c.args.told) (c.self.invariant.0 was) c.args.index event new c.in_ok-acted.ensures.server stays)
+          (c.settled_after-self-inside.ensures.known told),
+      c.settled_after-self-inside.ensures.all,
+    )
