@@ -2,6 +2,7 @@ pub mod AnswerLemmas
 pub mod AutoclaimLemmas
 pub mod ChoiceLemmas
 pub mod ClaimLemmas
+pub mod DifferentLemmas
 pub mod EqualLemmas
 pub mod FormLemmas
 pub mod GivesLemmas

@@ -70,7 +70,7 @@ impl Xread {
 pub(crate) fn read_xread(alloc: Global, words: Unread<'_>) -> Result<Call, CallFault>
     ensures { Gives xread_form.form xread_form.call words.entry result }
 {
-    let Some(read) = read_words(OptionSet::Xread, words) else {
+    let Some(read) = read_words(alloc, OptionSet::Xread, words) else {
         return Err(CallFault::Syntax);
     };
     let choice = read.judged?;

@@ -82,7 +82,7 @@ impl Xreadgroup {
 pub(crate) fn read_xreadgroup(alloc: Global, words: Unread<'_>) -> Result<Call, CallFault>
     ensures { Gives xreadgroup_form.form xreadgroup_form.call words.entry result }
 {
-    let Some(read) = read_grouped_words(OptionSet::Xreadgroup, words) else {
+    let Some(read) = read_grouped_words(alloc, OptionSet::Xreadgroup, words) else {
         return Err(CallFault::Syntax);
     };
     let choice = read.judged?;

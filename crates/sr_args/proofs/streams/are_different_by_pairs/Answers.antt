@@ -2,7 +2,7 @@ use Rattle.std.proofs.Common.{◌<◌, ◌-◌, take, refl}
 use Rattle.std.proofs.lemmas.Bool.{false≢true}
 use Rattle.sr_args.specs.Different.{IsAmong}
 use Rattle.sr_args.proofs.StreamsLemmas.{AreDifferent-next, AreDifferent-with}
-use Rattle.sr_args.proofs.streams.are_different.Goals as goal
+use Rattle.sr_args.proofs.streams.are_different_by_pairs.Goals as goal
 
 pub returns-then-is_among : goal.returns-then-is_among
 returns-then-is_among c =

@@ -1,6 +1,6 @@
 use Rattle.std.proofs.Common.{take}
 use Rattle.sr_args.specs.Different.{AreDifferent}
-use Rattle.sr_args.proofs.streams.are_different.Given as goal
+use Rattle.sr_args.proofs.streams.are_different_by_pairs.Given as goal
 
 abbrev pub invariant-loop-left : goal.invariant-loop-left
 invariant-loop-left l = record {
