@@ -4,6 +4,7 @@ mod plan;
 mod reading;
 mod replies;
 mod solving;
+mod space;
 mod stream;
 mod transport;
 mod waiters;
