@@ -7,7 +7,8 @@ use Rattle.sr_args.specs.declared.call.Call.TheVariants as calls
 use Rattle.sr_policy.specs.Snapshot.{Shown}
 use Rattle.sr_space.specs.Blocking.{executed, finds_nothing}
 use Rattle.sr_space.specs.Keys.{Key, Keys}
-use Rattle.sr_space.specs.Readers.{asks, key_of}
+use Rattle.sr_space.specs.Effect.{key_of}
+use Rattle.sr_space.specs.Readers.{asks}
 use Rattle.sr_space.specs.declared.blocking.Outcome.{Outcome}
 use Rattle.sr_space.specs.declared.blocking.Outcome.TheVariants as outcomes
 use Rattle.sr_space.specs.declared.snap.SnapFault.{SnapFault}

@@ -4,7 +4,8 @@ use Rattle.sr_args.specs.declared.call.Call.{Call}
 use Rattle.sr_args.specs.declared.call.Call.TheVariants as calls
 use Rattle.sr_space.specs.Blocking.{finds_nothing}
 use Rattle.sr_space.specs.Keys.{Key}
-use Rattle.sr_space.specs.Readers.{asks, key_of}
+use Rattle.sr_space.specs.Effect.{key_of}
+use Rattle.sr_space.specs.Readers.{asks}
 use Rattle.sr_waiters.specs.Waiters.{first_that}
 use Rattle.sr_book.specs.declared.event.Event.{Event}
 use Rattle.sr_book.specs.declared.event.Event.TheVariants as events

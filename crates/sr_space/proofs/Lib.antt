@@ -11,6 +11,7 @@ pub mod NoAckLaws
 pub mod GroupedLemmas
 pub mod KeysLemmas
 pub mod CopyLemmas
+pub mod OtherKeyLemmas
 pub mod CommandLaws
 pub mod LawLemmas
 pub mod ReplyLemmas

@@ -1,6 +1,5 @@
--- A read finds the same at each moment, and wherever the streams that it asks are the same. A call on one key leaves the
--- streams at other keys.
-use Rattle.std.proofs.Common.{◌≡◌, ◌≢◌, ℕ, Bool, true, false, cond, ◌&&◌, ◌||◌, not, List, [], ◌∷◌, nat_eq, Option, Some, None, refl, ap, sym, ◌∙◌, true≢false}
+-- A read finds the same at each moment, and wherever the streams that it asks are the same.
+use Rattle.std.proofs.Common.{◌≡◌, ◌≢◌, ℕ, Bool, true, false, ◌&&◌, ◌||◌, not, List, [], ◌∷◌, nat_eq, Option, Some, refl, ap, sym, ◌∙◌, true≢false}
 use Rattle.std.specs.Cmp.Lexicographic.{pointwise, bytes_decides}
 use Rattle.sr_args.specs.declared.call.Call.{Call}
 use Rattle.sr_args.specs.declared.call.Call.TheVariants as calls
@@ -8,27 +7,18 @@ use Rattle.sr_args.specs.declared.call.Position.{Position}
 use Rattle.sr_args.specs.declared.commands.xread.Xread.{Xread}
 use Rattle.sr_args.specs.declared.commands.xreadgroup.Xreadgroup.{Xreadgroup}
 use Rattle.sr_args.specs.declared.reads.ReadAsked.{ReadAsked}
-use Rattle.sr_resp.specs.Reply.{Answer, error_reply}
-use Rattle.sr_resp.specs.declared.code.ErrCode.TheVariants as errors
+use Rattle.sr_resp.specs.Reply.{Answer}
 use Rattle.sr_stream.specs.Stream.{StreamState}
 use Rattle.sr_space.specs.Blocking.{executed, finds_nothing, is_nothing}
 use Rattle.sr_space.specs.Bounds.{in_63_bits}
-use Rattle.sr_space.specs.Effect.{at_once}
+use Rattle.sr_space.specs.Effect.{at_once, key_of}
 use Rattle.sr_space.specs.Keys.{Key, Keys, stream_at}
-use Rattle.sr_space.specs.Readers.{asks, has_key, key_of, only_key}
-use Rattle.sr_space.specs.Touched.{Executed, Touched, at_key, left_at, reply_of, unchanged}
-use Rattle.sr_args.specs.declared.commands.xclaim.TimeAsked.TheVariants.{Now}
-use Rattle.sr_space.specs.commands.Xack.{xack}
-use Rattle.sr_space.specs.commands.Xadd.{xadd}
-use Rattle.sr_space.specs.commands.Xclaim.{claim_of, count_or_100, xautoclaim, xclaim}
-use Rattle.sr_space.specs.commands.Xdel.{xdel}
-use Rattle.sr_space.specs.commands.Xgroup.{xgroup_create, xgroup_create_consumer, xgroup_del_consumer, xgroup_destroy, xgroup_set_id}
-use Rattle.sr_space.specs.commands.Xtrim.{xtrim}
-use Rattle.sr_space.specs.commands.Xread.{count_of, listed_or_null, read_streams}
-use Rattle.sr_space.specs.commands.Xreadgroup.{after_reads, has_group_in, have_group, listed_of_all}
+use Rattle.sr_space.specs.Readers.{asks, has_key}
+use Rattle.sr_space.specs.commands.Xread.{count_of, read_streams}
+use Rattle.sr_space.specs.commands.Xreadgroup.{has_group_in, have_group, listed_of_all}
 use Rattle.sr_space.specs.commands.Xreadgroup as grouped
 use Rattle.sr_space.specs.steps.Waiting.{any_after, has_after, is_something, lists_any, lists_stream}
-use Rattle.sr_space.proofs.KeyLaws.{stream_at-with_stream_other}
+use Rattle.sr_space.proofs.CommandLaws.{others-stay}
 use Rattle.sr_space.proofs.WaitingLaws.{executed-keys}
 use Rattle.sr_space.proofs.WaitingLemmas.{any_after-read, lists_any-read}
 
@@ -107,55 +97,6 @@ finds-moment keys moment later (calls.Xreadgroup read) =
 finds-moment keys moment later read = refl
 
 -- ---- a call on one key
-
-left-others : (keys : Keys) (key other : Key) (written : Option StreamState) → other ≢ key → stream_at (left_at keys key written) other ≡ stream_at keys other
-left-others keys key other None apart = refl
-left-others keys key other (Some stream) apart = stream_at-with_stream_other keys key other stream apart
-
-at_key-others : (keys : Keys) (named key other : Key) (f : Option StreamState → Touched) → Some named ≡ Some key → other ≢ key → stream_at (at_key keys named f).keys other ≡ stream_at keys other
-at_key-others keys named key other f is apart =
-    let same : named ≡ key = cc in
-    left-others keys named other (f (stream_at keys named)).written (λ e. apart (e ∙ same))
-
-module _ (moment : ℕ) (name consumer : List ℕ) (count : Option ℕ) (no_ack : Bool) (keys : Keys) (key other : Key) (apart : other ≢ key) where
-  after-others : (streams : List (Key × ReadAsked)) → only_key streams ≡ Some key → stream_at (after_reads moment name consumer count no_ack keys streams) other ≡ stream_at keys other
-  after-others [] is = cc
-  after-others (stream ∷ []) is =
-      let same : stream.0 ≡ key = cc in
-      left-others keys stream.0 other (grouped.read_stream moment name consumer count no_ack stream.1 stream.0 (stream_at keys stream.0)).written (λ e. apart (e ∙ same))
-  after-others (stream ∷ next ∷ streams) is = cc
-
-  grouped-by : (there : Bool) (streams : List (Key × ReadAsked)) (answer : Answer) → only_key streams ≡ Some key
-      → stream_at (cond there (let found : Executed = record { keys = after_reads moment name consumer count no_ack keys streams; outcome = reply_of answer } in found) (unchanged keys (error_reply errors.NoGroup))).keys other ≡ stream_at keys other
-  grouped-by true streams answer is = after-others streams is
-  grouped-by false streams answer is = refl
-
-module _ (keys : Keys) (moment : ℕ) (key other : Key) (apart : other ≢ key) where
-  pub others-stay : (call : Call) → key_of call ≡ Some key → stream_at (at_once keys moment call).keys other ≡ stream_at keys other
-  others-stay (calls.Ping call) is = refl
-  others-stay (calls.Xadd call) is = at_key-others keys call.key key other (xadd (in_63_bits moment) call) is apart
-  others-stay (calls.Xtrim call) is = at_key-others keys call.key key other (xtrim call.trim) is apart
-  others-stay (calls.Xdel call) is = at_key-others keys call.key key other (xdel call.ids) is apart
-  others-stay (calls.Xlen call) is = refl
-  others-stay (calls.Xrange call) is = refl
-  others-stay (calls.Xrevrange call) is = refl
-  others-stay (calls.Xread call) is = refl
-  others-stay (calls.Xreadgroup call) is =
-      grouped-by (in_63_bits moment) call.group call.consumer (count_of call.count) call.no_ack keys key other apart
-      (have_group call.group keys call.streams) call.streams
-      (listed_or_null (listed_of_all (in_63_bits moment) call.group call.consumer (count_of call.count) call.no_ack keys call.streams)) is
-  others-stay (calls.Xack call) is = at_key-others keys call.key key other (xack call.group call.ids) is apart
-  others-stay (calls.XgroupCreate call) is = at_key-others keys call.key key other (xgroup_create call.group call.from call.make) is apart
-  others-stay (calls.XgroupSetId call) is = at_key-others keys call.key key other (xgroup_set_id call.group call.from) is apart
-  others-stay (calls.XgroupDestroy call) is = at_key-others keys call.key key other (xgroup_destroy call.group) is apart
-  others-stay (calls.XgroupCreateConsumer call) is = at_key-others keys call.key key other (xgroup_create_consumer (in_63_bits moment) call.group call.consumer) is apart
-  others-stay (calls.XgroupDelConsumer call) is = at_key-others keys call.key key other (xgroup_del_consumer call.group call.consumer) is apart
-  others-stay (calls.XinfoStream call) is = refl
-  others-stay (calls.XinfoGroups call) is = refl
-  others-stay (calls.XinfoConsumers call) is = refl
-  others-stay (calls.Xpending call) is = refl
-  others-stay (calls.Xclaim call) is = at_key-others keys call.key key other (xclaim (in_63_bits moment) call.consumer (claim_of call.least_idle call.time call.count call.just_ids) call.group call.ids) is apart
-  others-stay (calls.Xautoclaim call) is = at_key-others keys call.key key other (xautoclaim (in_63_bits moment) call.consumer (claim_of call.least_idle Now None call.just_ids) call.group call.start (count_or_100 call.count)) is apart
 
 pub finds-others : (keys : Keys) (moment earlier later : ℕ) (call read : Call) (key : Key) → key_of call ≡ Some key → asks key read ≡ false
     → finds_nothing (executed keys moment call).keys later read ≡ finds_nothing keys earlier read

@@ -11,7 +11,8 @@ ghost use Rattle.sr_space.specs.Blocking.{finds_nothing};
 ghost use Rattle.sr_space.specs.declared.blocking.Outcome.TheVariants as outcomes;
 ghost use Rattle.sr_space.specs.Keys.{Key, Keys, AreStreams};
 ghost use Rattle.sr_space.specs.PendingAt.{AskForNew, pending_at};
-ghost use Rattle.sr_space.specs.Readers.{asks, key_of};
+ghost use Rattle.sr_space.specs.Effect.{key_of};
+ghost use Rattle.sr_space.specs.Readers.{asks};
 
 /// Law: a changed stream is at its key, and the streams at other keys stay. Calling this has no effect.
 pub fn one_stream_changes()
