@@ -45,8 +45,8 @@ pub trait Desk {
         ensures letter { AwaitsAt (shows self.old) session result (shows self.new) }
         ensures same { borrows self.new ≡ borrows self.old };
 
-    /// Is told that no event of the session follows at once: it is about to read, to write or to make a plan. A desk
-    /// that keeps others waiting from one event to the next lets them go on here.
+    /// Is told that the session is about to read, to write or to make a plan, or that its last replies were long. A
+    /// desk that keeps others waiting from one event to the next lets them go on here.
     fn pause(&mut self)
         ensures shows { shows self.new ≡ shows self.old }
         ensures same { borrows self.new ≡ borrows self.old };

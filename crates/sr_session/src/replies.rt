@@ -26,6 +26,13 @@ impl Replies {
         }
     }
 
+    /// How many bytes are gathered.
+    pub(crate) fn len(&self) -> usize
+        ensures { result ≡ length self.now.gathered.items }
+    {
+        self.gathered.len()
+    }
+
     /// Gathers one reply more.
     pub(crate) fn gather(&mut self, reply: &Reply) -> Result<(), AllocError>
         ensures ok { OnOk result (self.new.gathered.items ≡ self.old.gathered.items ++ reply_text reply.now) }

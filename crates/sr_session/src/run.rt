@@ -26,6 +26,9 @@ use std::alloc::{AllocError, Global};
 /// How many bytes are read at a time.
 const PIECE: usize = 4096;
 
+/// After this many bytes of replies a desk lets others go on before the next request of a read.
+const SHARE: usize = 16 * 1024;
+
 /// Why a session ended.
 #[derive(Clone, Copy, Debug, PartialEq, Eq)]
 pub enum End {
@@ -271,7 +274,7 @@ fn take_piece<W: Sink, D: Desk, C: Clock, G: Gate>(
 /// Answers the requests that wait. Their replies are gathered; some may have been sent.
 ///
 /// All of them are read before the first is carried out: a desk may keep others from its server from one event to the
-/// next.
+/// next, unless that made long replies.
 fn answer_waiting<W: Sink, D: Desk, C: Clock, G: Gate>(
     alloc: Global,
     requests: &mut Reader,
@@ -367,12 +370,27 @@ fn answer_all<W: Sink, D: Desk, C: Clock, G: Gate>(
     ensures noted { IsNoted result (W.failed writer.old) (W.failed writer.new) }
     ensures same { D.borrows desk.new ≡ D.borrows desk.old }
 {
+    let mut seen = replies.len();
     for one in asked {
         answer_asked(
             alloc, writer, desk, clock, gate, blocking, session, one, replies,
         )?;
+        let shared = let_others_in(desk, seen, replies.len());
+        seen = shared;
     }
     Ok(())
+}
+
+/// Has a desk let others go on if many bytes of replies were gathered since it last did. Answers how many there were.
+fn let_others_in<D: Desk>(desk: &mut D, seen: usize, gathered: usize) -> usize
+    ensures shows { D.shows desk.new ≡ D.shows desk.old }
+    ensures same { D.borrows desk.new ≡ D.borrows desk.old }
+{
+    if gathered.saturating_sub(seen) < SHARE {
+        return seen.min(gathered);
+    }
+    desk.pause();
+    gathered
 }
 
 /// Takes the next piece, and tells whether the stream went wrong.

@@ -436,9 +436,10 @@ const PAUSES: &[(&str, &str)] = &[
     ),
 ];
 
-/// No pause comes between the requests of one read. One comes after them all, before their replies are written; one
-/// before the replies that go out before a call that may wait; and one before a plan is made, after which the gate is
-/// passed. The clock is asked once for each step, and so not for words that are not a command, which have none.
+/// No pause comes between the requests of one read if their replies are short. One comes after them all, before their
+/// replies are written; one before the replies that go out before a call that may wait; and one before a plan is made,
+/// after which the gate is passed. The clock is asked once for each step, and so not for words that are not a command,
+/// which have none.
 #[test]
 fn a_pause_comes_before_a_write_and_before_a_plan(rt: HostRuntime) -> Result<(), Fail> {
     for (lines, want) in PAUSES {

@@ -1,11 +1,20 @@
-use Rattle.std.proofs.Common.{rules, ◌≡◌, [], ◌∷◌, ◌++◌, refl, sym, ◌∙◌, subst}
+use Rattle.std.proofs.Common.{rules, ◌≡◌, ℕ, List, [], ◌∷◌, ◌++◌, refl, sym, ◌∙◌, subst}
 use Rattle.std.proofs.KnownBytes.{Appends-nil, Appends-trans}
 use Rattle.std.specs.Vec.Iter.{into_iter_items}
+use Rattle.sr_resp.specs.Request.{Words}
+use Rattle.sr_resp.specs.Stream.{Progress}
+use Rattle.sr_session.specs.Desk.{IsIdle}
 use Rattle.sr_session.specs.steps.Asked.{AreAsked}
+use Rattle.sr_session.specs.steps.Underway.{IsAnswering}
 use Rattle.sr_session.proofs.AskedLemmas.{AreAsked-first, AreAsked-none, IsAnswering-all, Stands-next, with_waiting}
 use Rattle.sr_session.proofs.RunLemmas.{IsNoted-err, err_as, on_ok_none}
 use Rattle.sr_session.proofs.UnderwayLemmas.{IsAnswering-start, IsAnswering-more, EndsAs-more}
 use Rattle.sr_session.proofs.run.answer_all.Goals as goal
+
+-- what was shown is shown still
+still : {S : Type 0} (A : S → Words → List ℕ → S → Type 0) (found : S) (taken written gathered : List ℕ) (sent : ℕ) (progress : Progress) (now later : S) → now ≡ later
+    → IsAnswering A found taken written gathered sent progress now → IsAnswering A found taken written gathered sent progress later
+still A found taken written gathered sent progress now later same is = subst (IsAnswering A found taken written gathered sent progress) same is
 
 pub loop-one-init : goal.loop-one-init
 loop-one-init g c = record {
@@ -22,6 +31,7 @@ loop-one-preserved g c =
     let left = into_iter_items c.next.new.self in
     let items : into_iter_items c.loop-one.one-iterator ≡ c.in-Some.one ∷ left = c.in-Some.ensures.steps.0 in
     let one = c.in_ok-answer_asked.ensures.ok in
+    let kept = c.let_others_in-shared.ensures in
     record {
       so_far = (
         i.so_far.0 ++ one.0,
@@ -29,11 +39,11 @@ loop-one-preserved g c =
         λ progress asks found taken written start.
             let before = i.so_far.2 progress asks found taken written start in
             let split = AreAsked-first before.0 c.in-Some.one left (subst (AreAsked before.0) items before.1) in
-            (split.others, split.rest, IsAnswering-more _ found taken written i.so_far.0 _ one.0 _ _ _ (with_waiting before.0 progress) (with_waiting split.others progress) _ _ split.words (Stands-next (with_waiting before.0 progress) split.words split.others split.is) (one.2 split.words split.asks) before.2),
+            (split.others, split.rest, still _ found taken _ _ _ _ _ _ (sym kept.shows) (IsAnswering-more _ found taken written i.so_far.0 _ one.0 _ _ _ (with_waiting before.0 progress) (with_waiting split.others progress) _ _ split.words (Stands-next (with_waiting before.0 progress) split.words split.others split.is) (one.2 split.words split.asks) before.2)),
       );
-      idle = c.in_ok-answer_asked.ensures.idle;
+      idle = subst (IsIdle c.args.session) (sym kept.shows) c.in_ok-answer_asked.ensures.idle;
       noted = c.in_ok-answer_asked.ensures.noted ∙ i.noted;
-      same = c.answer_asked.ensures.same ∙ i.same;
+      same = kept.same ∙ c.answer_asked.ensures.same ∙ i.same;
       counted = search rules;
     }
 
