@@ -8,3 +8,5 @@ pub mod WorkLemmas
 pub mod LookingLemmas
 pub mod TalkLemmas
 pub mod ServerLemmas
+pub mod RoundsLemmas
+pub mod FirstLemmas

@@ -1,5 +1,6 @@
 pub mod Bounds
 pub mod Conclusion
+pub mod First
 pub mod Looked
 pub mod Looking
 pub mod Rounds

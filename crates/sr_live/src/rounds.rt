@@ -1,8 +1,8 @@
 //! Plans for a group of another Redis, and their being carried out there.
-ghost use Rattle.std.specs.Prelude.{◌≡◌, ℕ, List, IfOk, take};
-ghost use Rattle.sr_live.specs.Looked.{shown_by};
-ghost use Rattle.sr_live.specs.Looking.{Exchange, IsLooked, Talks};
-ghost use Rattle.sr_live.specs.Rounds.{HasRun};
+ghost use Rattle.std.specs.Prelude.{◌≡◌, List, IfOk, IfSome};
+ghost use Rattle.sr_live.specs.First.{kept_rows};
+ghost use Rattle.sr_live.specs.Looking.{Exchange, Talks};
+ghost use Rattle.sr_live.specs.Rounds.{HasRun, IsPlanned};
 
 use crate::conclusion::{Concluded, conclude};
 use crate::fault::LiveFault;
@@ -71,15 +71,25 @@ pub fn plan<P: Peer>(
     asked: &Asked,
     at_most: Option<u64>,
 ) -> Result<Planned, LiveFault>
-    // the verdict is of the snapshot that was looked up
-    ensures snapshot { IfOk result (λ planned. planned.verdict.snapshot
-        ≡ shown_by policy.now asked.now.key asked.now.group asked.now.dead.items planned.looked.numbers.items
-        planned.looked.rows.items) }
-    // these rows, or the first of them, were looked up by calls of Redis
-    ensures looked { IfOk result (λ planned. (talk : List Exchange) × (rows : List Row) × (kept : ℕ)
+    // the rows, or as many of them as `at_most` leaves, were looked up by these calls, and the verdict is of these
+    ensures { IfOk result (λ planned. (talk : List Exchange)
         × Talks (P.sent peer.old) (P.got peer.old) (P.sent peer.new) (P.got peer.new) talk
-        × IsLooked asked.now.key asked.now.group asked.now.dead.items talk planned.looked.numbers.items rows
-        × (planned.looked.rows.items ≡ take kept rows)) }
+        × IsPlanned policy.now asked.now at_most talk planned) }
+{
+    judged(peer, alloc, policy, asked, at_most)?.ok_or(LiveFault::Changed)
+}
+
+/// Looks a group up and judges it. `None` if what was looked up is of no one moment.
+fn judged<P: Peer>(
+    peer: &mut P,
+    alloc: Global,
+    policy: &Policy,
+    asked: &Asked,
+    at_most: Option<u64>,
+) -> Result<Option<Planned>, LiveFault>
+    ensures { IfOk result (λ judged. (talk : List Exchange)
+        × Talks (P.sent peer.old) (P.got peer.old) (P.sent peer.new) (P.got peer.new) talk
+        × IfSome judged (IsPlanned policy.now asked.now at_most talk)) }
 {
     let mut looked = look(peer, alloc, asked)?;
     let last = keep_first(&mut looked.rows, at_most);
@@ -87,14 +97,14 @@ pub fn plan<P: Peer>(
         Ok(snapshot) => snapshot,
         Err(SnapshotFault::Memory) => return Err(LiveFault::Memory),
         Err(SnapshotFault::TooMany) => return Err(LiveFault::TooMany),
-        Err(SnapshotFault::Changed) => return Err(LiveFault::Changed),
+        Err(SnapshotFault::Changed) => return Ok(None),
     };
     let verdict = Verdict::make(alloc, snapshot)?;
-    Ok(Planned {
+    Ok(Some(Planned {
         looked,
         last,
         verdict,
-    })
+    }))
 }
 
 /// Makes plans and has Redis carry one out, in as many rounds as it takes, and at most `tries`.
@@ -107,58 +117,66 @@ pub fn run<P: Peer>(
     asked: &Asked,
     terms: Terms,
 ) -> Result<Ran, LiveFault>
-    ensures { IfOk result (HasRun policy.now asked.now terms.within (P.sent peer.new) (P.got peer.new)) }
+    ensures { IfOk result (HasRun policy.now asked.now terms (P.sent peer.old) (P.got peer.old)
+        (P.sent peer.new) (P.got peer.new)) }
 {
     let mut ran = Err(LiveFault::Changed);
     for _ in 0..terms.tries {
-        ran = round(peer, alloc, policy, asked, terms);
-        match &ran {
-            Ok(Ran::Stale { .. }) | Err(LiveFault::Changed) => {}
-            _ => return ran,
-        }
+        ran = match round(peer, alloc, policy, asked, terms)? {
+            None => Err(LiveFault::Changed),
+            Some(Ran::Stale { what, of }) => Ok(Ran::Stale { what, of }),
+            Some(told) => return Ok(told),
+        };
     }
     ran
 }
 
-/// One round.
+/// One round. `None` if what was looked up is of no one moment.
 fn round<P: Peer>(
     peer: &mut P,
     alloc: Global,
     policy: &Policy,
     asked: &Asked,
     terms: Terms,
-) -> Result<Ran, LiveFault>
-    ensures { IfOk result (HasRun policy.now asked.now terms.within (P.sent peer.new) (P.got peer.new)) }
+) -> Result<Option<Ran>, LiveFault>
+    ensures all { IfOk result (λ ran. (talk : List Exchange)
+        × Talks (P.sent peer.old) (P.got peer.old) (P.sent peer.new) (P.got peer.new) talk) }
+    ensures ran { IfOk result (λ ran. IfSome ran (HasRun policy.now asked.now terms
+        (P.sent peer.old) (P.got peer.old) (P.sent peer.new) (P.got peer.new))) }
 {
-    let planned = plan(peer, alloc, policy, asked, terms.at_most)?;
+    let Some(planned) = judged(peer, alloc, policy, asked, terms.at_most)? else {
+        return Ok(None);
+    };
     let limits = Limits {
         within: terms.within,
         last: planned.last,
     };
     let rows = planned.looked.rows.as_slice();
     let Some(words) = script_words(alloc, &planned.verdict, rows, limits)? else {
-        return Ok(Ran::Impossible(planned));
+        return Ok(Some(Ran::Impossible(planned)));
     };
     match conclude(peer, alloc, &asked.key, words.as_slice())? {
-        Concluded::Done { claimed, gap } => Ok(Ran::Done {
+        Concluded::Done { claimed, gap } => Ok(Some(Ran::Done {
             planned,
             claimed,
             gap,
-        }),
-        Concluded::Stale { what, of } => Ok(Ran::Stale { what, of }),
+        })),
+        Concluded::Stale { what, of } => Ok(Some(Ran::Stale { what, of })),
     }
 }
 
 /// Keeps the entries up to that one with which so many are stranded, if so many are, and answers its id.
 fn keep_first(rows: &mut Vec<Row>, at_most: Option<u64>) -> Option<Id>
-    ensures { (kept : ℕ) × (rows.new.items ≡ take kept rows.old.items) }
+    ensures rows { rows.new.items ≡ (kept_rows at_most rows.old.items).0 }
+    ensures last { result ≡ (kept_rows at_most rows.old.items).1 }
 {
     let mut left = at_most?;
     for at in 0..rows.len() {
-        if rows[at].fields.is_some() {
+        let row = &rows[at];
+        if row.fields.is_some() {
             left = left.saturating_sub(1);
             if left == 0 {
-                let id = rows[at].id;
+                let id = row.id;
                 rows.truncate(at + 1);
                 return Some(id);
             }
