@@ -214,6 +214,7 @@ bench:
 	@python3 bench/streams.py $(SERVER)
 	@python3 bench/claims.py $(SERVER)
 	@python3 bench/groups.py $(SERVER)
+	@bench/hostile.py $(SERVER)
 	@python3 bench/keeping.py $(SERVER)
 	@python3 bench/trims.py $(SERVER)
 	@python3 bench/records.py $(SERVER)

@@ -145,6 +145,20 @@ def wake_one(server, _):
         return [(time.perf_counter() - began) * 1000]
 
 
+def long_ranges(server, _):
+    """110 XRANGEs of 20,000 entries each in one packet, to the last byte."""
+    with server.connect(SECONDS) as connection:
+        send_all(connection, (["XADD", "s", f"{number}-1", "f", "v"] for number in range(1, 20_001)))
+        request = spelled("XRANGE", "s", "-", "+")
+        connection.socket.sendall(request)
+        length = len(b"*20000\r\n") + sum(len(f"*2\r\n${len(name)}\r\n{name}\r\n*2\r\n$1\r\nf\r\n$1\r\nv\r\n") for name in (f"{number}-1" for number in range(1, 20_001)))
+        connection.file.read(length)
+        began = time.perf_counter()
+        connection.socket.sendall(request * 110)
+        connection.file.read(length * 110)
+        return [(time.perf_counter() - began) * 1000]
+
+
 def missing_keys(length):
     def row(server, runs):
         keys = [f"{number:0{length}}" for number in range(KEYS)]
@@ -217,6 +231,7 @@ def rows():
         row = beside_readers(*words)
         yield row.__doc__, row, True
     yield wake_one.__doc__, wake_one, True
+    yield long_ranges.__doc__, long_ranges, True
     for length in (8, 8_000):
         row = missing_keys(length)
         yield row.__doc__, row, True
