@@ -199,6 +199,7 @@ live:
 
 given-live:
 	@tests/live_script.py
+	@tests/live_wrong.py
 	@tests/live.py
 	@tests/server_live.py
 

@@ -250,7 +250,7 @@ def passwords(bench, _):
                 options = [*options, "--password-file", path]
             found = bench.plan(*options, env=env)
             bench.expect(what, wanted, found)
-            bench.check(f"{what}: the password is not printed", False, SECRET.encode() in found.out + found.errors)
+            bench.check(f"{what}: password printed", False, SECRET.encode() in found.out + found.errors)
     found = bench.plan("--password-file", "/nonexistent/password")
     bench.check("no password file", (1, b"", b"password: cannot read the file\n"), found[:3])
     bench.connection.call("CONFIG", "SET", "requirepass", "")
@@ -262,7 +262,7 @@ def echoing(bench, _):
     with Redis("--rename-command", "AUTH", "") as server:
         found = bench.plan(env={"REDISCLI_AUTH": SECRET}, port=server.port)
         bench.check("AUTH is unknown", (1, b""), found[:2])
-        bench.check("AUTH is unknown: the password is not printed", False, SECRET.encode() in found.out + found.errors)
+        bench.check("AUTH is unknown: password printed", False, SECRET.encode() in found.out + found.errors)
 
 
 def users():

@@ -1,0 +1,78 @@
+#!/usr/bin/env python3
+"""Plays histories with wrong texts of conclude.lua, each of which tests/live_script.py has to find.
+
+usage: tests/live_wrong.py
+
+A wrong text is the right one with one change. Of each it prints how many comparisons worked out by hand, and how many random
+histories, found it to be wrong; the status is 1 if that is none, or if the text to be changed does not stand exactly once in the
+script. It needs redis-server.
+"""
+
+import contextlib
+import io
+import random
+import sys
+
+import live_script
+from lib import live_rows, servers
+from lib.live import SCRIPT, Script
+
+HISTORIES, SEED = 400, 3
+
+WRONG = {
+    "stale applied": ("  if gap >= EXACT or gap > within then\n", "  if gap >= EXACT then\n"),
+    "other work applied": ("      return { 'stale', what, which }\n", ""),
+    "moves of another snapshot": ("      if not row or row.id ~= pending[1] then\n", "      if not row then\n"),
+    "gone entries are not compared": ("    if is_there ~= row.is_there then\n", "    if false then\n"),
+    "bounds that ignore prices": ("  return nil, live.first_price * first_left + live.next_price * next_left\n", "  return nil, 0\n"),
+    "bounds that ignore the second price": (" + live.next_price * next_left\n", "\n"),
+    "room is not looked at": ("  if live.load > 0 and pending + live.load > live.limit then\n", "  if false then\n"),
+    "fees are not looked at": ("  if math.min(live.load, free_room) ~= live.free_load then\n", "  if false then\n"),
+    "one entry less is claimed": ("  for from = 1, #one.ids, MOST_ROWS do\n", "  for from = 2, #one.ids, MOST_ROWS do\n"),
+    "claimed before the last is judged": ("    gap = gap + worth\n", "    gap = gap + worth\n    carry_out(group, one)\n"),
+}
+
+
+class WrongScript(Script):
+    """conclude.lua with one change."""
+
+    def __init__(self, connection, old, new):
+        with open(SCRIPT, encoding="utf-8") as file:
+            text = file.read()
+        if text.count(old) != 1:
+            sys.exit(f"{old!r} does not stand once in conclude.lua")
+        self.connection, self.text = connection, text.replace(old, new).encode()
+        self.digest = connection.call("SCRIPT", "LOAD", self.text)
+
+
+def found(connection, change):
+    """How many comparisons, and how many histories, find a wrong script."""
+    wrong = 0
+    live_rows.Script = lambda connection: WrongScript(connection, *change)
+    with contextlib.redirect_stdout(io.StringIO()):
+        _, rows = live_rows.compared(connection)
+        connection.call("SCRIPT", "FLUSH")
+        script = WrongScript(connection, *change)
+        for number in range(HISTORIES):
+            played = live_script.play(connection, script, random.Random(SEED * 10**9 + number))
+            wrong += bool(played and played[1])
+    return rows, wrong
+
+
+def main():
+    if len(sys.argv) != 1:
+        sys.exit(__doc__)
+    if not servers.Redis.installed():
+        sys.exit("redis-server is not installed (Debian: redis-server)")
+    passed = []
+    with servers.Redis() as server, server.connect() as connection:
+        for name, change in WRONG.items():
+            rows, histories = found(connection, change)
+            print(f"{name}: found by {rows} rows and {histories} histories", flush=True)
+            passed += [] if rows or histories else [name]
+    print(f"{len(WRONG)} wrong scripts, {len(passed)} not found")
+    sys.exit(1 if passed else 0)
+
+
+if __name__ == "__main__":
+    main()
