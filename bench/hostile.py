@@ -2,7 +2,7 @@
 """Times requests that cost more than their length lets expect, beside a Redis server: bench/hostile.py PROGRAM [RUNS]
 
 Each row is a server of its own. A number is milliseconds from the first byte of the request to the last of its reply: the least of RUNS
-runs (5 if not given). `waits` is the longest that a PING of another client, sent every millisecond, waited meanwhile. The ratio is
+runs (5 if not given). `waits` is the longest that a PING of another client, sent every millisecond, waited during a run. The ratio is
 PROGRAM's to Redis's; what Redis has not is timed alone. Without `redis-server` (Debian: redis-server) all are.
 """
 
@@ -25,18 +25,23 @@ KIB, MIB = 1 << 10, 1 << 20
 
 
 class Pings(threading.Thread):
-    """A client that sends a PING every millisecond, and keeps the longest wait."""
+    """A client that sends a PING every millisecond, and keeps the longest wait while it is watched."""
 
-    def __init__(self, server):
+    def __init__(self):
         super().__init__(daemon=True)
-        self.connection, self.longest, self.ends = server.connect(SECONDS), 0.0, False
+        self.connection, self.longest, self.watched, self.ends = None, 0.0, False, False
 
     def run(self):
         while not self.ends:
-            began = time.perf_counter()
+            began, watched = time.perf_counter(), self.watched
             self.connection.call("PING")
-            self.longest = max(self.longest, time.perf_counter() - began)
+            if watched or self.watched:
+                self.longest = max(self.longest, time.perf_counter() - began)
             time.sleep(0.001)
+
+    def __call__(self, server):
+        self.connection = server.connect(SECONDS)
+        return self
 
     def __enter__(self):
         self.start()
@@ -48,13 +53,28 @@ class Pings(threading.Thread):
         self.connection.close()
 
 
+class Run:
+    """One run: its milliseconds."""
+
+    pings = None  # the client that is watched during a run
+
+    def __enter__(self):
+        self.pings.watched = True
+        self.began = time.perf_counter()
+        return self
+
+    def __exit__(self, *_):
+        self.took = (time.perf_counter() - self.began) * 1000
+        self.pings.watched = False
+
+
 def timed(connection, *words):
     """The milliseconds of one request."""
     text = spelled(*words)
-    began = time.perf_counter()
-    connection.socket.sendall(text)
-    connection.reply()
-    return (time.perf_counter() - began) * 1000
+    with Run() as run:
+        connection.socket.sendall(text)
+        connection.reply()
+    return run.took
 
 
 def send_all(connection, commands, part=2_000):
@@ -102,6 +122,17 @@ def many_rates(server, _):
         return [timed(connection, "RECOVER.RUN", "s", "g", "DEAD", "dead")]
 
 
+def until_idle(server):
+    """Waits until all that was sent to the server is done: a PING is answered at once some times in a row."""
+    with server.connect(SECONDS) as connection:
+        quick = 0
+        while quick < 20:
+            time.sleep(0.02)
+            began = time.perf_counter()
+            connection.call("PING")
+            quick = quick + 1 if time.perf_counter() - began < 0.005 else 0
+
+
 class Readers:
     """Connections that wait on 2,000 keys each, or in a group on one."""
 
@@ -117,7 +148,7 @@ class Readers:
                 connection.send("XREADGROUP", "GROUP", "g", "w", "BLOCK", 0, "STREAMS", *keys, *[">"] * KEYS)
             else:
                 connection.send("XREAD", "BLOCK", 0, "STREAMS", *keys, *["$"] * KEYS)
-        time.sleep(1)
+        until_idle(server)
 
     def __enter__(self):
         return self
@@ -139,10 +170,10 @@ def beside_readers(*words):
 def wake_one(server, _):
     """XADD that wakes one of 60 group readers of 2,000 keys each, until it has the entry."""
     with Readers(server, group=True) as readers, server.connect(SECONDS) as connection:
-        began = time.perf_counter()
-        connection.send("XADD", "key-7", "*", "f", "v")
-        readers.connections[0].reply()
-        return [(time.perf_counter() - began) * 1000]
+        with Run() as run:
+            connection.send("XADD", "key-7", "*", "f", "v")
+            readers.connections[0].reply()
+        return [run.took]
 
 
 def long_ranges(server, _):
@@ -153,10 +184,10 @@ def long_ranges(server, _):
         connection.socket.sendall(request)
         length = len(b"*20000\r\n") + sum(len(f"*2\r\n${len(name)}\r\n{name}\r\n*2\r\n$1\r\nf\r\n$1\r\nv\r\n") for name in (f"{number}-1" for number in range(1, 20_001)))
         connection.file.read(length)
-        began = time.perf_counter()
-        connection.socket.sendall(request * 110)
-        connection.file.read(length * 110)
-        return [(time.perf_counter() - began) * 1000]
+        with Run() as run:
+            connection.socket.sendall(request * 110)
+            connection.file.read(length * 110)
+        return [run.took]
 
 
 def missing_keys(length):
@@ -254,8 +285,8 @@ def policy_text():
 
 def measured(make, row, runs):
     """The least time of a row, and the longest wait of another client meanwhile."""
-    with make() as server, Pings(server) as pings:
-        time.sleep(0.1)
+    Run.pings = Pings()
+    with make() as server, Run.pings(server) as pings:
         times = row(server, runs)
     return min(times), pings.longest * 1000
 
