@@ -9,8 +9,8 @@ use std::alloc::{AllocError, Global};
 use std::hash::RandomState;
 use std::marker::Model;
 
-/// The state of the one-thread server, which knows whether a waiting read has an answer: so an event asks the readers
-/// of its key alone, and one that changes no key asks nobody.
+/// The state of the one-thread server, which knows whether a waiting read has an answer: so a call on one key asks the
+/// readers of that key alone, and an event on none asks nobody.
 pub(crate) struct Watched {
     machine: Machine,
     /// Whether no waiting read has an answer.
