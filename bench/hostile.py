@@ -167,6 +167,18 @@ def beside_readers(*words):
     return row
 
 
+def packet_beside_readers(server, runs):
+    """200 PINGs in one packet beside 60 readers of 2,000 keys each, to the last byte."""
+    with Readers(server), server.connect(SECONDS) as connection:
+        packet, times = spelled("PING") * 200, []
+        for _ in range(runs):
+            with Run() as run:
+                connection.socket.sendall(packet)
+                connection.file.read(len(b"+PONG\r\n") * 200)
+            times.append(run.took)
+        return times
+
+
 def wake_one(server, _):
     """XADD that wakes one of 60 group readers of 2,000 keys each, until it has the entry."""
     with Readers(server, group=True) as readers, server.connect(SECONDS) as connection:
@@ -261,6 +273,7 @@ def rows():
     for words in (["PING"], ["XADD", "elsewhere", "*", "f", "v"]):
         row = beside_readers(*words)
         yield row.__doc__, row, True
+    yield packet_beside_readers.__doc__, packet_beside_readers, True
     yield wake_one.__doc__, wake_one, True
     yield long_ranges.__doc__, long_ranges, True
     for length in (8, 8_000):
