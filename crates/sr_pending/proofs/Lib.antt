@@ -2,6 +2,7 @@ pub mod Carrying
 pub mod ChangeLemmas
 pub mod Changing
 pub mod Closing
+pub mod Dropping
 pub mod FilterLemmas
 pub mod Finding
 pub mod HeldLemmas

@@ -7,6 +7,7 @@ mod firsts;
 mod held;
 mod nack;
 mod nacks;
+mod owned;
 mod owner;
 mod parts;
 mod pending;

@@ -1,6 +1,7 @@
 use crate::blocks::Blocks;
 use crate::held::{Held, add_spare, clear, held_for, put_slot, take_slot};
 use crate::nacks::Nacks;
+use crate::owned::remove_owned;
 use crate::room::{Room, add_room, in_all, room_for, use_room};
 use crate::search::{above, from, insert_slot, pending_slot, place_of, range_of, slot_of};
 use crate::slots::{entry, free_all, give_in, id_in, touch_in};
@@ -192,7 +193,7 @@ impl Pending {
         ensures rooms { self.new.rooms ≡ self.old.rooms }
     {
         let owned = self.count_of(owner);
-        self.slots.keep_others(&self.slab, owner, owned);
+        remove_owned(&mut self.slots, &self.slab, &self.held, owner);
         free_all(&mut self.slab, &self.held, owner);
         clear(
             &mut self.held,

@@ -1,26 +1,14 @@
-use Rattle.std.proofs.Common.{◌≡◌, ℕ, List, [], length, ap, subst, sym, ◌∙◌, arith}
-use Rattle.std.proofs.lemmas.List.{length-map}
+use Rattle.std.proofs.Common.{ℕ, List, [], ap, subst, sym, ◌∙◌, arith}
 use Rattle.std.proofs.lemmas.List.Elements.{All-filter}
 use Rattle.slab.specs.Slab.{ContainsKey}
 use Rattle.sr_pending.specs.steps.Blocks.{items_of}
-use Rattle.sr_pending.specs.declared.nack.Nack.{Nack}
-use Rattle.sr_pending.specs.Pending.{PendingState, is_same_name, owned_by, room_of, without_owner}
+use Rattle.sr_pending.specs.Pending.{PendingState, is_same_name, room_of, without_owner}
 use Rattle.sr_pending.specs.steps.Held.{Gives, slots_by}
-use Rattle.sr_pending.specs.steps.Slots.{AreTaken, nack_at, slots_of}
+use Rattle.sr_pending.specs.steps.Slots.{AreTaken, nack_at}
 use Rattle.sr_pending.proofs.HeldLemmas.{AreRising-by, HasSpare-given}
-use Rattle.sr_pending.proofs.SlotLemmas.{AreDistinct-rising, nacks_at-of}
+use Rattle.sr_pending.proofs.SlotLemmas.{AreDistinct-rising}
 use Rattle.sr_pending.proofs.SoundLemmas.{IsSound-dropped, left-dropped}
 use Rattle.sr_pending.proofs.pending.Pending.drop_owner.Goals as goal
-
-pub keep_others-requires : goal.keep_others-requires
-keep_others-requires c =
-    let owner = c.args.owner.now in
-    let slab = c.self.inside.slab in
-    let slots = items_of c.self.inside.slots in
-    c.count_of-owned.ensures.value
-    ∙ sym (ap (λ (p : PendingState). length (owned_by owner p.nacks)) c.self.view_is)
-    ∙ sym (ap (λ (l : List Nack). length l) (nacks_at-of slab slots owner))
-    ∙ length-map (slots_of owner slab slots) (nack_at slab)
 
 pub free_all-requires-clause-taken : goal.free_all-requires-clause-taken
 free_all-requires-clause-taken c =
@@ -40,15 +28,15 @@ invariant_of-self c =
     let owner = c.args.owner.now in
     let rooms = p.rooms.items in
     let now = c.clear.new.held in
-    let new = c.keep_others.new.self in
+    let new = c.remove_owned.new.slots in
     let gives : Gives owner [] (room_of owner rooms) p.held now = rw (c.room_for.ensures, c.as_slice.ensures.value) at c.clear.ensures in
     let spared = HasSpare-given p.held now owner [] rooms c.self.invariant.spared (room_of owner rooms) gives (omega arith) in
-    IsSound-dropped p.slab c.free_all.new.slab (items_of p.slots) (items_of new) rooms p.held p.slots.room owner c.self.invariant c.keep_others.ensures.items c.free_all.ensures now new.room (room_of owner rooms) c.keep_others.ensures.room gives spared
+    IsSound-dropped p.slab c.free_all.new.slab (items_of p.slots) (items_of new) rooms p.held p.slots.room owner c.self.invariant c.remove_owned.ensures.items c.free_all.ensures now new.room (room_of owner rooms) c.remove_owned.ensures.room gives spared
 
 pub returns-clause-nacks : goal.returns-clause-nacks
 returns-clause-nacks c =
     let p = c.self.inside in
     let owner = c.args.owner.now in
     ap (λ (p : PendingState). p.nacks) c.give_back.ensures
-    ∙ left-dropped p.slab c.free_all.new.slab (items_of p.slots) (items_of c.keep_others.new.self) p.rooms.items p.held p.slots.room owner c.self.invariant c.keep_others.ensures.items c.free_all.ensures
+    ∙ left-dropped p.slab c.free_all.new.slab (items_of p.slots) (items_of c.remove_owned.new.slots) p.rooms.items p.held p.slots.room owner c.self.invariant c.remove_owned.ensures.items c.free_all.ensures
     ∙ ap (λ (p : PendingState). without_owner owner p.nacks) c.self.view_is
