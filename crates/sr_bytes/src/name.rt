@@ -1,5 +1,4 @@
-ghost use Rattle.std.specs.Prelude.{◌≡◌, ◌↔◌, length, IsTrue, IfOk, nat_eq};
-ghost use Rattle.std.specs.Hash as fed;
+ghost use Rattle.std.specs.Prelude.{◌≡◌, ◌↔◌, [], ◌∷◌, length, IsTrue, IfOk, nat_eq};
 ghost use Rattle.std.specs.Cmp.Rules.{comparing, hashing};
 ghost use Rattle.std.specs.Cmp.Lexicographic.{pointwise};
 ghost use Rattle.std.proofs.Common.{rules};
@@ -81,11 +80,11 @@ impl Eq for Name {
 }
 
 impl Hash for Name {
-    ghost hash_input = { λ n. fed.slice fed.u8 n };
+    ghost hash_input = { λ n. n ∷ [] };
 
     ghost respects_eq = { Prim.search (hashing, rules) };
 
     fn hash<H: Hasher>(&self, state: &mut H) {
-        self.bytes.hash(state);
+        state.write(self.as_slice());
     }
 }
