@@ -99,10 +99,9 @@ impl Stream {
         if self.has_group(name) {
             return Err(GroupFault::Busy);
         }
-        let name = name.copy(alloc)?;
+        let named = NamedGroup::make(alloc, name, last)?;
         self.groups.reserve(1)?;
-        let group = Group::new(alloc, last);
-        put(&mut self.groups, NamedGroup { name, group });
+        put(&mut self.groups, named);
         Ok(())
     }
 

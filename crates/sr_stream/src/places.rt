@@ -13,7 +13,7 @@ fn count_before(groups: &[NamedGroup], name: &Name) -> usize
     requires { AreInOrder groups.now }
     ensures { result ≡ before name.now groups.now }
 {
-    groups.partition_point(|named| named.name.comes_before(name))
+    groups.partition_point(|named| named.name().comes_before(name))
 }
 
 /// The place of the group with this name.
@@ -26,7 +26,7 @@ pub(crate) fn place_of(groups: &[NamedGroup], name: &Name) -> Option<usize>
     match groups.get(place) {
         None => None,
         Some(named) => {
-            if named.name == *name {
+            if *named.name() == *name {
                 Some(place)
             } else {
                 None
@@ -42,7 +42,7 @@ pub(crate) fn put(groups: &mut Vec<NamedGroup>, named: NamedGroup)
     requires spare { vec_len groups.old < vec_capacity groups.old }
     ensures { groups.new.items ≡ with_group named.0 named.1 groups.old.items }
 {
-    let place = count_before(groups.as_slice(), &named.name);
+    let place = count_before(groups.as_slice(), named.name());
     insert_at(groups, place, named);
 }
 

@@ -26,8 +26,7 @@ returns-then-eq-clause-found c =
     let named = c.in-Some.named.now in
     let within : place < length groups = search rules in
     let read : named ≡ get_or groups place named = search rules in
-    let view : (c.named.inside.name, c.named.inside.group) ≡ named = c.named.view_is in
-    let same : named.0 ≡ c.args.name.now = ap (λ (x : List ℕ × KeptGroup). x.0) (sym view) ∙ is_same_name-true c.named.inside.name c.args.name.now (sym c.eq.ensures.value ∙ c.if-eq.true) in
+    let same : named.0 ≡ c.args.name.now = sym c.name.ensures ∙ is_same_name-true c.name.result.now c.args.name.now (sym c.eq.ensures.value ∙ c.if-eq.true) in
     record {
       group = named.1;
       here = slice_get_read groups (length groups) place named refl within read ∙ ap (λ (n : List ℕ). Some (n, named.1)) same;
@@ -43,8 +42,7 @@ returns-else-eq-clause-none c =
     let within : c.count_before-place.result < length groups = search rules in
     let read : named ≡ get_or groups c.count_before-place.result named = search rules in
     let here : slice_get groups place ≡ Some named = rw c.count_before-place.ensures at (slice_get_read groups (length groups) c.count_before-place.result named refl within read) in
-    let view : (c.named.inside.name, c.named.inside.group) ≡ named = c.named.view_is in
-    let apart : is_same_name named.0 name ≡ false = ap (λ (x : List ℕ × KeptGroup). is_same_name x.0 name) (sym view) ∙ sym c.eq.ensures.value ∙ c.if-eq.false in
+    let apart : is_same_name named.0 name ≡ false = ap (λ (n : List ℕ). is_same_name n name) (sym c.name.ensures) ∙ sym c.eq.ensures.value ∙ c.if-eq.false in
     has_group-no_place name groups place c.requires (Splits-counted first groups (before_first groups name c.requires)) (λ x there same.
     let one : named ≡ x = let both = sym here ∙ there in cc in
     let test : is_same_name named.0 name ≡ true = rw (one, same) (is_same_name-refl name) in

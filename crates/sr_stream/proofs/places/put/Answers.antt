@@ -9,7 +9,5 @@ pub returns : goal.returns
 returns c =
     let groups = c.args.groups.now.items in
     let named : List ℕ × KeptGroup = c.args.named in
-    let same : c.named.inside.name ≡ named.0 = ap (λ (x : List ℕ × KeptGroup). x.0) c.named.view_is in
-    let found : c.count_before-place.result ≡ before c.named.inside.name groups = rw c.as_slice.ensures.value at c.count_before-place.ensures in
-    let place : c.count_before-place.result ≡ before named.0 groups = found ∙ ap (λ (n : List ℕ). before n groups) same in
+    let place : c.count_before-place.result ≡ before named.0 groups = rw (c.as_slice.ensures.value, c.name.ensures) at c.count_before-place.ensures in
     c.insert_at.ensures ∙ ap (λ (n : ℕ). insert groups n named) place ∙ with_group-insert named.0 named.1 groups c.requires.order c.requires.missing
