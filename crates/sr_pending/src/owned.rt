@@ -13,8 +13,8 @@ use crate::slots::id_in;
 use slab::Slab;
 use sr_bytes::Name;
 
-/// An owner has few entries if it has at most one in this many of all. Few are removed one by one. For more of them, one
-/// pass over all is faster.
+/// An owner has few entries if it has at most one in this many of all. Few are removed one by one. For more of them,
+/// one pass over all is faster.
 const FEW: usize = 64;
 
 /// Removes the slots of the entries of this owner one by one, as the map lists them.
