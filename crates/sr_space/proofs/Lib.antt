@@ -19,8 +19,10 @@ pub mod InfoLemmas
 pub mod ReadingLemmas
 pub mod ReadGroupLemmas
 pub mod WaitingLemmas
+pub mod QuietLaws
 pub mod WaitingLaws
 pub mod ReaderLaws
+pub mod ApartLaws
 pub mod RisingLemmas
 pub mod SortedLemmas
 pub mod NameOrderLemmas

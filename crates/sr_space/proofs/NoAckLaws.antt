@@ -64,7 +64,7 @@ module _ {G : Type 0} (other : List ℕ) where
         by false e rest = rest
 
   -- a group that is put under its name leaves those of other names
-  with_group-other : (name : List ℕ) (group : G) (xs : ByName G) → other ≢ name → group_with other (with_group name group xs) ≡ group_with other xs
+  pub with_group-other : (name : List ℕ) (group : G) (xs : ByName G) → other ≢ name → group_with other (with_group name group xs) ≡ group_with other xs
   with_group-other name group xs apart = by (comes_before other name) (comes_before name other) refl refl
     where
       not_named : (after : ByName G) → group_with other ((name, group) ∷ after) ≡ group_with other after

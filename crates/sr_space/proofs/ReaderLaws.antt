@@ -13,18 +13,18 @@ use Rattle.sr_space.specs.Blocking.{executed, finds_nothing, is_nothing}
 use Rattle.sr_space.specs.Bounds.{in_63_bits}
 use Rattle.sr_space.specs.Effect.{at_once, key_of}
 use Rattle.sr_space.specs.Keys.{Key, Keys, stream_at}
-use Rattle.sr_space.specs.Readers.{asks, has_key}
+use Rattle.sr_space.specs.Readers.{asks, has_key, is_read}
 use Rattle.sr_space.specs.commands.Xread.{count_of, read_streams}
 use Rattle.sr_space.specs.commands.Xreadgroup.{has_group_in, have_group, listed_of_all}
-use Rattle.sr_space.specs.commands.Xreadgroup as grouped
 use Rattle.sr_space.specs.steps.Waiting.{any_after, has_after, is_something, lists_any, lists_stream}
 use Rattle.sr_space.proofs.CommandLaws.{others-stay}
+use Rattle.sr_space.proofs.QuietLaws.{read-finds}
 use Rattle.sr_space.proofs.WaitingLaws.{executed-keys}
 use Rattle.sr_space.proofs.WaitingLemmas.{any_after-read, lists_any-read}
 
 -- ---- what a read finds, by its streams
 
-twice : (b : Bool) → not (not b) ≡ b
+pub twice : (b : Bool) → not (not b) ≡ b
 twice true = refl
 twice false = refl
 
@@ -103,3 +103,9 @@ pub finds-others : (keys : Keys) (moment earlier later : ℕ) (call read : Call)
 finds-others keys moment earlier later call read key is apart =
     rw (executed-keys keys moment call)
     (finds-same keys (at_once keys moment call).keys key (λ other differs. others-stay keys moment key other differs call is) earlier later read apart)
+
+-- ---- a call that is a read
+
+pub finds-still : (keys : Keys) (moment earlier later : ℕ) (call read : Call) → is_read call ≡ true → finds_nothing keys earlier read ≡ true
+    → finds_nothing (executed keys moment call).keys later read ≡ true
+finds-still keys moment earlier later call read is none = rw (executed-keys keys moment call) (read-finds keys moment earlier later call read is none)

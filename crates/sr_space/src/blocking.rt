@@ -2,8 +2,8 @@ ghost use Rattle.std.specs.Prelude.{◌≡◌, ◌^◌, ◌<◌};
 ghost use Rattle.sr_space.specs.Blocking as waits;
 
 use crate::bounds::in_63_bits;
-use crate::commands::xread::any_after;
-use crate::commands::xreadgroup::{have_group, lists_any};
+use crate::commands::xread::{any_after, any_after_at};
+use crate::commands::xreadgroup::{any_answers_at, have_group, lists_any};
 use crate::{Answered, Space};
 use sr_args::commands::Xread;
 use sr_args::{Call, Position, Streams};
@@ -27,6 +27,7 @@ impl Space {
     ghost use Rattle.sr_space.specs.Keys.{stream_at};
     ghost use Rattle.sr_space.specs.Effect.{at_once};
     ghost use Rattle.sr_space.specs.Blocking.{answered, executed, finds_nothing, fixed_position, waiting_as, waits};
+    ghost use Rattle.sr_space.specs.Readers.{read_at};
     ghost use Rattle.sr_space.specs.commands.Xread.{read_from};
 
     /// Whether a read has an answer now; any other call has one. Takes no memory.
@@ -43,6 +44,19 @@ impl Space {
                     return true;
                 }
                 lists_any(self, &read.group, streams)
+            }
+            _ => true,
+        }
+    }
+
+    /// Whether a read has an answer now from its stream at the key; any call that is no read has one. Takes no memory.
+    pub fn ready_at(&self, call: &Call, key: &Name) -> bool
+        ensures { (moment : ℕ) → result ≡ not (finds_nothing self.now moment (read_at key.now call.now)) }
+    {
+        match call {
+            Call::Xread(read) => any_after_at(self, read.streams.as_slice(), key),
+            Call::Xreadgroup(read) => {
+                any_answers_at(self, &read.group, read.streams.as_slice(), key)
             }
             _ => true,
         }

@@ -1,4 +1,4 @@
-ghost use Rattle.std.specs.Prelude.{◌≡◌, ◌≢◌, ◌↔◌, ℕ, IsTrue, List, Option, Some, IsSome, false};
+ghost use Rattle.std.specs.Prelude.{◌≡◌, ◌≢◌, ◌↔◌, ◌&&◌, ℕ, IsTrue, List, Option, Some, IsSome, false};
 ghost use Rattle.sr_args.specs.declared.call.Call.{Call};
 ghost use Rattle.sr_args.specs.declared.call.Call.TheVariants as calls;
 ghost use Rattle.sr_args.specs.declared.commands.xread.Xread.{Xread};
@@ -12,7 +12,7 @@ ghost use Rattle.sr_space.specs.declared.blocking.Outcome.TheVariants as outcome
 ghost use Rattle.sr_space.specs.Keys.{Key, Keys, AreStreams};
 ghost use Rattle.sr_space.specs.PendingAt.{AskForNew, pending_at};
 ghost use Rattle.sr_space.specs.Effect.{key_of};
-ghost use Rattle.sr_space.specs.Readers.{asks};
+ghost use Rattle.sr_space.specs.Readers.{asks, is_read, read_at, read_beside};
 
 /// Law: a changed stream is at its key, and the streams at other keys stay. Calling this has no effect.
 pub fn one_stream_changes()
@@ -83,4 +83,20 @@ pub fn others_find_the_same()
     ensures { (keys : Keys) (moment earlier later : ℕ) (call read : Call) (key : Key) → key_of call ≡ Some key →
         asks key read ≡ false →
         finds_nothing (executed keys moment call).keys later read ≡ finds_nothing keys earlier read }
+{}
+
+/// Law: a read leaves no answer to a read that finds nothing. Calling this has no effect.
+pub fn reads_leave_nothing()
+    ensures { (keys : Keys) (moment earlier later : ℕ) (call read : Call) → IsTrue (is_read call) →
+        IsTrue (finds_nothing keys earlier read) → IsTrue (finds_nothing (executed keys moment call).keys later read) }
+{}
+
+/// Law: a read finds nothing exactly if it finds nothing in its stream at a key, and nothing in its other streams; and
+/// a call on this key changes nothing for the others. Calling this has no effect.
+pub fn streams_are_read_apart()
+    ensures apart { (keys : Keys) (moment : ℕ) (key : Key) (read : Call) → finds_nothing keys moment read
+        ≡ (finds_nothing keys moment (read_at key read) && finds_nothing keys moment (read_beside key read)) }
+    ensures beside { (keys : Keys) (moment earlier later : ℕ) (call read : Call) (key : Key) → key_of call ≡ Some key →
+        finds_nothing (executed keys moment call).keys later (read_beside key read)
+        ≡ finds_nothing keys earlier (read_beside key read) }
 {}

@@ -18,10 +18,10 @@ pub use blocking::Outcome;
 pub use commands::key_of;
 pub use laws::{
     errors_change_nothing, keys_stay, moments_find_the_same, noack_keeps_pending,
-    nothing_is_the_null_array, one_stream_changes, others_find_the_same, streams_stay_sound,
-    waiting_finds_nothing, waiting_leaves_the_same,
+    nothing_is_the_null_array, one_stream_changes, others_find_the_same, reads_leave_nothing,
+    streams_are_read_apart, streams_stay_sound, waiting_finds_nothing, waiting_leaves_the_same,
 };
 pub use outcome::Answered;
-pub use readers::asks;
+pub use readers::{asks, is_read};
 pub use snap::{SnapFault, names_in_order, rates_by_class};
 pub use space::Space;

@@ -1,4 +1,4 @@
-//! Which keys a waiting read asks.
+//! Which keys a waiting read asks, and which calls are reads.
 ghost use Rattle.std.specs.Prelude.{◌≡◌};
 ghost use Rattle.sr_space.specs.Readers as readers;
 
@@ -21,4 +21,11 @@ fn has_key<X>(streams: &[(Name, X)], key: &Name) -> bool
     ensures { result ≡ readers.has_key key.now streams.now }
 {
     streams.iter().any(|stream| stream.0 == *key)
+}
+
+/// Whether a call is a read of streams. Takes no memory.
+pub fn is_read(call: &Call) -> bool
+    ensures { result ≡ readers.is_read call.now }
+{
+    matches!(call, Call::Xread(_) | Call::Xreadgroup(_))
 }

@@ -13,7 +13,7 @@ use Rattle.sr_stream.specs.Stream.{StreamState}
 use Rattle.sr_space.specs.Blocking.{is_nothing}
 use Rattle.sr_space.specs.Keys.{Key, Keys, entries_of, stream_at}
 use Rattle.sr_space.specs.commands.Xread.{read_from}
-use Rattle.sr_space.specs.commands.Xreadgroup.{have_group}
+use Rattle.sr_space.specs.commands.Xreadgroup.{has_group_in, have_group}
 
 -- something is listed
 abbrev pub is_something : {X : Type 0} → List X → Bool
@@ -47,3 +47,11 @@ lists_any name keys streams = list_any (λ stream. lists_stream name stream.1 (s
 -- a read of the group has an answer: the refusal, or what is listed
 abbrev pub has_answer : List ℕ → Keys → List (Key × ReadAsked) → Bool
 has_answer name keys streams = not (have_group name keys streams) || lists_any name keys streams
+
+-- a stream gives a read of the group an answer: the refusal, or what is listed
+abbrev pub answers_stream : List ℕ → ReadAsked → Option StreamState → Bool
+answers_stream name asked found = not (has_group_in name found) || lists_stream name asked found
+
+-- one of the streams does
+abbrev pub any_answers : List ℕ → Keys → List (Key × ReadAsked) → Bool
+any_answers name keys streams = list_any (λ stream. answers_stream name stream.1 (stream_at keys stream.0)) streams

@@ -6,6 +6,7 @@ ghost use Rattle.sr_resp.specs.Reply.{Answer, IsArray, array_of};
 ghost use Rattle.sr_stream.specs.Groups as by_name;
 ghost use Rattle.sr_stream.specs.Stream.{StreamState};
 ghost use Rattle.sr_space.specs.Keys.{shown_keys, stream_at, with_stream};
+ghost use Rattle.sr_space.specs.Readers.{streams_at};
 ghost use Rattle.sr_space.specs.commands.Xread.{listed_or_null};
 ghost use Rattle.sr_space.specs.commands.Xreadgroup as groups;
 ghost use Rattle.sr_space.specs.steps.Reading.{HasRoomAt, HasRoomIn, StayBeside, StayBesideAll, Writes, WritesAt};
@@ -73,6 +74,29 @@ fn lists_at(space: &Space, name: &Name, key: &Name, asked: ReadAsked) -> bool
     match space.stream(key) {
         None => false,
         Some(stream) => lists_stream(stream, name, asked),
+    }
+}
+
+/// Whether the one of the streams at a key, read by a consumer of the group of this name, gives an answer. It takes no
+/// memory.
+pub(crate) fn any_answers_at(
+    space: &Space,
+    name: &Name,
+    streams: &[(Name, ReadAsked)],
+    key: &Name,
+) -> bool
+    ensures { result ≡ waiting.any_answers name.now space.now (streams_at key.now streams.now) }
+{
+    streams.iter().any(|stream| stream.0 == *key && answers_at(space, name, &stream.0, stream.1))
+}
+
+/// Whether the stream at a key gives an answer: the refusal if the group is missing, or what is listed.
+fn answers_at(space: &Space, name: &Name, key: &Name, asked: ReadAsked) -> bool
+    ensures { result ≡ waiting.answers_stream name.now asked (stream_at space.now key.now) }
+{
+    match space.stream(key) {
+        None => true,
+        Some(stream) => !stream.has_group(name) || lists_stream(stream, name, asked),
     }
 }
 
