@@ -1,26 +1,33 @@
--- After an event that leaves the streams, or one on a key whose readers have no answer, no waiting read has an answer if
--- none had one before.
-use Rattle.std.proofs.Common.{◌≡◌, ℕ, Bool, true, false, cond, ◌&&◌, not, List, [], ◌∷◌, ◌++◌, filter, Option, Some, None, refl, ap, sym, subst, ◌∙◌}
-use Rattle.std.specs.Prelude.{Result, Ok, Err, IfNone, IfSome, ◌==◌}
+-- If no waiting read had an answer, none has one after a read and after an event that leaves the streams, and after a call on
+-- one key those that have one have it from their streams at this key. What is served changes neither.
+use Rattle.std.proofs.Common.{◌≡◌, ℕ, Bool, true, false, cond, ◌&&◌, ◌||◌, not, List, [], ◌∷◌, ◌++◌, filter, Option, Some, None, refl, ap, sym, subst, ◌∙◌, true≢false}
+use Rattle.std.specs.Prelude.{Result, Ok, Err, IfNone, IfSome, IfOk, OnErr, is_none, ◌==◌}
+use Rattle.std.specs.List.{AllByRecursion}
+use Rattle.std.specs.declared.alloc.AllocError.{AllocError}
 use Rattle.sr_args.specs.declared.call.Call.{Call}
 use Rattle.sr_args.specs.declared.call.Call.TheVariants as calls
 use Rattle.sr_policy.specs.Snapshot.{Shown}
 use Rattle.sr_space.specs.Blocking.{executed, finds_nothing}
 use Rattle.sr_space.specs.Keys.{Key, Keys}
-use Rattle.sr_space.specs.Effect.{key_of}
-use Rattle.sr_space.specs.Readers.{asks}
+use Rattle.sr_space.specs.Effect.{at_once, key_of}
+use Rattle.sr_space.specs.Readers.{is_read, read_at, read_beside}
 use Rattle.sr_space.specs.declared.blocking.Outcome.{Outcome}
 use Rattle.sr_space.specs.declared.blocking.Outcome.TheVariants as outcomes
 use Rattle.sr_space.specs.declared.snap.SnapFault.{SnapFault}
-use Rattle.sr_space.proofs.ReaderLaws.{finds-moment, finds-others}
+use Rattle.sr_space.proofs.ApartLaws.{finds-apart, finds-beside}
+use Rattle.sr_space.proofs.QuietLaws.{read-finds}
+use Rattle.sr_space.proofs.ReaderLaws.{finds-moment, finds-still}
 use Rattle.sr_space.proofs.WaitingLaws.{waiting-nothing}
-use Rattle.sr_waiters.specs.Waiters.{Waiting, first_that, is_due}
+use Rattle.sr_waiters.specs.Waiters.{Waiting, first_that, is_due, session_of}
 use Rattle.sr_space.specs.Snap.{snapped}
+use Rattle.sr_book.specs.declared.effect.Served.{Served}
 use Rattle.sr_book.specs.declared.event.Event.{Event}
 use Rattle.sr_book.specs.declared.event.Event.TheVariants as events
+use Rattle.sr_book.specs.declared.watched.Ready.{Ready}
+use Rattle.sr_book.specs.declared.watched.Ready.TheVariants.{Nobody, At, Unknown}
 use Rattle.sr_book.specs.Records.{IsSettled}
-use Rattle.sr_book.specs.Server.{Server, acted, called, snapped_for}
-use Rattle.sr_book.specs.Watched.{IsPing, IsQuietAt, StaysSettled}
+use Rattle.sr_book.specs.Server.{Server, Serving, acted, called, served, serving, snapped_for}
+use Rattle.sr_book.specs.Watched.{AreQuietBeside, IsBound, IsKnown, IsQuietAt, wakes_nobody, woken_at}
 
 -- ---- no read passes a test
 
@@ -70,24 +77,85 @@ none-later keys moment later (read ∷ waiting) none =
     let parts = none-head (ready keys moment read.call) read (first_that (ready keys moment) waiting) none in
     none-cons (ready keys later) read waiting (ap not (finds-moment keys moment later read.call) ∙ parts.0) (none-later keys moment later waiting parts.1)
 
--- the readers of the key of a call have no answer after it, and the others had none before it
-module _ (keys : Keys) (moment before later : ℕ) (call : Call) (key : Key) (is : key_of call ≡ Some key) where
+-- ---- a read and its streams at a key and beside it
+
+both : (a b : Bool) → (a && b) ≡ true → (a ≡ true) × (b ≡ true)
+both true b e = (refl, e)
+both false b e = cc
+
+not-false : (b : Bool) → not b ≡ false → b ≡ true
+not-false true e = refl
+not-false false e = cc
+
+and-true : (a b : Bool) → b ≡ true → (a && b) ≡ a
+and-true true b e = e
+and-true false b e = refl
+
+-- the read has an answer from its stream at the key, and none from its other streams
+abbrev ready_at : Key → Keys → ℕ → Call → Bool
+ready_at key keys moment call = not (finds_nothing keys moment (read_at key call))
+
+abbrev IsBeside : Key → Keys → ℕ → Waiting → Type 0
+IsBeside key keys moment read = finds_nothing keys moment (read_beside key read.call) ≡ true
+
+abbrev AreBeside : Key → Keys → ℕ → List Waiting → Type 0
+AreBeside key keys moment waiting = AllByRecursion (IsBeside key keys moment) waiting
+
+one-beside : (key : Key) (keys : Keys) (moment : ℕ) (call : Call) → finds_nothing keys moment call ≡ true → finds_nothing keys moment (read_beside key call) ≡ true
+one-beside key keys moment call none =
+    (both (finds_nothing keys moment (read_at key call)) (finds_nothing keys moment (read_beside key call)) (sym (finds-apart keys moment key call) ∙ none)).1
+
+-- then the reads that have an answer are those that have one at the key
+first-beside : (key : Key) (keys : Keys) (moment : ℕ) (waiting : List Waiting) → AreBeside key keys moment waiting → first_that (ready keys moment) waiting ≡ first_that (ready_at key keys moment) waiting
+first-beside key keys moment [] beside = refl
+first-beside key keys moment (read ∷ waiting) beside =
+    let at = finds_nothing keys moment (read_at key read.call) in
+    let same : ready keys moment read.call ≡ ready_at key keys moment read.call = ap not (finds-apart keys moment key read.call ∙ and-true at (finds_nothing keys moment (read_beside key read.call)) beside.0) in
+    ap (λ (b : Bool). cond b (Some read) (first_that (ready keys moment) waiting)) same
+    ∙ ap (cond (ready_at key keys moment read.call) (Some read)) (first-beside key keys moment waiting beside.1)
+
+-- ---- lists of reads
+
+module _ (P : Waiting → Type 0) where
+  all-append : (waiting : List Waiting) (last : Waiting) → AllByRecursion P waiting → P last → AllByRecursion P (waiting ++ last ∷ [])
+  all-append [] last all is = (is, tt)
+  all-append (read ∷ waiting) last all is = (all.0, all-append waiting last all.1 is)
+
+  all-filter : (kept : Waiting → Bool) (waiting : List Waiting) → AllByRecursion P waiting → AllByRecursion P (filter kept waiting)
+  all-filter kept [] all = tt
+  all-filter kept (read ∷ waiting) all = by (kept read) all.0 (all-filter kept waiting all.1)
+    where
+      by : (keeps : Bool) → P read → AllByRecursion P (filter kept waiting) → AllByRecursion P (cond keeps (read ∷ filter kept waiting) (filter kept waiting))
+      by true is rest = (is, rest)
+      by false is rest = rest
+
+  all-first : (test : Call → Bool) (waiting : List Waiting) (read : Waiting) → AllByRecursion P waiting → first_that test waiting ≡ Some read → P read
+  all-first test [] read all found = cc
+  all-first test (first ∷ waiting) read all found = by (test first.call) found (all-first test waiting read all.1)
+    where
+      by : (passes : Bool) → cond passes (Some first) (first_that test waiting) ≡ Some read → (first_that test waiting ≡ Some read → P read) → P read
+      by true found rest = let same : first ≡ read = cc in subst P same all.0
+      by false found rest = rest found
+
+-- ---- a call
+
+module _ (keys : Keys) (moment before later : ℕ) (call : Call) where
   abbrev after : Keys
   after = (executed keys moment call).keys
 
-  abbrev asking : Call → Bool
-  asking read = asks key read && ready after later read
+  -- a read leaves no answer
+  quiet-after : (waiting : List Waiting) → is_read call ≡ true → NoneReady keys before waiting → NoneReady after later waiting
+  quiet-after [] is was = refl
+  quiet-after (read ∷ waiting) is was =
+      let parts = none-head (ready keys before read.call) read (first_that (ready keys before) waiting) was in
+      none-cons (ready after later) read waiting (ap not (finds-still keys moment before later call read.call is (not-false (finds_nothing keys before read.call) parts.0))) (quiet-after waiting is parts.1)
 
-  one-quiet : (read : Call) (asked : Bool) → asks key read ≡ asked → (asked && ready after later read) ≡ false → ready keys before read ≡ false → ready after later read ≡ false
-  one-quiet read true e now was = now
-  one-quiet read false e now was = ap not (finds-others keys moment before later call read key is e) ∙ was
-
-  quiet-after : (waiting : List Waiting) → NonePass asking waiting → NoneReady keys before waiting → NoneReady after later waiting
-  quiet-after [] now was = refl
-  quiet-after (read ∷ waiting) now was =
-      let here = none-head (asking read.call) read (first_that asking waiting) now in
-      let there = none-head (ready keys before read.call) read (first_that (ready keys before) waiting) was in
-      none-cons (ready after later) read waiting (one-quiet read.call (asks key read.call) refl here.0 there.0) (quiet-after waiting here.1 there.1)
+  -- and a call on one key leaves none beside it
+  beside-after : (key : Key) (waiting : List Waiting) → key_of call ≡ Some key → NoneReady keys before waiting → AreBeside key after later waiting
+  beside-after key [] is was = tt
+  beside-after key (read ∷ waiting) is was =
+      let parts = none-head (ready keys before read.call) read (first_that (ready keys before) waiting) was in
+      (finds-beside keys moment before later call read.call key is ∙ one-beside key keys before read.call (not-false (finds_nothing keys before read.call) parts.0), beside-after key waiting is parts.1)
 
 -- ---- events
 
@@ -103,27 +171,118 @@ module _ (old : Server) (moment : ℕ) (settled : IsSettled old) where
   abbrev done : Call → Keys
   done call = (executed old.keys moment call).keys
 
-  settled-called : (session : ℕ) (call : Call) (key : Key) → key_of call ≡ Some key → (outcome : Outcome) → (executed old.keys moment call).outcome ≡ outcome
-      → IsQuietAt (called session moment old (done call) outcome).server key → IsSettled (called session moment old (done call) outcome).server
-  settled-called session call key is (outcomes.Reply send keep) e quiet = quiet-after old.keys moment old.last moment call key is old.waiting quiet settled
-  settled-called session call key is (outcomes.Blocked again deadline) e quiet =
+  settled-read : (session : ℕ) (call : Call) → is_read call ≡ true → (outcome : Outcome) → (executed old.keys moment call).outcome ≡ outcome
+      → IsSettled (called session moment old (done call) outcome).server
+  settled-read session call is (outcomes.Reply send keep) e = quiet-after old.keys moment old.last moment call old.waiting is settled
+  settled-read session call is (outcomes.Blocked again deadline) e =
       let read : Waiting = record { session = session; call = again; deadline = deadline } in
-      let front = none-front (asking old.keys moment old.last moment call key is) old.waiting (read ∷ []) quiet in
-      none-append (ready (done call) moment) old.waiting read (quiet-after old.keys moment old.last moment call key is old.waiting front settled)
+      none-append (ready (done call) moment) old.waiting read (quiet-after old.keys moment old.last moment call old.waiting is settled)
       (ap not (waiting-nothing old.keys moment moment call again deadline e))
 
-  settled-call : (session : ℕ) (call : Call) (key : Option Key) → key_of call ≡ key → (new : Server) → new ≡ (acted old 0 moment (events.Call session call)).server
-      → IfNone key (IsPing call) × IfSome key (IsQuietAt new) → IsSettled new
-  settled-call session call (Some key) is new same quiet =
-      subst IsSettled (sym same) (settled-called session call key is (executed old.keys moment call).outcome refl (subst (λ (s : Server). IsQuietAt s key) same quiet.1))
-  settled-call session (calls.Ping call) None is new same quiet = subst IsSettled (sym same) stays
-  settled-call session call None is new same quiet = absurd quiet.0
+  settled-call : (session : ℕ) (call : Call) (reads : Bool) → is_read call ≡ reads → (key : Option Key) → key_of call ≡ key → (reads || is_none key) ≡ true
+      → IsSettled (called session moment old (done call) (executed old.keys moment call).outcome).server
+  settled-call session call true is key at quiet = settled-read session call is (executed old.keys moment call).outcome refl
+  settled-call session call false is (Some key) at quiet = cc
+  settled-call session (calls.Ping call) false is None at quiet = stays
+  settled-call session call false is None at quiet = cc
 
-  pub settled-stays : (index : ℕ) (event : Event) (new : Server) → new ≡ (acted old index moment event).server → StaysSettled new event → IsSettled new
-  settled-stays index events.Join new same quiet = subst IsSettled (sym same) stays
-  settled-stays index (events.Call session call) new same quiet = settled-call session call (key_of call) refl new same quiet
-  settled-stays index (events.Board session key group) new same quiet = subst IsSettled (sym same) stays
-  settled-stays index (events.Snapshot session key group dead) new same quiet = subst IsSettled (sym same) (settled-snapped session (snapped old.rules old.keys key group dead))
-  settled-stays index (events.Conclude session judged apply last) new same quiet = absurd quiet
-  settled-stays index events.Expire new same quiet = subst IsSettled (sym same) (none-filter (ready old.keys moment) (λ read. not (is_due moment read)) old.waiting stays)
-  settled-stays index (events.Leave session) new same quiet = subst IsSettled (sym same) (none-filter (ready old.keys moment) (λ read. not (read.session == session)) old.waiting stays)
+  pub settled-stays : (index : ℕ) (event : Event) → wakes_nobody event ≡ true → IsSettled (acted old index moment event).server
+  settled-stays index events.Join quiet = stays
+  settled-stays index (events.Call session call) quiet = settled-call session call (is_read call) refl (key_of call) refl quiet
+  settled-stays index (events.Board session key group) quiet = stays
+  settled-stays index (events.Snapshot session key group dead) quiet = settled-snapped session (snapped old.rules old.keys key group dead)
+  settled-stays index (events.Conclude session judged apply last) quiet = cc
+  settled-stays index events.Expire quiet = none-filter (ready old.keys moment) (λ read. not (is_due moment read)) old.waiting stays
+  settled-stays index (events.Leave session) quiet = none-filter (ready old.keys moment) (λ read. not (read.session == session)) old.waiting stays
+
+  beside-called : (session : ℕ) (call : Call) (key : Key) → key_of call ≡ Some key → (outcome : Outcome) → (executed old.keys moment call).outcome ≡ outcome
+      → AreQuietBeside key (called session moment old (done call) outcome).server
+  beside-called session call key is (outcomes.Reply send keep) e = beside-after old.keys moment old.last moment call key old.waiting is settled
+  beside-called session call key is (outcomes.Blocked again deadline) e =
+      let read : Waiting = record { session = session; call = again; deadline = deadline } in
+      all-append (IsBeside key (done call) moment) old.waiting read (beside-after old.keys moment old.last moment call key old.waiting is settled)
+      (one-beside key (done call) moment again (waiting-nothing old.keys moment moment call again deadline e))
+
+  pub beside-acted : (index : ℕ) (event : Event) (key : Key) → woken_at event ≡ Some key → AreQuietBeside key (acted old index moment event).server
+  beside-acted index (events.Call session call) key is = beside-called session call key is (executed old.keys moment call).outcome refl
+  beside-acted index event key is = cc
+
+-- ---- what is known
+
+module _ (server : Server) where
+  pub known-nobody : IsSettled server → IsKnown Nobody server
+  known-nobody settled = record { bound = settled; nobody = (λ _. settled, λ _. refl) }
+
+  pub known-unknown : (IsSettled server → ⊥) → IsKnown Unknown server
+  known-unknown some = record { bound = tt; nobody = (λ is. absurd (true≢false (sym is)), λ settled. absurd (some settled)) }
+
+  module _ (key : Key) (beside : AreQuietBeside key server) where
+    pub quiet-settled : IsQuietAt key server → IsSettled server
+    quiet-settled quiet = first-beside key server.keys server.last server.waiting beside ∙ quiet
+
+    pub settled-quiet : IsSettled server → IsQuietAt key server
+    settled-quiet settled = sym (first-beside key server.keys server.last server.waiting beside) ∙ settled
+
+    pub known-at : (copy : Key) → copy ≡ key → (IsQuietAt key server → ⊥) → IsKnown (At copy) server
+    known-at copy same some = record {
+      bound = subst (λ (k : Key). AreQuietBeside k server) (sym same) beside;
+      nobody = (λ is. absurd (true≢false (sym is)), λ settled. absurd (some (settled-quiet settled)));
+    }
+
+    -- the first read that has an answer is the first that has one at the key
+    pub first-at : first_that (ready server.keys server.last) server.waiting ≡ first_that (ready_at key server.keys server.last) server.waiting
+    first-at = first-beside key server.keys server.last server.waiting beside
+
+-- ---- a serving
+
+-- the session of the first read that has an answer at the key is that of the first that has one
+module _ (key : Key) (server : Server) (found : Option ℕ) (beside : AreQuietBeside key server) (is : found ≡ session_of (first_that (ready_at key server.keys server.last) server.waiting)) where
+  found-ready : found ≡ session_of (first_that (ready server.keys server.last) server.waiting)
+  found-ready = is ∙ ap session_of (sym (first-at server key beside))
+
+  pub serves-first : (session : ℕ) → found ≡ Some session → Some session ≡ session_of (first_that (ready server.keys server.last) server.waiting)
+  serves-first session one = sym one ∙ found-ready
+
+  pub serves-none : (index : ℕ) → found ≡ None → serving server index ≡ None
+  serves-none index none = by (first_that (ready server.keys server.last) server.waiting) refl (sym none ∙ found-ready)
+    where
+      by : (first : Option Waiting) → first_that (ready server.keys server.last) server.waiting ≡ first → None ≡ session_of first → serving server index ≡ None
+      by None e same = rw e refl
+      by (Some read) e same = absurd (cc)
+
+-- a waiting read that finds nothing beside a key is a read
+waits-reading : (key : Key) (keys : Keys) (moment : ℕ) (call : Call) → finds_nothing keys moment (read_beside key call) ≡ true → is_read call ≡ true
+waits-reading key keys moment (calls.Xread read) beside = refl
+waits-reading key keys moment (calls.Xreadgroup read) beside = refl
+waits-reading key keys moment call beside = cc
+
+beside-read : (key : Key) (keys : Keys) (moment : ℕ) (call : Call) (waiting : List Waiting) → is_read call ≡ true → AreBeside key keys moment waiting → AreBeside key (at_once keys moment call).keys moment waiting
+beside-read key keys moment call [] is beside = tt
+beside-read key keys moment call (read ∷ waiting) is beside =
+    (read-finds keys moment moment moment call (read_beside key read.call) is beside.0, beside-read key keys moment call waiting is beside.1)
+
+beside-served : (key : Key) (server : Server) (index : ℕ) (given : Serving) → AreQuietBeside key server → serving server index ≡ Some given → AreQuietBeside key given.server
+beside-served key server index given beside is = by (first_that (ready server.keys server.last) server.waiting) refl
+  where
+    by : (found : Option Waiting) → first_that (ready server.keys server.last) server.waiting ≡ found → AreQuietBeside key given.server
+    by None e = absurd (let none = rw e at is in cc)
+    by (Some read) e =
+        let found : Some (served index server read (at_once server.keys server.last read.call)) ≡ Some given = rw e at is in
+        let same : served index server read (at_once server.keys server.last read.call) ≡ given = cc in
+        let reads = waits-reading key server.keys server.last read.call (all-first (IsBeside key server.keys server.last) (ready server.keys server.last) server.waiting read beside e) in
+        let left = all-filter (IsBeside key (at_once server.keys server.last read.call).keys server.last) (λ other. not (other.session == read.session)) server.waiting
+        (beside-read key server.keys server.last read.call server.waiting reads beside) in
+        subst (λ (s : Serving). AreQuietBeside key s.server) same left
+
+pub bound-served : (ready : Ready) (server : Server) (index : ℕ) (given : Serving) → IsBound ready server → serving server index ≡ Some given → IsBound ready given.server
+bound-served Nobody server index given bound is = absurd (let none = rw bound at is in cc)
+bound-served (At key) server index given bound is = beside-served key server index given bound is
+bound-served Unknown server index given bound is = tt
+
+-- whatever is answered
+pub bound-after : (ready : Ready) (old new : Server) (index : ℕ) (result : Result (Option Served) AllocError) → IsBound ready old
+    → IfOk result (λ served. IfSome served (λ s. serving old index ≡ Some (record { session = s.session; reply = s.reply; server = new })))
+    → IfOk result (λ served. IfNone served (new ≡ old)) → OnErr result (new ≡ old) → IsBound ready new
+bound-after ready old new index (Ok (Some s)) bound some none err = bound-served ready old index (record { session = s.session; reply = s.reply; server = new }) bound some
+bound-after ready old new index (Ok None) bound some none err = subst (IsBound ready) (sym none) bound
+bound-after ready old new index (Err fault) bound some none err = subst (IsBound ready) (sym err) bound

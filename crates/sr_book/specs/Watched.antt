@@ -1,31 +1,52 @@
--- Events after which no waiting read has an answer if none had one before. No public clause cites this.
-use Rattle.std.specs.Prelude.{⊤, ◌≡◌, ◌&&◌, not, None, IfNone, IfSome}
+-- What is known of the waiting reads that have an answer. No public clause cites this.
+use Rattle.std.specs.Prelude.{⊤, ◌≡◌, ◌↔◌, ◌||◌, not, Bool, true, false, IsTrue, Option, None, is_none}
+use Rattle.std.specs.List.{AllByRecursion}
 use Rattle.sr_args.specs.declared.call.Call.{Call}
-use Rattle.sr_args.specs.declared.call.Call.TheVariants as calls
 use Rattle.sr_space.specs.Blocking.{finds_nothing}
 use Rattle.sr_space.specs.Keys.{Key}
 use Rattle.sr_space.specs.Effect.{key_of}
-use Rattle.sr_space.specs.Readers.{asks}
+use Rattle.sr_space.specs.Readers.{is_read, read_at, read_beside}
 use Rattle.sr_waiters.specs.Waiters.{first_that}
 use Rattle.sr_book.specs.declared.event.Event.{Event}
 use Rattle.sr_book.specs.declared.event.Event.TheVariants as events
+use Rattle.sr_book.specs.declared.watched.Ready.{Ready}
+use Rattle.sr_book.specs.declared.watched.Ready.TheVariants.{Nobody, At, Unknown}
+use Rattle.sr_book.specs.Records.{IsSettled}
 use Rattle.sr_book.specs.Server.{Server}
 
--- no waiting read that asks the stream at the key has an answer
-abbrev pub IsQuietAt : Server → Key → Type 0
-IsQuietAt server key =
-    first_that (λ read. asks key read && not (finds_nothing server.keys server.last read)) server.waiting ≡ None
+-- no waiting read has an answer from its stream at the key
+abbrev pub IsQuietAt : Key → Server → Type 0
+IsQuietAt key server =
+    first_that (λ read. not (finds_nothing server.keys server.last (read_at key read))) server.waiting ≡ None
 
-abbrev pub IsPing : Call → Type 0
-IsPing (calls.Ping call) = ⊤
-IsPing call = ⊥
+-- nor from any other stream: each waiting read that has an answer has it from its stream at the key
+abbrev pub AreQuietBeside : Key → Server → Type 0
+AreQuietBeside key server =
+    AllByRecursion (λ read. finds_nothing server.keys server.last (read_beside key read.call) ≡ true) server.waiting
 
--- the call is on no key, or on one whose readers have no answer
-abbrev pub IsQuietAfter : Server → Call → Type 0
-IsQuietAfter server call = IfNone (key_of call) (IsPing call) × IfSome (key_of call) (IsQuietAt server)
+-- which waiting reads have an answer at most
+abbrev pub IsBound : Ready → Server → Type 0
+IsBound Nobody server = IsSettled server
+IsBound (At key) server = AreQuietBeside key server
+IsBound Unknown server = ⊤
 
--- in the state after the event no read has an answer if none had one before
-abbrev pub StaysSettled : Server → Event → Type 0
-StaysSettled server (events.Call session call) = IsQuietAfter server call
-StaysSettled server (events.Conclude session judged apply last) = ⊥
-StaysSettled server event = ⊤
+abbrev pub is_nobody : Ready → Bool
+is_nobody Nobody = true
+is_nobody (At key) = false
+is_nobody Unknown = false
+
+-- and whether one has
+pub record IsKnown (ready : Ready) (server : Server) : Type 0 where
+  pub bound : IsBound ready server
+  pub nobody : IsTrue (is_nobody ready) ↔ IsSettled server
+
+-- an event that gives no waiting read an answer: one that is on no key, or a read
+abbrev pub wakes_nobody : Event → Bool
+wakes_nobody (events.Call session call) = is_read call || is_none (key_of call)
+wakes_nobody (events.Conclude session judged apply last) = false
+wakes_nobody event = true
+
+-- the key of a call on one: the only one at which it gives waiting reads an answer
+abbrev pub woken_at : Event → Option Key
+woken_at (events.Call session call) = key_of call
+woken_at event = None

@@ -1,20 +1,33 @@
-//! The state of the server, with whether a waiting read has an answer.
-ghost use Rattle.std.specs.Prelude.{◌⊎◌, IsTrue};
+//! The state of the server, with what is known of the waiting reads that have an answer.
+ghost use Rattle.std.specs.Prelude.{◌≡◌, ◌↔◌, ℕ, IsTrue, IfNone, IfSome, None, Some, OnErr, IfOk};
 ghost use Rattle.sr_book.specs.Records.{IsSettled};
-ghost use Rattle.sr_book.specs.Watched.{StaysSettled};
+ghost use Rattle.sr_book.specs.Server.{Server, acted, serving};
+ghost use Rattle.sr_book.specs.Watched.{AreQuietBeside, IsBound, IsKnown};
 
+use crate::machine::readers::{wakes_nobody, woken_at};
 use crate::{Acted, BookFault, Event, Letter, Machine, Served, Status};
+use sr_bytes::Name;
 use sr_policy::Policy;
 use std::alloc::{AllocError, Global};
 use std::hash::RandomState;
 use std::marker::Model;
 
-/// The state of the one-thread server, which knows whether a waiting read has an answer: so a call on one key asks the
-/// readers of that key alone, and an event on none asks nobody.
+/// Which waiting reads have an answer.
+#[derive(Drop)]
+enum Ready {
+    /// None.
+    Nobody,
+    /// Some, and each of them from its stream at this key.
+    At(Name),
+    /// Some.
+    Unknown,
+}
+
+/// The state of the one-thread server, which knows whether a waiting read has an answer, and where: so a call on one key
+/// and a serving after it ask for the stream at that key alone, and a read or an event on no key asks nobody.
 pub(crate) struct Watched {
     machine: Machine,
-    /// Whether no waiting read has an answer.
-    settled: bool,
+    ready: Ready,
 }
 
 // A function of its own, so that a caller that lets go of one is proved without looking at its parts.
@@ -22,21 +35,20 @@ impl Drop for Watched {
     fn drop(self) {
         let Watched {
             machine: _,
-            settled: _,
+            ready: _,
         } = self;
     }
 }
 
 impl Model for Watched {
-    ghost use Rattle.std.specs.Prelude.{◌↔◌, IsTrue};
     ghost use Rattle.sr_book.specs.Server.{Server};
-    ghost use Rattle.sr_book.specs.Records.{IsSettled};
+    ghost use Rattle.sr_book.specs.Watched.{IsKnown};
 
     ghost Value = { Server };
 
     ghost view = { λ w. w.machine };
 
-    ghost invariant = { λ w. IsTrue w.settled ↔ IsSettled w.machine };
+    ghost invariant = { λ w. IsKnown w.ready w.machine };
 }
 
 impl Watched {
@@ -57,7 +69,7 @@ impl Watched {
     {
         Watched {
             machine: Machine::new(alloc, policy, keys, waiters),
-            settled: true,
+            ready: Ready::Nobody,
         }
     }
 
@@ -116,7 +128,7 @@ impl Watched {
     pub(crate) fn settled(&self) -> bool
         ensures { IsTrue result ↔ IsSettled self.now }
     {
-        self.settled
+        matches!(self.ready, Ready::Nobody)
     }
 
     /// Carries out an event in the record with this index, at the moment of a record for the moment that is handed in.
@@ -139,8 +151,9 @@ impl Watched {
         ensures certain { OnOk result (IsCertain event.now) }
         ensures err { OnErr result (self.new ≡ self.old) }
     {
+        let was_settled = self.settled();
         let acted = self.machine.act(alloc, index, told, event)?;
-        self.settled = settled_after(&self.machine, self.settled, event);
+        self.ready = ready_after(alloc, &self.machine, was_settled, event);
         Ok(acted)
     }
 
@@ -153,19 +166,90 @@ impl Watched {
         ensures stays { IfOk result (λ served. IfNone served (self.new ≡ self.old)) }
         ensures err { OnErr result (self.new ≡ self.old) }
     {
-        let served = self.machine.serve(alloc, index)?;
-        self.settled = self.machine.settled();
+        let served = serve_ready(&mut self.machine, alloc, index, &self.ready)?;
+        see_if_settled(&self.machine, &mut self.ready);
         Ok(served)
     }
 }
 
-/// Whether no waiting read has an answer in the state after an event, before which none had one if that is said.
-fn settled_after(machine: &Machine, settled: bool, event: &Event) -> bool
-    ensures known { IsTrue result → (IsTrue settled × StaysSettled machine.now event.now) ⊎ IsSettled machine.now }
-    ensures all { IsSettled machine.now → IsTrue result }
+/// Which waiting reads have an answer in the state after an event, before which none had one if that is said. If memory
+/// for the key is refused, it stays unknown.
+fn ready_after(alloc: Global, machine: &Machine, settled: bool, event: &Event) -> Ready
+    ensures { (old : Server) (index moment : ℕ) → (IsTrue settled → IsSettled old)
+        → machine.now ≡ (acted old index moment event.now).server → IsKnown result machine.now }
 {
-    if settled && machine.stays_settled(event) {
-        return true;
+    if settled && wakes_nobody(event) {
+        return Ready::Nobody;
     }
-    machine.settled()
+    match woken_at(event) {
+        Some(key) if settled => ready_at(alloc, machine, key),
+        _ => ready_anywhere(machine),
+    }
+}
+
+/// Which waiting reads have an answer, if none has one from a stream beside the key.
+fn ready_at(alloc: Global, machine: &Machine, key: &Name) -> Ready
+    ensures { AreQuietBeside key.now machine.now → IsKnown result machine.now }
+{
+    if machine.is_quiet_at(key) {
+        return Ready::Nobody;
+    }
+    match key.copy(alloc) {
+        Ok(key) => Ready::At(key),
+        Err(AllocError) => Ready::Unknown,
+    }
+}
+
+/// Whether a waiting read has an answer. It asks each of them.
+fn ready_anywhere(machine: &Machine) -> Ready
+    ensures { IsKnown result machine.now }
+{
+    if machine.settled() {
+        return Ready::Nobody;
+    }
+    Ready::Unknown
+}
+
+/// Serves as `Machine::serve` does. It asks for no stream from which no waiting read has an answer, as far as that is
+/// known.
+fn serve_ready(
+    machine: &mut Machine,
+    alloc: Global,
+    index: u64,
+    ready: &Ready,
+) -> Result<Option<Served>, AllocError>
+    requires { IsBound ready.now machine.old }
+    ensures some { IfOk result (λ served. IfSome served (λ s. serving machine.old index ≡
+        Some (record { session = s.session; reply = s.reply; server = machine.new }))) }
+    ensures none { IfOk result (λ served. IfNone served (serving machine.old index ≡ None)) }
+    ensures stays { IfOk result (λ served. IfNone served (machine.new ≡ machine.old)) }
+    ensures err { OnErr result (machine.new ≡ machine.old) }
+{
+    match ready {
+        Ready::Nobody => Ok(None),
+        Ready::At(key) => machine.serve_at(alloc, index, key),
+        Ready::Unknown => machine.serve(alloc, index),
+    }
+}
+
+/// Sees whether no waiting read has an answer any more.
+fn see_if_settled(machine: &Machine, ready: &mut Ready)
+    requires { IsBound ready.old machine.now }
+    ensures { IsKnown ready.new machine.now }
+{
+    if is_settled(machine, ready) {
+        *ready = Ready::Nobody;
+    }
+}
+
+/// Whether no waiting read has an answer. It asks for no stream from which none has one, as far as that is known.
+fn is_settled(machine: &Machine, ready: &Ready) -> bool
+    requires { IsBound ready.now machine.now }
+    ensures { IsTrue result ↔ IsSettled machine.now }
+{
+    match ready {
+        Ready::Nobody => true,
+        Ready::At(key) => machine.is_quiet_at(key),
+        Ready::Unknown => machine.settled(),
+    }
 }

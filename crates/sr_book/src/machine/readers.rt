@@ -1,53 +1,78 @@
-//! Which events leave waiting reads without an answer.
+//! Which waiting reads an event can give an answer, and the serving of those that read at one key.
 use super::Machine;
-use crate::Event;
-use sr_args::Call;
+use crate::{Event, Served};
 use sr_bytes::Name;
-use sr_space::{asks, key_of};
+use sr_space::{is_read, key_of};
+use std::alloc::{AllocError, Global};
 
 impl Machine {
-    ghost use Rattle.std.specs.Prelude.{◌≡◌, ◌↔◌, ◌&&◌, IsTrue, not};
+    ghost use Rattle.std.specs.Prelude.{◌≡◌, ◌↔◌, IsTrue, IfNone, IfSome, Some, None, OnErr, IfOk, not};
     ghost use Rattle.sr_space.specs.Blocking.{finds_nothing};
-    ghost use Rattle.sr_space.specs.Readers as readers;
+    ghost use Rattle.sr_space.specs.Readers.{read_at};
     ghost use Rattle.sr_waiters.specs.Waiters.{first_that, session_of};
-    ghost use Rattle.sr_book.specs.Watched.{IsQuietAfter, IsQuietAt, StaysSettled};
+    ghost use Rattle.sr_book.specs.Server.{serving};
+    ghost use Rattle.sr_book.specs.Watched.{AreQuietBeside, IsQuietAt};
 
-    /// Whether it is known, in the state after an event, that no waiting read has an answer if none had one before it.
-    /// It asks the readers of one key at most. Takes no memory.
-    pub(crate) fn stays_settled(&self, event: &Event) -> bool
-        ensures { IsTrue result → StaysSettled self.now event.now }
-    {
-        match event {
-            Event::Call { call, .. } => self.is_quiet_after(call),
-            Event::Conclude { .. } => false,
-            _ => true,
-        }
-    }
-
-    /// Whether a call is on no key, or on one whose readers have no answer.
-    fn is_quiet_after(&self, call: &Call) -> bool
-        ensures { IsTrue result → IsQuietAfter self.now call.now }
-    {
-        match key_of(call) {
-            Some(key) => self.is_quiet_at(key),
-            None => matches!(call, Call::Ping(_)),
-        }
-    }
-
-    /// Whether no waiting read that asks the stream at the key has an answer.
-    fn is_quiet_at(&self, key: &Name) -> bool
-        ensures { IsTrue result ↔ IsQuietAt self.now key.now }
+    /// Whether no waiting read has an answer from its stream at the key. Takes no memory.
+    pub(crate) fn is_quiet_at(&self, key: &Name) -> bool
+        ensures { IsTrue result ↔ IsQuietAt key.now self.now }
     {
         self.first_ready_at(key).is_none()
     }
 
-    /// The session of the first waiting read, in order of blocking, that asks the stream at the key and has an answer.
+    /// The session of the first waiting read, in order of blocking, that has an answer from its stream at the key.
     fn first_ready_at(&self, key: &Name) -> Option<u64>
-        ensures { result ≡ session_of (first_that (λ read. readers.asks key.now read
-            && not (finds_nothing self.now.keys self.now.last read)) self.now.waiting) }
+        ensures { result ≡ session_of (first_that (λ read.
+            not (finds_nothing self.now.keys self.now.last (read_at key.now read))) self.now.waiting) }
     {
         let space = &self.space;
-        self.waiters
-            .first_where(|read| asks(read, key) && space.ready(read))
+        self.waiters.first_where(|read| space.ready_at(read, key))
+    }
+
+    /// Serves as `serve` does, if no waiting read has an answer from a stream beside the key. It asks the streams at
+    /// the key alone.
+    pub(crate) fn serve_at(
+        &mut self,
+        alloc: Global,
+        index: u64,
+        key: &Name,
+    ) -> Result<Option<Served>, AllocError>
+        requires { AreQuietBeside key.now self.old }
+        ensures some { IfOk result (λ served. IfSome served (λ s. serving self.old index ≡
+            Some (record { session = s.session; reply = s.reply; server = self.new }))) }
+        ensures none { IfOk result (λ served. IfNone served (serving self.old index ≡ None)) }
+        ensures stays { IfOk result (λ served. IfNone served (self.new ≡ self.old)) }
+        ensures err { OnErr result (self.new ≡ self.old) }
+    {
+        let Some(session) = self.first_ready_at(key) else {
+            return Ok(None);
+        };
+        let served = self.serve_session(alloc, index, session)?;
+        Ok(Some(served))
+    }
+}
+
+ghost use Rattle.std.specs.Prelude.{◌≡◌};
+ghost use Rattle.std.specs.Option.{option_copied};
+ghost use Rattle.sr_book.specs.Watched as watched;
+
+/// Whether an event gives no waiting read an answer: one that is on no key, or a read. Takes no memory.
+pub(crate) fn wakes_nobody(event: &Event) -> bool
+    ensures { result ≡ watched.wakes_nobody event.now }
+{
+    match event {
+        Event::Call { call, .. } => is_read(call) || key_of(call).is_none(),
+        Event::Conclude { .. } => false,
+        _ => true,
+    }
+}
+
+/// The key of a call on one, the only one at which it gives waiting reads an answer. Takes no memory.
+pub(crate) fn woken_at(event: &Event) -> Option<&Name>
+    ensures { option_copied result ≡ watched.woken_at event.now }
+{
+    match event {
+        Event::Call { call, .. } => key_of(call),
+        _ => None,
     }
 }

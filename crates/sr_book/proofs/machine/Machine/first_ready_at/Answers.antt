@@ -1,10 +1,10 @@
-use Rattle.std.proofs.Common.{rules, Bool, ◌&&◌, not}
+use Rattle.std.proofs.Common.{rules, Bool, not}
 use Rattle.sr_args.specs.declared.call.Call.{Call}
 use Rattle.sr_space.specs.Blocking.{finds_nothing}
-use Rattle.sr_space.specs.Readers.{asks}
+use Rattle.sr_space.specs.Readers.{read_at}
 use Rattle.sr_book.proofs.machine.Machine.first_ready_at.Goals as goal
 
 pub returns : goal.returns
 returns c =
-    let ready : Call → Bool = λ read. asks c.args.key.now read && not (finds_nothing c.self.inside.space c.self.inside.last read) in
+    let ready : Call → Bool = λ read. not (finds_nothing c.self.inside.space c.self.inside.last (read_at c.args.key.now read)) in
     rw (← c.self.view_is) (c.first_where.ensures ready (λ read answer post. search rules))
