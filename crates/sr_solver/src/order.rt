@@ -7,13 +7,15 @@ ghost use Rattle.sr_solver.specs.Order.{rows_below};
 use sr_transport::Columns;
 use std::alloc::{AllocError, Global};
 
-/// The entries, those first whose costs differ most.
-pub fn by_range(alloc: Global, problem: &Columns<'_>) -> Result<Vec<usize>, AllocError>
+/// The entries, those first for which it matters most where they go: whose least cost is farthest below their mean.
+///
+/// A mean, and not the greatest cost, since one dear consumer would make the entries all alike.
+pub fn by_stake(alloc: Global, problem: &Columns<'_>) -> Result<Vec<usize>, AllocError>
     ensures { IfOk result (λ order. IsOrder problem.now.entries order.items) }
 {
-    let narrow = narrownesses(alloc, problem)?;
+    let ranks = ranks(alloc, problem)?;
     let mut order = numbers(alloc, problem.entries())?;
-    order.sort_by_key(|entry| narrow.get(*entry).copied())?;
+    order.sort_by_key(|entry| ranks.get(*entry).copied())?;
     Ok(order)
 }
 
@@ -28,28 +30,30 @@ pub fn numbers(alloc: Global, n: usize) -> Result<Vec<usize>, AllocError>
     Ok(numbers)
 }
 
-/// How narrow the costs of each entry are.
-fn narrownesses(alloc: Global, problem: &Columns<'_>) -> Result<Vec<u64>, AllocError> {
-    let mut narrow = Vec::new(alloc);
+/// A number for each entry, by which they are sorted.
+fn ranks(alloc: Global, problem: &Columns<'_>) -> Result<Vec<u64>, AllocError> {
+    let mut ranks = Vec::new(alloc);
     for entry in 0..problem.entries() {
-        narrow.push(narrowness(problem, entry))?;
+        ranks.push(u64::MAX - stake(problem, entry))?;
     }
-    Ok(narrow)
+    Ok(ranks)
 }
 
-/// A number that is the less, the more the costs of an entry differ.
-fn narrowness(problem: &Columns<'_>, entry: usize) -> u64
+/// How far the least cost of an entry is below the mean of its costs.
+fn stake(problem: &Columns<'_>, entry: usize) -> u64
     requires { entry < problem.now.entries }
 {
     let mut least = u64::MAX;
-    let mut greatest = 0;
+    let mut sum = 0u64;
+    let mut pairs = 0u64;
     for cost in problem.costs(entry) {
         if let Some(cost) = *cost {
             least = least.min(cost);
-            greatest = greatest.max(cost);
+            sum = sum.saturating_add(cost);
+            pairs = pairs.saturating_add(1);
         }
     }
-    u64::MAX - greatest.saturating_sub(least)
+    (sum / pairs.max(1)).saturating_sub(least)
 }
 
 /// The costs of the problem with its entries in this order.

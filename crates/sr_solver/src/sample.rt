@@ -3,7 +3,7 @@ ghost use Rattle.std.specs.List.Sorted.{IsPermutation};
 ghost use Rattle.sr_transport.specs.plain.Problem.{consumers};
 ghost use Rattle.sr_solver.specs.Order.{IsOrder};
 
-use crate::order::{by_range, rows};
+use crate::order::{by_stake, rows};
 use crate::solution::solve_in_order;
 use crate::wanted::{crowds, wanted_price};
 use sr_transport::{Columns, Solved};
@@ -28,7 +28,7 @@ const TRIES: usize = 4;
 pub fn placing_order(alloc: Global, problem: &Columns<'_>) -> Result<Vec<usize>, AllocError>
     ensures { IfOk result (λ order. IsOrder problem.now.entries order.items) }
 {
-    let mut order = by_range(alloc, problem)?;
+    let mut order = by_stake(alloc, problem)?;
     if order.len() < FEW * STEP || is_sparse(problem) {
         return Ok(order);
     }
