@@ -28,8 +28,11 @@ pub enum Progress {
 /// So many searches are never too many.
 const FEW_SEARCHES: usize = 16;
 
-/// More than one search for this many entries is too many.
+/// More than one search for this many entries is too many, but for the last entries.
 const SEARCH_STEP: usize = 8;
+
+/// At the last entry more than one search for this many entries is too many.
+const LAST_STEP: usize = 2;
 
 /// Places the first entries, as long as each has a consumer that takes it, and gives how many these are.
 pub fn take_all(problem: &Columns<'_>, placement: &mut Placement) -> usize
@@ -81,7 +84,7 @@ pub fn place_all(
             continue;
         }
         searches = searches.saturating_add(1);
-        if !is_patient && FEW_SEARCHES + entry / SEARCH_STEP < searches {
+        if !is_patient && are_many(searches, entry, problem.entries()) {
             return Progress::Slow;
         }
         if !place(problem, entry, placement, table, labels) {
@@ -89,6 +92,12 @@ pub fn place_all(
         }
     }
     Progress::Placed
+}
+
+/// Whether this many searches up to an entry are too many. Late ones count less: most entries are placed by then.
+fn are_many(searches: usize, entry: usize, entries: usize) -> bool {
+    let late = entry.saturating_mul(entry) / entries.saturating_mul(LAST_STEP).max(1);
+    FEW_SEARCHES + entry / SEARCH_STEP < searches && late < searches
 }
 
 /// Places an entry at a consumer that takes it, if there is one.

@@ -15,8 +15,8 @@ const STEP: usize = 8;
 /// A smaller sample is not worth its time.
 const FEW: usize = 64;
 
-/// No sample is taken if the entries are allowed no more consumers than this, on average.
-const SPARSE: usize = 8;
+/// The order that the entries have is worth a try if they are allowed no more consumers than this, on average.
+const SPARSE: usize = 16;
 
 /// How often a sample is solved: each time without the entries that had too few places the time before.
 const TRIES: usize = 4;
@@ -29,7 +29,7 @@ pub fn placing_order(alloc: Global, problem: &Columns<'_>) -> Result<Vec<usize>,
     ensures { IfOk result (λ order. IsOrder problem.now.entries order.items) }
 {
     let mut order = by_stake(alloc, problem)?;
-    if order.len() < FEW * STEP || is_sparse(problem) {
+    if order.len() < FEW * STEP {
         return Ok(order);
     }
     let sample = sample(alloc, &order)?;
@@ -40,8 +40,8 @@ pub fn placing_order(alloc: Global, problem: &Columns<'_>) -> Result<Vec<usize>,
     Ok(order)
 }
 
-/// Whether the entries are allowed so few consumers that a sample costs more time than it saves. One of each `STEP`
-/// entries in a row is looked at.
+/// Whether the entries are allowed so few consumers that an order of their own may cost more time than it saves. One of
+/// each `STEP` entries in a row is looked at.
 pub fn is_sparse(problem: &Columns<'_>) -> bool {
     let mut pairs = 0usize;
     for block in 0..problem.entries() / STEP {
@@ -49,7 +49,7 @@ pub fn is_sparse(problem: &Columns<'_>) -> bool {
             pairs = pairs.saturating_add(usize::from(cost.is_some()));
         }
     }
-    pairs <= problem.entries() / STEP * SPARSE
+    pairs <= (problem.entries() / STEP).saturating_mul(SPARSE)
 }
 
 /// One of each `STEP` entries in a row. Which one follows no period.

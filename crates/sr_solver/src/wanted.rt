@@ -34,6 +34,9 @@ fn join_crowds(problem: &Columns<'_>, prices: &[u64], entry: usize, crowds: &mut
 
 /// The price of the consumer that an entry wants. Of several it is the highest price at which fewer entries want the
 /// consumer than it has room for, or else the lowest.
+///
+/// Two that follow one another count as one, with the rooms of both and the higher price: they are mostly the tiers of
+/// one consumer, and all entries that want it want both.
 pub fn wanted_price(problem: &Columns<'_>, prices: &[u64], crowds: &[u64], entry: usize) -> u64
     requires entry { entry < problem.now.entries }
     requires prices_each { length prices.now ≡ consumers problem.now }
@@ -42,13 +45,18 @@ pub fn wanted_price(problem: &Columns<'_>, prices: &[u64], crowds: &[u64], entry
     let least = least_sum(problem, prices, entry);
     let mut lowest = u64::MAX;
     let mut free = None;
+    let mut before = (0, 0u64);
     for (consumer, cost) in problem.costs(entry).iter().enumerate() {
-        let price = prices[consumer];
-        if sum(*cost, price) == least {
-            lowest = lowest.min(price);
-            if crowds[consumer] < problem.room(consumer) {
-                free = free.max(Some(price));
+        if sum(*cost, prices[consumer]) == least {
+            let (price, room) = (prices[consumer], problem.room(consumer));
+            let highest = price.max(before.0);
+            lowest = lowest.min(highest);
+            if crowds[consumer] < room.saturating_add(before.1) {
+                free = free.max(Some(highest));
             }
+            before = (price, room);
+        } else {
+            before = (0, 0);
         }
     }
     free.unwrap_or(lowest)

@@ -39,11 +39,8 @@ loop-entry-preserved c = record {
   labels_each = c.place.auto.labels ∙ c.loop-entry.invariant.labels_each;
 }
 
-pub overflow_add-entry : goal.overflow_add-entry
-overflow_add-entry c = omega arith
-
-pub returns-then-entry-searches : goal.returns-then-entry-searches
-returns-then-entry-searches c = c.if-not-is_patient.true
+pub returns-then-are_many : goal.returns-then-are_many
+returns-then-are_many c = c.if-not-is_patient.true
 
 pub returns-then-not-place : goal.returns-then-not-place
 returns-then-not-place c = c.place.ensures.stuck c.if-not-place.true
