@@ -3,6 +3,7 @@ pub mod LabelLemmas
 pub mod CutoffLemmas
 pub mod SearchLemmas
 pub mod TableLemmas
+pub mod GroupLemmas
 pub mod MembersLemmas
 pub mod CloseLemmas
 pub mod OfferLemmas

@@ -13,7 +13,7 @@ use Rattle.sr_solver.specs.declared.label.Label.{Label}
 use Rattle.sr_solver.specs.Labels.{label_at, open_count, priced}
 use Rattle.sr_solver.specs.declared.table.Bound.{Bound}
 use Rattle.sr_solver.specs.Offers.{IsOfferedAt, offer_of}
-use Rattle.sr_solver.specs.Table.{IsAt, IsKnown, IsTable, IsLeastMore, IsMover, IsNoNearer}
+use Rattle.sr_solver.specs.Table.{IsAt, IsKnown, ArePairs, IsLeastMore, IsMover, IsNoNearer}
 use Rattle.sr_solver.specs.Placed.{IsPlaced, AreLoads}
 use Rattle.sr_solver.specs.Search.{IsWithin, IsCovered, IsSearch, IsNewAt, IsAsked}
 use Rattle.sr_solver.specs.Cutoff.{IsCutoff, IsCut}
@@ -45,7 +45,7 @@ skip_at p prices at t b cutoff labels (Some bound) known far i here allowed =
 
 pub asked_far : (p : Transport) (k : ℕ) (xs prices : List ℕ) (t b q : ℕ) (cutoff : Option ℕ) (labels : List Label)
     (table : List (Option Bound))
-    → k ≤ p.entries → t < consumers p → b < consumers p → q ≡ t * consumers p + b → IsTable p xs table
+    → k ≤ p.entries → t < consumers p → b < consumers p → q ≡ t * consumers p + b → ArePairs p xs table
     → IsNoNearer (get_or table q None) (label_at labels t) (get_or prices t 0) (label_at labels b)
     (get_or prices b 0) cutoff
     → IsAsked p k xs prices cutoff t b labels labels
@@ -422,7 +422,7 @@ pair_small p a b n limits same lta ltb =
     )
 
 -- a bound of the table is small
-pub bound_small : (p : Transport) (xs : List ℕ) (a b q : ℕ) (table : List (Option Bound)) → IsTable p xs table
+pub bound_small : (p : Transport) (xs : List ℕ) (a b q : ℕ) (table : List (Option Bound)) → ArePairs p xs table
     → a < consumers p → b < consumers p → q ≡ a * consumers p + b
     → IfSome (get_or table q None) (λ bound. bound.low ≤ greatest_bound)
 bound_small p xs a b q table table_is lta ltb is_pair =

@@ -11,8 +11,8 @@ use Rattle.std.proofs.lemmas.Bool.{cases_eq, cases_lt, false≢true}
 use Rattle.std.proofs.lemmas.List.{get_or-set_same, get_or-set_other}
 use Rattle.sr_transport.specs.plain.Problem.{Transport, IsWithinLimits, consumers, cost_at, cost_of, IsAllowed}
 use Rattle.sr_solver.specs.declared.table.Bound.{Bound}
-use Rattle.sr_solver.specs.Table.{unknown, IsUnknown, IsAt, IsTight, IsKnown, IsTableOf, IsTable, IsWithout, IsBest}
-use Rattle.sr_solver.specs.Table.{IsLowered, IsRowChanged, IsApart, IsLeastMore}
+use Rattle.sr_solver.specs.Table.{unknown, IsUnknown, IsAt, IsTight, IsKnown, ArePairsOf, ArePairs, IsWithout, IsBest}
+use Rattle.sr_solver.specs.Table.{IsLowered, IsRowChanged, IsApart, IsLeastMore, IsMover}
 use Rattle.sr_solver.proofs.SearchLemmas.{cost_small}
 
 -- the rows of two consumers are apart
@@ -93,10 +93,10 @@ unknown_holds p at a b limits = record {
   best = λ k is. absurd (cc is);
 }
 
-pub unknown_table : (p : Transport) (xs : List ℕ) (n : ℕ) (table : List (Option Bound))
+pub unknown_pairs : (p : Transport) (xs : List ℕ) (n : ℕ) (table : List (Option Bound))
     → IsWithinLimits p.rooms p.entries p.costs
-    → n ≡ consumers p * consumers p → length table ≡ n → IsUnknown n table → IsTable p xs table
-unknown_table p xs n table limits is long blank = record {
+    → n ≡ consumers p * consumers p → length table ≡ n → IsUnknown n table → ArePairs p xs table
+unknown_pairs p xs n table limits is long blank = record {
   each_pair = long ∙ is;
   each = λ a b lta ltb.
       let within : a * consumers p + b < n = omega (arith, is, mul-add-lt a (consumers p) b (consumers p) lta ltb) in
@@ -223,9 +223,9 @@ known_lowered p at at' a b i old new limits come lt known lowered =
 
 -- the table while entry i stands nowhere, where it stood at a consumer
 pub table_left : (p : Transport) (xs : List ℕ) (i : ℕ) (old new : List (Option Bound))
-    → IsTable p xs old
+    → ArePairs p xs old
     → IsRowChanged (consumers p) (get_or xs i 0) (consumers p) (λ to. IsWithout i) old new
-    → IsTableOf p (IsApart (IsAt xs p.entries) i) new
+    → ArePairsOf p (IsApart (IsAt xs p.entries) i) new
 table_left p xs i old new table changed = record {
   each_pair = changed.one_each ∙ table.each_pair;
   each = λ a b lta ltb. elim (cases_eq a (get_or xs i 0)) [
@@ -244,7 +244,7 @@ table_left p xs i old new table changed = record {
 
 -- the same, where it stood nowhere
 pub table_waiting : (p : Transport) (xs : List ℕ) (i : ℕ) (old : List (Option Bound))
-    → IsTable p xs old → consumers p ≤ get_or xs i 0 → IsTableOf p (IsApart (IsAt xs p.entries) i) old
+    → ArePairs p xs old → consumers p ≤ get_or xs i 0 → ArePairsOf p (IsApart (IsAt xs p.entries) i) old
 table_waiting p xs i old table nowhere = record {
   each_pair = table.each_pair;
   each = λ a b lta ltb.
@@ -257,9 +257,9 @@ table_waiting p xs i old table nowhere = record {
 -- the table once entry i has come to consumer c
 pub table_arrived : (p : Transport) (xs : List ℕ) (i c : ℕ) (old new : List (Option Bound))
     → IsWithinLimits p.rooms p.entries p.costs → length xs ≡ p.entries → i < p.entries → c < consumers p
-    → IsTableOf p (IsApart (IsAt xs p.entries) i) old
+    → ArePairsOf p (IsApart (IsAt xs p.entries) i) old
     → IsRowChanged (consumers p) c (consumers p) (λ next. IsLowered i (cost_of p i c) (cost_at p i next)) old new
-    → IsTable p (set xs i c) new
+    → ArePairs p (set xs i c) new
 table_arrived p xs i c old new limits every lt ltc table changed =
     let here : get_or (set xs i c) i 0 ≡ c = get_or-set_same xs i c 0 (omega (arith, every)) in
     let other : (j : ℕ) → (j ≡ i → ⊥) → get_or (set xs i c) j 0 ≡ get_or xs j 0 =
@@ -293,8 +293,8 @@ table_arrived p xs i c old new limits every lt ltc table changed =
 
 -- the table with another place known
 note_at : (p : Transport) (xs : List ℕ) (a b : ℕ) (old : List (Option Bound)) (known : Option Bound)
-    → a < consumers p → b < consumers p → IsTable p xs old → IsKnown p (IsAt xs p.entries a) a b known
-    → IsTable p xs (set old (a * consumers p + b) known)
+    → a < consumers p → b < consumers p → ArePairs p xs old → IsKnown p (IsAt xs p.entries a) a b known
+    → ArePairs p xs (set old (a * consumers p + b) known)
 note_at p xs a b old known lta ltb table is_known =
     let n : ℕ = consumers p in
     let pair : a * n + b < length old = omega (arith, mul-add-lt a n b n lta ltb, table.each_pair) in
@@ -318,8 +318,8 @@ note_at p xs a b old known lta ltb table is_known =
     }
 
 pub table_noted : (p : Transport) (xs : List ℕ) (a b q : ℕ) (old : List (Option Bound)) (known : Option Bound)
-    → a < consumers p → b < consumers p → q ≡ a * consumers p + b → IsTable p xs old
-    → IsKnown p (IsAt xs p.entries a) a b known → IsTable p xs (set old q known)
+    → a < consumers p → b < consumers p → q ≡ a * consumers p + b → ArePairs p xs old
+    → IsKnown p (IsAt xs p.entries a) a b known → ArePairs p xs (set old q known)
 table_noted p xs a b q old known lta ltb is table is_known = rw is (note_at p xs a b old known lta ltb table is_known)
 
 -- a known best costs least more
@@ -334,8 +334,24 @@ best_moves p at a b bound k known is =
     }
 
 pub mover_known : (p : Transport) (xs : List ℕ) (a b q : ℕ) (table : List (Option Bound)) (bound : Bound) (k : ℕ)
-    → a < consumers p → b < consumers p → q ≡ a * consumers p + b → IsTable p xs table
+    → a < consumers p → b < consumers p → q ≡ a * consumers p + b → ArePairs p xs table
     → get_or table q None ≡ Some bound → bound.best ≡ Some k → IsLeastMore p (IsAt xs p.entries a) a b k
 mover_known p xs a b q table bound k lta ltb is_pair table_is is_bound is_best =
     let known : IsKnown p (IsAt xs p.entries a) a b (get_or table q None) = rw is_pair (table_is.each a b lta ltb) in
     best_moves p (IsAt xs p.entries a) a b bound k (rw is_bound at known) is_best
+
+-- what was found is the entry to move
+found_is : (p : Transport) (at : ℕ → Type 0) (a b : ℕ) (bound : Bound) (best : Option ℕ)
+    → IsKnown p at a b (Some bound) → bound.best ≡ best → IsSome best → IsMover p at a b best
+found_is p at a b bound None known is some = absurd (false≢true some)
+found_is p at a b bound (Some k) known is some = best_moves p at a b bound k known is
+
+pub found_moves : (p : Transport) (at : ℕ → Type 0) (a b : ℕ) (bound : Bound)
+    → IsKnown p at a b (Some bound) → IsSome bound.best → IsMover p at a b bound.best
+found_moves p at a b bound known some = found_is p at a b bound bound.best known refl some
+
+-- the place of an ordered pair is within the list
+pub pair_in : (p : Transport) (at : ℕ → ℕ → Type 0) (a b n : ℕ) (pairs : List (Option Bound))
+    → ArePairsOf p at pairs → a < consumers p → b < consumers p → n ≡ consumers p → a * n + b < length pairs
+pair_in p at a b n pairs are lta ltb is =
+    rw is (rw are.each_pair (mul-add-lt a (consumers p) b (consumers p) lta ltb))

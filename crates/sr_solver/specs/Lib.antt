@@ -3,6 +3,7 @@ pub mod Labels
 pub mod Cutoff
 pub mod Offers
 pub mod Placed
+pub mod Groups
 pub mod Table
 pub mod Members
 pub mod Taker

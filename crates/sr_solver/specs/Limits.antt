@@ -10,3 +10,11 @@ greatest_way = 2 * greatest_price
 -- a bound of the table: a difference of two costs, with the greatest charge added
 abbrev pub greatest_bound : ℕ
 greatest_bound = 2 * greatest_charge
+
+-- how many entries in a row make a group
+abbrev pub group_size : ℕ
+group_size = 64
+
+-- a consumer with more room than this has bounds for each group of its entries
+abbrev pub narrow_room : ℕ
+narrow_room = 128

@@ -1,14 +1,18 @@
 -- The table of bounds: for each ordered pair of consumers, what the entries that stand at the one cost more at the
--- other. Sums are compared, never differences: a bound is greater by the greatest charge than what it bounds.
+-- other, and for each wide consumer the same for each group of the entries that stand there. Sums are compared, never
+-- differences: a bound is greater by the greatest charge than what it bounds.
 
-use Rattle.std.specs.Prelude.{◌≡◌, ℕ, ◌+◌, ◌*◌, ◌<◌, ◌≤◌, List, length, slice_index, slice_index_or, ◌⊎◌, Option, Some}
+use Rattle.std.specs.Prelude.{◌≡◌, ℕ, ◌+◌, ◌*◌, ◌<◌, ◌≤◌, List, length, slice_index_or, ◌⊎◌, Option, Some}
 use Rattle.std.specs.Prelude.{None, IsSomeAnd, IfSome, true}
 use Rattle.sr_transport.specs.Limits.{greatest_charge}
 use Rattle.sr_solver.specs.Limits.{greatest_bound}
 use Rattle.sr_transport.specs.plain.Problem.{Transport, consumers, cost_of, IsAllowed}
 use Rattle.sr_solver.specs.declared.label.Label.{Label}
 use Rattle.sr_solver.specs.declared.table.Bound.{Bound}
+use Rattle.sr_solver.specs.declared.table.Table.{Table}
 use Rattle.sr_solver.specs.Cutoff.{IsBeyond}
+pub use Rattle.sr_solver.specs.Groups.{IsAt}
+use Rattle.sr_solver.specs.Groups.{AreLowsOf}
 
 -- a bound that holds for any entries: none costs less than the greatest cost less
 abbrev pub unknown : Bound
@@ -17,10 +21,6 @@ unknown = record { low = 0; best = None }
 -- the first n places of a table are bounds that hold for any entries
 pub record IsUnknown (n : ℕ) (table : List (Option Bound)) : Type 0 where
   pub each : (q : ℕ) → q < n → slice_index_or table q None ≡ Some unknown
-
--- of the first n entries, entry i stands at consumer a
-abbrev pub IsAt : List ℕ → ℕ → ℕ → ℕ → Type 0
-IsAt xs n a i = (i < n) × (slice_index xs i ≡ a)
 
 -- entry k is among those that stand at consumer a, may go to b, and costs exactly `low` more there
 pub record IsTight (p : Transport) (at : ℕ → Type 0) (a b low k : ℕ) : Type 0 where
@@ -39,14 +39,23 @@ abbrev pub IsKnown : Transport → (ℕ → Type 0) → ℕ → ℕ → Option B
 IsKnown p at a b None = (i : ℕ) → at i → IsAllowed p i b → ⊥
 IsKnown p at a b (Some bound) = IsBound p at a b bound.low bound.best
 
--- the table, where `at a` says which entries stand at consumer a
-pub record IsTableOf (p : Transport) (at : ℕ → ℕ → Type 0) (table : List (Option Bound)) : Type 0 where
-  pub each_pair : length table ≡ consumers p * consumers p
+-- what is known of each ordered pair, where `at a` says which entries stand at consumer a
+pub record ArePairsOf (p : Transport) (at : ℕ → ℕ → Type 0) (pairs : List (Option Bound)) : Type 0 where
+  pub each_pair : length pairs ≡ consumers p * consumers p
   pub each : (a b : ℕ) → a < consumers p → b < consumers p
-      → IsKnown p (at a) a b (slice_index_or table (a * consumers p + b) None)
+      → IsKnown p (at a) a b (slice_index_or pairs (a * consumers p + b) None)
 
 -- the same, where entry i stands at consumer xs[i]
-abbrev pub IsTable : Transport → List ℕ → List (Option Bound) → Type 0
+abbrev pub ArePairs : Transport → List ℕ → List (Option Bound) → Type 0
+ArePairs p xs pairs = ArePairsOf p (IsAt xs p.entries) pairs
+
+-- the table, where `at a` says which entries stand at consumer a
+pub record IsTableOf (p : Transport) (at : ℕ → ℕ → Type 0) (table : Table) : Type 0 where
+  pub pairs : ArePairsOf p at table.pairs.items
+  pub lows : AreLowsOf p at table.groups table.lows.items
+
+-- the same, where entry i stands at consumer xs[i]
+abbrev pub IsTable : Transport → List ℕ → Table → Type 0
 IsTable p xs table = IsTableOf p (IsAt xs p.entries) table
 
 -- where the entries stand while entry i stands nowhere

@@ -10,7 +10,7 @@ ghost use Rattle.sr_solver.specs.Path.{AreRaised, ArePaths, AreShifted};
 
 use crate::label::Label;
 use crate::placement::Placement;
-use crate::table::{Bound, put};
+use crate::table::{Table, put};
 use sr_transport::Columns;
 
 /// Raises the price of each closed consumer by as much as the path to it is shorter than `dist`.
@@ -39,7 +39,7 @@ pub fn shift(
     end: usize,
     labels: &[Label],
     placement: &mut Placement,
-    table: &mut [Option<Bound>],
+    table: &mut Table,
 )
     requires limits { IsWithinLimits problem.now.rooms problem.now.entries problem.now.costs }
     requires one_each { length labels.now ≡ consumers problem.now }

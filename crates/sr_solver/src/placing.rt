@@ -11,7 +11,7 @@ use crate::members::add;
 use crate::path::{raise, shift};
 use crate::placement::Placement;
 use crate::search::search;
-use crate::table::{Bound, put};
+use crate::table::{Table, put};
 use crate::taker::taker;
 use sr_transport::Columns;
 
@@ -69,7 +69,7 @@ pub fn place_all(
     first: usize,
     is_patient: bool,
     placement: &mut Placement,
-    table: &mut [Option<Bound>],
+    table: &mut Table,
     labels: &mut [Label],
 ) -> Progress
     requires first { first ≤ problem.now.entries }
@@ -101,12 +101,7 @@ fn are_many(searches: usize, entry: usize, entries: usize) -> bool {
 }
 
 /// Places an entry at a consumer that takes it, if there is one.
-fn take(
-    problem: &Columns<'_>,
-    entry: usize,
-    placement: &mut Placement,
-    table: &mut [Option<Bound>],
-) -> bool
+fn take(problem: &Columns<'_>, entry: usize, placement: &mut Placement, table: &mut Table) -> bool
     requires entry { entry < problem.now.entries }
     requires standing { IsStanding problem.now entry placement.old }
     requires table { IsTable problem.now placement.old.assign.items table.old }
@@ -127,7 +122,7 @@ fn place(
     problem: &Columns<'_>,
     entry: usize,
     placement: &mut Placement,
-    table: &mut [Option<Bound>],
+    table: &mut Table,
     labels: &mut [Label],
 ) -> bool
     requires entry { entry < problem.now.entries }

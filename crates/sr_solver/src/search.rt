@@ -14,7 +14,7 @@ ghost use Rattle.sr_solver.specs.Search.{IsEnd};
 
 use crate::label::{Label, Offer, offered};
 use crate::placement::Placement;
-use crate::table::{Bound, least_mover, may_be_nearer};
+use crate::table::{Table, least_mover, may_be_nearer};
 use sr_transport::Columns;
 
 /// Looks for the shortest path that makes place for `entry`, and gives the consumer where it ends, which has room left.
@@ -25,7 +25,7 @@ pub fn search(
     problem: &Columns<'_>,
     entry: usize,
     placement: &Placement,
-    table: &mut [Option<Bound>],
+    table: &mut Table,
     labels: &mut [Label],
 ) -> Option<usize>
     requires entry { entry < problem.now.entries }
@@ -151,7 +151,7 @@ fn close(
     near: usize,
     cutoff: Option<u64>,
     placement: &Placement,
-    table: &mut [Option<Bound>],
+    table: &mut Table,
     labels: &mut [Label],
 ) -> Option<u64>
     requires entry { entry < problem.now.entries }
@@ -189,7 +189,7 @@ fn ask(
     other: usize,
     cutoff: Option<u64>,
     placement: &Placement,
-    table: &mut [Option<Bound>],
+    table: &mut Table,
     labels: &mut [Label],
 ) -> Option<u64>
     requires entry { entry < problem.now.entries }
@@ -208,7 +208,7 @@ fn ask(
 {
     let prices = placement.prices.as_slice();
     let (from, label) = (labels[near], labels[other]);
-    let known = table[near * problem.consumers() + other];
+    let known = table.pairs[near * problem.consumers() + other];
     if !may_be_nearer(known, from, prices[near], label, prices[other], cutoff) {
         return cutoff;
     }

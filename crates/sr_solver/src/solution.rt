@@ -13,7 +13,7 @@ use crate::placement::{Placement, nowhere};
 use crate::placing::{Progress, place_all, take_all};
 use crate::sample::{is_sparse, placing_order};
 use crate::shortage::{places, stranded};
-use crate::table::{Bound, forget};
+use crate::table::unknown_table;
 use sr_transport::{Columns, Solved};
 use std::alloc::{AllocError, Global};
 
@@ -122,11 +122,9 @@ fn finish(
     ensures prices { IfOk result (λ found. IfSome found HasSmallPrices) }
     ensures patient { is_patient ≡ true → IfOk result (λ found. IsSome found) }
 {
-    let consumers = problem.consumers();
     let mut placement = placement;
-    let mut table: Vec<Option<Bound>> = vec![in alloc; None; consumers * consumers]?;
-    forget(&mut table);
-    let mut labels = vec![in alloc; Label::none(); consumers]?;
+    let mut table = unknown_table(alloc, problem)?;
+    let mut labels = vec![in alloc; Label::none(); problem.consumers()]?;
     match place_all(
         problem,
         first,

@@ -1,20 +1,37 @@
 ghost use Rattle.std.specs.Prelude.{◌≡◌, ℕ, ◌+◌, ◌*◌, ◌<◌, ◌≤◌, length, slice_index, slice_set, IfSome, IsSome, true};
-ghost use Rattle.std.specs.Prelude.{false};
+ghost use Rattle.std.specs.Prelude.{false, List, IfOk};
 ghost use Rattle.sr_transport.specs.Limits.{greatest_charge};
 ghost use Rattle.sr_solver.specs.Limits.{greatest_bound, greatest_way};
 ghost use Rattle.sr_transport.specs.plain.Problem.{IsWithinLimits, consumers, room_of, cost_at, cost_of, IsAllowed};
 ghost use Rattle.sr_transport.specs.plain.Assignment.{load};
 ghost use Rattle.sr_solver.specs.Members.{AreWide, AreMembersOf, AreMembers};
-ghost use Rattle.sr_solver.specs.Table.{IsUnknown, IsAt, IsApart, IsKnown, IsTableOf, IsTable, IsWithout, IsLowered};
+ghost use Rattle.sr_solver.specs.Groups.{IsAt};
+ghost use Rattle.sr_solver.specs.Table.{IsUnknown, IsApart, IsKnown, IsTableOf, IsTable, IsWithout, IsLowered};
 ghost use Rattle.sr_solver.specs.Table.{IsRowChanged, IsMover, IsNoNearer};
 
+use crate::groups::{find_in_groups, groups_of, join_group};
 use crate::label::{Label, is_beyond};
 use crate::members::{add, remove};
 use crate::placement::Placement;
 use sr_transport::{Columns, MAX_CHARGE};
+use std::alloc::{AllocError, Global};
 
 /// What is added to a difference of two costs, so that it is not below 0.
-const ABOVE: u64 = MAX_CHARGE;
+pub const ABOVE: u64 = MAX_CHARGE;
+
+/// A consumer with more room than this has bounds for each group of its entries.
+pub const NARROW: u64 = 128;
+
+/// What is known of the entries that stand at each consumer, for each other one.
+#[derive(Drop)]
+pub struct Table {
+    /// What is known of each ordered pair of consumers: a row for each consumer.
+    pub pairs: Vec<Option<Bound>>,
+    /// In how many groups the entries are, if any consumer is wide.
+    pub groups: usize,
+    /// For each ordered pair a row of bounds, with one for each group of entries. Those of wide consumers hold.
+    pub lows: Vec<u64>,
+}
 
 /// What is known of the entries that stand at one consumer and may go to another.
 #[derive(Clone, Copy)]
@@ -37,13 +54,29 @@ impl Bound {
     }
 }
 
-/// Makes each bound of a table one that holds for any entries.
-pub fn forget(table: &mut [Option<Bound>])
-    ensures length { length table.new ≡ length table.old }
-    ensures unknown { IsUnknown (length table.old) table.new }
+/// A table of bounds that hold for any entries.
+pub fn unknown_table(alloc: Global, problem: &Columns<'_>) -> Result<Table, AllocError>
+    ensures { IfOk result (λ table. (xs : List ℕ) → IsTable problem.now xs table) }
 {
-    for pair in 0..table.len() {
-        table[pair] = Some(Bound::unknown());
+    let consumers = problem.consumers();
+    let groups = groups_of(problem);
+    let mut pairs: Vec<Option<Bound>> = vec![in alloc; None; consumers * consumers]?;
+    forget(&mut pairs);
+    let lows = vec![in alloc; 0u64; consumers * consumers * groups]?;
+    Ok(Table {
+        pairs,
+        groups,
+        lows,
+    })
+}
+
+/// Makes each bound one that holds for any entries.
+fn forget(pairs: &mut [Option<Bound>])
+    ensures length { length pairs.new ≡ length pairs.old }
+    ensures unknown { IsUnknown (length pairs.old) pairs.new }
+{
+    for pair in 0..pairs.len() {
+        pairs[pair] = Some(Bound::unknown());
     }
 }
 
@@ -84,7 +117,7 @@ pub fn least_mover(
     from: usize,
     to: usize,
     placement: &Placement,
-    table: &mut [Option<Bound>],
+    table: &mut Table,
 ) -> Option<usize>
     requires limits { IsWithinLimits problem.now.rooms problem.now.entries problem.now.costs }
     requires every { length placement.now.assign.items ≡ problem.now.entries }
@@ -99,21 +132,48 @@ pub fn least_mover(
     ensures table { IsTable problem.now placement.now.assign.items table.new }
 {
     let pair = from * problem.consumers() + to;
-    if let Some(bound) = table[pair]
+    if let Some(bound) = table.pairs[pair]
         && let Some(mover) = bound.best
     {
         return Some(mover);
     }
-    let found = find(problem, from, to, placement);
-    table[pair] = found;
+    let found = look_up(problem, from, to, placement, table);
+    table.pairs[pair] = found;
     let Some(bound) = found else {
         return None;
     };
     bound.best
 }
 
+/// Looks for the entry at `from` that costs least more at `to`: by groups, if `from` is wide.
+fn look_up(
+    problem: &Columns<'_>,
+    from: usize,
+    to: usize,
+    placement: &Placement,
+    table: &mut Table,
+) -> Option<Bound>
+    requires limits { IsWithinLimits problem.now.rooms problem.now.entries problem.now.costs }
+    requires every { length placement.now.assign.items ≡ problem.now.entries }
+    requires from { from < consumers problem.now }
+    requires to { to < consumers problem.now }
+    requires placed { (i : ℕ) → IsAt placement.now.assign.items problem.now.entries from i
+        → IsAllowed problem.now i from }
+    requires members { AreMembers problem.now placement.now.width placement.now.assign.items
+        placement.now.members.items }
+    requires table { IsTable problem.now placement.now.assign.items table.old }
+    ensures known { IsKnown problem.now (IsAt placement.now.assign.items problem.now.entries from) from to result }
+    ensures best { IfSome result (λ bound. IsSome bound.best) }
+    ensures table { IsTable problem.now placement.now.assign.items table.new }
+{
+    if problem.room(from) <= NARROW {
+        return find(problem, from, to, placement);
+    }
+    find_in_groups(problem, from, to, placement, table.groups, &mut table.lows)
+}
+
 /// Looks through the entries at `from` for the one that costs least more at `to`.
-fn find(problem: &Columns<'_>, from: usize, to: usize, placement: &Placement) -> Option<Bound>
+pub fn find(problem: &Columns<'_>, from: usize, to: usize, placement: &Placement) -> Option<Bound>
     requires limits { IsWithinLimits problem.now.rooms problem.now.entries problem.now.costs }
     requires every { length placement.now.assign.items ≡ problem.now.entries }
     requires from { from < consumers problem.now }
@@ -138,7 +198,7 @@ fn find(problem: &Columns<'_>, from: usize, to: usize, placement: &Placement) ->
 }
 
 /// What is known once an entry has come that costs `here` where it stands, and `there` at the other consumer.
-fn lowered(known: Option<Bound>, entry: usize, here: u64, there: Option<u64>) -> Option<Bound>
+pub fn lowered(known: Option<Bound>, entry: usize, here: u64, there: Option<u64>) -> Option<Bound>
     requires here { here ≤ greatest_charge }
     requires there { IfSome there (λ c. c ≤ greatest_charge) }
     ensures lowered { IsLowered entry here there known result }
@@ -165,7 +225,7 @@ pub fn put(
     entry: usize,
     to: usize,
     placement: &mut Placement,
-    table: &mut [Option<Bound>],
+    table: &mut Table,
 )
     requires limits { IsWithinLimits problem.now.rooms problem.now.entries problem.now.costs }
     requires entry { entry < problem.now.entries }
@@ -211,7 +271,7 @@ fn take_out(
     assign: &[usize],
     width: usize,
     members: &mut [usize],
-    table: &mut [Option<Bound>],
+    table: &mut Table,
 )
     requires limits { IsWithinLimits problem.now.rooms problem.now.entries problem.now.costs }
     requires entry { entry < problem.now.entries }
@@ -227,7 +287,7 @@ fn take_out(
         return;
     }
     remove(members, from * width, entry);
-    leave(problem, entry, from, table);
+    leave(problem, entry, from, &mut table.pairs);
 }
 
 /// Brings an entry that stands nowhere into the members and the table, at a consumer.
@@ -238,7 +298,7 @@ fn bring_in(
     assign: &[usize],
     width: usize,
     members: &mut [usize],
-    table: &mut [Option<Bound>],
+    table: &mut Table,
 )
     requires limits { IsWithinLimits problem.now.rooms problem.now.entries problem.now.costs }
     requires entry { entry < problem.now.entries }
@@ -253,20 +313,21 @@ fn bring_in(
     ensures table { IsTable problem.now (slice_set assign.now entry to) table.new }
 {
     add(members, to * width, entry);
-    arrive(problem, entry, to, table);
+    arrive(problem, entry, to, &mut table.pairs);
+    join_group(problem, entry, to, table.groups, &mut table.lows);
 }
 
 /// Notes that an entry has left a consumer: it is no longer the best of those that may go elsewhere.
-fn leave(problem: &Columns<'_>, entry: usize, from: usize, table: &mut [Option<Bound>])
+fn leave(problem: &Columns<'_>, entry: usize, from: usize, pairs: &mut [Option<Bound>])
     requires from { from < consumers problem.now }
-    requires each_pair { length table.old ≡ consumers problem.now * consumers problem.now }
+    requires each_pair { length pairs.old ≡ consumers problem.now * consumers problem.now }
     ensures { IsRowChanged (consumers problem.now) from (consumers problem.now)
-        (λ to old new. IsWithout entry old new) table.old table.new }
+        (λ to old new. IsWithout entry old new) pairs.old pairs.new }
 {
     for to in 0..problem.consumers() {
         let pair = from * problem.consumers() + to;
-        let known = without(table[pair], entry);
-        table[pair] = known;
+        let known = without(pairs[pair], entry);
+        pairs[pair] = known;
     }
 }
 
@@ -294,20 +355,20 @@ fn other_than(best: Option<usize>, entry: usize) -> Option<usize>
 }
 
 /// Notes that an entry has come to a consumer.
-fn arrive(problem: &Columns<'_>, entry: usize, to: usize, table: &mut [Option<Bound>])
+fn arrive(problem: &Columns<'_>, entry: usize, to: usize, pairs: &mut [Option<Bound>])
     requires limits { IsWithinLimits problem.now.rooms problem.now.entries problem.now.costs }
     requires entry { entry < problem.now.entries }
     requires allowed { IsAllowed problem.now entry to }
-    requires each_pair { length table.old ≡ consumers problem.now * consumers problem.now }
+    requires each_pair { length pairs.old ≡ consumers problem.now * consumers problem.now }
     ensures { IsRowChanged (consumers problem.now) to (consumers problem.now)
-        (λ next. IsLowered entry (cost_of problem.now entry to) (cost_at problem.now entry next)) table.old table.new }
+        (λ next. IsLowered entry (cost_of problem.now entry to) (cost_at problem.now entry next)) pairs.old pairs.new }
 {
     let here = problem.cost(entry, to).unwrap();
     for (next, there) in problem.costs(entry).iter().enumerate() {
         if there.is_some() {
             let pair = to * problem.consumers() + next;
-            let known = lowered(table[pair], entry, here, *there);
-            table[pair] = known;
+            let known = lowered(pairs[pair], entry, here, *there);
+            pairs[pair] = known;
         }
     }
 }

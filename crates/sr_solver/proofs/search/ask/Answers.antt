@@ -1,6 +1,8 @@
-use Rattle.std.proofs.Common.{◌+◌, ◌*◌, length, refl, ap, ◌∙◌, inl, arith}
+use Rattle.std.proofs.Common.{◌≡◌, ℕ, ◌+◌, ◌*◌, ◌<◌, None, length, get_or, refl, ap, ◌∙◌, inl, arith}
+use Rattle.std.proofs.lemmas.List.{get_or_default}
 use Rattle.sr_solver.proofs.OfferLemmas.{asked_far, asked_none, asked_mover, dist_small, hops_small, way_small}
 use Rattle.sr_solver.proofs.OfferLemmas.{prices_low, stands_allowed, stands_least, bound_small, pair_small}
+use Rattle.sr_solver.proofs.TableLemmas.{pair_in}
 use Rattle.sr_solver.proofs.search.ask.Goals as goal
 
 pub returns-clause-asked : goal.returns-clause-asked
@@ -19,12 +21,18 @@ returns-in_default-clause-asked c =
 
 pub returns-then-not-may_be_nearer-clause-asked : goal.returns-then-not-may_be_nearer-clause-asked
 returns-then-not-may_be_nearer-clause-asked c =
+    let pair : ℕ = c.args.near * c.consumers.result + c.args.other in
+    let within : pair < length c.args.table.now.pairs.items =
+    pair_in c.args.problem.now _ c.args.near c.args.other c.consumers.result c.args.table.now.pairs.items
+    c.requires.table.pairs c.requires.near c.requires.other c.consumers.ensures.count in
+    let is : c.index-known.result.now ≡ get_or c.args.table.now.pairs.items pair None =
+    c.index-known.ensures ∙ get_or_default _ _ _ None within in
     asked_far c.args.problem.now c.args.entry c.args.placement.now.assign.items c.args.placement.now.prices.items
     c.args.near c.args.other
-    (c.args.near * c.consumers.result + c.args.other) c.args.cutoff c.args.labels.now c.args.table.now
+    pair c.args.cutoff c.args.labels.now c.args.table.now.pairs.items
     (omega arith) c.requires.near c.requires.other
-    (ap (λ n. c.args.near * n + c.args.other) c.consumers.ensures.count) c.requires.table
-    (rw c.as_slice-prices.ensures.value at c.if-not-may_be_nearer.ensures.no refl)
+    (ap (λ n. c.args.near * n + c.args.other) c.consumers.ensures.count) c.requires.table.pairs
+    (rw is at (rw c.as_slice-prices.ensures.value at c.if-not-may_be_nearer.ensures.no refl))
 
 pub may_be_nearer-requires-clause-dist : goal.may_be_nearer-requires-clause-dist
 may_be_nearer-requires-clause-dist c = dist_small c.args.problem.now c.args.entry c.args.placement.now.assign.items
@@ -49,10 +57,18 @@ may_be_nearer-requires-clause-label c = way_small c.args.problem.now c.args.entr
     (omega arith) c.requires.search c.args.other c.requires.other
 
 pub may_be_nearer-requires-clause-low : goal.may_be_nearer-requires-clause-low
-may_be_nearer-requires-clause-low c = bound_small c.args.problem.now c.args.placement.now.assign.items c.args.near
-    c.args.other (c.args.near * c.consumers.result + c.args.other)
-    c.args.table.now c.requires.table c.requires.near c.requires.other
+may_be_nearer-requires-clause-low c =
+    let pair : ℕ = c.args.near * c.consumers.result + c.args.other in
+    let within : pair < length c.args.table.now.pairs.items =
+    pair_in c.args.problem.now _ c.args.near c.args.other c.consumers.result c.args.table.now.pairs.items
+    c.requires.table.pairs c.requires.near c.requires.other c.consumers.ensures.count in
+    let is : c.index-known.result.now ≡ get_or c.args.table.now.pairs.items pair None =
+    c.index-known.ensures ∙ get_or_default _ _ _ None within in
+    rw is (
+    bound_small c.args.problem.now c.args.placement.now.assign.items c.args.near c.args.other pair
+    c.args.table.now.pairs.items c.requires.table.pairs c.requires.near c.requires.other
     (ap (λ n. c.args.near * n + c.args.other) c.consumers.ensures.count)
+    )
 
 pub may_be_nearer-requires-clause-cutoff : goal.may_be_nearer-requires-clause-cutoff
 may_be_nearer-requires-clause-cutoff c = c.requires.cutoff
@@ -154,24 +170,16 @@ offset_bounds-labels-near c = omega arith
 pub offset_bounds-labels-other : goal.offset_bounds-labels-other
 offset_bounds-labels-other c = omega arith
 
-pub overflow_mul-known : goal.overflow_mul-known
-overflow_mul-known c =
+pub overflow_mul-near : goal.overflow_mul-near
+overflow_mul-near c =
     omega (
       arith,
       pair_small c.args.problem.now c.args.near c.args.other c.consumers.result c.requires.standing.placed.limits
           c.consumers.ensures.count c.requires.near c.requires.other,
     )
 
-pub overflow_add-known : goal.overflow_add-known
-overflow_add-known c =
-    omega (
-      arith,
-      pair_small c.args.problem.now c.args.near c.args.other c.consumers.result c.requires.standing.placed.limits
-          c.consumers.ensures.count c.requires.near c.requires.other,
-    )
-
-pub offset_bounds-table-near : goal.offset_bounds-table-near
-offset_bounds-table-near c =
+pub overflow_add-near : goal.overflow_add-near
+overflow_add-near c =
     omega (
       arith,
       pair_small c.args.problem.now c.args.near c.args.other c.consumers.result c.requires.standing.placed.limits

@@ -1,27 +1,13 @@
-use Rattle.std.proofs.Common.{◌≡◌, ℕ, ◌*◌, ◌<◌, ◌≤◌, length, ◌∙◌, sym, ap, arith}
+use Rattle.std.proofs.Common.{◌≡◌, ℕ, ◌<◌, ◌≤◌, length, ◌∙◌, sym, arith}
 use Rattle.std.proofs.lemmas.Bool.{false≢true}
 use Rattle.std.proofs.lemmas.Result.{IfOk-from_err}
 use Rattle.std.proofs.lemmas.List.{take_at}
 use Rattle.sr_transport.specs.plain.Problem.{consumers}
 use Rattle.sr_solver.proofs.ShortageLemmas.{stuck_short_is}
-use Rattle.sr_solver.proofs.TableLemmas.{unknown_table}
 use Rattle.sr_solver.proofs.solution.finish.Goals as goal
 
 pub place_all-requires-clause-table : goal.place_all-requires-clause-table
-place_all-requires-clause-table c =
-    let p = c.args.problem.now in
-    let same : c.deref_mut-2.result.now ≡ c.forget.new.table =
-    c.deref_mut-2.ensures.value
-    ∙ take_at c.forget.new.table _ c.in_ok-table.table.len
-    (omega (arith, c.forget.ensures.length, c.deref_mut.ensures.len)) in
-    let pairs : length c.deref_mut.result.now ≡ consumers p * consumers p =
-    omega (arith, c.deref_mut.ensures.len, c.in_ok-table.ensures.len)
-    ∙ ap (λ n. n * n) c.consumers-consumers.ensures.count in
-    rw same (
-    unknown_table p _ (length c.deref_mut.result.now) c.forget.new.table c.consumers-consumers.ensures.limits pairs
-    c.forget.ensures.length
-    c.forget.ensures.unknown
-    )
+place_all-requires-clause-table c = c.in_ok-table.ensures c.args.placement.assign.items
 
 pub stranded-requires-clause-entry : goal.stranded-requires-clause-entry
 stranded-requires-clause-entry c = rw (c.deref.ensures.value, c.in-Stuck.ensures.every) c.in-Stuck.ensures.entry
@@ -29,7 +15,7 @@ stranded-requires-clause-entry c = rw (c.deref.ensures.value, c.in-Stuck.ensures
 pub stranded-requires-clause-placed : goal.stranded-requires-clause-placed
 stranded-requires-clause-placed c i lt =
     let many : length c.deref-in-Stuck.result.now ≡ consumers c.args.problem.now =
-    c.deref-in-Stuck.ensures.len ∙ c.in_ok-labels.ensures.len ∙ c.consumers-consumers.ensures.count in
+    c.deref-in-Stuck.ensures.len ∙ c.in_ok-labels.ensures.len ∙ c.consumers.ensures.count in
     rw (c.deref.ensures.value, many) (c.in-Stuck.ensures.placed_below i lt).0
 
 pub returns-in_ok-set-in-Stuck-clause-solution : goal.returns-in_ok-set-in-Stuck-clause-solution
@@ -68,7 +54,7 @@ place_all-requires-clause-first c = below c.args.first _ c.requires.first
 
 pub place_all-requires-clause-labels : goal.place_all-requires-clause-labels
 place_all-requires-clause-labels c =
-    c.deref_mut-3.ensures.len ∙ c.in_ok-labels.ensures.len ∙ c.consumers-consumers.ensures.count
+    c.deref_mut.ensures.len ∙ c.in_ok-labels.ensures.len ∙ c.consumers.ensures.count
 
 pub place_all-requires-clause-standing : goal.place_all-requires-clause-standing
 place_all-requires-clause-standing c = c.requires.standing

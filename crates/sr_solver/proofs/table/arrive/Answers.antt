@@ -20,15 +20,15 @@ loop-next-preserved c =
           let pair : c.args.to * w.consumers.result + c.loop-next.next ≡ c.args.to * consumers c.args.problem.now
           + c.loop-next.next =
           ap (λ n. c.args.to * n + c.loop-next.next) w.consumers.ensures.count in
-          rw w.table-is (
-          row_more (consumers c.args.problem.now) c.args.to c.loop-next.next _ _ c.args.table.now c.loop-next.table
+          rw w.pairs-is (
+          row_more (consumers c.args.problem.now) c.args.to c.loop-next.next _ _ c.args.pairs.now c.loop-next.pairs
           w.lowered-known.result
           c.loop-next.invariant c.requires.allowed.0 below c.requires.each_pair pair
           (lowered_is c.args.entry _ _ _ _ _ _ same (sym there) w.lowered-known.ensures.lowered)
           )
       | else-is_some w ↦
-          rw w.table-is (
-          row_stays (consumers c.args.problem.now) c.args.to c.loop-next.next _ _ c.args.table.now c.loop-next.table
+          rw w.pairs-is (
+          row_stays (consumers c.args.problem.now) c.args.to c.loop-next.next _ _ c.args.pairs.now c.loop-next.pairs
           c.loop-next.invariant refl
           (lowered_not c.args.entry (cost_of c.args.problem.now c.args.entry c.args.to)
           (cost_at c.args.problem.now c.args.entry c.loop-next.next) _
@@ -56,8 +56,8 @@ slice_copy_out-lowered c =
       c.requires.each_pair,
     )
 
-pub bounds-table-pair : goal.bounds-table-pair
-bounds-table-pair c =
+pub bounds-pairs-pair : goal.bounds-pairs-pair
+bounds-pairs-pair c =
     let n = c.consumers.result in
     omega (
       arith,

@@ -6,4 +6,4 @@ abbrev pub invariant-loop-next : goal.invariant-loop-next
 invariant-loop-next l =
     IsRowChanged (consumers l.problem) l.to l.next
     (λ next. IsLowered l.entry (cost_of l.problem l.entry l.to) (cost_at l.problem l.entry next))
-    l.initial.table l.table
+    l.initial.pairs l.pairs

@@ -1,4 +1,6 @@
 use Rattle.std.proofs.Common.{◌*◌, refl, arith}
+use Rattle.std.proofs.lemmas.List.{with_items_is}
+use Rattle.sr_solver.proofs.GroupLemmas.{lows_come}
 use Rattle.sr_solver.proofs.TableLemmas.{table_arrived}
 use Rattle.sr_solver.proofs.MembersLemmas.{row_of, room_for_one, members_come}
 use Rattle.sr_solver.proofs.table.bring_in.Goals as goal
@@ -25,6 +27,17 @@ returns-clause-members c =
 
 pub returns-clause-table : goal.returns-clause-table
 returns-clause-table c =
-    table_arrived c.args.problem.now c.args.assign.now c.args.entry c.args.to c.args.table.now
-    c.arrive.new.table c.requires.limits
-    c.requires.every c.requires.entry c.requires.allowed.0 c.requires.table c.arrive.ensures
+    let pairs =
+    table_arrived c.args.problem.now c.args.assign.now c.args.entry c.args.to c.args.table.now.pairs.items
+    c.arrive.new.pairs c.requires.limits c.requires.every c.requires.entry c.requires.allowed.0
+    c.requires.table.pairs (rw c.deref_mut.ensures.value at c.arrive.ensures) in
+    let lows =
+    lows_come c.args.problem.now c.args.assign.now c.args.entry c.args.to c.args.table.now.groups
+    c.args.table.now.lows.items c.join_group.new.lows c.requires.every c.requires.entry c.requires.table.lows
+    (rw c.deref_mut-2.ensures.value at c.join_group.ensures) in
+    record {
+      pairs = rw (with_items_is c.args.table.now.pairs c.arrive.new.pairs
+          (omega (arith, pairs.each_pair, c.requires.table.pairs.each_pair))) pairs;
+      lows = rw (with_items_is c.args.table.now.lows c.join_group.new.lows
+          (omega (arith, lows.each_group, c.requires.table.lows.each_group))) lows;
+    }

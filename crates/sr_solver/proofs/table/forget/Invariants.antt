@@ -4,6 +4,6 @@ use Rattle.sr_solver.proofs.table.forget.Given as goal
 
 abbrev pub invariant-loop-pair : goal.invariant-loop-pair
 invariant-loop-pair l = record {
-  length : length l.table ≡ length l.initial.table;
-  unknown : IsUnknown l.pair l.table;
+  length : length l.pairs ≡ length l.initial.pairs;
+  unknown : IsUnknown l.pair l.pairs;
 }

@@ -6,7 +6,7 @@ use Rattle.sr_solver.proofs.table.leave.Goals as goal
 
 pub loop-to-preserved : goal.loop-to-preserved
 loop-to-preserved c =
-    row_more (consumers c.args.problem.now) c.args.from c.loop-to.to _ _ c.args.table.now c.loop-to.table
+    row_more (consumers c.args.problem.now) c.args.from c.loop-to.to _ _ c.args.pairs.now c.loop-to.pairs
     c.without-known.result
     c.loop-to.invariant c.requires.from (omega arith) c.requires.each_pair
     (ap (λ n. c.args.from * n + c.loop-to.to) c.consumers.ensures.count) c.without-known.ensures
@@ -23,8 +23,8 @@ returns c =
     let at_end : c.loop-to.to ≡ consumers c.args.problem.now = omega arith in
     rw at_end at c.loop-to.invariant
 
-pub bounds-table-pair : goal.bounds-table-pair
-bounds-table-pair c =
+pub bounds-pairs-pair : goal.bounds-pairs-pair
+bounds-pairs-pair c =
     let n = c.consumers.result in
     omega (
       arith,

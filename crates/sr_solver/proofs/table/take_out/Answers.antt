@@ -1,5 +1,8 @@
 use Rattle.std.proofs.Common.{ℕ, ◌*◌, ◌<◌, get_or, refl, arith}
+use Rattle.std.proofs.lemmas.List.{with_items_is}
 use Rattle.sr_transport.specs.plain.Problem.{consumers}
+use Rattle.sr_solver.specs.Groups.{IsAt}
+use Rattle.sr_solver.proofs.GroupLemmas.{lows_fewer}
 use Rattle.sr_solver.proofs.TableLemmas.{table_left, table_waiting}
 use Rattle.sr_solver.proofs.MembersLemmas.{row_of, members_left, members_waiting}
 use Rattle.sr_solver.proofs.table.take_out.Goals as goal
@@ -11,9 +14,12 @@ returns-then-consumers-from-clause-members c =
     (omega (arith, c.if-consumers-from.true, c.consumers.ensures.count)) c.requires.members
 
 pub returns-then-consumers-from-clause-table : goal.returns-then-consumers-from-clause-table
-returns-then-consumers-from-clause-table c =
-    table_waiting c.args.problem.now c.args.assign.now c.args.entry c.args.table.now c.requires.table
-    (omega (arith, c.if-consumers-from.true, c.consumers.ensures.count))
+returns-then-consumers-from-clause-table c = record {
+  pairs = table_waiting c.args.problem.now c.args.assign.now c.args.entry c.args.table.now.pairs.items
+      c.requires.table.pairs (omega (arith, c.if-consumers-from.true, c.consumers.ensures.count));
+  lows = lows_fewer c.args.problem.now (IsAt c.args.assign.now c.args.problem.now.entries) _ c.args.table.now.groups
+      c.args.table.now.lows.items (λ a i here. here.0) c.requires.table.lows;
+}
 
 pub remove-requires-clause-member : goal.remove-requires-clause-member
 remove-requires-clause-member c =
@@ -38,8 +44,15 @@ returns-clause-members c =
 
 pub returns-clause-table : goal.returns-clause-table
 returns-clause-table c =
-    table_left c.args.problem.now c.args.assign.now c.args.entry c.args.table.now c.leave.new.table
-    c.requires.table c.leave.ensures
+    let left =
+    table_left c.args.problem.now c.args.assign.now c.args.entry c.args.table.now.pairs.items c.leave.new.pairs
+    c.requires.table.pairs (rw c.deref_mut.ensures.value at c.leave.ensures) in
+    record {
+      pairs = rw (with_items_is c.args.table.now.pairs c.leave.new.pairs
+          (omega (arith, left.each_pair, c.requires.table.pairs.each_pair))) left;
+      lows = lows_fewer c.args.problem.now (IsAt c.args.assign.now c.args.problem.now.entries) _
+          c.args.table.now.groups c.args.table.now.lows.items (λ a i here. here.0) c.requires.table.lows;
+    }
 
 pub remove-requires-clause-room : goal.remove-requires-clause-room
 remove-requires-clause-room c =

@@ -1,0 +1,262 @@
+-- The bounds by group: what entries that come and go make of them, and what the least of them tells.
+use Rattle.std.proofs.Common.{◌≡◌, ℕ, ◌+◌, ◌*◌, ◌/◌, ◌^◌, ◌<◌, ◌≤◌, ◌⊎◌, List, length, get_or}
+use Rattle.std.proofs.Common.{Option, Some, None, sym, ap, ◌∙◌, inl, inr, arith}
+use Rattle.std.specs.Prelude.{IfSome, IfNone}
+use Rattle.std.proofs.Math.ListN.{set, length-set, replicate}
+use Rattle.std.proofs.Math.Nat.{mul-le-mul_left, div-mul-le_self, lt-div-mul-add}
+use Rattle.std.proofs.lemmas.Nat.{mul-add-lt}
+use Rattle.std.proofs.lemmas.Bool.{cases_eq, cases_lt}
+use Rattle.std.proofs.lemmas.List.{get_or_past, get_or-set_same, get_or-set_other, get_or-replicate, length-replicate}
+use Rattle.sr_transport.specs.Limits.{greatest_charge}
+use Rattle.sr_transport.specs.plain.Problem.{Transport, IsWithinLimits, consumers, room_of, cost_at, cost_of, IsAllowed}
+use Rattle.sr_solver.specs.Limits.{group_size, narrow_room, greatest_bound}
+use Rattle.sr_solver.specs.declared.table.Bound.{Bound}
+use Rattle.sr_solver.specs.Groups.{IsAt, IsInGroup, IsBetween, IsAtIn, AreGroups, AreLowsOf, AreLowered}
+use Rattle.sr_solver.specs.Table.{IsApart, IsKnown, IsTight, IsLowered}
+use Rattle.sr_solver.proofs.SearchLemmas.{cost_small}
+use Rattle.sr_solver.proofs.TableLemmas.{rows_apart, HasCome, known_lowered, known_same}
+
+-- a row of n places ends before the list does
+row_within : (n x rows : ℕ) → x < rows → x * n + n ≤ rows * n
+row_within n x rows lt =
+    let up : x + 1 ≤ rows = omega arith in
+    omega (arith, mul-le-mul_left n up)
+
+-- what the row of bounds of an ordered pair is
+pub record IsLowRow (long row groups : ℕ) : Type 0 where
+  pub short : long ≤ 2 ^ 32
+  pub within : row + groups ≤ long
+
+pub low_row : (p : Transport) (groups a b row : ℕ) (lows : List ℕ) → IsWithinLimits p.rooms p.entries p.costs
+    → AreGroups p groups → length lows ≡ consumers p * consumers p * groups → a < consumers p → b < consumers p
+    → row ≡ (a * consumers p + b) * groups → IsLowRow (length lows) row groups
+low_row p groups a b row lows limits are long lta ltb is =
+    let m : ℕ = consumers p in
+    let pair : a * m + b < m * m = mul-add-lt a m b m lta ltb in
+    let some : m * m ≤ m * 128 = omega (arith, mul-le-mul_left m limits.consumers) in
+    let few : m * m ≤ 16384 = omega (arith, some, limits.consumers) in
+    record {
+      short = omega (arith, long, mul-le-mul_left groups few, are.few);
+      within = rw is (rw long (row_within groups (a * m + b) (m * m) pair));
+    }
+
+-- two places that are not in the same column of the same row
+place_apart : (n x y k g : ℕ) → k < n → g < n → (x ≡ y → k ≡ g → ⊥) → x * n + k ≡ y * n + g → ⊥
+place_apart n x y k g ltk ltg ne e = elim (cases_eq x y) [
+  | inl same ↦
+      let row : x * n ≡ y * n = ap (λ z. z * n) same in
+      ne same (omega (arith, e, row))
+  | inr far ↦ elim (rows_apart n x y k ltk far) [
+    | inl low ↦ omega (arith, low, e)
+    | inr high ↦ omega (arith, high, e, ltg)
+  ]
+]
+
+-- no bound is known yet
+zero_at : (n q : ℕ) → get_or (replicate {A = ℕ} n 0) q 0 ≡ 0
+zero_at n q = elim (cases_lt q n) [
+  | inl within ↦ get_or-replicate n q 0 0 within
+  | inr past ↦ get_or_past (replicate {A = ℕ} n 0) q 0 (omega (arith, length-replicate {A = ℕ} n 0, past))
+]
+
+pub lows_unknown : (p : Transport) (at : ℕ → ℕ → Type 0) (groups n : ℕ) (lows : List ℕ)
+    → IsWithinLimits p.rooms p.entries p.costs → AreGroups p groups → lows ≡ replicate {A = ℕ} n 0
+    → n ≡ consumers p * consumers p * groups → AreLowsOf p at groups lows
+lows_unknown p at groups n lows limits are is long = record {
+  each_group = ap length is ∙ length-replicate {A = ℕ} n 0 ∙ long;
+  grouped = are;
+  below = λ a b g i lta ltb ltg wide here member may.
+      let place : ℕ = (a * consumers p + b) * groups + g in
+      omega (arith, ap (λ xs. get_or xs place 0) is, zero_at n place, cost_small p limits i a);
+}
+
+-- fewer entries
+pub lows_fewer : (p : Transport) (at at' : ℕ → ℕ → Type 0) (groups : ℕ) (lows : List ℕ)
+    → ((a i : ℕ) → at' a i → at a i) → AreLowsOf p at groups lows → AreLowsOf p at' groups lows
+lows_fewer p at at' groups lows from are = record {
+  each_group = are.each_group;
+  grouped = are.grouped;
+  below = λ a b g i lta ltb ltg wide here member may. are.below a b g i lta ltb ltg wide (from a i here) member may;
+}
+
+-- the bounds once entry i has come to consumer c
+pub lows_come : (p : Transport) (xs : List ℕ) (i c groups : ℕ) (old new : List ℕ) → length xs ≡ p.entries
+    → i < p.entries → AreLowsOf p (IsApart (IsAt xs p.entries) i) groups old → AreLowered p c i groups old new
+    → AreLowsOf p (IsAt (set xs i c) p.entries) groups new
+lows_come p xs i c groups old new every lti are lowered = record {
+  each_group = lowered.each_group ∙ are.each_group;
+  grouped = are.grouped;
+  below = λ a b g j lta ltb ltg wide here member may. elim (cases_eq j i) [
+    | inl e ↦
+        let is : a ≡ c =
+        sym here.1 ∙ ap (λ x. get_or (set xs i c) x 0) e ∙ get_or-set_same xs i c 0 (omega (arith, every)) in
+        rw e (rw is (lowered.below b g ltb (rw is at wide) (rw e at member) (rw e at may)))
+    | inr ne ↦
+        let before : IsApart (IsAt xs p.entries) i a j =
+        ((here.0, sym (get_or-set_other xs i j c 0 ne) ∙ here.1), ne) in
+        omega (
+          arith,
+          lowered.none_higher ((a * consumers p + b) * groups + g),
+          are.below a b g j lta ltb ltg wide before member may,
+        )
+  ];
+}
+
+-- another bound for one group
+note_low : (p : Transport) (at : ℕ → ℕ → Type 0) (groups a b g low : ℕ) (old : List ℕ)
+    → a < consumers p → b < consumers p → g < groups → AreLowsOf p at groups old
+    → (a * consumers p + b) * groups + g < length old
+    → ((i : ℕ) → at a i → IsInGroup g i → IsAllowed p i b → low + cost_of p i a ≤ cost_of p i b + greatest_charge)
+    → AreLowsOf p at groups (set old ((a * consumers p + b) * groups + g) low)
+note_low p at groups a b g low old lta ltb ltg are within holds =
+    let m : ℕ = consumers p in
+    let q : ℕ = (a * m + b) * groups + g in
+    record {
+      each_group = length-set old q low ∙ are.each_group;
+      grouped = are.grouped;
+      below = λ c d k i ltc ltd ltk wide here member may.
+          let x : ℕ = (c * m + d) * groups + k in
+          let keep : (x ≡ q → ⊥) → get_or (set old q low) x 0 + cost_of p i c ≤ cost_of p i d + greatest_charge =
+          λ apart. rw (get_or-set_other old q x low 0 apart) (are.below c d k i ltc ltd ltk wide here member may) in
+          elim (cases_eq k g) [
+            | inr ne ↦ keep (place_apart groups (c * m + d) (a * m + b) k g ltk ltg (λ s t. ne t))
+            | inl same_group ↦ elim (cases_eq c a) [
+              | inr ne ↦
+                  keep (place_apart groups (c * m + d) (a * m + b) k g ltk ltg
+                  (λ s t. place_apart m c a d b ltd ltb (λ u v. ne u) s))
+              | inl same_from ↦ elim (cases_eq d b) [
+                | inr ne ↦
+                    keep (place_apart groups (c * m + d) (a * m + b) k g ltk ltg
+                    (λ s t. place_apart m c a d b ltd ltb (λ u v. ne v) s))
+                | inl same_to ↦
+                    let stands : at a i = rw same_from at here in
+                    let member' : IsInGroup g i = rw same_group at member in
+                    let allowed : IsAllowed p i b = rw same_to at may in
+                    rw same_group (rw same_from (rw same_to (rw (get_or-set_same old q low 0 within)
+                    (holds i stands member' allowed))))
+              ]
+            ]
+          ];
+    }
+
+-- each entry is in a group
+in_group : (i : ℕ) → IsInGroup (i / group_size) i
+in_group i = (div-mul-le_self i group_size, lt-div-mul-add {a = i} {b = group_size} (omega arith))
+
+pub group_below : (p : Transport) (groups a i : ℕ) → AreGroups p groups → a < consumers p → narrow_room < room_of p a
+    → i < p.entries → i / group_size < groups
+group_below p groups a i are lta wide lti =
+    omega (arith, div-mul-le_self i group_size, are.enough a lta wide)
+
+-- what was found in a group holds for each of its entries
+known_below : (p : Transport) (xs : List ℕ) (a b g low i : ℕ) (found : Option Bound)
+    → IsKnown p (IsAtIn xs p.entries a g) a b found → IfSome found (λ bound. low ≡ bound.low)
+    → IsAtIn xs p.entries a g i → IsAllowed p i b → low + cost_of p i a ≤ cost_of p i b + greatest_charge
+known_below p xs a b g low i None known is here may = absurd (known i here may)
+known_below p xs a b g low i (Some bound) known is here may = omega (arith, known.below i here may, is)
+
+-- what was found in a group is its bound
+pub lows_noted : (p : Transport) (xs : List ℕ) (groups a b g row low : ℕ) (old : List ℕ) (found : Option Bound)
+    → IsWithinLimits p.rooms p.entries p.costs
+    → a < consumers p → b < consumers p → g < groups → row ≡ (a * consumers p + b) * groups
+    → AreLowsOf p (IsAt xs p.entries) groups old → IsKnown p (IsAtIn xs p.entries a g) a b found
+    → IfSome found (λ bound. low ≡ bound.low)
+    → AreLowsOf p (IsAt xs p.entries) groups (set old (row + g) low)
+lows_noted p xs groups a b g row low old found limits lta ltb ltg is are known is_low =
+    let fits = low_row p groups a b row old limits are.grouped are.each_group lta ltb is in
+    let within : (a * consumers p + b) * groups + g < length old =
+    (let end : row + g < length old = omega (arith, fits.within, ltg) in rw is at end) in
+    rw is (
+    note_low p (IsAt xs p.entries) groups a b g low old lta ltb ltg are within
+    (λ i here member may. known_below p xs a b g low i found known is_low (here, member.0, member.1) may)
+    )
+
+-- each bound is at least what was found in the group with the least one
+pub least_of_all : (p : Transport) (xs : List ℕ) (groups a b g row low : ℕ) (lows : List ℕ) (found : Option Bound)
+    → IsWithinLimits p.rooms p.entries p.costs
+    → a < consumers p → b < consumers p → narrow_room < room_of p a → row ≡ (a * consumers p + b) * groups
+    → AreLowsOf p (IsAt xs p.entries) groups lows → IsKnown p (IsAtIn xs p.entries a g) a b found
+    → IfSome found (λ bound. low ≡ bound.low) → IfNone found (greatest_bound < low)
+    → ((k : ℕ) → k < groups → low ≤ get_or lows (row + k) 0)
+    → IsKnown p (IsAt xs p.entries a) a b found
+least_of_all p xs groups a b g row low lows None limits lta ltb wide is are known is_low is_great least =
+    λ i here may.
+    let member : IsInGroup (i / group_size) i = in_group i in
+    let ltk : i / group_size < groups = group_below p groups a i are.grouped lta wide here.0 in
+    let held = are.below a b (i / group_size) i lta ltb ltk wide here member may in
+    let more = rw is at (least (i / group_size) ltk) in
+    absurd (omega (arith, held, more, is_great, cost_small p limits i b))
+least_of_all p xs groups a b g row low lows (Some bound) limits lta ltb wide is are known is_low is_great least =
+    record {
+      small = known.small;
+      below = λ i here may.
+          let member : IsInGroup (i / group_size) i = in_group i in
+          let ltk : i / group_size < groups = group_below p groups a i are.grouped lta wide here.0 in
+          let held = are.below a b (i / group_size) i lta ltb ltk wide here member may in
+          let more = rw is at (least (i / group_size) ltk) in
+          omega (arith, held, more, is_low);
+      best = λ k same.
+          let best : IsTight p (IsAtIn xs p.entries a g) a b bound.low k = known.best k same in
+          record { stands = best.stands.0; allowed = best.allowed; tight = best.tight };
+    }
+
+-- no entry was looked at
+pub between_none : (p : Transport) (xs : List ℕ) (a b first : ℕ)
+    → IsKnown p (IsBetween xs p.entries a first first) a b None
+between_none p xs a b first = λ i here may. absurd (omega (arith, here.1, here.2))
+
+-- one entry more is looked at, which stands there
+pub between_more : (p : Transport) (xs : List ℕ) (a b first i : ℕ) (old new : Option Bound)
+    → IsWithinLimits p.rooms p.entries p.costs → b < consumers p → i < p.entries → get_or xs i 0 ≡ a → first ≤ i
+    → IsKnown p (IsBetween xs p.entries a first i) a b old → IsLowered i (cost_of p i a) (cost_at p i b) old new
+    → IsKnown p (IsBetween xs p.entries a first (i + 1)) a b new
+between_more p xs a b first i old new limits ltb lti stands from known lowered =
+    let come : HasCome (IsBetween xs p.entries a first i) (IsBetween xs p.entries a first (i + 1)) i =
+    record {
+      stay = λ j before. (before.0, before.1, omega (arith, before.2));
+      here = ((lti, stands), from, omega arith);
+      back = λ j now. elim (cases_eq j i) [
+        | inl e ↦ inl e
+        | inr ne ↦ inr (now.0, now.1, omega (arith, now.2, ne))
+      ];
+    } in
+    known_lowered p (IsBetween xs p.entries a first i) (IsBetween xs p.entries a first (i + 1)) a b i old new
+    limits come ltb known lowered
+
+-- one that does not stand there
+pub between_other : (p : Transport) (xs : List ℕ) (a b first i : ℕ) (known : Option Bound)
+    → (get_or xs i 0 ≡ a → ⊥)
+    → IsKnown p (IsBetween xs p.entries a first i) a b known
+    → IsKnown p (IsBetween xs p.entries a first (i + 1)) a b known
+between_other p xs a b first i known elsewhere is =
+    known_same p (IsBetween xs p.entries a first i) (IsBetween xs p.entries a first (i + 1)) a b known
+    (λ j before. (before.0, before.1, omega (arith, before.2)))
+    (λ j now.
+    let ne : j ≡ i → ⊥ = λ e. elsewhere (ap (λ x. get_or xs x 0) (sym e) ∙ now.0.1) in
+    (now.0, now.1, omega (arith, now.2, ne)))
+    is
+
+-- all entries of a group were looked at
+pub between_all : (p : Transport) (xs : List ℕ) (a b g end i : ℕ) (known : Option Bound)
+    → end ≤ g * group_size + group_size → (p.entries ≤ end) ⊎ (g * group_size + group_size ≤ end)
+    → end ≤ i → (i ≤ end) ⊎ (i ≡ g * group_size)
+    → IsKnown p (IsBetween xs p.entries a (g * group_size) i) a b known → IsKnown p (IsAtIn xs p.entries a g) a b known
+between_all p xs a b g end i known within all reached small is =
+    known_same p (IsBetween xs p.entries a (g * group_size) i) (IsAtIn xs p.entries a g) a b known
+    (λ j before. (
+      before.0,
+      before.1,
+      elim small [
+        | inl le ↦ omega (arith, before.2, within, le)
+        | inr e ↦ omega (arith, before.2, e)
+      ],
+    ))
+    (λ j now. (
+      now.0,
+      now.1,
+      elim all [
+        | inl few ↦ omega (arith, now.0.0, few, reached)
+        | inr full ↦ omega (arith, now.2, full, reached)
+      ],
+    ))
+    is

@@ -1,0 +1,13 @@
+use Rattle.std.proofs.Common.{◌≡◌, ℕ, ◌+◌, ◌*◌, ◌<◌, ◌≤◌, length, slice_index}
+use Rattle.sr_transport.specs.Limits.{greatest_charge}
+use Rattle.sr_transport.specs.plain.Problem.{consumers, cost_of, IsAllowed}
+use Rattle.sr_solver.proofs.groups.join_group.Given as goal
+
+abbrev pub invariant-loop-next : goal.invariant-loop-next
+invariant-loop-next l = record {
+  each_group : length l.lows ≡ length l.fn.lows;
+  none_higher : (q : ℕ) → slice_index l.lows q ≤ slice_index l.fn.lows q;
+  below : (b : ℕ) → b < l.next → IsAllowed l.problem l.entry b
+      → slice_index l.lows ((l.to * consumers l.problem + b) * l.groups + l.group) + cost_of l.problem l.entry l.to
+      ≤ cost_of l.problem l.entry b + greatest_charge;
+}

@@ -1,0 +1,175 @@
+//! Bounds for groups of entries: where many entries stand, the one that costs least more elsewhere is looked for in the
+//! group with the least bound, and not among all.
+ghost use Rattle.std.specs.Prelude.{◌≡◌, ℕ, ◌+◌, ◌*◌, ◌<◌, ◌≤◌, ◌⊎◌, ◌^◌, length, slice_index, IfSome, IfNone, IsSome};
+ghost use Rattle.sr_transport.specs.Limits.{most_entries};
+ghost use Rattle.sr_transport.specs.plain.Problem.{IsWithinLimits, consumers, room_of, IsAllowed};
+ghost use Rattle.sr_solver.specs.Limits.{group_size, narrow_room, greatest_bound};
+ghost use Rattle.sr_solver.specs.Members.{AreMembers};
+ghost use Rattle.sr_solver.specs.Groups.{IsAt, IsAtIn, AreGroups, AreLowsOf, AreLowered};
+ghost use Rattle.sr_solver.specs.Table.{IsKnown};
+
+use crate::placement::Placement;
+use crate::table::{ABOVE, Bound, NARROW, find, lowered};
+use sr_transport::Columns;
+
+/// How many entries in a row make a group.
+const GROUP: usize = 64;
+
+/// How many groups of entries have bounds: none if no consumer is wide.
+pub fn groups_of(problem: &Columns<'_>) -> usize
+    ensures { AreGroups problem.now result }
+{
+    for consumer in 0..problem.consumers() {
+        if NARROW < problem.room(consumer) {
+            return problem.entries() / GROUP + 1;
+        }
+    }
+    0
+}
+
+/// Looks for the entry at the wide consumer `from` that costs least more at `to`.
+///
+/// The group with the least bound is looked through, and its bound made exact, until no other group has a lesser one.
+pub fn find_in_groups(
+    problem: &Columns<'_>,
+    from: usize,
+    to: usize,
+    placement: &Placement,
+    groups: usize,
+    lows: &mut [u64],
+) -> Option<Bound>
+    requires limits { IsWithinLimits problem.now.rooms problem.now.entries problem.now.costs }
+    requires every { length placement.now.assign.items ≡ problem.now.entries }
+    requires from { from < consumers problem.now }
+    requires wide { narrow_room < room_of problem.now from }
+    requires to { to < consumers problem.now }
+    requires placed { (i : ℕ) → IsAt placement.now.assign.items problem.now.entries from i
+        → IsAllowed problem.now i from }
+    requires members { AreMembers problem.now placement.now.width placement.now.assign.items
+        placement.now.members.items }
+    requires lows { AreLowsOf problem.now (IsAt placement.now.assign.items problem.now.entries) groups lows.old }
+    ensures known { IsKnown problem.now (IsAt placement.now.assign.items problem.now.entries from) from to result }
+    ensures best { IfSome result (λ bound. IsSome bound.best) }
+    ensures lows { AreLowsOf problem.now (IsAt placement.now.assign.items problem.now.entries) groups lows.new }
+{
+    let assign = placement.assign.as_slice();
+    let row = (from * problem.consumers() + to) * groups;
+    let mut group = least(lows, row, groups);
+    for _ in 0..groups {
+        let found = find_in_group(problem, from, to, assign, group);
+        lows[row + group] = low_of(found);
+        let next = least(lows, row, groups);
+        if lows[row + group] <= lows[row + next] {
+            return found;
+        }
+        group = next;
+    }
+    find(problem, from, to, placement)
+}
+
+/// The group with the least bound in the row of bounds that begins at `row`.
+fn least(lows: &[u64], row: usize, groups: usize) -> usize
+    requires some { 0 < groups }
+    requires within { row + groups ≤ length lows.now }
+    requires short { length lows.now ≤ 2 ^ 32 }
+    ensures group { result < groups }
+    ensures least { (g : ℕ) → g < groups
+        → slice_index lows.now (row + result) ≤ slice_index lows.now (row + g) }
+{
+    let mut best = 0;
+    let mut low = lows[row];
+    for group in 1..groups {
+        if lows[row + group] < low {
+            best = group;
+            low = lows[row + group];
+        }
+    }
+    best
+}
+
+/// Looks through the entries of a group that stand at `from` for the one that costs least more at `to`.
+fn find_in_group(
+    problem: &Columns<'_>,
+    from: usize,
+    to: usize,
+    assign: &[usize],
+    group: usize,
+) -> Option<Bound>
+    requires limits { IsWithinLimits problem.now.rooms problem.now.entries problem.now.costs }
+    requires every { length assign.now ≡ problem.now.entries }
+    requires from { from < consumers problem.now }
+    requires to { to < consumers problem.now }
+    requires placed { (i : ℕ) → IsAt assign.now problem.now.entries from i → IsAllowed problem.now i from }
+    requires group { group < most_entries }
+    ensures known { IsKnown problem.now (IsAtIn assign.now problem.now.entries from group) from to result }
+    ensures best { IfSome result (λ bound. IsSome bound.best) }
+{
+    let first = group * GROUP;
+    let end = end_of(group, problem.entries());
+    let mut found = None;
+    for entry in first..end {
+        if assign[entry] == from {
+            let here = problem.cost(entry, from).unwrap();
+            let there = problem.cost(entry, to);
+            found = lowered(found, entry, here, there);
+        }
+    }
+    found
+}
+
+/// Where a group ends, of so many entries.
+fn end_of(group: usize, entries: usize) -> usize
+    requires { group < most_entries }
+    ensures few { result ≤ entries }
+    ensures within { result ≤ group * group_size + group_size }
+    ensures all { (entries ≤ result) ⊎ (group * group_size + group_size ≤ result) }
+{
+    let end = group * GROUP + GROUP;
+    if end < entries { end } else { entries }
+}
+
+/// The bound of a group where this was found: greater than that of any entry, if none was.
+fn low_of(found: Option<Bound>) -> u64
+    ensures some { IfSome found (λ bound. result ≡ bound.low) }
+    ensures none { IfNone found (greatest_bound < result) }
+{
+    match found {
+        Some(bound) => bound.low,
+        None => u64::MAX,
+    }
+}
+
+/// Notes that an entry has come to a consumer, if that is a wide one: the bounds of its group fall.
+pub fn join_group(problem: &Columns<'_>, entry: usize, to: usize, groups: usize, lows: &mut [u64])
+    requires limits { IsWithinLimits problem.now.rooms problem.now.entries problem.now.costs }
+    requires entry { entry < problem.now.entries }
+    requires allowed { IsAllowed problem.now entry to }
+    requires each_group { length lows.old ≡ consumers problem.now * consumers problem.now * groups }
+    requires groups { AreGroups problem.now groups }
+    ensures { AreLowered problem.now to entry groups lows.old lows.new }
+{
+    if problem.room(to) <= NARROW {
+        return;
+    }
+    let group = entry / GROUP;
+    let here = problem.cost(entry, to).unwrap();
+    for (next, there) in problem.costs(entry).iter().enumerate() {
+        if let Some(there) = *there {
+            let place = (to * problem.consumers() + next) * groups + group;
+            lower(lows, place, there + ABOVE - here);
+        }
+    }
+}
+
+/// Lowers a bound to this, if it is greater.
+fn lower(lows: &mut [u64], place: usize, low: u64)
+    requires place { place < length lows.old }
+    requires short { length lows.old ≤ 2 ^ 32 }
+    ensures length { length lows.new ≡ length lows.old }
+    ensures none_higher { (q : ℕ) → slice_index lows.new q ≤ slice_index lows.old q }
+    ensures lower { slice_index lows.new place ≤ low }
+{
+    if low < lows[place] {
+        lows[place] = low;
+    }
+}
