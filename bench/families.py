@@ -1,12 +1,14 @@
 """Prints transportation problems, each made from a fixed seed.
 
-usage: families.py [small | small-tiers | tiers BITS]
+usage: families.py [costly | small | small-tiers | tiers BITS]
 
 With no argument these are the families of docs/BENCH.md, of 4,096 entries and 64 consumers, and with `tiers` the same, where each
-consumer has half of its room at a fee below 2^BITS, or at none for 0. With `small` they are 10,000 random problems of all shapes, of
-at most 16 entries, and with `small-tiers` others where a consumer may have two tiers. A problem is a line: its name and a colon, how
-often it is to be timed, how many entries and consumers it has, the room of each consumer, `FIRST+NEXT@FEE` if it has two tiers, and
-for each entry its cost at each consumer, `-` where it is not allowed.
+consumer has half of its room at a fee below 2^BITS, or at none for 0. With `costly` they are others of this size, made to take long:
+few allowed pairs, from 2 to 12 for each entry, with a dear outlet that all are allowed and without, and one great room beside small
+ones; the rooms are exact or have some to spare, and the entries are shuffled. With `small` they are 10,000 random problems of all
+shapes, of at most 16 entries, and with `small-tiers` others where a consumer may have two tiers. A problem is a line: its name and a
+colon, how often it is to be timed, how many entries and consumers it has, the room of each consumer, `FIRST+NEXT@FEE` if it has two
+tiers, and for each entry its cost at each consumer, `-` where it is not allowed.
 """
 
 import functools
@@ -242,6 +244,86 @@ def families():
         yield f"{count} allowed", SLACK, sparse(count)
 
 
+# The families of few allowed pairs, and those of one great room. In most, the range of costs is the same for each entry.
+
+
+def shuffled(rows):
+    """The rows in a random order."""
+    rng = Pcg32(SEED, 4)
+    rows = list(rows)
+    for last in range(len(rows) - 1, 0, -1):
+        other = rng.next_u32() % (last + 1)
+        rows[last], rows[other] = rows[other], rows[last]
+    return rows
+
+
+def chosen(rng, count, consumers):
+    """This many of the first consumers, at random."""
+    numbers = set()
+    while len(numbers) < count:
+        numbers.add(rng.next_u32() % consumers)
+    return numbers
+
+
+def stretched(costs):
+    """The costs, stretched so that the least is 0 and the greatest is the most that a pair may cost."""
+    least, greatest = min(costs), max(costs)
+    return [(cost - least) * MAX_COST // max(greatest - least, 1) for cost in costs]
+
+
+def equal_ranges(count):
+    """Entries that are each allowed this many consumers, where the least cost is 0 and the greatest the most that may be."""
+    rng = Pcg32(SEED, 5)
+    rows = []
+    for _ in range(ENTRIES):
+        row = [None] * CONSUMERS
+        numbers = chosen(rng, count, CONSUMERS)
+        for consumer, cost in zip(numbers, stretched([rng.next_u64() % MAX_COST for _ in numbers])):
+            row[consumer] = cost
+        rows.append(row)
+    return rows
+
+
+def outlet(count):
+    """Entries that are each allowed this many consumers, at costs where the least is 0, and the last one, which costs the most that
+    a pair may."""
+    rows = equal_ranges(count)
+    for row in rows:
+        row[:] = [cost if cost is None else cost // 2 for cost in row[:-1]] + [MAX_COST]
+    return rows
+
+
+def sparse_weights(count):
+    """Entries that are each allowed this many consumers, at their rates times the weight of the entry."""
+    rng = Pcg32(SEED, 6)
+    rows = []
+    for row in rising():
+        numbers = chosen(rng, count, CONSUMERS)
+        rows.append([cost if consumer in numbers else None for consumer, cost in enumerate(row)])
+    return shuffled(rows)
+
+
+def great_room(great, entries):
+    """The rooms for this many entries: a great one, and the rest in equal parts."""
+    rest, others = entries - great, CONSUMERS - 1
+    return [great] + [rest * (number + 1) // others - rest * number // others for number in range(others)]
+
+
+def costly_families():
+    """Each problem: its name, its rooms and its rows of costs."""
+    spare = ENTRIES + ENTRIES // 16
+    for count in range(2, 13):
+        yield f"{count} allowed, equal ranges", SLACK, equal_ranges(count)
+        # all places but for those of the outlet are for three quarters of the entries, or for nearly all
+        yield f"{count} allowed and an outlet", [48] * (CONSUMERS - 1) + [ENTRIES], outlet(count)
+        yield f"{count} allowed and an outlet, exact", TIGHT, outlet(count)
+        yield f"{count} allowed, rising weights", SLACK, sparse_weights(count)
+    for great in (512, 1024, 2048, 3072, 3900):
+        for kind, rows in (("masked", shuffled(masked())), ("rising", shuffled(rising()))):
+            yield f"a room of {great}, {kind} weights, exact", great_room(great, ENTRIES), rows
+            yield f"a room of {great}, {kind} weights, spare", great_room(great, spare), rows
+
+
 def tiered(room, fee):
     """A room of two tiers: half of it, and the rest at a fee."""
     return room // 2, room - room // 2, fee
@@ -329,6 +411,8 @@ def main():
     match sys.argv[1:]:
         case []:
             problems, times = families(), TIMES
+        case ["costly"]:
+            problems, times = costly_families(), TIMES
         case ["tiers", bits] if bits.isdecimal():
             problems, times = with_tiers(int(bits)), TIMES
         case ["small"]:
@@ -336,7 +420,7 @@ def main():
         case ["small-tiers"]:
             problems, times = small_tiered_problems(), 0
         case _:
-            sys.exit("usage: families.py [small | small-tiers | tiers BITS]")
+            sys.exit("usage: families.py [costly | small | small-tiers | tiers BITS]")
     sys.stdout.writelines(text(*problem, times) for problem in problems)
 
 

@@ -2,7 +2,8 @@
 // line for each as `bench_solver` does. It needs the library's headers alone (Debian: liblemon-dev).
 //
 // Two times are printed, each the least of some runs: from the costs to the answer, as our solver is timed too, which takes the
-// allowed pairs out of the costs and makes the graph that LEMON works on; and of that the run of its simplex alone.
+// allowed pairs out of the costs and makes the graph that LEMON works on; and of that the run of its simplex alone. With the argument
+// `processor` both count the time of the processor, on a busy machine too.
 
 #include <lemon/network_simplex.h>
 #include <lemon/smart_graph.h>
@@ -11,6 +12,7 @@
 #include <chrono>
 #include <cstdint>
 #include <cstdio>
+#include <ctime>
 #include <iostream>
 #include <string>
 #include <vector>
@@ -95,12 +97,17 @@ struct Answer {
   std::string text;
 };
 
-double since(std::chrono::steady_clock::time_point start) {
-  return std::chrono::duration<double, std::milli>(std::chrono::steady_clock::now() - start).count();
+// Whether times are those of the processor.
+bool is_processor_time = false;
+
+// Milliseconds from some moment on.
+double now() {
+  if (is_processor_time) return 1e3 * std::clock() / CLOCKS_PER_SEC;
+  return std::chrono::duration<double, std::milli>(std::chrono::steady_clock::now().time_since_epoch()).count();
 }
 
 Answer solve(const Problem& problem) {
-  const auto start = std::chrono::steady_clock::now();
+  const double start = now();
   const int entries = problem.entries;
   const int tiers = static_cast<int>(problem.tiers.size());
   const std::vector<Pair> pairs = allowed(problem);
@@ -115,10 +122,10 @@ Answer solve(const Problem& problem) {
   for (int tier = 0; tier < tiers; ++tier) supplies[graph.nodeFromId(entries + tier)] = -problem.tiers[tier].room;
   Simplex simplex(graph);
   simplex.costMap(costs).supplyMap(supplies).supplyType(Simplex::GEQ);
-  const auto ready = std::chrono::steady_clock::now();
+  const double ready = now();
   const bool is_best = simplex.run() == Simplex::OPTIMAL;
-  const double run = since(ready);
-  return {since(start), run, is_best ? "best, total " + std::to_string(simplex.totalCost<std::int64_t>()) : "none"};
+  const double run = now() - ready;
+  return {now() - start, run, is_best ? "best, total " + std::to_string(simplex.totalCost<std::int64_t>()) : "none"};
 }
 
 void measure(const std::string& family, const Problem& problem) {
@@ -133,6 +140,7 @@ void measure(const std::string& family, const Problem& problem) {
 
 }  // namespace
 
-int main() {
+int main(int count, char** words) {
+  is_processor_time = count > 1 && std::string(words[1]) == "processor";
   for (std::string family; std::getline(std::cin, family, ':');) measure(family, read_problem());
 }

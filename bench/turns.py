@@ -1,10 +1,10 @@
 """Times the solver and LEMON's network simplex by turns on the same problems, and prints a row for each family.
 
-usage: turns.py BENCH_SOLVER LEMON [ROUNDS [BITS]]
+usage: turns.py BENCH_SOLVER LEMON [ROUNDS [BITS | costly]]
 
 Each round runs both programs over all families, one after the other, so that both see the machine in the same minutes. With BITS
-each consumer has half of its room at a fee below 2^BITS, or at none for 0. The times printed are the least of all rounds; the ratios
-divide them. A family whose answers differ ends the run.
+each consumer has half of its room at a fee below 2^BITS, or at none for 0; with `costly` the families are those that are made to take
+long. The times printed are the least of all rounds; the ratios divide them. A family whose answers differ ends the run.
 """
 
 import os
@@ -32,7 +32,13 @@ def agree(ours, theirs):
 def main():
     solver, lemon = sys.argv[1:3]
     rounds = int(sys.argv[3]) if len(sys.argv) > 3 else 3
-    made = families.with_tiers(int(sys.argv[4])) if len(sys.argv) > 4 else families.families()
+    match sys.argv[4:]:
+        case []:
+            made = families.families()
+        case ["costly"]:
+            made = families.costly_families()
+        case [bits]:
+            made = families.with_tiers(int(bits))
     problems = os.path.join(os.path.dirname(lemon), "problems")
     with open(problems, "w") as out:
         out.writelines(families.text(*problem, families.TIMES) for problem in made)
