@@ -2,5 +2,5 @@ pub mod MovesLemmas
 pub mod VerdictLemmas
 pub mod ArrayLemmas
 pub mod PlanReplyLemmas
-pub mod CallsLemmas
+pub mod BatchesLemmas
 pub mod BestLemmas

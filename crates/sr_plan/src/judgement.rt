@@ -1,10 +1,13 @@
 ghost use Rattle.std.specs.Prelude.{◌≡◌, IfOk};
 ghost use Rattle.sr_policy.specs.Problem.{problem_of};
+ghost use Rattle.sr_plan.specs.Batches.{batches_in};
 ghost use Rattle.sr_plan.specs.Calls.{claim_calls};
 ghost use Rattle.sr_check.specs.PlanReply.{verdict_answer};
 ghost use Rattle.sr_plan.specs.Verdict.{IsVerdict, IsWorth, total_in, prices_in, moves_in, shortage_in};
 
-use crate::calls::calls_of;
+use crate::batch::Batch;
+use crate::batches::batches_of;
+use crate::calls::calls_for;
 use crate::moves::{Moves, Shortage};
 use crate::prices::Prices;
 use crate::reply::{plan_reply, shortage_reply};
@@ -129,6 +132,16 @@ impl Judgement {
         self.snapshot.gone()
     }
 
+    /// What a plan gives each consumer that gets entries, in byte order of their names. A shortage gives nothing.
+    pub(crate) fn batches(&self, alloc: Global) -> Result<Vec<Batch<'_>>, AllocError>
+        ensures { IfOk result (λ batches. batches.items ≡ batches_in self.now.snapshot self.now.answer) }
+    {
+        match &self.solved {
+            Solved::Best { assign, .. } => batches_of(alloc, &self.snapshot, assign.as_slice()),
+            Solved::Short { .. } => Ok(Vec::new(alloc)),
+        }
+    }
+
     /// The calls of XCLAIM that carry out a plan: one for each consumer that gets entries, in byte order of their
     /// names. For a shortage there are none.
     ///
@@ -136,10 +149,8 @@ impl Judgement {
     pub(crate) fn claim_calls(&self, alloc: Global) -> Result<Vec<Call>, AllocError>
         ensures { IfOk result (λ calls. calls.items ≡ claim_calls self.now.snapshot self.now.answer) }
     {
-        match &self.solved {
-            Solved::Best { assign, .. } => calls_of(alloc, &self.snapshot, assign.as_slice()),
-            Solved::Short { .. } => Ok(Vec::new(alloc)),
-        }
+        let batches = self.batches(alloc)?;
+        calls_for(alloc, &self.snapshot, batches.as_slice())
     }
 
     /// The verdict as RECOVER.PLAN replies it, or, if it was carried out, as RECOVER.RUN does.

@@ -1,6 +1,8 @@
 //! The verdict on a snapshot: a cheapest plan with prices that show it, or a shortage that shows that there is none.
 #![tactic(auto)]
 
+mod batch;
+mod batches;
 mod calls;
 mod judgement;
 mod moves;
@@ -8,6 +10,7 @@ mod prices;
 mod reply;
 mod verdict;
 
+pub use batch::Batch;
 pub use moves::{Moves, Shortage};
 pub use prices::Prices;
 pub use verdict::Verdict;

@@ -1,9 +1,11 @@
 ghost use Rattle.std.specs.Prelude.{◌≡◌, IfOk};
 ghost use Rattle.sr_policy.specs.Problem.{problem_of};
+ghost use Rattle.sr_plan.specs.Batches.{batches_in};
 ghost use Rattle.sr_plan.specs.Calls.{claim_calls};
 ghost use Rattle.sr_check.specs.PlanReply.{verdict_answer};
 ghost use Rattle.sr_plan.specs.Verdict.{IsVerdict, IsWorth, total_in, prices_in, moves_in, shortage_in};
 
+use crate::batch::Batch;
 use crate::judgement::Judgement;
 use crate::moves::{Moves, Shortage};
 use crate::prices::Prices;
@@ -112,6 +114,13 @@ impl Verdict {
         ensures { result.now ≡ self.now.snapshot.gone }
     {
         self.judged.as_ref().gone()
+    }
+
+    /// What a plan gives each consumer that gets entries, in byte order of their names. A shortage gives nothing.
+    pub fn batches(&self, alloc: Global) -> Result<Vec<Batch<'_>>, AllocError>
+        ensures { IfOk result (λ batches. batches.items ≡ batches_in self.now.snapshot self.now.answer) }
+    {
+        self.judged.as_ref().batches(alloc)
     }
 
     /// The calls of XCLAIM that carry out a plan: one for each consumer that gets entries, in byte order of their
