@@ -1,6 +1,6 @@
-use Rattle.std.proofs.Common.{take}
-use Rattle.sr_space.specs.steps.Claiming.{AreMovesOf}
+use Rattle.std.proofs.Common.{◌≡◌, map, take}
+use Rattle.sr_space.specs.steps.Claiming.{move_for}
 use Rattle.sr_space.proofs.commit.moves_of.Given as goal
 
-abbrev pub invariant-loop-call : goal.invariant-loop-call
-invariant-loop-call l = AreMovesOf (take l.call-index l.calls) l.moves.items
+abbrev pub invariant-loop-batch : goal.invariant-loop-batch
+invariant-loop-batch l = l.moves.items ≡ map move_for (take l.batch-index l.batches)

@@ -2,19 +2,15 @@ use Rattle.std.proofs.Common.{◌≡◌, Some, None, nat_eq, refl, ap, sym, ◌�
 use Rattle.std.proofs.lemmas.Result.{on_ok_weaker, on_err_weaker}
 use Rattle.std.specs.Cmp.Lexicographic.{pointwise}
 use Rattle.std.specs.Map.{lookup, set_value}
+use Rattle.sr_plan.specs.Batches.{batches_in}
 use Rattle.sr_plan.specs.Calls.{claim_calls}
 use Rattle.sr_policy.specs.Snapshot.{Shown}
 use Rattle.sr_space.specs.Commit.{after_calls}
 use Rattle.sr_space.specs.Keys.{shown_keys, shown_of, stream_at, with_stream}
-use Rattle.sr_space.proofs.CommitLemmas.{are_claims, committed-found, committed-missing}
+use Rattle.sr_space.proofs.CommitLemmas.{committed-found, committed-missing}
 use Rattle.sr_space.proofs.KeysLemmas.{Stored, shown-set_value, shown-set_value_same, stream_at-shown}
 use Rattle.sr_space.proofs.ReadGroupLemmas.{shown-found}
 use Rattle.sr_space.proofs.space.Space.commit.Goals as goal
-
-pub claim_in-requires : goal.claim_in-requires
-claim_in-requires c =
-    let verdict = c.args.verdict.now in
-    are_claims verdict.snapshot verdict.answer c.as_slice.result.now (c.as_slice.ensures.value ∙ c.in_ok-calls.ensures)
 
 pub returns-in-Some-clause-ok : goal.returns-in-Some-clause-ok
 returns-in-Some-clause-ok c =
@@ -26,7 +22,7 @@ returns-in-Some-clause-ok c =
     let written = c.claim_in.new.stream in
     let found : lookup (pointwise nat_eq key) stored ≡ Some kept = sym c.in-Some.ensures.value in
     let put : (c.get_mut.follows.lender written).entries ≡ set_value (pointwise nat_eq key) stored written = (c.get_mut.follows.holds written).0 in
-    let are : c.as_slice.result.now ≡ claim_calls verdict.snapshot verdict.answer = c.as_slice.ensures.value ∙ c.in_ok-calls.ensures in
+    let are : c.as_slice.result.now ≡ batches_in verdict.snapshot verdict.answer = c.as_slice.ensures.value ∙ c.in_ok-batches.ensures in
     let key_is : key ≡ verdict.snapshot.key = c.key.ensures ∙ ap (λ (s : Shown). s.key) c.snapshot-snapshot.ensures in
     let name_is : c.group.result.now ≡ verdict.snapshot.group = c.group.ensures ∙ ap (λ (s : Shown). s.group) c.snapshot-snapshot.ensures in
     let there : stream_at (shown_keys stored) key ≡ Some kept.shown = shown-found stored key kept found in
@@ -53,5 +49,5 @@ returns-clause-ok c =
     let missing : stream_at (shown_keys stored) key ≡ None = stream_at-shown stored key ∙ ap shown_of none in
     let key_is : key ≡ verdict.snapshot.key = c.key.ensures ∙ ap (λ (s : Shown). s.key) c.snapshot-snapshot.ensures in
     ap (λ m. shown_keys m.entries) c.get_mut.follows.holds-at-none
-    ∙ committed-missing verdict.snapshot verdict.answer c.in_ok-calls.calls.items c.in_ok-calls.ensures c.args.moment (shown_keys stored) key verdict.snapshot.group key_is refl missing
+    ∙ committed-missing verdict.snapshot verdict.answer c.in_ok-batches.batches.items c.in_ok-batches.ensures c.args.moment (shown_keys stored) key verdict.snapshot.group key_is refl missing
     ∙ ap (after_calls c.args.moment (claim_calls verdict.snapshot verdict.answer)) c.self.view_is
