@@ -8,14 +8,14 @@ use Rattle.std.specs.declared.cmp.Ordering.TheVariants.{Less}
 use Rattle.std.proofs.lemmas.Cmp.{nat_list_cmp_total, nat_list_eq_equiv}
 use Rattle.std.proofs.lemmas.List.Kept.{Contains-dedup, Contains-from_dedup, IsStrictlySortedBy-dedup}
 use Rattle.std.proofs.lemmas.List.Sorted.{IsPermutation-sym}
-use Rattle.sr_bytes.specs.Order.{ComesBefore}
+use Rattle.sr_bytes.specs.Order.{AreInOrder, ComesBefore}
 use Rattle.sr_group.proofs.NameLemmas.{comes_before-one_way, is_same_name-refl, is_same_name-true}
 use Rattle.sr_policy.specs.Rules.{Text}
 use Rattle.sr_policy.specs.Snapshot.{is_among}
 use Rattle.sr_space.specs.Snap.{in_order}
 use Rattle.sr_space.proofs.RisingLemmas.{AreAfter}
 use Rattle.sr_space.proofs.SortedLemmas.{Contains-one, IsIn, IsIn-contained, IsIn-permutation, Rises-same}
-use Rattle.sr_space.proofs.NameOrderLemmas.{NamesRise, NamesRise-in_order, is_among-in_order}
+use Rattle.sr_space.proofs.NameOrderLemmas.{NamesRise, NamesRise-in_order, is_among-in_order, names_rise}
 
 -- ---- a name is among names if it is one of them
 
@@ -56,6 +56,10 @@ in_order-known list names rises there back =
     Rises-same ComesBefore (λ (name : Text). name) one_way list (in_order names) rises (NamesRise-in_order names)
     (λ name is. IsIn-among (in_order names) name (rw (is_among-in_order names name) (among-one_of names name (there name is))))
     (λ name is. back name (IsIn-among names name (rw (sym (is_among-in_order names name)) (among-one_of (in_order names) name is))))
+
+-- names that are in byte order, each once, are so
+pub in_order-already : (names : List Text) → AreInOrder ComesBefore names → names ≡ in_order names
+in_order-already names order = in_order-known names names (names_rise names order) (λ name is. is) (λ name is. is)
 
 -- what a sort and a dedup make of names
 pub in_order-sorted : (names moved list : List Text) → IsPermutation names moved → IsSorted (slice_cmp nat_cmp) moved → list ≡ dedup (pointwise nat_eq) moved → list ≡ in_order names

@@ -1,5 +1,5 @@
 //! Names in byte order, each once.
-ghost use Rattle.std.specs.Prelude.{◌≡◌, ◌≤◌, IfOk, OnOk, length, map, vec_len};
+ghost use Rattle.std.specs.Prelude.{◌≡◌, ◌≤◌, IsTrue, ◌↔◌, IfOk, OnOk, length, map, vec_len};
 ghost use Rattle.std.specs.List.{insert};
 ghost use Rattle.sr_bytes.specs.Order.{AreInOrder, ComesBefore};
 ghost use Rattle.sr_policy.specs.Snapshot.{is_among as among};
@@ -47,12 +47,23 @@ fn copies_of(alloc: Global, names: &[Name]) -> Result<Vec<Name>, AllocError>
     Ok(list)
 }
 
-/// Puts the names in byte order, each once. It takes no memory.
+/// Puts the names in byte order, each once. It takes no memory. For names that are so already, as the dead consumers of
+/// a snapshot are, this is one pass.
 fn put_in_order(names: &mut Vec<Name>)
     ensures { names.new.items ≡ in_order names.old.items }
 {
+    if are_in_order(names.as_slice()) {
+        return;
+    }
     names.sort_unstable_by(|a, b| a.as_slice().cmp(&b.as_slice()));
     names.dedup();
+}
+
+/// Whether the names are in byte order, each once.
+fn are_in_order(names: &[Name]) -> bool
+    ensures { IsTrue result ↔ AreInOrder ComesBefore names.now }
+{
+    names.windows(2).all(|pair| pair[0].comes_before(&pair[1]))
 }
 
 /// The classes of the entries in byte order, each once.

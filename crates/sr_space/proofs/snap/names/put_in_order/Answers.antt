@@ -1,4 +1,4 @@
-use Rattle.std.proofs.Common.{rules, List, ℕ}
+use Rattle.std.proofs.Common.{rules, List, ℕ, subst}
 use Rattle.std.specs.Cmp.Lexicographic.{slice_cmp}
 use Rattle.std.specs.List.Sorted.{IsSorted}
 use Rattle.std.specs.Ordering.{is_lt, nat_cmp}
@@ -6,8 +6,14 @@ use Rattle.std.proofs.lemmas.Cmp.{nat_list_cmp_total}
 use Rattle.std.proofs.lemmas.Fn.{always_returns_same}
 use Rattle.std.proofs.lemmas.List.Filters.{dedup_is}
 use Rattle.std.proofs.lemmas.List.Sorted.{ranks_by}
-use Rattle.sr_space.proofs.SortedNameLemmas.{in_order-sorted}
+use Rattle.sr_bytes.specs.Order.{AreInOrder, ComesBefore}
+use Rattle.sr_space.proofs.SortedNameLemmas.{in_order-already, in_order-sorted}
 use Rattle.sr_space.proofs.snap.names.put_in_order.Goals as goal
+
+pub returns-then-are_in_order : goal.returns-then-are_in_order
+returns-then-are_in_order c =
+    in_order-already c.args.names.now.items
+    (subst (λ (l : List (List ℕ)). AreInOrder ComesBefore l) c.as_slice.ensures.value (c.are_in_order.ensures.0 c.if-are_in_order.true))
 
 pub returns : goal.returns
 returns c =
