@@ -1,2 +1,3 @@
 mod CopyLemmas
 pub mod ReadLemmas
+pub mod IndexLemmas

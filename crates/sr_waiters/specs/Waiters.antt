@@ -1,11 +1,26 @@
 -- Reads that wait for entries, in the order in which they blocked.
 -- Source: Redis documentation, the pages of XREAD and XREADGROUP, "BLOCK".
 
-use Rattle.std.specs.Prelude.{⊤, ◌≡◌, ◌==◌, ℕ, List, [], ◌∷◌, Bool, false, not, nat_lt, filter}
+use Rattle.std.specs.Prelude.{⊤, ◌≡◌, ◌==◌, ℕ, List, [], ◌∷◌, Bool, false, not, nat_eq, nat_lt, filter}
 use Rattle.std.specs.Prelude.{Option, Some, None, if◌then◌else◌}
+use Rattle.std.specs.Cmp.Lexicographic.{pointwise}
 use Rattle.std.specs.List.{list_any}
 use Rattle.std.specs.Option.{option_map}
 use Rattle.sr_args.specs.declared.call.Call.{Call}
+use Rattle.sr_args.specs.declared.call.Call.TheVariants as calls
+
+abbrev pub Key : Type 0
+Key = List ℕ
+
+-- one of the streams has the key
+abbrev pub has_key : {X : Type 0} → Key → List (Key × X) → Bool
+has_key key streams = list_any (λ stream. pointwise nat_eq stream.0 key) streams
+
+-- a read asks the stream at the key; no other call does
+abbrev pub asks : Key → Call → Bool
+asks key (calls.Xread read) = has_key key read.streams
+asks key (calls.Xreadgroup read) = has_key key read.streams
+asks key call = false
 
 -- a read that waits: the session that called it, the call, and the moment at which it is answered whatever is there, if
 -- it has one, in milliseconds since 1970

@@ -1,6 +1,7 @@
 //! Reads that wait for entries, in the order in which they blocked.
 #![tactic(auto)]
 
+mod index;
 mod waiters;
 
 pub use waiters::Waiters;

@@ -1,6 +1,16 @@
+ghost use Rattle.std.specs.Prelude.{◌≡◌, Bool};
+ghost use Rattle.sr_args.specs.declared.call.Call as calls;
+ghost use Rattle.sr_waiters.specs.Calls.{ComputesTest};
+ghost use Rattle.sr_waiters.specs.Index.{reads_of};
+ghost use Rattle.sr_waiters.specs.Layout.{shown_reads};
+ghost use Rattle.sr_waiters.specs.Waiters.{first_that, session_of};
+
+use crate::index::{Index, asks, put_if_indexed, sessions_at, take_read};
 use indexmap::IndexMap;
 use sr_args::Call;
+use sr_bytes::Name;
 use std::alloc::{AllocError, Global};
+use std::collections::HashMap;
 use std::hash::RandomState;
 use std::marker::Model;
 
@@ -29,36 +39,45 @@ impl Blocked {
 /// Reads that wait for entries, in the order in which they blocked, each session once.
 pub struct Waiters {
     reads: IndexMap<u64, Blocked, RandomState>,
+    index: Index,
+    /// Whether the index has each read: not if memory for it was refused once.
+    indexed: bool,
 }
 
 // A function of its own, so that a caller that lets go of one is proved without looking at its parts.
 impl Drop for Waiters {
     fn drop(self) {
-        let Waiters { reads: _ } = self;
+        let Waiters {
+            reads: _,
+            index: _,
+            indexed: _,
+        } = self;
     }
 }
 
 impl Model for Waiters {
-    ghost use Rattle.std.specs.Prelude.{nat_eq};
+    ghost use Rattle.std.specs.Prelude.{nat_eq, IsTrue};
     ghost use Rattle.indexmap.specs.IndexMap.{IsUnique, spare};
     ghost use Rattle.sr_waiters.specs.Waiters.{WaitersState};
+    ghost use Rattle.sr_waiters.specs.Index.{IsIndexed};
     ghost use Rattle.sr_waiters.specs.Layout.{shown_reads};
 
     ghost Value = { WaitersState };
 
     ghost view = { λ w. record { list = shown_reads w.reads.entries; room = spare w.reads } };
 
-    ghost invariant = { λ w. IsUnique nat_eq w.reads };
+    ghost invariant = { λ w. IsUnique nat_eq w.reads
+        × (IsTrue w.indexed → IsIndexed w.index (shown_reads w.reads.entries)) };
 }
 
 impl Waiters {
-    ghost use Rattle.std.specs.Prelude.{◌≡◌, ◌+◌, ◌<◌, ◌≤◌, ◌++◌, [], ◌∷◌, Bool, false, IfOk, OnOk, OnErr};
+    ghost use Rattle.std.specs.Prelude.{◌≡◌, ◌+◌, ◌<◌, ◌≤◌, ◌++◌, ◌&&◌, [], ◌∷◌, Bool, false, IfOk, OnOk, OnErr};
     ghost use Rattle.std.specs.Prelude.{length, slice_get};
     ghost use Rattle.std.specs.List.{list_any};
     ghost use Rattle.std.specs.Option.{option_copied};
     ghost use Rattle.sr_args.specs.declared.call.Call as calls;
     ghost use Rattle.sr_waiters.specs.Calls.{ComputesTest};
-    ghost use Rattle.sr_waiters.specs.Waiters.{AreOnce, has_session, is_due, due_at, first_that, without_session};
+    ghost use Rattle.sr_waiters.specs.Waiters.{AreOnce, asks, has_session, is_due, due_at, first_that, without_session};
     ghost use Rattle.sr_waiters.specs.Waiters.{call_of, read_of, session_of};
 
     /// No reads. Takes no memory.
@@ -67,6 +86,8 @@ impl Waiters {
     {
         Waiters {
             reads: IndexMap::with_hasher(alloc, hasher),
+            index: HashMap::with_hasher(alloc, hasher),
+            indexed: true,
         }
     }
 
@@ -87,7 +108,7 @@ impl Waiters {
         self.reads.reserve(additional)
     }
 
-    /// The read goes last. Takes no memory.
+    /// The read goes last. It needs no memory: if memory for the index is refused, the reads do without it.
     #[tactic(auto, using(crate::proofs::ReadLemmas::shown_joined))]
     pub fn join(&mut self, session: u64, call: Call, deadline: Option<u64>)
         requires room { 0 < self.old.room }
@@ -96,6 +117,8 @@ impl Waiters {
             self.old.list ++ record { session = session; call = call; deadline = deadline } ∷ [] }
         ensures room { self.old.room ≤ self.new.room + 1 }
     {
+        let alloc = *self.reads.allocator();
+        self.indexed = put_if_indexed(&mut self.index, alloc, self.indexed, &call, session);
         let read = Blocked { call, deadline };
         drop(self.reads.insert(session, read).unwrap());
     }
@@ -110,6 +133,7 @@ impl Waiters {
         match self.reads.shift_remove(&session) {
             None => false,
             Some(read) => {
+                take_read(&mut self.index, &read.call, session);
                 drop(read);
                 true
             }
@@ -151,6 +175,21 @@ impl Waiters {
             }
         }
         None
+    }
+
+    /// The session of the first read, in order of blocking, that asks the stream at the key and whose call passes the
+    /// test. It looks at no read of other keys.
+    ///
+    /// The clause is for each test that the closure computes, as that of `first_where` is.
+    pub fn first_at<F: Fn(&Call) -> bool>(&self, key: &Name, passes: F) -> Option<u64>
+        requires { F.IsAlwaysCallable passes }
+        ensures { (test : calls.Call → Bool) → ComputesTest F.Fn test passes
+            → result ≡ session_of (first_that (λ call. asks key.now call && test call) self.now.list) }
+    {
+        if self.indexed {
+            return first_among(&self.reads, sessions_at(&self.index, key), passes);
+        }
+        self.first_where(|call| asks(call, key) && passes(call))
     }
 
     /// Whether the deadline of a read is reached.
@@ -195,4 +234,24 @@ impl Waiters {
     {
         let _ = &self.reads;
     }
+}
+
+/// The first of these sessions that waits with a call that passes the test.
+fn first_among<F: Fn(&Call) -> bool>(
+    reads: &IndexMap<u64, Blocked, RandomState>,
+    sessions: &[u64],
+    passes: F,
+) -> Option<u64>
+    requires { F.IsAlwaysCallable passes }
+    ensures { (test : calls.Call → Bool) → ComputesTest F.Fn test passes
+        → result ≡ session_of (first_that test (reads_of sessions.now (shown_reads reads.now.entries))) }
+{
+    for session in sessions {
+        if let Some(found) = reads.get(session) {
+            if passes(&found.call) {
+                return Some(*session);
+            }
+        }
+    }
+    None
 }

@@ -1,0 +1,18 @@
+use Rattle.std.proofs.Common.{Bool, List, ℕ, ◌&&◌, ◌∙◌, ap}
+use Rattle.sr_args.specs.declared.call.Call.{Call}
+use Rattle.sr_waiters.specs.Index.{reads_of}
+use Rattle.sr_waiters.specs.Layout.{shown_reads}
+use Rattle.sr_waiters.specs.Waiters.{WaitersState, asks, first_that, session_of}
+use Rattle.sr_waiters.proofs.IndexLemmas.{first-indexed}
+use Rattle.sr_waiters.proofs.ReadLemmas.{once_shown}
+use Rattle.sr_waiters.proofs.waiters.Waiters.first_at.Goals as goal
+
+pub returns-then-self : goal.returns-then-self
+returns-then-self g c = λ test computes.
+    let inside = c.self.inside in
+    let shown = shown_reads inside.reads.entries in
+    let key = c.args.key.now in
+    c.first_among.ensures test computes
+    ∙ ap (λ (l : List ℕ). session_of (first_that test (reads_of l shown))) c.sessions_at.ensures
+    ∙ first-indexed inside.index shown key test (once_shown inside.reads.entries c.self.invariant.0) (c.self.invariant.1 c.if-self.true)
+    ∙ ap (λ (w : WaitersState). session_of (first_that (λ call. asks key call && test call) w.list)) c.self.view_is
