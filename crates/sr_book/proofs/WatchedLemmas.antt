@@ -14,11 +14,11 @@ use Rattle.sr_space.specs.Readers.{is_read, read_at, read_beside}
 use Rattle.sr_space.specs.declared.blocking.Outcome.{Outcome}
 use Rattle.sr_space.specs.declared.blocking.Outcome.TheVariants as outcomes
 use Rattle.sr_space.specs.declared.snap.SnapFault.{SnapFault}
-use Rattle.sr_space.proofs.ApartLaws.{finds-apart, finds-beside}
+use Rattle.sr_space.proofs.ApartLaws.{finds-apart, finds-beside, unasked-nothing}
 use Rattle.sr_space.proofs.QuietLaws.{read-finds}
 use Rattle.sr_space.proofs.ReaderLaws.{finds-moment, finds-still}
 use Rattle.sr_space.proofs.WaitingLaws.{waiting-nothing}
-use Rattle.sr_waiters.specs.Waiters.{Waiting, first_that, is_due, session_of}
+use Rattle.sr_waiters.specs.Waiters.{Waiting, asks, first_that, is_due, session_of}
 use Rattle.sr_space.specs.Snap.{snapped}
 use Rattle.sr_book.specs.declared.effect.Served.{Served}
 use Rattle.sr_book.specs.declared.event.Event.{Event}
@@ -91,9 +91,9 @@ and-true : (a b : Bool) → b ≡ true → (a && b) ≡ a
 and-true true b e = e
 and-true false b e = refl
 
--- the read has an answer from its stream at the key, and none from its other streams
+-- the read asks the stream at the key and has an answer from it; and it has none from its other streams
 abbrev ready_at : Key → Keys → ℕ → Call → Bool
-ready_at key keys moment call = not (finds_nothing keys moment (read_at key call))
+ready_at key keys moment call = asks key call && not (finds_nothing keys moment (read_at key call))
 
 abbrev IsBeside : Key → Keys → ℕ → Waiting → Type 0
 IsBeside key keys moment read = finds_nothing keys moment (read_beside key read.call) ≡ true
@@ -105,12 +105,24 @@ one-beside : (key : Key) (keys : Keys) (moment : ℕ) (call : Call) → finds_no
 one-beside key keys moment call none =
     (both (finds_nothing keys moment (read_at key call)) (finds_nothing keys moment (read_beside key call)) (sym (finds-apart keys moment key call) ∙ none)).1
 
--- then the reads that have an answer are those that have one at the key
+-- a read that does not ask the stream at the key then has no answer
+unasked : (key : Key) (keys : Keys) (moment : ℕ) (call : Call) → asks key call ≡ false → finds_nothing keys moment (read_beside key call) ≡ true → finds_nothing keys moment (read_at key call) ≡ true
+unasked key keys moment (calls.Xread read) apart beside = unasked-nothing keys moment key (calls.Xread read) apart
+unasked key keys moment (calls.Xreadgroup read) apart beside = unasked-nothing keys moment key (calls.Xreadgroup read) apart
+unasked key keys moment call apart beside = beside
+
+only-asked : (a b : Bool) → (a ≡ false → b ≡ true) → not b ≡ (a && not b)
+only-asked true b nothing = refl
+only-asked false b nothing = ap not (nothing refl)
+
+-- so the reads that have an answer are those that ask the stream at the key and have one there
 first-beside : (key : Key) (keys : Keys) (moment : ℕ) (waiting : List Waiting) → AreBeside key keys moment waiting → first_that (ready keys moment) waiting ≡ first_that (ready_at key keys moment) waiting
 first-beside key keys moment [] beside = refl
 first-beside key keys moment (read ∷ waiting) beside =
     let at = finds_nothing keys moment (read_at key read.call) in
-    let same : ready keys moment read.call ≡ ready_at key keys moment read.call = ap not (finds-apart keys moment key read.call ∙ and-true at (finds_nothing keys moment (read_beside key read.call)) beside.0) in
+    let same : ready keys moment read.call ≡ ready_at key keys moment read.call =
+    ap not (finds-apart keys moment key read.call ∙ and-true at (finds_nothing keys moment (read_beside key read.call)) beside.0)
+    ∙ only-asked (asks key read.call) at (λ apart. unasked key keys moment read.call apart beside.0) in
     ap (λ (b : Bool). cond b (Some read) (first_that (ready keys moment) waiting)) same
     ∙ ap (cond (ready_at key keys moment read.call) (Some read)) (first-beside key keys moment waiting beside.1)
 

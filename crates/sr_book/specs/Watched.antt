@@ -1,12 +1,12 @@
 -- What is known of the waiting reads that have an answer. No public clause cites this.
-use Rattle.std.specs.Prelude.{⊤, ◌≡◌, ◌↔◌, ◌||◌, not, Bool, true, false, IsTrue, Option, None, is_none}
+use Rattle.std.specs.Prelude.{⊤, ◌≡◌, ◌↔◌, ◌&&◌, ◌||◌, not, Bool, true, false, IsTrue, Option, None, is_none}
 use Rattle.std.specs.List.{AllByRecursion}
 use Rattle.sr_args.specs.declared.call.Call.{Call}
 use Rattle.sr_space.specs.Blocking.{finds_nothing}
 use Rattle.sr_space.specs.Keys.{Key}
 use Rattle.sr_space.specs.Effect.{key_of}
 use Rattle.sr_space.specs.Readers.{is_read, read_at, read_beside}
-use Rattle.sr_waiters.specs.Waiters.{first_that}
+use Rattle.sr_waiters.specs.Waiters.{asks, first_that}
 use Rattle.sr_book.specs.declared.event.Event.{Event}
 use Rattle.sr_book.specs.declared.event.Event.TheVariants as events
 use Rattle.sr_book.specs.declared.watched.Ready.{Ready}
@@ -14,10 +14,11 @@ use Rattle.sr_book.specs.declared.watched.Ready.TheVariants.{Nobody, At, Unknown
 use Rattle.sr_book.specs.Records.{IsSettled}
 use Rattle.sr_book.specs.Server.{Server}
 
--- no waiting read has an answer from its stream at the key
+-- no waiting read that asks the stream at the key has an answer from it
 abbrev pub IsQuietAt : Key → Server → Type 0
 IsQuietAt key server =
-    first_that (λ read. not (finds_nothing server.keys server.last (read_at key read))) server.waiting ≡ None
+    first_that (λ read. asks key read && not (finds_nothing server.keys server.last (read_at key read))) server.waiting
+    ≡ None
 
 -- nor from any other stream: each waiting read that has an answer has it from its stream at the key
 abbrev pub AreQuietBeside : Key → Server → Type 0

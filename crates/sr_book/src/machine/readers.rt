@@ -6,10 +6,10 @@ use sr_space::{is_read, key_of};
 use std::alloc::{AllocError, Global};
 
 impl Machine {
-    ghost use Rattle.std.specs.Prelude.{◌≡◌, ◌↔◌, IsTrue, IfNone, IfSome, Some, None, OnErr, IfOk, not};
+    ghost use Rattle.std.specs.Prelude.{◌≡◌, ◌↔◌, ◌&&◌, IsTrue, IfNone, IfSome, Some, None, OnErr, IfOk, not};
     ghost use Rattle.sr_space.specs.Blocking.{finds_nothing};
     ghost use Rattle.sr_space.specs.Readers.{read_at};
-    ghost use Rattle.sr_waiters.specs.Waiters.{first_that, session_of};
+    ghost use Rattle.sr_waiters.specs.Waiters.{asks, first_that, session_of};
     ghost use Rattle.sr_book.specs.Server.{serving};
     ghost use Rattle.sr_book.specs.Watched.{AreQuietBeside, IsQuietAt};
 
@@ -20,17 +20,18 @@ impl Machine {
         self.first_ready_at(key).is_none()
     }
 
-    /// The session of the first waiting read, in order of blocking, that has an answer from its stream at the key.
+    /// The session of the first waiting read, in order of blocking, that has an answer from its stream at the key. It
+    /// looks at the reads of that key alone.
     fn first_ready_at(&self, key: &Name) -> Option<u64>
-        ensures { result ≡ session_of (first_that (λ read.
-            not (finds_nothing self.now.keys self.now.last (read_at key.now read))) self.now.waiting) }
+        ensures { result ≡ session_of (first_that (λ read. asks key.now read
+            && not (finds_nothing self.now.keys self.now.last (read_at key.now read))) self.now.waiting) }
     {
         let space = &self.space;
-        self.waiters.first_where(|read| space.ready_at(read, key))
+        self.waiters.first_at(key, |read| space.ready_at(read, key))
     }
 
-    /// Serves as `serve` does, if no waiting read has an answer from a stream beside the key. It asks the streams at
-    /// the key alone.
+    /// Serves as `serve` does, if no waiting read has an answer from a stream beside the key. It asks the reads of the
+    /// key alone, and for the stream there.
     pub(crate) fn serve_at(
         &mut self,
         alloc: Global,

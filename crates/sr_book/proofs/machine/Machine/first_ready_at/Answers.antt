@@ -7,4 +7,4 @@ use Rattle.sr_book.proofs.machine.Machine.first_ready_at.Goals as goal
 pub returns : goal.returns
 returns c =
     let ready : Call → Bool = λ read. not (finds_nothing c.self.inside.space c.self.inside.last (read_at c.args.key.now read)) in
-    rw (← c.self.view_is) (c.first_where.ensures ready (λ read answer post. search rules))
+    rw (← c.self.view_is) (c.first_at.ensures ready (λ read answer post. search rules))
