@@ -23,8 +23,8 @@ enum Ready {
     Unknown,
 }
 
-/// The state of the one-thread server, which knows whether a waiting read has an answer, and where: so a call on one key
-/// and a serving after it ask for the stream at that key alone, and a read or an event on no key asks nobody.
+/// The state of the one-thread server, which knows whether a waiting read has an answer, and where: so a call on one
+/// key and a serving after it ask for the stream at that key alone, and a read or an event on no key asks nobody.
 pub(crate) struct Watched {
     machine: Machine,
     ready: Ready,
