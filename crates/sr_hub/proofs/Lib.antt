@@ -1,0 +1,12 @@
+pub mod ComingLemmas
+pub mod FrameLemmas
+pub mod GoingLemmas
+pub mod HubLemmas
+pub mod JoinLemmas
+pub mod LineLemmas
+pub mod MoveLemmas
+pub mod OwnLemmas
+pub mod PassLemmas
+pub mod ShownLemmas
+pub mod SoundLemmas
+pub mod StrayLemmas

@@ -1,0 +1,15 @@
+use Rattle.std.proofs.Common.{◌≤◌, IsSomeAnd, Option, length, subst, sym}
+use Rattle.sr_hub.specs.Line.{ConnectionState}
+use Rattle.sr_hub.proofs.HubLemmas.{sends-to}
+use Rattle.sr_hub.proofs.hub.sent_at.Goals as goal
+
+pub unreachable-requires : goal.unreachable-requires
+unreachable-requires c = subst (λ (o : Option ConnectionState). IsSomeAnd o (λ line. c.args.count ≤ length line.unsent)) (sym c.in_default.ensures.value) c.requires
+
+pub sent-requires : goal.sent-requires
+sent-requires c = subst (λ (o : Option ConnectionState). IsSomeAnd o (λ line. c.args.count ≤ length line.unsent)) (sym c.in-Some.ensures.value) c.requires
+
+pub returns : goal.returns
+returns c = λ book.
+    sends-to c.args.connections.now c.try_remove.new.self c.insert_reserved.new.self book c.args.token c.insert_reserved.result c.args.count c.in-Some.connection c.sent.new.self
+    c.in-Some.ensures.value c.try_remove.ensures.updates c.in-Some.ensures.key_is_next c.insert_reserved.ensures.key c.insert_reserved.ensures.updates c.sent.ensures

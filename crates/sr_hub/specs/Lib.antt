@@ -1,0 +1,4 @@
+pub mod Told
+pub mod Line
+pub mod Lines
+pub mod steps

@@ -1,0 +1,5 @@
+-- What only private clauses cite: one connection and the book while one of its requests is answered.
+pub mod Calls
+pub mod Left
+pub mod Moves
+pub mod Telling

@@ -1,0 +1,74 @@
+-- Cited by private clauses alone: one connection and the book, while the connection's requests are answered.
+
+use Rattle.std.specs.Prelude.{⊤, ◌≡◌, ℕ, true, List, [], ◌∷◌, ◌++◌, Some}
+use Rattle.std.specs.List.{AllByRecursion}
+use Rattle.sr_resp.specs.Request.{Words}
+use Rattle.sr_resp.specs.Stream.{Stands}
+use Rattle.sr_book.specs.Server.{Server, is_open, speaker}
+use Rattle.sr_book.specs.Records.{BookState, Legal, Recorded, next_index}
+use Rattle.sr_book.specs.declared.event.Act.{Act}
+use Rattle.sr_book.specs.declared.event.Act.TheVariants as acts
+use Rattle.sr_session.specs.Session.{AreAnswered}
+use Rattle.sr_hub.specs.Told.{IsSilent, IsTold}
+use Rattle.sr_hub.specs.Line.{ConnectionState, IsFree, IsJoined, IsLine}
+use Rattle.sr_hub.specs.Lines.{AreAll}
+
+-- an event of this session, or a serving
+abbrev pub IsOwn : ℕ → Act → Type 0
+IsOwn session (acts.Event event) = speaker event ≡ Some session
+IsOwn session (acts.Serve other) = ⊤
+
+-- records were added, which lead legally on; their events are of this session
+pub record Adds (session : ℕ) (old : BookState) (more : List Recorded) (new : BookState) : Type 0 where
+  pub same_base : new.base ≡ old.base
+  pub grown : new.records ≡ old.records ++ more
+  pub legal : Legal (next_index old) old.server more new.server
+  pub own : AllByRecursion (λ recorded. IsOwn session recorded.act) more
+
+-- no session closes
+abbrev pub KeepsOpen : Server → Server → Type 0
+KeepsOpen old new = (session : ℕ) → is_open session old.sessions ≡ true → is_open session new.sessions ≡ true
+
+-- the connection goes on as a line, while records are added whose events are of its session
+pub record Moves (old : BookState) (line : ConnectionState) (new : BookState) (after : ConnectionState) : Type 0 where
+  pub more : List Recorded
+  pub adds : Adds line.session old more new
+  pub opened : KeepsOpen old.server new.server
+  pub same : after.session ≡ line.session
+  pub goes_on : (records : List Recorded) (taken given : List ℕ) → AreAll records old
+      → IsLine records old.server taken given line → IsLine (records ++ more) new.server taken given after
+
+-- the same of a connection that can take the next request, of which these words were handed out and not answered
+pub record IsHolding (words : Words) (records : List Recorded) (server : Server) (taken given : List ℕ)
+    (line : ConnectionState) : Type 0 where
+  pub found : List Recorded
+  pub told : List Recorded
+  pub more : List Recorded
+  pub answered : List Words
+  pub joined : IsJoined line.session found
+  pub stands : Stands taken (answered ++ words ∷ []) line.requests
+  pub tells : AreAnswered (IsTold line.session) found answered (given ++ line.unsent) told
+  pub whole : records ≡ told ++ more
+  pub silent : IsSilent line.session more
+  pub free : IsFree line.session server
+
+-- the words are answered, or held: the connection goes on as a line
+pub record Answers (words : Words) (old : BookState) (line : ConnectionState) (new : BookState)
+    (after : ConnectionState) : Type 0 where
+  pub more : List Recorded
+  pub adds : Adds line.session old more new
+  pub opened : KeepsOpen old.server new.server
+  pub same : after.session ≡ line.session
+  pub goes_on : (records : List Recorded) (taken given : List ℕ) → AreAll records old
+      → IsHolding words records old.server taken given line → IsLine (records ++ more) new.server taken given after
+
+-- the same while a piece of its bytes is taken first
+pub record Takes (piece : List ℕ) (old : BookState) (line : ConnectionState) (new : BookState)
+    (after : ConnectionState) : Type 0 where
+  pub more : List Recorded
+  pub adds : Adds line.session old more new
+  pub opened : KeepsOpen old.server new.server
+  pub same : after.session ≡ line.session
+  pub goes_on : (records : List Recorded) (taken given : List ℕ) → AreAll records old
+      → IsLine records old.server taken given line
+      → IsLine (records ++ more) new.server (taken ++ piece) given after

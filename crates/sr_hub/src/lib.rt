@@ -1,0 +1,16 @@
+//! One book, and the connections of an event loop: each gets the replies that the book's records address to its
+//! session.
+#![tactic(auto)]
+
+mod answering;
+mod connection;
+mod hub;
+mod laws;
+mod rounds;
+mod stage;
+mod unsent;
+
+pub use connection::Connection;
+pub use hub::{Hub, TakeFault};
+pub use laws::lines_pass;
+pub use stage::{Judging, Stage};

@@ -1,0 +1,143 @@
+//! Recoveries: a snapshot, and then rounds, in each of which a verdict on the last snapshot is concluded.
+ghost use Rattle.std.specs.Prelude.{◌≡◌, IfSome, IsSome, IsSomeAnd};
+ghost use Rattle.sr_resp.specs.Request.{Words as RequestWords};
+ghost use Rattle.sr_args.specs.declared.call.Command.TheVariants as commands;
+ghost use Rattle.sr_args.specs.Command.{IsCommand};
+ghost use Rattle.sr_hub.specs.Line.{wanted_of};
+ghost use Rattle.sr_hub.specs.steps.Moves.{Answers, Moves};
+ghost use Rattle.sr_hub.specs.steps.Left.{Concludes, judging_of};
+
+use crate::answering::said;
+use crate::{Connection, Judging, Stage};
+use sr_args::Names;
+use sr_book::{Book, Event, Out};
+use sr_bytes::Name;
+use sr_plan::Verdict;
+use sr_resp::ErrCode;
+use std::alloc::Global;
+
+/// What RECOVER.PLAN or RECOVER.RUN asks for.
+#[derive(Drop)]
+pub(crate) struct Recovery {
+    pub(crate) apply: bool,
+    pub(crate) tries: u64,
+    pub(crate) key: Name,
+    pub(crate) group: Name,
+    pub(crate) dead: Names,
+}
+
+/// Takes the snapshot with which a recovery begins: then a verdict is wanted, or it is answered at once.
+pub(crate) fn begin_recovery(
+    alloc: Global,
+    book: &mut Book,
+    connection: &mut Connection,
+    moment: u64,
+    recovery: Recovery,
+)
+    requires { connection.old.stage ≡ Stage.Idle }
+    ensures answers { (words : RequestWords) → IsCommand words (commands.Recover recovery.apply recovery.tries
+        recovery.key recovery.group recovery.dead)
+        → Answers words book.old connection.old book.new connection.new }
+    ensures requests { connection.new.requests ≡ connection.old.requests }
+{
+    let Recovery {
+        apply,
+        tries,
+        key,
+        group,
+        dead,
+    } = recovery;
+    let event = Event::Snapshot {
+        session: connection.session,
+        key,
+        group,
+        dead,
+    };
+    match said(alloc, book, moment, event) {
+        Ok(out) => match out {
+            Out::Reply(reply) => connection.tell(&reply),
+            Out::Snap(snapshot) => {
+                let later = tries.max(1) - 1;
+                connection.pass_to(Stage::Judges(Judging {
+                    apply,
+                    later,
+                    snapshot,
+                }))
+            }
+            Out::Joined(_) | Out::Blocked | Out::Stale(_) | Out::Expired(_) | Out::Left =>
+                unreachable!(),
+        },
+        Err(code) => connection.tell_error(alloc, code),
+    }
+}
+
+/// Concludes a verdict on the snapshot that is wanted: the recovery is replied, or has a fresh snapshot for its next
+/// round. `None` says that memory was lacking for a verdict.
+pub(crate) fn conclude_round(
+    alloc: Global,
+    book: &mut Book,
+    connection: &mut Connection,
+    moment: u64,
+    verdict: Option<Verdict>,
+)
+    requires { IsSomeAnd (wanted_of connection.old.stage) (λ shown.
+        IfSome verdict (λ judged. judged.snapshot ≡ shown)) }
+    ensures { Moves book.old connection.old book.new connection.new }
+{
+    let round = round_of(&connection.stage);
+    match verdict {
+        None => connection.tell_error(alloc, ErrCode::Memory),
+        Some(verdict) => conclude_verdict(
+            alloc, book, connection, moment, verdict, round.0, round.1,
+        ),
+    }
+}
+
+/// Whether the plan of a recovery is carried out, and how many rounds it may make after the next one.
+fn round_of(stage: &Stage) -> (bool, u64)
+    requires { IsSome (judging_of stage.now) }
+    ensures { IsSomeAnd (judging_of stage.now) (λ judging. (judging.apply ≡ result.0) × (judging.later ≡ result.1)) }
+{
+    match stage {
+        Stage::Judges(judging) => (judging.apply, judging.later),
+        Stage::Idle | Stage::Waiting | Stage::Broken | Stage::CutOff => unreachable!(),
+    }
+}
+
+/// Concludes this verdict, in a recovery that may make this many rounds after this one.
+fn conclude_verdict(
+    alloc: Global,
+    book: &mut Book,
+    connection: &mut Connection,
+    moment: u64,
+    verdict: Verdict,
+    apply: bool,
+    later: u64,
+)
+    requires { Concludes connection.old.stage verdict apply later }
+    ensures { Moves book.old connection.old book.new connection.new }
+{
+    verdict.sound();
+    let event = Event::Conclude {
+        session: connection.session,
+        verdict,
+        apply,
+        last: later == 0,
+    };
+    match said(alloc, book, moment, event) {
+        Ok(out) => match out {
+            Out::Reply(reply) => connection.tell(&reply),
+            Out::Stale(snapshot) => {
+                let fewer = later - 1;
+                connection.pass_to(Stage::Judges(Judging {
+                    apply,
+                    later: fewer,
+                    snapshot,
+                }))
+            }
+            Out::Joined(_) | Out::Blocked | Out::Snap(_) | Out::Expired(_) | Out::Left =>
+                unreachable!(),
+        },
+        Err(code) => connection.tell_error(alloc, code),
+    }
+}

@@ -1,0 +1,27 @@
+use sr_policy::Snapshot;
+
+/// A recovery between two of its rounds.
+#[derive(Drop)]
+pub struct Judging {
+    /// Whether its plan is carried out.
+    pub apply: bool,
+    /// How many rounds it may make after the next one.
+    pub later: u64,
+    /// The snapshot on which the next verdict is to be made.
+    pub snapshot: Snapshot,
+}
+
+/// What a connection is doing.
+#[derive(Drop)]
+pub enum Stage {
+    /// It can take the next request.
+    Idle,
+    /// Its call waits, or was given its reply while it waited.
+    Waiting,
+    /// A verdict is wanted for its recovery.
+    Judges(Judging),
+    /// Its bytes are not requests, and it was told so.
+    Broken,
+    /// Memory was refused for its bytes or for a reply: it gets no more replies.
+    CutOff,
+}

@@ -1,0 +1,87 @@
+ghost use Rattle.std.specs.Prelude.{◌≡◌, ◌≤◌, ◌++◌, [], length, drop, OnOk, OnErr};
+ghost use Rattle.sr_resp.specs.Reply.{error_reply, reply_text};
+
+use sr_resp::{ErrCode, Reply, append_reply};
+use std::alloc::{AllocError, Global};
+use std::marker::Model;
+
+/// The bytes of a connection that are to be sent.
+pub struct Unsent {
+    bytes: Vec<u8>,
+    /// How many of these bytes were sent.
+    start: usize,
+}
+
+impl Drop for Unsent {
+    fn drop(self) {
+        let Unsent { bytes: _, start: _ } = self;
+    }
+}
+
+impl Model for Unsent {
+    ghost use Rattle.std.specs.Prelude.{◌≤◌, ℕ, List, drop, length};
+
+    ghost Value = { List ℕ };
+
+    ghost view = { λ u. drop u.start u.bytes.items };
+
+    ghost invariant = { λ u. u.start ≤ length u.bytes.items };
+}
+
+impl Unsent {
+    ghost use Rattle.std.specs.Prelude.{◌≡◌, ◌≤◌, ◌++◌, [], length, drop, OnOk, OnErr};
+    ghost use Rattle.sr_resp.specs.Reply.{error_reply, reply_text};
+
+    /// None. Takes no memory.
+    pub(crate) fn new(alloc: Global) -> Unsent
+        ensures { result ≡ [] }
+    {
+        Unsent {
+            bytes: Vec::new(alloc),
+            start: 0,
+        }
+    }
+
+    /// The bytes, in their order.
+    pub(crate) fn as_slice(&self) -> &[u8]
+        ensures { result.now ≡ self.now }
+    {
+        &self.bytes[self.start..]
+    }
+
+    /// How many bytes there are.
+    pub(crate) fn len(&self) -> usize
+        ensures { result ≡ length self.now }
+    {
+        self.bytes.len() - self.start
+    }
+
+    /// Adds the text of a reply. An `Err` leaves the bytes as they were.
+    pub(crate) fn append(&mut self, reply: &Reply) -> Result<(), AllocError>
+        ensures ok { OnOk result (self.new ≡ self.old ++ reply_text reply.now) }
+        ensures err { OnErr result (self.new ≡ self.old) }
+    {
+        append_reply(&mut self.bytes, reply)
+    }
+
+    /// Adds the text of an error.
+    pub(crate) fn append_error(&mut self, alloc: Global, code: ErrCode) -> Result<(), AllocError>
+        ensures ok { OnOk result (self.new ≡ self.old ++ reply_text (error_reply code)) }
+        ensures err { OnErr result (self.new ≡ self.old) }
+    {
+        let reply = Reply::error(alloc, code);
+        self.append(&reply)
+    }
+
+    /// Takes the first bytes away, which were sent. Takes no memory.
+    pub(crate) fn sent(&mut self, count: usize)
+        requires { count ≤ length self.old }
+        ensures { self.new ≡ drop count self.old }
+    {
+        self.start += count;
+        if self.start == self.bytes.len() {
+            self.bytes.clear();
+            self.start = 0;
+        }
+    }
+}
