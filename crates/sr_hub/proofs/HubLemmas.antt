@@ -15,7 +15,7 @@ use Rattle.sr_hub.specs.steps.Calls.{Changes, IsRefusedAt, MovesAt, SendsAt, Tak
 use Rattle.sr_hub.specs.steps.Moves.{Adds, KeepsOpen, Moves, Takes}
 use Rattle.sr_hub.specs.steps.Telling.{Feeds, FeedsNot, IsUntaken, ended, unfed}
 use Rattle.sr_hub.proofs.FrameLemmas.{all-grows, all-rebased, line-passes, others-say}
-use Rattle.sr_hub.proofs.LineLemmas.{fed-line, sent-line, unfed-line}
+use Rattle.sr_hub.proofs.LineLemmas.{ended-line, fed-line, sent-line, unfed-line}
 use Rattle.sr_hub.proofs.MoveLemmas.{takes-then}
 
 -- ---- one connection changes
@@ -127,31 +127,32 @@ take-lines token piece old new before after changes apart takes records taken gi
 
 -- it changes, and the book does not
 pub alone-lines : (token : ℕ) (old new : HubState) (before after : ConnectionState) → Changes token old new before after → new.book ≡ old.book
-    → (records : List Recorded) (taken given after_given : ℕ → List ℕ)
-    → ((other : ℕ) → other ≢ token → after_given other ≡ given other)
-    → (IsLine records old.book.server (taken token) (given token) before → IsLine records old.book.server (taken token) (after_given token) after)
-    → AreLines records taken given old → AreLines records taken after_given new
-alone-lines token old new before after changes same records taken given after_given gives goes lines = (
+    → (records : List Recorded) (taken then given after_given : ℕ → List ℕ)
+    → ((other : ℕ) → other ≢ token → (then other ≡ taken other) × (after_given other ≡ given other))
+    → (IsLine records old.book.server (taken token) (given token) before → IsLine records old.book.server (then token) (after_given token) after)
+    → AreLines records taken given old → AreLines records then after_given new
+alone-lines token old new before after changes same records taken then given after_given others goes lines = (
   subst (AreAll records) (sym same) lines.0,
-  λ at line is. subst (λ (b : BookState). IsLine records b.server (taken at) (after_given at) line) (sym same) (by at line is (same_or_not at token)),
+  λ at line is. subst (λ (b : BookState). IsLine records b.server (then at) (after_given at) line) (sym same) (by at line is (same_or_not at token)),
 )
   where
-    by : (at : ℕ) (line : ConnectionState) → new.at at ≡ Some line → (at ≡ token) ⊎ (at ≢ token) → IsLine records old.book.server (taken at) (after_given at) line
+    by : (at : ℕ) (line : ConnectionState) → new.at at ≡ Some line → (at ≡ token) ⊎ (at ≢ token) → IsLine records old.book.server (then at) (after_given at) line
     by at line is (inl here) =
         let one : line ≡ after = some-same line after (sym is ∙ ap new.at here ∙ changes.is) in
-        subst (λ (t : ℕ). IsLine records old.book.server (taken t) (after_given t) line) (sym here)
-        (subst (λ (c : ConnectionState). IsLine records old.book.server (taken token) (after_given token) c) (sym one) (goes (lines.1 token before changes.was)))
+        subst (λ (t : ℕ). IsLine records old.book.server (then t) (after_given t) line) (sym here)
+        (subst (λ (c : ConnectionState). IsLine records old.book.server (then token) (after_given token) c) (sym one) (goes (lines.1 token before changes.was)))
     by at line is (inr away) =
-        subst (λ (g : List ℕ). IsLine records old.book.server (taken at) g line) (sym (gives at away))
-        (lines.1 at line (sym (changes.others at away) ∙ is))
+        subst (λ (t : List ℕ). IsLine records old.book.server t (after_given at) line) (sym (others at away).0)
+        (subst (λ (g : List ℕ). IsLine records old.book.server (taken at) g line) (sym (others at away).1)
+        (lines.1 at line (sym (changes.others at away) ∙ is)))
 
 -- its first bytes are sent
 pub sent-lines : (token : ℕ) (bytes : List ℕ) (old new : HubState) (before after : ConnectionState) → Changes token old new before after → new.book ≡ old.book
     → ((records : List Recorded) (taken given : List ℕ) → IsLine records old.book.server taken given before → IsLine records old.book.server taken (given ++ bytes) after)
     → (records : List Recorded) (taken given : ℕ → List ℕ) → AreLines records taken given old → AreLines records taken (with_more token bytes given) new
 sent-lines token bytes old new before after changes same goes records taken given lines =
-    alone-lines token old new before after changes same records taken given (with_more token bytes given)
-    (λ other away. more-other token bytes given other away)
+    alone-lines token old new before after changes same records taken taken given (with_more token bytes given)
+    (λ other away. (refl, more-other token bytes given other away))
     (λ l. subst (λ (g : List ℕ). IsLine records old.book.server (taken token) g after) (sym (more-at token bytes given)) (goes records (taken token) (given token) l))
     lines
 
@@ -197,18 +198,41 @@ took-rest token piece old new t =
     subst P (sym t.changes.is) t.rests
 
 -- it refuses one
-untaken-line : (fault : TakeFault) (records : List Recorded) (server : Server) (taken given : List ℕ) (before after : ConnectionState) → IsUntaken fault before after
-    → IsLine records server taken given before → IsLine records server taken given after
-untaken-line fault records server taken given before after (ended is stage same) l = subst (IsLine records server taken given) (sym same) l
-untaken-line fault records server taken given before after (unfed looked is goes same) l =
-    subst (IsLine records server taken given) (sym same) (unfed-line records server taken given before l looked goes)
+untaken-line : (piece : List ℕ) (fault : TakeFault) (records : List Recorded) (server : Server) (taken given : List ℕ) (before after : ConnectionState) → IsUntaken fault before after
+    → IsLine records server taken given before → IsLine records server (taken ++ piece) given after
+untaken-line piece fault records server taken given before after (ended is stage same) l =
+    subst (IsLine records server (taken ++ piece) given) (sym same) (ended-line records server taken given before l piece stage)
+untaken-line piece fault records server taken given before after (unfed looked is goes same) l =
+    subst (IsLine records server (taken ++ piece) given) (sym same) (unfed-line records server taken given before l piece looked goes)
 
-pub refused-lines : (token : ℕ) (fault : TakeFault) (old new : HubState) → IsRefusedAt token fault old new → (records : List Recorded) (taken given : ℕ → List ℕ)
-    → AreLines records taken given old → AreLines records taken given new
-refused-lines token fault old new (is_gone is none same) records taken given lines = subst (AreLines records taken given) (sym same) lines
-refused-lines token fault old new (is_there before after changes book untaken) records taken given lines =
-    alone-lines token old new before after changes book records taken given given (λ other away. refl)
-    (untaken-line fault records old.book.server (taken token) (given token) before after untaken) lines
+-- there is no connection whose bytes they are
+pub gone-lines : (token : ℕ) (piece : List ℕ) (hub : HubState) → hub.at token ≡ None → (records : List Recorded) (taken given : ℕ → List ℕ)
+    → AreLines records taken given hub → AreLines records (with_more token piece taken) given hub
+gone-lines token piece hub none records taken given lines = (lines.0, λ at line is. by at line is (same_or_not at token))
+  where
+    by : (at : ℕ) (line : ConnectionState) → hub.at at ≡ Some line → (at ≡ token) ⊎ (at ≢ token) → IsLine records hub.book.server (with_more token piece taken at) (given at) line
+    by at line is (inl here) = absurd (let it : Some line ≡ None = sym is ∙ ap hub.at here ∙ none in cc)
+    by at line is (inr away) =
+        subst (λ (t : List ℕ). IsLine records hub.book.server t (given at) line) (sym (more-other token piece taken at away)) (lines.1 at line is)
+
+-- nothing was recorded
+pub none-added : (records : List Recorded) (taken given : ℕ → List ℕ) (hub : HubState) → AreLines records taken given hub → GoOn records taken given hub
+none-added records taken given hub lines = record {
+  added = [];
+  lines = subst (λ (r : List Recorded). AreLines r taken given hub) (sym (append-nil records)) lines;
+}
+
+pub refused-lines : (token : ℕ) (piece : List ℕ) (fault : TakeFault) (old new : HubState) → IsRefusedAt token fault old new → (records : List Recorded) (taken given : ℕ → List ℕ)
+    → AreLines records taken given old → GoOn records (with_more token piece taken) given new
+refused-lines token piece fault old new (is_gone is none same) records taken given lines =
+    none-added records (with_more token piece taken) given new
+    (subst (AreLines records (with_more token piece taken) given) (sym same) (gone-lines token piece old none records taken given lines))
+refused-lines token piece fault old new (is_there before after changes book untaken) records taken given lines =
+    none-added records (with_more token piece taken) given new
+    (alone-lines token old new before after changes book records taken (with_more token piece taken) given given
+    (λ other away. (more-other token piece taken other away, refl))
+    (λ l. subst (λ (t : List ℕ). IsLine records old.book.server t (given token) after) (sym (more-at token piece taken))
+    (untaken-line piece fault records old.book.server (taken token) (given token) before after untaken l)) lines)
 
 pub refused-apart : (token : ℕ) (fault : TakeFault) (old new : HubState) → AreApart old → IsRefusedAt token fault old new → AreApart new
 refused-apart token fault old new apart (is_gone is none same) = subst AreApart (sym same) apart
@@ -288,13 +312,12 @@ sends-at token count old new s =
 
 -- all that a call of take promises
 pub record TakeClauses (token : ℕ) (piece : List ℕ) (result : Result (Unit {0}) TakeFault) (old new : HubState) : Type 0 where
-  pub lines : OnOk result ((records : List Recorded) (taken given : ℕ → List ℕ) → AreLines records taken given old → GoOn records (with_more token piece taken) given new)
+  pub lines : (records : List Recorded) (taken given : ℕ → List ℕ) → AreLines records taken given old → GoOn records (with_more token piece taken) given new
   pub rest : OnOk result (IsSomeAnd (new.at token) (λ line. IsAtRest 65536 new.book.server line line.stage))
   pub others : (other : ℕ) → other ≢ token → new.at other ≡ old.at other
   pub gone : IsErrOf result take_faults.Gone ↔ (old.at token ≡ None)
   pub ended : IsErrOf result take_faults.Ended ↔ IsSomeAnd (old.at token) (λ line. is_ended line.stage ≡ true)
   pub stays : OnErr result (new.book ≡ old.book)
-  pub refused : OnErr result ((records : List Recorded) (taken given : ℕ → List ℕ) → AreLines records taken given old → AreLines records taken given new)
   pub cut_off : IsErrOf result take_faults.Memory → IsSomeAnd (new.at token) (λ line. line.stage ≡ stages.CutOff)
 
 err-same : (one other : TakeFault) → ◌≡◌ {A = Result (Unit {0}) TakeFault} (Err one) (Err other) → one ≡ other
@@ -312,20 +335,18 @@ take-clauses token piece (Ok done) old new apart takes refused = record {
   gone = ((λ is. absurd (no-err done take_faults.Gone is)), (λ none. absurd (took-there token piece old new takes none)));
   ended = ((λ is. absurd (no-err done take_faults.Ended is)), (λ some. absurd (took-going token piece old new takes some)));
   stays = tt;
-  refused = tt;
   cut_off = λ is. absurd (no-err done take_faults.Memory is);
 }
 take-clauses token piece (Err fault) old new apart takes refused =
     let gone = refused-gone token fault old new refused in
     let ended = refused-ended token fault old new refused in
     record {
-      lines = tt;
+      lines = refused-lines token piece fault old new refused;
       rest = tt;
       others = refused-others token fault old new refused;
       gone = ((λ is. gone.0 (err-same fault take_faults.Gone is)), (λ none. ap (λ (f : TakeFault). Err f) (gone.1 none)));
       ended = ((λ is. ended.0 (err-same fault take_faults.Ended is)), (λ some. ap (λ (f : TakeFault). Err f) (ended.1 some)));
       stays = refused-book token fault old new refused;
-      refused = refused-lines token fault old new refused;
       cut_off = λ is. refused-cut_off token old new (subst (λ (f : TakeFault). IsRefusedAt token f old new) (err-same fault take_faults.Memory is) refused);
     }
 

@@ -43,6 +43,10 @@ joined-line records old told answer new line all stepped number stands unsent id
   answered = [];
   held = [];
   text = [];
+  looked_at = [];
+  passed_over = [];
+  bytes = refl;
+  none_passed = λ goes. refl;
   joined = record { before = records; join = own; ends = refl; is = refl; number = sym number };
   stands = stands;
   tells = (refl, refl);

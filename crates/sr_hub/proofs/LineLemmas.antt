@@ -60,16 +60,23 @@ IsBegun-held words records server taken given line h = record {
   whole = h.whole;
 }
 
+-- a line that is not at its end has looked at all bytes that were taken
+pub all-looked : (records : List Recorded) (server : Server) (taken given : List ℕ) (line : ConnectionState) (l : IsLine records server taken given line) → is_ended line.stage ≡ false
+    → l.looked_at ≡ taken
+all-looked records server taken given line l goes =
+    sym (l.bytes ∙ ap (λ (b : List ℕ). l.looked_at ++ b) (l.none_passed goes) ∙ append-nil l.looked_at)
+
 -- so is the one request that a line holds
 abbrev pub IsBegun-line : (words : Words) (records : List Recorded) (server : Server) (taken given : List ℕ) (line : ConnectionState) (l : IsLine records server taken given line)
-    → l.held ≡ words ∷ [] → last_text line.stage ≡ [] → IsBegun words records taken given line
-IsBegun-line words records server taken given line l one no_last = record {
+    → l.held ≡ words ∷ [] → is_ended line.stage ≡ false → last_text line.stage ≡ [] → IsBegun words records taken given line
+IsBegun-line words records server taken given line l one goes no_last = record {
   found = l.found;
   told = l.told;
   more = l.more;
   answered = l.answered;
   joined = l.joined;
-  stands = subst (λ (r : List Words). Stands taken (l.answered ++ r) line.requests) one l.stands;
+  stands = subst (λ (b : List ℕ). Stands b (l.answered ++ words ∷ []) line.requests) (all-looked records server taken given line l goes)
+      (subst (λ (r : List Words). Stands l.looked_at (l.answered ++ r) line.requests) one l.stands);
   tells = subst (λ (t : List ℕ). AreAnswered (IsTold line.session) l.found l.answered t l.told) (sym (l.spelled ∙ ap (λ (t : List ℕ). l.text ++ t) no_last ∙ append-nil l.text)) l.tells;
   whole = l.whole;
 }
@@ -85,7 +92,11 @@ module _ (words : Words) (records : List Recorded) (taken given : List ℕ) (lin
     answered = begun.answered ++ words ∷ [];
     held = [];
     text = (given ++ line.unsent) ++ text;
+    looked_at = taken;
+    passed_over = [];
     joined = begun.joined;
+    bytes = sym (append-nil taken);
+    none_passed = λ goes. refl;
     stands = subst (λ (r : List Words). Stands taken r line.requests) (sym (append-nil (begun.answered ++ words ∷ []))) begun.stands;
     tells = AreAnswered-push (IsTold line.session) begun.found begun.answered (given ++ line.unsent) begun.told words text (records ++ more) begun.tells told;
     spelled = sym (append_assoc given line.unsent text) ∙ sym (append-nil ((given ++ line.unsent) ++ text));
@@ -103,7 +114,11 @@ module _ (words : Words) (records : List Recorded) (taken given : List ℕ) (lin
     answered = begun.answered;
     held = words ∷ [];
     text = given ++ line.unsent;
+    looked_at = taken;
+    passed_over = [];
     joined = begun.joined;
+    bytes = sym (append-nil taken);
+    none_passed = λ goes. refl;
     stands = begun.stands;
     tells = begun.tells;
     spelled = sym (append-nil (given ++ line.unsent)) ∙ ap (λ (t : List ℕ). (given ++ line.unsent) ++ t) (sym no_last);
@@ -130,6 +145,7 @@ module _ (records : List Recorded) (server : Server) (taken given : List ℕ) (l
       → IsHolding words records server taken given (record line { requests = next })
   next-held words next idle hands_out =
       let rests : IsResting line.session server l.more l.held = stays-at stages.Idle idle in
+      let looked : l.looked_at ≡ taken = all-looked records server taken given line l (ap is_ended idle) in
       let none : l.answered ++ l.held ≡ l.answered = ap (λ (h : List Words). l.answered ++ h) rests.none ∙ append-nil l.answered in
       record {
         found = l.found;
@@ -137,7 +153,8 @@ module _ (records : List Recorded) (server : Server) (taken given : List ℕ) (l
         more = l.more;
         answered = l.answered;
         joined = l.joined;
-        stands = hands_out taken l.answered (subst (λ (r : List Words). Stands taken r line.requests) none l.stands);
+        stands = hands_out taken l.answered (subst (λ (b : List ℕ). Stands b l.answered line.requests) looked
+            (subst (λ (r : List Words). Stands l.looked_at r line.requests) none l.stands));
         tells = subst (λ (t : List ℕ). AreAnswered (IsTold line.session) l.found l.answered t l.told) (spelled-at stages.Idle idle refl) l.tells;
         whole = l.whole;
         silent = rests.silent;
@@ -153,7 +170,11 @@ module _ (records : List Recorded) (server : Server) (taken given : List ℕ) (l
     answered = l.answered;
     held = l.held;
     text = l.text;
+    looked_at = l.looked_at;
+    passed_over = l.passed_over;
     joined = l.joined;
+    bytes = l.bytes;
+    none_passed = λ goes. absurd (true≢false goes);
     stands = l.stands;
     tells = l.tells;
     spelled = l.spelled ∙ ap (λ (t : List ℕ). l.text ++ t) none;
@@ -173,7 +194,11 @@ module _ (records : List Recorded) (server : Server) (taken given : List ℕ) (l
         answered = l.answered;
         held = l.held;
         text = l.text;
+        looked_at = l.looked_at;
+        passed_over = l.passed_over;
         joined = l.joined;
+        bytes = l.bytes;
+        none_passed = λ goes. absurd (true≢false goes);
         stands = l.stands;
         tells = l.tells;
         spelled = sym (append_assoc given line.unsent protocol_text) ∙ ap (λ (t : List ℕ). t ++ protocol_text) (sym (spelled-at stages.Idle idle refl));
@@ -190,7 +215,11 @@ module _ (records : List Recorded) (server : Server) (taken given : List ℕ) (l
     answered = l.answered;
     held = l.held;
     text = l.text;
+    looked_at = l.looked_at;
+    passed_over = l.passed_over;
     joined = l.joined;
+    bytes = l.bytes;
+    none_passed = l.none_passed;
     stands = l.stands;
     tells = l.tells;
     spelled = append_assoc given (take count line.unsent) (drop count line.unsent) ∙ ap (λ (t : List ℕ). given ++ t) (take-append-drop count line.unsent) ∙ l.spelled;
@@ -217,25 +246,58 @@ module _ (records : List Recorded) (server : Server) (taken given : List ℕ) (l
     answered = l.answered;
     held = l.held;
     text = l.text;
+    looked_at = taken ++ piece;
+    passed_over = [];
     joined = l.joined;
-    stands = advances taken (l.answered ++ l.held) l.stands;
+    bytes = sym (append-nil (taken ++ piece));
+    none_passed = λ still. refl;
+    stands = advances taken (l.answered ++ l.held)
+        (subst (λ (b : List ℕ). Stands b (l.answered ++ l.held) line.requests) (all-looked records server taken given line l goes) l.stands);
     tells = l.tells;
     spelled = l.spelled;
     whole = l.whole;
     stays = fed-stays line.session l.more l.held line.requests next line.stage goes l.stays;
   }
 
-  -- a piece is refused, and it is cut off
-  pub unfed-line : (looked : ℕ) → is_ended line.stage ≡ false
-      → IsLine records server taken given (record line { requests = record line.requests { looked = looked }; stage = stages.CutOff })
-  unfed-line looked goes = record {
+  -- a piece is passed over
+  passed-bytes : (piece : List ℕ) → taken ++ piece ≡ l.looked_at ++ (l.passed_over ++ piece)
+  passed-bytes piece = ap (λ (b : List ℕ). b ++ piece) l.bytes ∙ append_assoc l.looked_at l.passed_over piece
+
+  pub ended-line : (piece : List ℕ) → is_ended line.stage ≡ true → IsLine records server (taken ++ piece) given line
+  ended-line piece ended = record {
     found = l.found;
     told = l.told;
     more = l.more;
     answered = l.answered;
     held = l.held;
     text = l.text;
+    looked_at = l.looked_at;
+    passed_over = l.passed_over ++ piece;
     joined = l.joined;
+    bytes = passed-bytes piece;
+    none_passed = λ goes. absurd (true≢false (sym ended ∙ goes));
+    stands = l.stands;
+    tells = l.tells;
+    spelled = l.spelled;
+    whole = l.whole;
+    stays = l.stays;
+  }
+
+  -- a piece is refused, and it is cut off
+  pub unfed-line : (piece : List ℕ) (looked : ℕ) → is_ended line.stage ≡ false
+      → IsLine records server (taken ++ piece) given (record line { requests = record line.requests { looked = looked }; stage = stages.CutOff })
+  unfed-line piece looked goes = record {
+    found = l.found;
+    told = l.told;
+    more = l.more;
+    answered = l.answered;
+    held = l.held;
+    text = l.text;
+    looked_at = l.looked_at;
+    passed_over = l.passed_over ++ piece;
+    joined = l.joined;
+    bytes = passed-bytes piece;
+    none_passed = λ still. absurd (true≢false still);
     stands = record { rest = l.stands.rest; stream = l.stands.stream; end = l.stands.end };
     tells = l.tells;
     spelled = l.spelled ∙ ap (λ (t : List ℕ). l.text ++ t) (no_last line.stage goes);
@@ -259,7 +321,7 @@ module _ (records : List Recorded) (server : Server) (taken given : List ℕ) (l
       waits = stays-at stages.Waiting is
 
       begun : IsBegun waits.words records taken given line
-      begun = IsBegun-line waits.words records server taken given line l waits.one (ap last_text is)
+      begun = IsBegun-line waits.words records server taken given line l waits.one (ap is_ended is) (ap last_text is)
 
       After : List Recorded → Type 0
       After r = IsLine r server taken given (record line { unsent = line.unsent ++ reply_text given_to.reply; stage = stages.Idle })

@@ -37,7 +37,8 @@ use Rattle.sr_book.proofs.SessionLaws.{servings-open}
 use Rattle.sr_session.specs.Answered.{code_of}
 use Rattle.sr_session.proofs.LetterLemmas.{HasNone, history-none}
 use Rattle.sr_hub.specs.Told.{AreOf, AreRounds, IsBroken, IsSilent, IsTold, IsVerdictOn, broke_off, is_full, lacks_index, lacks_memory, refused, replied, spoken}
-use Rattle.sr_hub.specs.Line.{ConnectionState, IsAtRest, IsFree, IsJudging, IsLine, IsWaitingFor, Stays, last_text, wanted_of}
+use Rattle.sr_hub.specs.Line.{ConnectionState, IsAtRest, IsFree, IsJudging, IsLine, IsWaitingFor, Stays, is_ended, last_text, wanted_of}
+use Rattle.sr_hub.specs.Lines.{AreAll}
 use Rattle.sr_hub.specs.declared.stage.Judging.{Judging}
 use Rattle.sr_hub.specs.declared.stage.Stage.{Stage}
 use Rattle.sr_hub.specs.declared.stage.Stage.TheVariants as stages
@@ -416,7 +417,7 @@ module _ (old : BookState) (line : ConnectionState) (at : ℕ) (judging : Judgin
   abbrev begun-of : (records : List Recorded) (taken given : List ℕ) (l : IsLine records old.server taken given line)
       → IsBegun (judges-of records taken given l).words records taken given line
   begun-of records taken given l =
-      IsBegun-line (judges-of records taken given l).words records old.server taken given line l (judges-of records taken given l).one (ap last_text is)
+      IsBegun-line (judges-of records taken given l).words records old.server taken given line l (judges-of records taken given l).one (ap is_ended is) (ap last_text is)
 
   -- memory is lacking for a verdict
   pub moves-lacking : (after : ConnectionState) → Tells (reply_text (error_reply errors.Memory)) line after → Moves old line old after

@@ -103,10 +103,19 @@ last_text (stages.Judges judging) = []
 last_text stages.Broken = protocol_text
 last_text stages.CutOff = []
 
+-- it gets no more replies: its bytes went wrong, or memory was refused
+abbrev pub is_ended : Stage → Bool
+is_ended stages.Idle = false
+is_ended stages.Waiting = false
+is_ended (stages.Judges judging) = false
+is_ended stages.Broken = true
+is_ended stages.CutOff = true
+
 -- a connection, of which these bytes were taken and these were given out, in a server that all these records led to:
--- the bytes taken are requests, one that may be held, those that wait to be looked at, and then less than one or a
--- fault. What was given and what is to be sent are, together, the texts of the requests, in order, by the records from
--- the session's join on
+-- the bytes that were looked at are requests, one that may be held, those that wait to be looked at, and then less than
+-- one or a fault; they are all that were taken, but that a connection at its end passes over what comes after. What was
+-- given and what is to be sent are, together, the texts of the requests, in order, by the records from the session's
+-- join on
 pub record IsLine (records : List Recorded) (server : Server) (taken given : List ℕ)
     (line : ConnectionState) : Type 0 where
   pub found : List Recorded
@@ -115,8 +124,12 @@ pub record IsLine (records : List Recorded) (server : Server) (taken given : Lis
   pub answered : List Words
   pub held : List Words
   pub text : List ℕ
+  pub looked_at : List ℕ
+  pub passed_over : List ℕ
   pub joined : IsJoined line.session found
-  pub stands : Stands taken (answered ++ held) line.requests
+  pub bytes : taken ≡ looked_at ++ passed_over
+  pub none_passed : is_ended line.stage ≡ false → passed_over ≡ []
+  pub stands : Stands looked_at (answered ++ held) line.requests
   pub tells : AreAnswered (IsTold line.session) found answered text told
   pub spelled : given ++ line.unsent ≡ text ++ last_text line.stage
   pub whole : records ≡ told ++ more
@@ -134,14 +147,6 @@ IsAtRest most server line stages.Waiting = letter_of line.session server.session
 IsAtRest most server line (stages.Judges judging) = ⊤
 IsAtRest most server line stages.Broken = ⊤
 IsAtRest most server line stages.CutOff = ⊤
-
--- it gets no more replies: its bytes went wrong, or memory was refused
-abbrev pub is_ended : Stage → Bool
-is_ended stages.Idle = false
-is_ended stages.Waiting = false
-is_ended (stages.Judges judging) = false
-is_ended stages.Broken = true
-is_ended stages.CutOff = true
 
 -- the snapshot on which a verdict is wanted
 abbrev pub wanted_of : Stage → Option Shown
