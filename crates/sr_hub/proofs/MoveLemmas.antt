@@ -38,7 +38,6 @@ use Rattle.sr_session.specs.Answered.{code_of}
 use Rattle.sr_session.proofs.LetterLemmas.{HasNone, history-none}
 use Rattle.sr_hub.specs.Told.{AreOf, AreRounds, IsBroken, IsSilent, IsTold, IsVerdictOn, broke_off, is_full, lacks_index, lacks_memory, refused, replied, spoken}
 use Rattle.sr_hub.specs.Line.{ConnectionState, IsAtRest, IsFree, IsJudging, IsLine, IsWaitingFor, Stays, is_ended, last_text, wanted_of}
-use Rattle.sr_hub.specs.Lines.{AreAll}
 use Rattle.sr_hub.specs.declared.stage.Judging.{Judging}
 use Rattle.sr_hub.specs.declared.stage.Stage.{Stage}
 use Rattle.sr_hub.specs.declared.stage.Stage.TheVariants as stages
