@@ -3,11 +3,12 @@
 .PHONY: run help try demo demo-live try-live install test replay histories plans check memory refusals compare clients live soak
 .PHONY: bench bench-net bench-solver check-solver
 .PHONY: given given-server given-driver given-checker given-demo given-sessions given-requests given-groups given-moves given-streams
-.PHONY: given-room given-refused given-tests given-histories given-refusals given-plans given-live
+.PHONY: given-room given-refused given-tests given-histories given-refusals given-plans given-live given-hub hub
 
 # The programs, where a proof leaves them, and a make that does two things at a time.
 SERVER = crates/sr_server/out/sr_server
 DRIVER = crates/book_driver/out/book_driver
+HUB = crates/hub_driver/out/hub_driver
 CHECKER = crates/plan_check/out/plan_check
 RECOVER = crates/sr_recover/out/sr_recover
 TESTS = crates/sr_server/out/sr_server_tests
@@ -82,7 +83,7 @@ test:
 	    else echo 'test: there is no redis-server, so sr_recover was not tried with one (make live)'; fi
 
 # What the programs are given, each by itself, and first what takes longest. They have to be proved and built before.
-given: given-driver given-server given-checker given-demo
+given: given-driver given-hub given-server given-checker given-demo
 given-server: given-sessions given-requests given-groups given-moves given-streams given-room given-refused given-tests
 given-driver: given-refusals given-histories
 given-checker: given-plans
@@ -132,6 +133,11 @@ given-refusals:
 	@scripts/refusals $(DRIVER) $(REFUSED)
 	@tests/refused_serving.py $(DRIVER)
 
+given-hub:
+	@scripts/schedules $(HUB) tests/hub/*.schedule
+	@scripts/hub_refusals $(HUB) $(DRIVER) tests/hub/*.schedule
+	@tests/hub.py $(HUB) $(DRIVER)
+
 given-plans:
 	@scripts/plans $(CHECKER) examples/plans/*.plan
 	@tests/plan_check.py $(CHECKER)
@@ -155,6 +161,12 @@ replay:
 histories:
 	@cd crates/book_driver && rt run -- < /dev/null
 	@$(TWO) given-histories
+
+# The schedules alone: what a network does to the connections of one hub, with what each is to be sent, also if memory is refused.
+hub:
+	@cd crates/book_driver && rt run -- < /dev/null
+	@cd crates/hub_driver && rt run -- < /dev/null
+	@$(TWO) given-hub
 
 # The plans alone: replies checked against the problems beside them.
 plans:

@@ -19,14 +19,12 @@ import subprocess
 import sys
 from concurrent.futures import ThreadPoolExecutor
 
+from lib.requests import WORD, WORDS, Requests
 from lib.resp import array, bulk, spelled
 
 SECONDS = 60  # that one input may take
 NUMBER = 1_000
 SEED = 1
-
-# The limits of a request: words, bytes of a word, bytes of all words, digits of a header.
-WORDS, WORD, TOTAL, DIGITS = 4096, 1_048_576, 16_777_216, 10
 
 PROTOCOL, LINE = b"-ERR Protocol error\r\n", b"session: protocol error\n"
 UNKNOWN, ARITY = b"-ERR unknown command\r\n", b"-ERR wrong number of arguments\r\n"
@@ -39,70 +37,6 @@ ARITIES = {
     "XGROUP SETID": (5, 5), "XGROUP DESTROY": (4, 4), "XGROUP CREATECONSUMER": (5, 5), "XGROUP DELCONSUMER": (5, 5), "XINFO STREAM": (3, 3),
     "XINFO GROUPS": (3, 3), "XINFO CONSUMERS": (4, 4), "RECOVER.PLAN": (5, ANY), "RECOVER.RUN": (5, ANY), "RECOVER.BOARD": (3, 3),
 }
-
-
-class Broken(Exception):
-    """No continuation of the bytes is a request."""
-
-
-class Short(Exception):
-    """The bytes end within a request."""
-
-
-class Requests:
-    """The requests that some bytes hold. `fault` tells whether a byte follows after which no further request can come."""
-
-    def __init__(self, text):
-        self.text, self.place, self.requests, self.fault = text, 0, [], False
-        try:
-            while self.place < len(text):
-                if request := self.request():
-                    self.requests.append(request)
-        except Broken:
-            self.fault = True
-        except Short:
-            pass
-
-    def byte(self):
-        if self.place == len(self.text):
-            raise Short
-        self.place += 1
-        return self.text[self.place - 1:self.place]
-
-    def expect(self, *wanted):
-        for one in wanted:
-            if self.byte() != one:
-                raise Broken
-
-    def number(self, most):
-        """The number of a header, to its line end: at most this."""
-        value, count = 0, 0
-        while (digit := self.byte()) in (b"0", b"1", b"2", b"3", b"4", b"5", b"6", b"7", b"8", b"9"):
-            value, count = 10 * value + int(digit), count + 1
-            if value > most or count > DIGITS:
-                raise Broken
-        if digit != b"\r" or not count:
-            raise Broken
-        self.expect(b"\n")
-        return value
-
-    def request(self):
-        """The words of the next request, or none for an empty command."""
-        self.expect(b"*")
-        if self.text[self.place:self.place + 1] == b"-":
-            self.expect(b"-", b"1", b"\r", b"\n")
-            return []
-        words, left = [], TOTAL
-        for _ in range(self.number(WORDS)):
-            self.expect(b"$")
-            length = self.number(min(WORD, left))
-            left -= length
-            if len(self.text) - self.place < length:
-                raise Short
-            words.append(self.text[self.place:self.place + length])
-            self.place += length
-            self.expect(b"\r", b"\n")
-        return words
 
 
 HEAD = re.compile(rb"[+][^\r\n]*\r\n|-[^\r\n]+\r\n|:-?(?:0|[1-9][0-9]*)\r\n|[$*](?:-1|0|[1-9][0-9]*)\r\n")
