@@ -7,6 +7,7 @@ pub mod LineLemmas
 pub mod MoveLemmas
 pub mod OwnLemmas
 pub mod PassLemmas
+pub mod ServeLemmas
 pub mod ShownLemmas
 pub mod SoundLemmas
 pub mod StrayLemmas

@@ -1,4 +1,5 @@
 pub mod Told
 pub mod Line
 pub mod Lines
+pub mod Heard
 pub mod steps

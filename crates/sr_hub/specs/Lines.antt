@@ -3,11 +3,12 @@
 -- Source: docs/DEFINITIONS.md, "The one-thread server".
 
 use Rattle.std.specs.Prelude.{◌≡◌, ◌==◌, ℕ, List, [], ◌++◌, length, Option, Some, None, if◌then◌else◌}
-use Rattle.std.specs.Prelude.{slice_index_or}
-use Rattle.sr_book.specs.Server.{empty_server, is_open}
+use Rattle.std.specs.Prelude.{◌≢◌, IsSomeAnd, slice_index_or}
+use Rattle.sr_book.specs.Server.{empty_server, is_open, letter_of}
 use Rattle.sr_book.specs.Records.{BookState, Legal, Recorded}
 use Rattle.std.specs.Prelude.{true}
 use Rattle.sr_hub.specs.Line.{ConnectionState, IsLine}
+use Rattle.sr_hub.specs.declared.stage.Stage.TheVariants as stages
 
 -- what contracts see: the book, and the connections in their slots
 pub record HubParts : Type 0 where
@@ -50,6 +51,11 @@ with_more token bytes all other = if other == token then all other ++ bytes else
 -- none at one token, and the same at the others
 abbrev pub with_none : ℕ → (ℕ → List ℕ) → ℕ → List ℕ
 with_none token all other = if other == token then [] else all other
+
+-- the connection at a token waits, and its session was given its reply
+abbrev pub IsLettered : HubState → ℕ → Type 0
+IsLettered hub token = IsSomeAnd (hub.at token) (λ line. (line.stage ≡ stages.Waiting)
+    × (letter_of line.session hub.book.server.sessions ≢ None))
 
 -- no two connections have one session, and the session of each is open
 pub record AreApart (hub : HubState) : Type 0 where

@@ -2,4 +2,5 @@
 pub mod Calls
 pub mod Left
 pub mod Moves
+pub mod Serving
 pub mod Telling

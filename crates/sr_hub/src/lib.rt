@@ -7,10 +7,14 @@ mod connection;
 mod hub;
 mod laws;
 mod rounds;
+mod serve;
+mod sockets;
 mod stage;
 mod unsent;
 
 pub use connection::Connection;
 pub use hub::{Hub, TakeFault};
 pub use laws::lines_pass;
+pub use serve::serve_sockets;
+pub use sockets::{Heard, Sockets};
 pub use stage::{Judging, Stage};
