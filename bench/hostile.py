@@ -100,6 +100,7 @@ def many_dead(server, runs):
     with server.connect(SECONDS) as connection:
         pending(connection, 100_000, "w")
         names = [f"dead-{number}" for number in range(4_000)]
+        until_idle(server)
         return [timed(connection, "RECOVER.PLAN", "s", "g", "DEAD", *names) for _ in range(runs)]
 
 
@@ -110,6 +111,7 @@ def many_owners(server, runs):
         names = [f"dead-{number}" for number in range(4_000)]
         send_all(connection, (["XADD", "s", "*", "c", "k"] for _ in names))
         send_all(connection, (["XREADGROUP", "GROUP", "g", name, "COUNT", 1, "STREAMS", "s", ">"] for name in names))
+        until_idle(server)
         return [timed(connection, "RECOVER.PLAN", "s", "g", "DEAD", *names) for _ in range(runs)]
 
 
