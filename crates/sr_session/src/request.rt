@@ -18,7 +18,7 @@ use sr_resp::{ErrCode, Reply, Sink};
 use std::alloc::Global;
 
 /// The error that says why words are not a command.
-fn code_of_fault(fault: CallFault) -> ErrCode
+pub fn code_of_fault(fault: CallFault) -> ErrCode
     ensures { result ≡ code_of fault }
 {
     match fault {

@@ -393,8 +393,8 @@ fn let_others_in<D: Desk>(desk: &mut D, seen: usize, gathered: usize) -> usize
     gathered
 }
 
-/// Takes the next piece, and tells whether the stream went wrong.
-fn feed(alloc: Global, requests: &mut Reader, piece: &[u8]) -> Result<bool, AllocError>
+/// Takes the next piece of a connection's bytes, and tells whether they went wrong: whether they are not requests.
+pub fn feed(alloc: Global, requests: &mut Reader, piece: &[u8]) -> Result<bool, AllocError>
     ensures ok { IfOk result (λ broken. broken ≡ requests.new.failed) }
     ensures advances { OnOk result (Advances requests.old requests.new piece.now) }
     ensures err { OnErr result (requests.new ≡ record requests.old { looked = requests.new.looked }) }
