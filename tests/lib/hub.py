@@ -182,7 +182,8 @@ class Model:
         if not connection or connection.stage != "judges":
             return "none"
         if self.lacks("verdict"):
-            return self.lack(token, moment)
+            self.lack(token, moment)
+            return "ok"
         if self.lacks("event"):
             self.tell(connection, MEMORY)
         else:

@@ -1,15 +1,11 @@
 //! A hub, and what is done with it for each line.
-ghost use Rattle.std.specs.Prelude.{◌≡◌, IfSome};
-
-use crate::copy::copy_of;
 use crate::line::{Ask, Deed};
 use crate::print::{
     bytes_line, done_line, fault_text, letters_line, line_of, look_line, taken_text,
 };
 use sr_book::Book;
 use sr_hub::Hub;
-use sr_plan::Verdict;
-use sr_policy::{Policy, Snapshot};
+use sr_policy::Policy;
 use std::alloc::{AllocError, Global};
 use std::hash::RandomState;
 
@@ -101,13 +97,8 @@ impl Driver {
 
     /// Makes the verdict that a connection wants, if it wants one, and concludes it.
     fn judge(&mut self, alloc: Global, token: usize, moment: u64) -> Result<String, AllocError> {
-        let Some(wanted) = self.hub.wants_verdict(token) else {
-            return line_of(alloc, "none");
-        };
-        let verdict = verdict_on(alloc, wanted);
-        let text = if verdict.is_some() { "ok" } else { "lacking" };
-        self.hub.conclude(alloc, token, moment, verdict);
-        line_of(alloc, text)
+        let done = self.hub.judge(alloc, token, moment);
+        line_of(alloc, if done { "ok" } else { "none" })
     }
 
     /// Concludes the verdict that a connection wants, if it wants one, as if memory was lacking for it.
@@ -117,18 +108,6 @@ impl Driver {
         }
         self.hub.conclude(alloc, token, moment, None);
         line_of(alloc, "lacking")
-    }
-}
-
-/// The verdict on a snapshot, or `None` if memory is refused for it.
-fn verdict_on(alloc: Global, snapshot: &Snapshot) -> Option<Verdict>
-    ensures { IfSome result (λ verdict. verdict.snapshot ≡ snapshot.now) }
-{
-    let copy = copy_of(alloc, snapshot).ok()?;
-    if copy == *snapshot {
-        Verdict::make(alloc, copy).ok()
-    } else {
-        None
     }
 }
 

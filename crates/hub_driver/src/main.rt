@@ -3,7 +3,6 @@
 //! It ends with status 0 at the end of the input, and with 1 if reading, writing or an allocation of its own fails.
 #![tactic(auto)]
 
-mod copy;
 mod drive;
 mod line;
 mod print;

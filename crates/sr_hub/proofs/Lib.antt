@@ -1,4 +1,5 @@
 pub mod ComingLemmas
+pub mod DeedLemmas
 pub mod FrameLemmas
 pub mod GoingLemmas
 pub mod HubLemmas

@@ -654,3 +654,23 @@ lacking-moves old line after P wanted tells = by line.stage refl wanted
 pub some-later : (later : ℕ) → (later == 0) ≡ false → 1 ≤ later
 some-later zero is = absurd (true≢false is)
 some-later (suc later) is = omega arith
+
+-- a connection is told the same, whichever stage it was in
+pub tells-from : (text : List ℕ) (stage other : Stage) (line after : ConnectionState) → Tells text (record line { stage = stage }) after → Tells text (record line { stage = other }) after
+tells-from text stage other line after (told is) = told is
+tells-from text stage other line after (cut_off is) = cut_off is
+
+-- what a connection does was taken out, a verdict was made of the snapshot that it wanted one on, and concluded
+pub judged-moves : (old new : BookState) (line out after : ConnectionState) (judging : Judging) (judged : Judged) → stages.Judges judging ≡ line.stage → out ≡ record line { stage = stages.CutOff }
+    → judged.snapshot ≡ judging.snapshot
+    → ((stage : Stage) → Concludes stage judged judging.apply judging.later → Moves old (record out { stage = stage }) new after) → Moves old line new after
+judged-moves old new line out after judging judged was is of concludes =
+    subst (λ (l : ConnectionState). Moves old l new after) (ap (λ (l : ConnectionState). record l { stage = stages.Judges judging }) is ∙ ap (λ (s : Stage). record line { stage = s }) was)
+    (concludes (stages.Judges judging) (refl, refl, of))
+
+-- memory is lacking for a verdict, after what a connection does was taken out
+pub unjudged-moves : (old : BookState) (line out after : ConnectionState) (judging : Judging) → stages.Judges judging ≡ line.stage → out ≡ record line { stage = stages.CutOff }
+    → Tells (reply_text (error_reply errors.Memory)) out after → Moves old line old after
+unjudged-moves old line out after judging was is tells =
+    moves-lacking old line 0 judging (sym was) after
+    (tells-from _ stages.CutOff line.stage line after (subst (λ (l : ConnectionState). Tells (reply_text (error_reply errors.Memory)) l after) is tells))

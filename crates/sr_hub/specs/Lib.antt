@@ -1,5 +1,6 @@
 pub mod Told
 pub mod Line
 pub mod Lines
+pub mod Deeds
 pub mod Heard
 pub mod steps

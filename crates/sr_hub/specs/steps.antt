@@ -4,3 +4,4 @@ pub mod Left
 pub mod Moves
 pub mod Serving
 pub mod Telling
+pub mod Running

@@ -5,7 +5,6 @@ ghost use Rattle.sr_args.specs.declared.call.Command.TheVariants as commands;
 ghost use Rattle.sr_args.specs.Command.{IsCommand};
 ghost use Rattle.sr_book.specs.Records.{IsCertain};
 ghost use Rattle.sr_book.specs.Server.{letter_of};
-ghost use Rattle.sr_session.specs.Answered.{code_of};
 ghost use Rattle.sr_session.specs.steps.Asked.{IsAsked};
 ghost use Rattle.sr_hub.specs.Line.{IsAtRest};
 ghost use Rattle.sr_hub.specs.steps.Moves.{Answers, Moves};
@@ -18,6 +17,7 @@ use sr_args::{Call, CallFault, Command, read_call};
 use sr_book::{Book, BookFault, Event, Out, Status};
 use sr_bytes::Name;
 use sr_resp::ErrCode;
+use sr_session::code_of_fault;
 use std::alloc::{AllocError, Global};
 
 /// While this many bytes are to be sent, no further request of a connection is begun.
@@ -62,9 +62,11 @@ fn answer_next(alloc: Global, book: &mut Book, connection: &mut Connection, mome
         return false;
     }
     let Some(words) = connection.requests.next_request() else {
+        connection.usage.has_looked();
         connection.tell_fault(alloc);
         return false;
     };
+    connection.usage.looks(moment);
     let asked = read_call(alloc, &words);
     answer_asked(alloc, book, connection, moment, asked);
     true
@@ -234,19 +236,5 @@ fn code_of_refusal(fault: BookFault) -> ErrCode
     match fault {
         BookFault::Full => ErrCode::Full,
         BookFault::Memory | BookFault::Busy | BookFault::NoSession => ErrCode::Memory,
-    }
-}
-
-/// The error that says why words are not a command.
-fn code_of_fault(fault: CallFault) -> ErrCode
-    ensures { result ≡ code_of fault }
-{
-    match fault {
-        CallFault::Unknown => ErrCode::Unknown,
-        CallFault::Arity => ErrCode::Arity,
-        CallFault::Syntax => ErrCode::Syntax,
-        CallFault::Number => ErrCode::Number,
-        CallFault::BadId => ErrCode::BadId,
-        CallFault::Memory => ErrCode::Memory,
     }
 }

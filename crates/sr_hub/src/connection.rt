@@ -1,8 +1,11 @@
 use crate::Stage;
 use crate::unsent::Unsent;
-use sr_resp::{ErrCode, ReadFault, Reader, Reply};
+use crate::usage::Usage;
+use sr_resp::{ErrCode, Reader, Reply};
+use sr_session::feed;
 use std::alloc::{AllocError, Global};
 use std::marker::Model;
+use std::mem;
 
 /// One connection: its session, the requests in its bytes, its replies that are to be sent, and what it is doing.
 pub struct Connection {
@@ -12,6 +15,7 @@ pub struct Connection {
     pub(crate) failed: bool,
     pub(crate) unsent: Unsent,
     pub(crate) stage: Stage,
+    pub(crate) usage: Usage,
 }
 
 // A function of its own, so that a caller that lets go of one is proved without looking at its parts.
@@ -23,6 +27,7 @@ impl Drop for Connection {
             failed: _,
             unsent: _,
             stage: _,
+            usage: _,
         } = self;
     }
 }
@@ -44,8 +49,8 @@ impl Connection {
     ghost use Rattle.sr_resp.specs.Stream.{Stands};
     ghost use Rattle.sr_hub.specs.steps.Telling.{Feeds, FeedsNot, Tells, TellsFault};
 
-    /// A connection of a session that has just joined. Takes no memory.
-    pub(crate) fn new(alloc: Global, session: u64) -> Connection
+    /// A connection of a session that joined at this moment. Takes no memory.
+    pub(crate) fn new(alloc: Global, session: u64, moment: u64) -> Connection
         ensures session { result.session ≡ session }
         ensures stands { Stands [] [] result.requests }
         ensures fresh { (result.requests.waiting ≡ []) × (result.requests.failed ≡ false) }
@@ -58,6 +63,7 @@ impl Connection {
             failed: false,
             unsent: Unsent::new(alloc),
             stage: Stage::Idle,
+            usage: Usage::from(moment),
         }
     }
 
@@ -83,21 +89,26 @@ impl Connection {
         self.stage = stage;
     }
 
+    /// Takes what it does out. It is as if it was cut off until it passes to another stage.
+    pub(crate) fn take_stage(&mut self) -> Stage
+        ensures stage { result ≡ self.old.stage }
+        ensures rest { self.new ≡ record self.old { stage = Stage.CutOff } }
+    {
+        mem::replace(&mut self.stage, Stage::CutOff)
+    }
+
     /// Takes the next piece of its bytes. An `Err` says that memory is lacking, and takes none of it.
     pub(crate) fn feed(&mut self, alloc: Global, piece: &[u8]) -> Result<(), AllocError>
         ensures ok { OnOk result (Feeds piece.now self.old self.new) }
         ensures err { OnErr result (FeedsNot self.old self.new) }
     {
-        match self.requests.feed(alloc, piece) {
-            Ok(()) => {
-                self.failed = false;
+        self.usage.took(piece.len());
+        match feed(alloc, &mut self.requests, piece) {
+            Ok(broken) => {
+                self.failed = broken;
                 Ok(())
             }
-            Err(ReadFault::Protocol) => {
-                self.failed = true;
-                Ok(())
-            }
-            Err(ReadFault::Memory) => Err(AllocError),
+            Err(AllocError) => Err(AllocError),
         }
     }
 

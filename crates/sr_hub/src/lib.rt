@@ -4,17 +4,24 @@
 
 mod answering;
 mod connection;
+mod copy;
+mod deeds;
 mod hub;
+mod keeper;
 mod laws;
 mod rounds;
 mod serve;
 mod sockets;
 mod stage;
 mod unsent;
+mod usage;
+mod watch;
 
 pub use connection::Connection;
+pub use deeds::{Deed, Outcome, Timed, run_hub};
 pub use hub::{Hub, TakeFault};
+pub use keeper::Habits;
 pub use laws::lines_pass;
 pub use serve::serve_sockets;
-pub use sockets::{Heard, Sockets};
+pub use sockets::{Heard, Job, Planned, Sockets};
 pub use stage::{Judging, Stage};

@@ -6,6 +6,7 @@ ghost use Rattle.sr_args.specs.Command.{IsCommand};
 ghost use Rattle.sr_hub.specs.Line.{wanted_of};
 ghost use Rattle.sr_hub.specs.steps.Moves.{Answers, Moves};
 ghost use Rattle.sr_hub.specs.steps.Left.{Concludes, judging_of};
+ghost use Rattle.sr_hub.specs.declared.stage.Stage.{Stage as ConnectionStage};
 
 use crate::answering::said;
 use crate::{Connection, Judging, Stage};
@@ -14,7 +15,7 @@ use sr_book::{Book, Event, Out};
 use sr_bytes::Name;
 use sr_plan::Verdict;
 use sr_resp::ErrCode;
-use std::alloc::Global;
+use std::alloc::{AllocError, Global};
 
 /// What RECOVER.PLAN or RECOVER.RUN asks for.
 #[derive(Drop)]
@@ -104,7 +105,28 @@ fn round_of(stage: &Stage) -> (bool, u64)
     }
 }
 
-/// Concludes this verdict, in a recovery that may make this many rounds after this one.
+/// Makes a verdict on the snapshot that is wanted, and concludes it: the recovery is replied, or has a fresh snapshot
+/// for its next round.
+pub(crate) fn judge_round(alloc: Global, book: &mut Book, connection: &mut Connection, moment: u64)
+    requires { IsSome (wanted_of connection.old.stage) }
+    ensures { Moves book.old connection.old book.new connection.new }
+{
+    let Stage::Judges(judging) = connection.take_stage() else {
+        unreachable!()
+    };
+    let Judging {
+        apply,
+        later,
+        snapshot,
+    } = judging;
+    match Verdict::make(alloc, snapshot) {
+        Ok(verdict) => conclude_verdict(alloc, book, connection, moment, verdict, apply, later),
+        Err(AllocError) => connection.tell_error(alloc, ErrCode::Memory),
+    }
+}
+
+/// Concludes this verdict, in a recovery that may make this many rounds after this one, whatever stage of it the
+/// connection was in.
 fn conclude_verdict(
     alloc: Global,
     book: &mut Book,
@@ -114,8 +136,8 @@ fn conclude_verdict(
     apply: bool,
     later: u64,
 )
-    requires { Concludes connection.old.stage verdict apply later }
-    ensures { Moves book.old connection.old book.new connection.new }
+    ensures { (stage : ConnectionStage) → Concludes stage verdict apply later
+        → Moves book.old (record connection.old { stage = stage }) book.new connection.new }
 {
     verdict.sound();
     let event = Event::Conclude {

@@ -1,149 +1,217 @@
 //! The event loop: what the network does is told to the hub, and what the hub has for a connection is written to it.
 ghost use Rattle.std.specs.Prelude.{◌≡◌, ℕ, List, IfSome};
 ghost use Rattle.sr_book.specs.Records.{Recorded};
-ghost use Rattle.sr_hub.specs.Lines.{AreLines, GoOn, state_of};
-ghost use Rattle.sr_hub.specs.steps.Serving.{Serves, seen};
+ghost use Rattle.sr_hub.specs.Heard.{GoOnAs};
+ghost use Rattle.sr_hub.specs.Lines.{AreLines, GoOn, state_of, with_more};
+ghost use Rattle.sr_hub.specs.steps.Serving.{Keeps, Serves};
 
-use crate::{Heard, Hub, Sockets};
+use crate::copy::copy_of;
+use crate::keeper::{Habits, Keeper};
+use crate::{Heard, Hub, Job, Planned, Sockets};
+use sr_plan::Verdict;
+use sr_policy::Snapshot;
 use sr_session::Clock;
 use std::alloc::Global;
 
 /// How many bytes are read at a time.
-const PIECE: usize = 4096;
+const PIECE: usize = 16 * 1024;
 
-/// While a read with a deadline waits, its deadline is looked at this often, in milliseconds.
-const TICK: u64 = 10;
+/// A plan for at most this many pairs of an entry and a consumer is made in the loop.
+const SMALL: usize = 65_536;
 
-/// Serves these sockets until nothing will come again, at most this many turns. After each turn in which the book keeps
-/// more than `keep` records, they are dropped.
+/// Serves these sockets until nothing will come again, at most as many turns as the habits say.
 ///
 /// Whatever comes in whatever order, each connection is given the replies that the book's records address to its
 /// session, in order, and each byte of them once.
 ///
-/// It makes no verdicts yet: a connection that wants one for its recovery waits until it is over.
+/// A plan for few pairs of an entry and a consumer is made in the loop, so that it is never stale; others are made
+/// elsewhere if the sockets have it so.
 pub fn serve_sockets<S: Sockets, C: Clock>(
     alloc: Global,
     hub: &mut Hub,
     sockets: &mut S,
     clock: &C,
-    keep: Option<u64>,
-    turns: u64,
+    habits: Habits,
 )
-    ensures lines { (records : List Recorded)
-        → AreLines records (S.taken sockets.old) (S.given sockets.old) (state_of hub.old)
-        → GoOn records (S.taken sockets.new) (S.given sockets.new) (state_of hub.new) }
+    ensures lines { (records : List Recorded) (taken given : ℕ → List ℕ) → S.may_have sockets.old taken given
+        → AreLines records taken given (state_of hub.old)
+        → GoOnAs records (S.may_have sockets.new) (state_of hub.new) }
 {
     let mut buffer = [0; PIECE];
-    for _turn in 0..turns {
-        if !hear(alloc, hub, sockets, clock, &mut buffer) {
+    let mut keeper = Keeper::new(alloc, clock, habits);
+    for _turn in 0..habits.turns {
+        if !hear(hub, sockets, &mut keeper, &mut buffer) {
             return;
         }
-        settle(alloc, hub, sockets, clock, keep);
+        settle(hub, sockets, &mut keeper);
     }
 }
 
-/// Waits for what the network does next, and does what it asks for. Answers whether more may come.
+/// Waits for what comes next, and does what it asks for. Answers whether more may come.
 fn hear<S: Sockets, C: Clock>(
-    alloc: Global,
     hub: &mut Hub,
     sockets: &mut S,
-    clock: &C,
+    keeper: &mut Keeper<'_, C>,
     buffer: &mut [u8],
 ) -> bool
-    ensures { Serves (seen hub.old (S.taken sockets.old) (S.given sockets.old))
-        (seen hub.new (S.taken sockets.new) (S.given sockets.new)) }
+    ensures { Serves (state_of hub.old) (S.may_have sockets.old) (state_of hub.new) (S.may_have sockets.new) }
 {
-    let until = next_look(hub, clock);
-    match sockets.next(buffer, until) {
-        Heard::Came => admit(alloc, hub, sockets, clock),
+    let heard = sockets.next(buffer, keeper.patience());
+    keeper.hears(heard);
+    match heard {
+        Heard::Came => admit(hub, sockets, keeper),
         Heard::Bytes { token, count } => {
-            let _taken = hub.take(alloc, token, clock.now(), &buffer[..count]);
-            attend(alloc, hub, sockets, clock, token);
+            take(hub, keeper, token, &buffer[..count]);
+            attend(hub, sockets, keeper, token);
         }
-        Heard::Room { token } => attend(alloc, hub, sockets, clock, token),
-        Heard::Over { token } => dismiss(alloc, hub, sockets, clock, token),
+        Heard::Room { token } => attend(hub, sockets, keeper, token),
+        Heard::Over { token } => leave(hub, sockets, keeper, token),
+        Heard::Planned => conclude_planned(hub, sockets, keeper),
         Heard::Nothing => {}
         Heard::End => return false,
     }
     true
 }
 
-/// When to look at the deadlines of the reads that wait, if one has a deadline.
-fn next_look<C: Clock>(hub: &Hub, clock: &C) -> Option<u64> {
-    if hub.book().due(u64::MAX) {
-        Some(clock.now().saturating_add(TICK))
-    } else {
-        None
-    }
-}
-
 /// A connection came: gives it a token, or refuses it.
-fn admit<S: Sockets, C: Clock>(alloc: Global, hub: &mut Hub, sockets: &mut S, clock: &C)
-    ensures { Serves (seen hub.old (S.taken sockets.old) (S.given sockets.old))
-        (seen hub.new (S.taken sockets.new) (S.given sockets.new)) }
+fn admit<S: Sockets, C: Clock>(hub: &mut Hub, sockets: &mut S, keeper: &mut Keeper<'_, C>)
+    ensures { Serves (state_of hub.old) (S.may_have sockets.old) (state_of hub.new) (S.may_have sockets.new) }
 {
-    match hub.connect(alloc, clock.now()) {
-        Ok(token) => sockets.name(token),
+    if keeper.watch.reserve().is_err() {
+        sockets.refuse();
+        return;
+    }
+    match hub.connect(keeper.alloc, keeper.now()) {
+        Ok(token) => {
+            keeper.watch.comes(hub, token);
+            sockets.name(token)
+        }
         Err(_) => sockets.refuse(),
     }
 }
 
+/// Takes the next bytes of a connection, or cuts it off if unanswered requests hold too much with them.
+fn take<C: Clock>(hub: &mut Hub, keeper: &mut Keeper<'_, C>, token: usize, piece: &[u8])
+    ensures { (records : List Recorded) (taken given : ℕ → List ℕ) → AreLines records taken given (state_of hub.old)
+        → GoOn records (with_more token piece.now taken) given (state_of hub.new) }
+{
+    if keeper
+        .watch
+        .exceeds(hub, token, piece.len(), keeper.habits.unfinished)
+    {
+        hub.pass_over(token);
+    } else {
+        let _taken = hub.take(keeper.alloc, token, keeper.now(), piece);
+    }
+}
+
+/// A connection will send no more: makes the plan that it wants, if it wants one, and closes it.
+fn leave<S: Sockets, C: Clock>(
+    hub: &mut Hub,
+    sockets: &mut S,
+    keeper: &mut Keeper<'_, C>,
+    token: usize,
+)
+    ensures { Serves (state_of hub.old) (S.may_have sockets.old) (state_of hub.new) (S.may_have sockets.new) }
+{
+    finish(hub, sockets, keeper, token);
+    dismiss(hub, sockets, keeper, token);
+}
+
+/// Makes the plan that a connection wants, if it wants one, and writes what there is for it then.
+fn finish<S: Sockets, C: Clock>(
+    hub: &mut Hub,
+    sockets: &mut S,
+    keeper: &mut Keeper<'_, C>,
+    token: usize,
+)
+    ensures { Serves (state_of hub.old) (S.may_have sockets.old) (state_of hub.new) (S.may_have sockets.new) }
+{
+    if !hub.judge(keeper.alloc, token, keeper.now()) {
+        return;
+    }
+    advance(hub, sockets, keeper, token);
+}
+
 /// A connection is over.
 fn dismiss<S: Sockets, C: Clock>(
-    alloc: Global,
     hub: &mut Hub,
     sockets: &mut S,
-    clock: &C,
+    keeper: &mut Keeper<'_, C>,
     token: usize,
 )
-    ensures { Serves (seen hub.old (S.taken sockets.old) (S.given sockets.old))
-        (seen hub.new (S.taken sockets.new) (S.given sockets.new)) }
+    ensures { Serves (state_of hub.old) (S.may_have sockets.old) (state_of hub.new) (S.may_have sockets.new) }
 {
     sockets.close(token);
-    // If its leave is refused, the session stays without a socket.
-    let _left = hub.close(alloc, token, clock.now());
+    release(hub, keeper, token);
 }
 
-/// Writes what there is for a connection, which is closed if it is at its end and nothing is left to write.
-fn attend<S: Sockets, C: Clock>(
-    alloc: Global,
-    hub: &mut Hub,
-    sockets: &mut S,
-    clock: &C,
-    token: usize,
-)
-    ensures { Serves (seen hub.old (S.taken sockets.old) (S.given sockets.old))
-        (seen hub.new (S.taken sockets.new) (S.given sockets.new)) }
+/// Has the session of a connection leave whose socket is closed. If that is refused, it is tried again later.
+fn release<C: Clock>(hub: &mut Hub, keeper: &mut Keeper<'_, C>, token: usize)
+    ensures { Keeps (state_of hub.old) (state_of hub.new) }
 {
-    write_all(alloc, hub, sockets, clock, token);
-    if hub.is_over(token) {
-        dismiss(alloc, hub, sockets, clock, token);
+    let session = hub.session(token);
+    match hub.close(keeper.alloc, token, keeper.now()) {
+        Ok(()) => keeper.watch.goes(session),
+        Err(_) => keeper.watch.note_over(token, true),
     }
 }
 
-/// Writes what there is for a connection and goes on with it, as long as all is written.
-fn write_all<S: Sockets, C: Clock>(
-    alloc: Global,
+/// Goes on with a connection as far as it goes, writes what there is for it, and closes it if it is at its end and
+/// nothing is left to write.
+fn attend<S: Sockets, C: Clock>(
     hub: &mut Hub,
     sockets: &mut S,
-    clock: &C,
+    keeper: &mut Keeper<'_, C>,
     token: usize,
 )
-    ensures { Serves (seen hub.old (S.taken sockets.old) (S.given sockets.old))
-        (seen hub.new (S.taken sockets.new) (S.given sockets.new)) }
+    ensures { Serves (state_of hub.old) (S.may_have sockets.old) (state_of hub.new) (S.may_have sockets.new) }
+{
+    advance(hub, sockets, keeper, token);
+    keeper.watch.look_at(hub, token);
+    if hub.is_over(token) {
+        dismiss(hub, sockets, keeper, token);
+    }
+}
+
+/// Makes the plans that a connection wants, writes what there is for it and goes on with it, as long as all is written.
+fn advance<S: Sockets, C: Clock>(
+    hub: &mut Hub,
+    sockets: &mut S,
+    keeper: &mut Keeper<'_, C>,
+    token: usize,
+)
+    ensures { Serves (state_of hub.old) (S.may_have sockets.old) (state_of hub.new) (S.may_have sockets.new) }
 {
     for _round in 0..u64::MAX {
-        if !write_some(hub, sockets, token) {
+        if !go_on(hub, sockets, keeper, token) {
             return;
         }
-        hub.go_on(alloc, token, clock.now());
     }
+}
+
+/// Makes the plan that a connection wants, or writes what there is for it and goes on with it if all of it was written.
+/// Answers whether it did.
+fn go_on<S: Sockets, C: Clock>(
+    hub: &mut Hub,
+    sockets: &mut S,
+    keeper: &mut Keeper<'_, C>,
+    token: usize,
+) -> bool
+    ensures { Serves (state_of hub.old) (S.may_have sockets.old) (state_of hub.new) (S.may_have sockets.new) }
+{
+    if judge(hub, sockets, keeper, token) {
+        return true;
+    }
+    if !write_some(hub, sockets, token) {
+        return false;
+    }
+    hub.go_on(keeper.alloc, token, keeper.now())
 }
 
 /// Writes what there is for a connection. Answers whether there was something, and all of it was written.
 fn write_some<S: Sockets>(hub: &mut Hub, sockets: &mut S, token: usize) -> bool
-    ensures { Serves (seen hub.old (S.taken sockets.old) (S.given sockets.old))
-        (seen hub.new (S.taken sockets.new) (S.given sockets.new)) }
+    ensures { Serves (state_of hub.old) (S.may_have sockets.old) (state_of hub.new) (S.may_have sockets.new) }
 {
     let Some(bytes) = hub.unsent(token) else {
         return false;
@@ -157,37 +225,168 @@ fn write_some<S: Sockets>(hub: &mut Hub, sockets: &mut S, token: usize) -> bool
     count == length
 }
 
-/// Answers the reads whose deadline is reached, serves each connection that has a letter, and drops old records.
-fn settle<S: Sockets, C: Clock>(
-    alloc: Global,
+/// Makes the plan that a connection wants, if it wants one, and concludes it; or has it made elsewhere. Answers whether
+/// it was concluded.
+fn judge<S: Sockets, C: Clock>(
     hub: &mut Hub,
     sockets: &mut S,
-    clock: &C,
-    keep: Option<u64>,
-)
-    ensures { Serves (seen hub.old (S.taken sockets.old) (S.given sockets.old))
-        (seen hub.new (S.taken sockets.new) (S.given sockets.new)) }
+    keeper: &mut Keeper<'_, C>,
+    token: usize,
+) -> bool
+    ensures { Serves (state_of hub.old) (S.may_have sockets.old) (state_of hub.new) (S.may_have sockets.new) }
 {
-    let _due = hub.tick(alloc, clock.now());
-    hand_letters(alloc, hub, sockets, clock);
-    match keep {
+    let Some(wanted) = hub.wants_verdict(token) else {
+        return false;
+    };
+    if is_large(wanted) && hand_over(hub, sockets, keeper.alloc, token) {
+        return false;
+    }
+    let done = hub.judge(keeper.alloc, token, keeper.now());
+    keeper.looks_up();
+    done
+}
+
+/// Whether a plan is for many pairs of an entry and a consumer.
+fn is_large(wanted: &Snapshot) -> bool {
+    wanted.stranded().len().saturating_mul(wanted.live().len()) > SMALL
+}
+
+/// Has the plan that a connection wants made elsewhere, if it is not already. Answers whether it is made there.
+fn hand_over<S: Sockets>(hub: &Hub, sockets: &mut S, alloc: Global, token: usize) -> bool
+    ensures { (taken given : ℕ → List ℕ) → S.may_have sockets.old taken given
+        → S.may_have sockets.new taken given }
+{
+    let (Some(session), Some(wanted)) = (hub.session(token), hub.wants_verdict(token)) else {
+        return false;
+    };
+    if sockets.is_planning(session) {
+        return true;
+    }
+    match copy_of(alloc, wanted) {
+        Some(snapshot) => sockets.plan(Job {
+            token,
+            session,
+            snapshot,
+        }),
+        None => false,
+    }
+}
+
+/// Concludes the plans that were made elsewhere, and goes on with their connections.
+fn conclude_planned<S: Sockets, C: Clock>(
+    hub: &mut Hub,
+    sockets: &mut S,
+    keeper: &mut Keeper<'_, C>,
+)
+    ensures { Serves (state_of hub.old) (S.may_have sockets.old) (state_of hub.new) (S.may_have sockets.new) }
+{
+    for _plan in 0..u64::MAX {
+        let Some(planned) = sockets.planned() else {
+            return;
+        };
+        let token = planned.token;
+        conclude(hub, keeper, planned);
+        keeper.hands(token);
+        attend(hub, sockets, keeper, token);
+    }
+}
+
+/// Concludes a plan that was made elsewhere, if its connection is still there.
+fn conclude<C: Clock>(hub: &mut Hub, keeper: &mut Keeper<'_, C>, planned: Planned)
+    ensures { Keeps (state_of hub.old) (state_of hub.new) }
+{
+    let Planned {
+        token,
+        session,
+        verdict,
+    } = planned;
+    if hub.session(token) != Some(session) {
+        return;
+    }
+    match hub.wants_verdict(token) {
         None => {}
-        Some(keep) => {
-            hub.compact(alloc, keep);
+        Some(wanted) => {
+            let verdict = verdict_on(wanted, verdict);
+            hub.conclude(keeper.alloc, token, keeper.now(), verdict);
         }
     }
 }
 
-/// Goes on with each connection that has a letter, and writes to it.
-fn hand_letters<S: Sockets, C: Clock>(alloc: Global, hub: &mut Hub, sockets: &mut S, clock: &C)
-    ensures { Serves (seen hub.old (S.taken sockets.old) (S.given sockets.old))
-        (seen hub.new (S.taken sockets.new) (S.given sockets.new)) }
+/// The verdict, if it is one on this snapshot.
+fn verdict_on(wanted: &Snapshot, verdict: Option<Verdict>) -> Option<Verdict>
+    ensures { IfSome result (λ judged. judged.snapshot ≡ wanted.now) }
+{
+    let verdict = verdict?;
+    if *verdict.snapshot() == *wanted {
+        Some(verdict)
+    } else {
+        None
+    }
+}
+
+/// Answers the reads whose deadline is reached, serves each connection that has a letter, and drops old records.
+fn settle<S: Sockets, C: Clock>(hub: &mut Hub, sockets: &mut S, keeper: &mut Keeper<'_, C>)
+    ensures { Serves (state_of hub.old) (S.may_have sockets.old) (state_of hub.new) (S.may_have sockets.new) }
+{
+    tick(hub, keeper);
+    hand_letters(hub, sockets, keeper);
+    sweep(hub, sockets, keeper);
+    keeper.forget(hub);
+}
+
+/// Answers the reads whose deadline is reached, if that was not looked at for a while.
+fn tick<C: Clock>(hub: &mut Hub, keeper: &mut Keeper<'_, C>)
+    ensures { Keeps (state_of hub.old) (state_of hub.new) }
+{
+    if keeper.is_tick() {
+        // One that is refused is made up for by the next.
+        let _due = hub.tick(keeper.alloc, keeper.now());
+        keeper.rests(hub.book().due(u64::MAX));
+    }
+}
+
+/// Goes on with each connection that was given its reply while it waited, and writes to it.
+fn hand_letters<S: Sockets, C: Clock>(hub: &mut Hub, sockets: &mut S, keeper: &mut Keeper<'_, C>)
+    ensures { Serves (state_of hub.old) (S.may_have sockets.old) (state_of hub.new) (S.may_have sockets.new) }
 {
     for _letter in 0..u64::MAX {
-        let Some(token) = hub.lettered() else {
+        let Some(token) = keeper.watch.next_lettered(hub) else {
             return;
         };
-        hub.go_on(alloc, token, clock.now());
-        attend(alloc, hub, sockets, clock, token);
+        hub.go_on(keeper.alloc, token, keeper.now());
+        keeper.hands(token);
+        attend(hub, sockets, keeper, token);
+    }
+}
+
+/// Looks at all connections, if that was not done for a while.
+fn sweep<S: Sockets, C: Clock>(hub: &mut Hub, sockets: &mut S, keeper: &mut Keeper<'_, C>)
+    ensures { Serves (state_of hub.old) (S.may_have sockets.old) (state_of hub.new) (S.may_have sockets.new) }
+{
+    if !keeper.is_sweep() {
+        return;
+    }
+    for token in 0..hub.tokens() {
+        look_at(hub, sockets, keeper, token);
+    }
+}
+
+/// Looks at one connection: whether its session could not leave, it has a letter, or it has been idle for too long.
+fn look_at<S: Sockets, C: Clock>(
+    hub: &mut Hub,
+    sockets: &mut S,
+    keeper: &mut Keeper<'_, C>,
+    token: usize,
+)
+    ensures { Serves (state_of hub.old) (S.may_have sockets.old) (state_of hub.new) (S.may_have sockets.new) }
+{
+    if keeper.watch.is_over(token) {
+        release(hub, keeper, token);
+    } else if hub.has_letter(token) {
+        hub.go_on(keeper.alloc, token, keeper.now());
+        keeper.hands(token);
+        attend(hub, sockets, keeper, token);
+    } else if keeper.is_idle(hub, token) {
+        dismiss(hub, sockets, keeper, token);
     }
 }

@@ -1,3 +1,6 @@
+use sr_plan::Verdict;
+use sr_policy::Snapshot;
+
 /// What the network did next.
 #[derive(Clone, Copy, Debug, PartialEq, Eq)]
 pub enum Heard {
@@ -9,50 +12,82 @@ pub enum Heard {
     Room { token: usize },
     /// A connection is over.
     Over { token: usize },
-    /// Nothing, until the moment that was asked for.
+    /// A plan was made elsewhere.
+    Planned,
+    /// Nothing, for as long as was asked for.
     Nothing,
     /// Nothing will ever come again.
     End,
 }
 
-/// The sockets of an event loop, each at the token that it was given.
+/// A snapshot on which a verdict is wanted, and the connection that wants it.
+#[derive(Drop)]
+pub struct Job {
+    /// The connection's token.
+    pub token: usize,
+    /// Its session: a later connection can have the same token.
+    pub session: u64,
+    /// What is to be judged.
+    pub snapshot: Snapshot,
+}
+
+/// What came of a job.
+#[derive(Drop)]
+pub struct Planned {
+    /// The token that the job had.
+    pub token: usize,
+    /// The session that it had.
+    pub session: u64,
+    /// The verdict; `None` if memory was lacking for it.
+    pub verdict: Option<Verdict>,
+}
+
+/// What an event loop has outside of it: sockets, each at the token that it was given, and whoever makes the plans
+/// that take long.
 pub trait Sockets {
-    ghost use Rattle.std.specs.Prelude.{◌≡◌, ◌≤◌, ℕ, List, length, take};
+    ghost use Rattle.std.specs.Prelude.{◌≤◌, ℕ, List, length, take};
     ghost use Rattle.sr_hub.specs.Heard.{count_of, taken_after};
     ghost use Rattle.sr_hub.specs.Lines.{with_more, with_none};
 
-    /// The bytes that were handed out of the connection at each token, since it has the token.
-    ghost taken: { Self → ℕ → List ℕ };
+    /// Whether these may be the bytes that were handed out of the connection at each token since it has the token, and
+    /// those that were written to it. Of sockets that a system holds, no clause can say more than that they may.
+    ghost may_have: { Self → (ℕ → List ℕ) → (ℕ → List ℕ) → Type 0 };
 
-    /// The bytes that were written to it.
-    ghost given: { Self → ℕ → List ℕ };
-
-    /// Waits for what the network does next. It may say that nothing came after the moment `until`, in milliseconds
-    /// since 1970, if there is one.
-    fn next(&mut self, buffer: &mut [u8], until: Option<u64>) -> Heard
+    /// Waits for what comes next, at most this many milliseconds, or for as long as nothing comes.
+    fn next(&mut self, buffer: &mut [u8], wait: Option<u64>) -> Heard
         ensures bound { count_of result ≤ length buffer.new }
-        ensures bytes { taken self.new ≡ taken_after result buffer.new (taken self.old) }
-        ensures none_given { given self.new ≡ given self.old };
+        ensures bytes { (taken given : ℕ → List ℕ) → may_have self.old taken given
+            → may_have self.new (taken_after result buffer.new taken) given };
 
     /// The connection that came last has this token from now on.
     fn name(&mut self, token: usize)
-        ensures none_taken { taken self.new ≡ with_none token (taken self.old) }
-        ensures none_given { given self.new ≡ with_none token (given self.old) };
+        ensures { (taken given : ℕ → List ℕ) → may_have self.old taken given
+            → may_have self.new (with_none token taken) (with_none token given) };
 
     /// Closes the connection that came last.
     fn refuse(&mut self)
-        ensures none_taken { taken self.new ≡ taken self.old }
-        ensures none_given { given self.new ≡ given self.old };
+        ensures { (taken given : ℕ → List ℕ) → may_have self.old taken given → may_have self.new taken given };
 
     /// Writes some of these bytes, from the first on, and answers how many: none if there is no room for them, or no
     /// such connection.
     fn write(&mut self, token: usize, bytes: &[u8]) -> usize
         ensures bound { result ≤ length bytes.now }
-        ensures bytes { given self.new ≡ with_more token (take result bytes.now) (given self.old) }
-        ensures none_taken { taken self.new ≡ taken self.old };
+        ensures bytes { (taken given : ℕ → List ℕ) → may_have self.old taken given
+            → may_have self.new taken (with_more token (take result bytes.now) given) };
 
     /// Closes a connection, if there is one.
     fn close(&mut self, token: usize)
-        ensures none_taken { taken self.new ≡ taken self.old }
-        ensures none_given { given self.new ≡ given self.old };
+        ensures { (taken given : ℕ → List ℕ) → may_have self.old taken given → may_have self.new taken given };
+
+    /// Has a plan made elsewhere, of which `planned` tells once it is made. Answers whether it will be: if not, the
+    /// loop makes it itself.
+    fn plan(&mut self, job: Job) -> bool
+        ensures { (taken given : ℕ → List ℕ) → may_have self.old taken given → may_have self.new taken given };
+
+    /// Whether a plan is made elsewhere for a session, and was not told yet.
+    fn is_planning(&self, session: u64) -> bool;
+
+    /// What came of a job, if there is one that is done and was not told yet.
+    fn planned(&mut self) -> Option<Planned>
+        ensures { (taken given : ℕ → List ℕ) → may_have self.old taken given → may_have self.new taken given };
 }

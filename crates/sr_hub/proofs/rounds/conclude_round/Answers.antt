@@ -11,11 +11,12 @@ round_of-round-requires c =
     let P : Shown → Type 0 = λ shown. IfSome c.args.verdict (λ judged. judged.snapshot ≡ shown) in
     wanted-judges c.connection.inside.stage P (subst (λ (l : ConnectionState). IsSomeAnd (wanted_of l.stage) P) (sym c.connection.view_is) c.requires)
 
-pub conclude_verdict-requires : goal.conclude_verdict-requires
-conclude_verdict-requires c =
+pub returns-in-Some : goal.returns-in-Some
+returns-in-Some c =
     let Wants : Option Judged → Type 0 = λ v. IsSomeAnd (wanted_of c.args.connection.now.stage) (λ shown. IfSome v (λ judged. judged.snapshot ≡ shown)) in
     let Rounds : ConnectionState → Type 0 = λ l. IsSomeAnd (judging_of l.stage) (λ judging. (judging.apply ≡ c.round_of-round.result.0) × (judging.later ≡ c.round_of-round.result.1)) in
-    concludes-of c.args.connection.now.stage c.in-Some.verdict c.round_of-round.result.0 c.round_of-round.result.1 (subst Wants c.in-Some.is c.requires) (subst Rounds c.connection.view_is c.round_of-round.ensures)
+    c.conclude_verdict.ensures c.args.connection.now.stage
+    (concludes-of c.args.connection.now.stage c.in-Some.verdict c.round_of-round.result.0 c.round_of-round.result.1 (subst Wants c.in-Some.is c.requires) (subst Rounds c.connection.view_is c.round_of-round.ensures))
 
 pub returns-in-None : goal.returns-in-None
 returns-in-None c =

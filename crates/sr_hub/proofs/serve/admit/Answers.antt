@@ -1,13 +1,11 @@
-use Rattle.sr_hub.proofs.ServeLemmas.{serves-change, serves-refused}
-use Rattle.sr_hub.specs.Lines.{with_none}
+use Rattle.sr_hub.specs.Lines.{state_of}
+use Rattle.sr_hub.proofs.ServeLemmas.{keeps-same, serves-both, serves-same}
 use Rattle.sr_hub.proofs.serve.admit.Goals as goal
 
-pub returns-in-Ok : goal.returns-in-Ok
-returns-in-Ok g c =
-    serves-change c.args.hub.now c.connect.new.self (g.S.Sockets.taken c.args.sockets.now) (g.S.Sockets.given c.args.sockets.now) (with_none c.in-Ok.token (g.S.Sockets.taken c.args.sockets.now)) (with_none c.in-Ok.token (g.S.Sockets.given c.args.sockets.now)) (g.S.Sockets.taken c.name.new.self) (g.S.Sockets.given c.name.new.self)
-    (λ records lines. c.in-Ok.ensures.lines records (g.S.Sockets.taken c.args.sockets.now) (g.S.Sockets.given c.args.sockets.now) lines)
-    c.name.ensures.none_taken c.name.ensures.none_given
+pub returns-then-is_err : goal.returns-then-is_err
+returns-then-is_err g c = serves-same (state_of c.args.hub.now) (g.S.Sockets.may_have c.args.sockets.now) (g.S.Sockets.may_have c.refuse.new.self) c.refuse.ensures
 
 pub returns-in-Err : goal.returns-in-Err
 returns-in-Err g c =
-    serves-refused c.args.hub.now c.connect.new.self (g.S.Sockets.taken c.args.sockets.now) (g.S.Sockets.given c.args.sockets.now) (g.S.Sockets.taken c.refuse.new.self) (g.S.Sockets.given c.refuse.new.self) c.in-Err.ensures.err c.refuse.ensures.none_taken c.refuse.ensures.none_given
+    serves-both (state_of c.args.hub.now) (state_of c.connect.new.self) (g.S.Sockets.may_have c.args.sockets.now) (g.S.Sockets.may_have c.refuse-in-Err.new.self) c.refuse-in-Err.ensures
+    (keeps-same (state_of c.args.hub.now) (state_of c.connect.new.self) c.in-Err.ensures.err)

@@ -1,7 +1,9 @@
-use Rattle.sr_hub.specs.steps.Serving.{seen}
+use Rattle.sr_hub.specs.Lines.{state_of}
 use Rattle.sr_hub.proofs.ServeLemmas.{serves-then}
 use Rattle.sr_hub.proofs.serve.attend.Goals as goal
 
 pub returns-then-is_over : goal.returns-then-is_over
 returns-then-is_over g c =
-    serves-then (seen c.args.hub.now (g.S.Sockets.taken c.args.sockets.now) (g.S.Sockets.given c.args.sockets.now)) (seen c.write_all.new.hub (g.S.Sockets.taken c.write_all.new.sockets) (g.S.Sockets.given c.write_all.new.sockets)) (seen c.dismiss.new.hub (g.S.Sockets.taken c.dismiss.new.sockets) (g.S.Sockets.given c.dismiss.new.sockets)) c.write_all.ensures c.dismiss.ensures
+    serves-then (state_of c.args.hub.now) (state_of c.advance.new.hub) (state_of c.dismiss.new.hub) (g.S.Sockets.may_have c.args.sockets.now) (g.S.Sockets.may_have c.advance.new.sockets) (g.S.Sockets.may_have c.dismiss.new.sockets)
+    c.advance.ensures
+    c.dismiss.ensures

@@ -1,7 +1,7 @@
-use Rattle.sr_hub.specs.steps.Serving.{Serves, seen}
+use Rattle.sr_hub.specs.Lines.{state_of}
+use Rattle.sr_hub.specs.steps.Serving.{Serves}
 use Rattle.sr_hub.proofs.serve.hand_letters.Given as goal
 
 abbrev pub invariant-loop-letter : goal.invariant-loop-letter
 invariant-loop-letter g l =
-    Serves (seen l.fn.hub (g.S.Sockets.taken l.fn.sockets) (g.S.Sockets.given l.fn.sockets))
-    (seen l.hub (g.S.Sockets.taken l.sockets) (g.S.Sockets.given l.sockets))
+    Serves (state_of l.fn.hub) (g.S.Sockets.may_have l.fn.sockets) (state_of l.hub) (g.S.Sockets.may_have l.sockets)

@@ -1,19 +1,12 @@
 use Rattle.std.proofs.Common.{take}
-use Rattle.sr_hub.specs.Lines.{with_more}
-use Rattle.sr_hub.specs.steps.Serving.{seen}
-use Rattle.sr_hub.proofs.ServeLemmas.{serves-change, serves-same, serves-then}
+use Rattle.sr_hub.specs.Lines.{state_of, with_more}
+use Rattle.sr_hub.proofs.ServeLemmas.{serves-by, serves-then}
 use Rattle.sr_hub.proofs.serve.hear.Goals as goal
-
-pub returns-in-End : goal.returns-in-End
-returns-in-End g c = serves-same c.args.hub.now (g.S.Sockets.taken c.args.sockets.now) (g.S.Sockets.given c.args.sockets.now) (g.S.Sockets.taken c.next.new.self) (g.S.Sockets.given c.next.new.self) c.in-End.ensures.bytes c.in-End.ensures.none_given
-
-pub returns-in-Nothing : goal.returns-in-Nothing
-returns-in-Nothing g c = serves-same c.args.hub.now (g.S.Sockets.taken c.args.sockets.now) (g.S.Sockets.given c.args.sockets.now) (g.S.Sockets.taken c.next.new.self) (g.S.Sockets.given c.next.new.self) c.in-Nothing.ensures.bytes c.in-Nothing.ensures.none_given
 
 pub returns-in-Bytes : goal.returns-in-Bytes
 returns-in-Bytes g c =
-    let piece = take c.in-Bytes.count c.next.new.buffer in
-    serves-then (seen c.args.hub.now (g.S.Sockets.taken c.args.sockets.now) (g.S.Sockets.given c.args.sockets.now)) (seen c.take-taken.new.self (g.S.Sockets.taken c.next.new.self) (g.S.Sockets.given c.next.new.self)) (seen c.attend.new.hub (g.S.Sockets.taken c.attend.new.sockets) (g.S.Sockets.given c.attend.new.sockets))
-    (serves-change c.args.hub.now c.take-taken.new.self (g.S.Sockets.taken c.args.sockets.now) (g.S.Sockets.given c.args.sockets.now) (with_more c.in-Bytes.token piece (g.S.Sockets.taken c.args.sockets.now)) (g.S.Sockets.given c.args.sockets.now) (g.S.Sockets.taken c.next.new.self) (g.S.Sockets.given c.next.new.self)
-    (λ records lines. c.take-taken.ensures.lines records (g.S.Sockets.taken c.args.sockets.now) (g.S.Sockets.given c.args.sockets.now) lines) c.in-Bytes.ensures.bytes c.in-Bytes.ensures.none_given)
+    let piece = take c.in-Bytes.count c.next-heard.new.buffer in
+    serves-then (state_of c.args.hub.now) (state_of c.take.new.hub) (state_of c.attend.new.hub) (g.S.Sockets.may_have c.args.sockets.now) (g.S.Sockets.may_have c.next-heard.new.self) (g.S.Sockets.may_have c.attend.new.sockets)
+    (serves-by (state_of c.args.hub.now) (state_of c.take.new.hub) (g.S.Sockets.may_have c.args.sockets.now) (g.S.Sockets.may_have c.next-heard.new.self) (with_more c.in-Bytes.token piece) (λ given. given)
+    (λ taken given are. c.in-Bytes.ensures.bytes taken given are) c.take.ensures)
     c.attend.ensures

@@ -4,8 +4,8 @@ use Rattle.sr_hub.specs.Line.{ConnectionState}
 use Rattle.sr_hub.specs.steps.Telling.{FeedsNot}
 use Rattle.sr_hub.proofs.connection.Connection.feed.Goals as goal
 
-pub returns-in-Err-Memory-clause-err : goal.returns-in-Err-Memory-clause-err
-returns-in-Err-Memory-clause-err c =
+pub returns-in-Err-clause-err : goal.returns-in-Err-clause-err
+returns-in-Err-clause-err c =
     let with : Progress → ConnectionState = λ r. record { session = c.self.inside.session; requests = r; unsent = c.self.inside.unsent; stage = c.self.inside.stage } in
-    let P : ConnectionState → Type 0 = λ line. FeedsNot line (with c.feed.new.self) in
-    subst P c.self.view_is (record { looked = c.feed.new.self.looked; same = ap with (c.in-Err-Memory.ensures.memory (let is = c.in-Err-Memory.field-0-is in cc)) })
+    let P : ConnectionState → Type 0 = λ line. FeedsNot line (with c.feed.new.requests) in
+    subst P c.self.view_is (record { looked = c.feed.new.requests.looked; same = ap with c.in-Err.ensures.err })

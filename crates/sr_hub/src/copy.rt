@@ -1,11 +1,21 @@
-//! A copy of a snapshot, part by part: a hub only shows the snapshot on which it wants a verdict.
+//! A copy of a snapshot, part by part.
+ghost use Rattle.std.specs.Prelude.{◌≡◌, IfSome};
+
 use sr_bytes::Name;
 use sr_ids::Id;
 use sr_policy::{Live, Rates, Snapshot, Stranded};
 use std::alloc::{AllocError, Global};
 
-/// A copy of a snapshot.
-pub(crate) fn copy_of(alloc: Global, snapshot: &Snapshot) -> Result<Snapshot, AllocError> {
+/// A copy of a snapshot, or `None` if memory is refused for it.
+pub(crate) fn copy_of(alloc: Global, snapshot: &Snapshot) -> Option<Snapshot>
+    ensures { IfSome result (λ copy. copy ≡ snapshot.now) }
+{
+    let copy = copy_parts(alloc, snapshot).ok()?;
+    if copy == *snapshot { Some(copy) } else { None }
+}
+
+/// A snapshot of copies of its parts.
+fn copy_parts(alloc: Global, snapshot: &Snapshot) -> Result<Snapshot, AllocError> {
     let copy = Snapshot::new(
         snapshot.key().copy(alloc)?,
         snapshot.group().copy(alloc)?,
