@@ -1,0 +1,254 @@
+-- Connections stay counted and in turn, whatever is noted of one, written to it or told of it.
+
+use Rattle.std.proofs.Common.{◌≡◌, ◌≢◌, ℕ, ◌<◌, ◌≤◌, Bool, true, false, ◌||◌, ◌&&◌, not, cond, ltb, eqb, Some, None}
+use Rattle.std.proofs.Common.{Option, IfSome, List, [], ◌∷◌, ◌++◌, length, set, refl, sym, ap, ◌∙◌, subst, ⊎_elim}
+use Rattle.std.proofs.Common.{arith}
+use Rattle.std.proofs.lemmas.Bool.{false≢true, cases_eq, cases_Bool, cases_lt, ne_eqb, eq-eqb, or_right, or_left}
+use Rattle.std.proofs.lemmas.Bool.{and_parts, lt-ltb, cond-true, cond-false, ltb-true, and_from, not_from_false}
+use Rattle.std.proofs.lemmas.List.{length-set, get_or-set_same, get_or-set_other, get_or_past, set_past, set-get_or}
+use Rattle.std.proofs.lemmas.List.{set-set}
+use Rattle.std.proofs.lemmas.List.Sums.{sum_by-set}
+use Rattle.std.proofs.lemmas.List.Folds.{list_any-append}
+use Rattle.std.specs.List.{list_any}
+use Rattle.mio.specs.declared.event.event.Event.{Event}
+use Rattle.sr_hub.specs.declared.sockets.Heard.{Heard}
+use Rattle.sr_hub.specs.declared.sockets.Heard.TheVariants as heard
+use Rattle.sr_events.specs.declared.slot.Output.{Output}
+use Rattle.sr_events.specs.declared.slot.Output.TheVariants as output
+use Rattle.sr_events.specs.Slot.{SlotState, TellsBy, fresh, has_turn, noted}
+use Rattle.sr_events.specs.Turns.{Turns, turns, with_turn}
+use Rattle.sr_events.specs.Connections.{ChangesAt, IsHeardOf, is_in_turn, open_count, settled, slot_at, with_event}
+use Rattle.sr_events.specs.steps.Connections.{IsKept, IsKeptBut, TellsAt}
+
+-- whoever has a turn keeps it as another gets one
+kept_turn : (token other : ℕ) (ring : Turns) → is_in_turn other ring ≡ true
+    → is_in_turn other (with_turn token ring) ≡ true
+kept_turn token other ring there =
+    elim (ltb token ring.most && not (is_in_turn token ring))
+    as (λ b. is_in_turn other (cond b (turns (ring.tokens ++ token ∷ []) ring.most) ring) ≡ true) [
+      | true ↦ list_any-append (eqb other) ring.tokens (token ∷ [])
+          ∙ or_left (list_any (eqb other) ring.tokens) (list_any (eqb other) (token ∷ [])) there
+      | false ↦ there
+    ]
+
+-- a token that there is has a turn once it got one
+given_turn : (token : ℕ) (ring : Turns) → token < ring.most → is_in_turn token (with_turn token ring) ≡ true
+given_turn token ring within = ⊎_elim
+    (λ (there : is_in_turn token ring ≡ true). kept_turn token token ring there)
+    (λ (absent : is_in_turn token ring ≡ false).
+    let added : (ltb token ring.most && not (is_in_turn token ring)) ≡ true =
+    and_from (ltb token ring.most) (not (is_in_turn token ring)) (lt-ltb token ring.most within)
+    (not_from_false (is_in_turn token ring) absent) in
+    rw (cond-true (ltb token ring.most && not (is_in_turn token ring))
+    (turns (ring.tokens ++ token ∷ []) ring.most) ring added) (
+    list_any-append (eqb token) ring.tokens (token ∷ [])
+    ∙ or_right (list_any (eqb token) ring.tokens) (eqb token token || false)
+    (or_left (eqb token token) false (eq-eqb token token refl))))
+    (cases_Bool (is_in_turn token ring))
+
+most_kept : (token : ℕ) (ring : Turns) → (with_turn token ring).most ≡ ring.most
+most_kept token ring =
+    elim (ltb token ring.most && not (is_in_turn token ring))
+    as (λ b. (cond b (turns (ring.tokens ++ token ∷ []) ring.most) ring).most ≡ ring.most)
+    [ true ↦ refl | false ↦ refl ]
+
+most_settled : (token : ℕ) (slots : List SlotState) (ring : Turns) → (settled token slots ring).most ≡ ring.most
+most_settled token slots ring =
+    elim (has_turn (slot_at slots token)) as (λ b. (cond b (with_turn token ring) ring).most ≡ ring.most)
+    [ true ↦ most_kept token ring | false ↦ refl ]
+
+kept_settled : (token other : ℕ) (slots : List SlotState) (ring : Turns) → is_in_turn other ring ≡ true
+    → is_in_turn other (settled token slots ring) ≡ true
+kept_settled token other slots ring there =
+    elim (has_turn (slot_at slots token)) as (λ b. is_in_turn other (cond b (with_turn token ring) ring) ≡ true)
+    [ true ↦ kept_turn token other ring there | false ↦ there ]
+
+-- only a slot that there is has a turn
+within_from_turn : (token : ℕ) (slots : List SlotState) → has_turn (slot_at slots token) ≡ true → token < length slots
+within_from_turn token slots turn = ⊎_elim
+    (λ (within : token < length slots). within)
+    (λ (past : length slots ≤ token).
+    let beyond : slot_at slots token ≡ fresh false 0 = get_or_past slots token (fresh false 0) past in
+    absurd (false≢true (sym (ap has_turn beyond) ∙ turn)))
+    (cases_lt token (length slots))
+
+module _ (token : ℕ) (old new : List SlotState) (changes : ChangesAt token old new) where
+  pub same_length : length new ≡ length old
+  same_length = ap length changes ∙ length-set old token (slot_at new token)
+
+  same_others : (other : ℕ) → other ≢ token → slot_at new other ≡ slot_at old other
+  same_others other apart = ap (λ slots. slot_at slots other) changes
+      ∙ get_or-set_other old token other (slot_at new token) (fresh false 0) apart
+
+  same_count : (slot_at new token).taken ≡ (slot_at old token).taken → open_count new ≡ open_count old
+  same_count same = ⊎_elim
+      (λ (within : token < length old).
+      let bit : Bool → ℕ = λ b. cond b 1 0 in
+      let moved =
+      sum_by-set (λ (slot : SlotState). bit slot.taken) old token (slot_at new token) (fresh false 0) within in
+      let bits : bit (slot_at new token).taken ≡ bit (slot_at old token).taken = ap bit same in
+      let set_count : open_count (set old token (slot_at new token)) ≡ open_count old = omega (arith, moved, bits) in
+      ap open_count changes ∙ set_count)
+      (λ (past : length old ≤ token). ap open_count (changes ∙ set_past old token (slot_at new token) past))
+      (cases_lt token (length old))
+
+-- what was noted of one connection leaves all counted and in turn
+pub IsKept-settled : (token : ℕ) (old new : List SlotState) (taken : ℕ) (ring after : Turns)
+    → IsKeptBut token old taken ring → ChangesAt token old new
+    → (slot_at new token).taken ≡ (slot_at old token).taken → after ≡ settled token new ring
+    → IsKept new taken after
+IsKept-settled token old new taken ring after kept changes same is_after =
+    let length_same : length new ≡ length old = same_length token old new changes in
+    rw is_after (record {
+      most = most_settled token new ring ∙ kept.most ∙ sym length_same;
+      counted = kept.counted ∙ sym (same_count token old new changes same);
+      scheduled = λ other turn. ⊎_elim
+          (λ (this : other ≡ token).
+          let turn_here : has_turn (slot_at new token) ≡ true =
+          subst (λ t. has_turn (slot_at new t) ≡ true) this turn in
+          let within : token < ring.most =
+          omega (arith, within_from_turn token new turn_here, length_same, kept.most) in
+          rw this (rw (cond-true (has_turn (slot_at new token)) (with_turn token ring) ring turn_here)
+          (given_turn token ring within)))
+          (λ (apart : other ≡ token → ⊥).
+          let as_before : has_turn (slot_at old other) ≡ true =
+          subst (λ slot. has_turn slot ≡ true) (same_others token old new changes other apart) turn in
+          kept_settled token other new ring (kept.scheduled other apart as_before))
+          (cases_eq other token);
+    })
+
+IsKeptBut-IsKept : (token : ℕ) (slots : List SlotState) (taken : ℕ) (ring : Turns) → IsKept slots taken ring
+    → IsKeptBut token slots taken ring
+IsKeptBut-IsKept token slots taken ring kept = record {
+  most = kept.most;
+  counted = kept.counted;
+  scheduled = λ other apart turn. kept.scheduled other turn;
+}
+
+-- the next token takes its turn
+IsKeptBut-pop : (token : ℕ) (slots : List SlotState) (taken : ℕ) (ring after : Turns) → IsKept slots taken ring
+    → ring ≡ turns (token ∷ after.tokens) after.most → IsKeptBut token slots taken after
+IsKeptBut-pop token slots taken ring after kept popped =
+    let whole : IsKept slots taken (turns (token ∷ after.tokens) after.most) =
+    subst (λ r. IsKept slots taken r) popped kept in
+    record {
+      most = whole.most;
+      counted = whole.counted;
+      scheduled = λ other apart turn.
+          ap (λ b. b || is_in_turn other after) (sym (ne_eqb other token apart)) ∙ whole.scheduled other turn;
+    }
+
+-- an event is about one generation of one slot
+ChangesAt-event : (token generation : ℕ) (event : Event) (old new : List SlotState)
+    → new ≡ with_event token generation event old
+    → ChangesAt token old new × ((slot_at new token).taken ≡ (slot_at old token).taken)
+ChangesAt-event token generation event old new is_new =
+    ⊎_elim
+    (λ (yes : (ltb token (length old) && eqb (slot_at old token).generation generation) ≡ true).
+    let within : token < length old = ltb-true token (length old)
+    (and_parts (ltb token (length old)) (eqb (slot_at old token).generation generation) yes).0 in
+    let is_changed : new ≡ set old token (noted event (slot_at old token)) = is_new ∙ cond-true _ _ _ yes in
+    let there : slot_at new token ≡ noted event (slot_at old token) =
+    ap (λ slots. slot_at slots token) is_changed
+    ∙ get_or-set_same old token (noted event (slot_at old token)) (fresh false 0) within in
+    (is_changed ∙ ap (λ slot. set old token slot) (sym there), ap (λ slot. slot.taken) there))
+    (λ (no : (ltb token (length old) && eqb (slot_at old token).generation generation) ≡ false).
+    let is_old : new ≡ old = is_new ∙ cond-false _ _ _ no in
+    let there : slot_at new token ≡ slot_at old token = ap (λ slots. slot_at slots token) is_old in (
+      is_old ∙ sym (set-get_or old token (fresh false 0)) ∙ ap (λ slot. set old token slot) (sym there),
+      ap (λ slot. slot.taken) there,
+    ))
+    (cases_Bool (ltb token (length old) && eqb (slot_at old token).generation generation))
+
+pub IsKept-event : (token generation : ℕ) (event : Event) (old new : List SlotState) (taken : ℕ) (ring after : Turns)
+    → IsKept old taken ring → new ≡ with_event token generation event old → after ≡ settled token new ring
+    → IsKept new taken after
+IsKept-event token generation event old new taken ring after kept noted is_after =
+    let (changes, same) = ChangesAt-event token generation event old new noted in
+    IsKept-settled token old new taken ring after (IsKeptBut-IsKept token old taken ring kept) changes same is_after
+
+-- nothing that is told of a connection opens or closes it
+taken-Tells : (failed : Bool) (result : Output) (token room : ℕ) (old : SlotState) (told : Option Heard)
+    (new : SlotState) → TellsBy failed result token room old told new → new.taken ≡ old.taken
+taken-Tells true result token room old told new tells = ap (λ slot. slot.taken) tells.1
+taken-Tells false output.Taken token room old (Some heard.Came) new tells = absurd tells
+taken-Tells false output.Taken token room old (Some (heard.Bytes of count)) new tells = ap (λ slot. slot.taken) tells.2
+taken-Tells false output.Taken token room old (Some (heard.Room of)) new tells = absurd tells
+taken-Tells false output.Taken token room old (Some (heard.Over of)) new tells = ap (λ slot. slot.taken) tells.1
+taken-Tells false output.Taken token room old (Some heard.Planned) new tells = absurd tells
+taken-Tells false output.Taken token room old (Some heard.Nothing) new tells = absurd tells
+taken-Tells false output.Taken token room old (Some heard.End) new tells = absurd tells
+taken-Tells false output.Taken token room old None new tells =
+    ⊎_elim
+    (λ (unread : new ≡ record old { readable = false }). ap (λ slot. slot.taken) unread)
+    (λ (same : new ≡ old). ap (λ slot. slot.taken) same)
+    tells
+taken-Tells false output.Full token room old told new tells = ap (λ slot. slot.taken) tells.1
+taken-Tells false output.Room token room old told new tells = ap (λ slot. slot.taken) tells.1
+
+-- what is told of a connection names it, and of bytes at most as many as there was room
+heard_of-Tells : (failed : Bool) (result : Output) (token room : ℕ) (old : SlotState) (told : Option Heard)
+    (new : SlotState) → TellsBy failed result token room old told new → IfSome told (IsHeardOf token room)
+heard_of-Tells true result token room old told new tells = rw tells.0 refl
+heard_of-Tells false output.Taken token room old (Some heard.Came) new tells = absurd tells
+heard_of-Tells false output.Taken token room old (Some (heard.Bytes of count)) new tells = (tells.0, tells.1)
+heard_of-Tells false output.Taken token room old (Some (heard.Room of)) new tells = absurd tells
+heard_of-Tells false output.Taken token room old (Some (heard.Over of)) new tells = tells.0
+heard_of-Tells false output.Taken token room old (Some heard.Planned) new tells = absurd tells
+heard_of-Tells false output.Taken token room old (Some heard.Nothing) new tells = absurd tells
+heard_of-Tells false output.Taken token room old (Some heard.End) new tells = absurd tells
+heard_of-Tells false output.Taken token room old None new tells = tt
+heard_of-Tells false output.Full token room old told new tells = rw tells.0 tt
+heard_of-Tells false output.Room token room old told new tells = rw tells.0 refl
+
+-- and neither does its turn
+taken-TellsAt : (token room : ℕ) (old new : List SlotState) (told : Option Heard) → TellsAt token room old told new
+    → (slot_at new token).taken ≡ (slot_at old token).taken
+taken-TellsAt token room old new told tells = ⊎_elim
+    (λ (turn : has_turn (slot_at old token) ≡ true).
+    taken-Tells (slot_at old token).failed (slot_at old token).output token room (slot_at old token) told
+    (slot_at new token) (tells.some turn))
+    (λ (none : has_turn (slot_at old token) ≡ false).
+    ap (λ slots. (slot_at slots token).taken) (tells.none none).1)
+    (cases_Bool (has_turn (slot_at old token)))
+
+pub IsKept-told : (token room : ℕ) (old new : List SlotState) (taken : ℕ) (told : Option Heard)
+    (ring popped after : Turns) → IsKept old taken ring → ring ≡ turns (token ∷ popped.tokens) popped.most
+    → TellsAt token room old told new
+    → after ≡ settled token new popped → IsKept new taken after
+IsKept-told token room old new taken told ring popped after kept pops tells is_after =
+    IsKept-settled token old new taken popped after (IsKeptBut-pop token old taken ring popped kept pops)
+    tells.others (taken-TellsAt token room old new told tells) is_after
+
+-- what is told of a connection is told of a token that there is
+pub told_within : (token room : ℕ) (old new : List SlotState) (told : Option Heard) → TellsAt token room old told new
+    → IfSome told (λ heard. (of : ℕ) × (of < length new) × IsHeardOf of room heard)
+told_within token room old new told tells = ⊎_elim
+    (λ (turn : has_turn (slot_at old token) ≡ true).
+    let of_token : IfSome told (IsHeardOf token room) =
+    heard_of-Tells (slot_at old token).failed (slot_at old token).output token room (slot_at old token) told
+    (slot_at new token) (tells.some turn) in
+    let within : token < length new =
+    omega (arith, within_from_turn token old turn, same_length token old new tells.others) in
+    named told of_token within)
+    (λ (none : has_turn (slot_at old token) ≡ false). rw (tells.none none).0 tt)
+    (cases_Bool (has_turn (slot_at old token)))
+  where
+    named : (told : Option Heard) → IfSome told (IsHeardOf token room) → token < length new
+        → IfSome told (λ heard. (of : ℕ) × (of < length new) × IsHeardOf of room heard)
+    named None of_token within = tt
+    named (Some heard) of_token within = (token, within, of_token)
+
+-- a slot that changes once more
+pub ChangesAt-again : (token : ℕ) (old new : List SlotState) (slot : SlotState) → ChangesAt token old new
+    → ChangesAt token old (set new token slot)
+ChangesAt-again token old new slot changes = ⊎_elim
+    (λ (within : token < length new).
+    let there : slot_at (set new token slot) token ≡ slot = get_or-set_same new token slot (fresh false 0) within in
+    let both : set new token slot ≡ set old token slot =
+    ap (λ slots. set slots token slot) changes ∙ set-set old token (slot_at new token) slot in
+    both ∙ ap (λ last. set old token last) (sym there))
+    (λ (past : length new ≤ token).
+    let same : set new token slot ≡ new = set_past new token slot past in
+    rw same changes)
+    (cases_lt token (length new))

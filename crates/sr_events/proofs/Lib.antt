@@ -1,0 +1,2 @@
+pub mod ConnectionsLemmas
+pub mod RingLemmas

@@ -1,0 +1,12 @@
+use Rattle.std.proofs.Common.{◌≡◌, length}
+use Rattle.sr_events.specs.steps.Connections.{IsKept}
+use Rattle.sr_events.proofs.connections.Connections.next.Given as goal
+
+abbrev pub invariant-loop-self : goal.invariant-loop-self
+invariant-loop-self l = record {
+  kept : IsKept l.self-inside.slots.items l.self-inside.taken l.self-inside.ring;
+  count : length l.self-inside.slots.items ≡ length l.fn.self.slots;
+}
+
+abbrev pub decreases-loop-self : goal.decreases-loop-self
+decreases-loop-self l = l.self-inside.left

@@ -1,0 +1,29 @@
+use Rattle.std.proofs.Common.{◌≡◌, ◌∙◌, Bool, ◌||◌, List, [], ◌∷◌, map, Bor, refl, ap, sym, eqb}
+use Rattle.std.proofs.lemmas.Iterator.{YieldsList-from_slice}
+use Rattle.std.proofs.lemmas.Iterator.Consumers.{YieldsList-end}
+use Rattle.std.specs.List.{list_any}
+use Rattle.mio.specs.declared.event.event.Event.{Event}
+use Rattle.mio.specs.Event.{event_token}
+use Rattle.mio.specs.Events.{items}
+use Rattle.sr_events.proofs.sockets.note_all.Goals as goal
+
+list_any-now : (test : Event → Bool) (events : List (Bor Event))
+    → list_any test (map (λ event. event.now) events) ≡ list_any (λ event. test event.now) events
+list_any-now test [] = refl
+list_any-now test (event ∷ events) = ap (λ rest. test event.now || rest) (list_any-now test events)
+
+-- the loop has seen all events
+seen : (c : goal.In-None) (test : Event → Bool)
+    → list_any test (items c.args.events.now) ≡ list_any (λ event. test event.now) c.loop-event.yielded
+seen c test =
+    let all = YieldsList-end
+    (YieldsList-from_slice (items c.args.events.now) c.into_iter-event-iterator.ensures.into_iter_gives.0)
+    c.loop-event.yielded _ c.loop-event.yielded_by _ _ c.in-None.is c.next.ensures.steps in
+    ap (list_any test) (sym all.0) ∙ list_any-now test c.loop-event.yielded
+
+pub returns-clause-woken : goal.returns-clause-woken
+returns-clause-woken c = c.loop-event.invariant.woken ∙ sym (seen c (λ event. eqb (event_token event).0 0))
+
+pub returns-clause-listener : goal.returns-clause-listener
+returns-clause-listener c = λ reported.
+    c.loop-event.invariant.listener (sym (seen c (λ event. eqb (event_token event).0 1)) ∙ reported)

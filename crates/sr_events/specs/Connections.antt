@@ -1,0 +1,53 @@
+-- The connections of an event loop, each in the slot of its token, and whose turn it is.
+
+use Rattle.std.specs.Prelude.{◌≡◌, ◌≤◌, ◌==◌, ◌&&◌, ℕ, Bool, List, length, slice_index_or, slice_set, nat_lt, nat_eq}
+use Rattle.std.specs.Prelude.{count_by, if◌then◌else◌, false}
+use Rattle.std.specs.List.{list_any}
+use Rattle.mio.specs.declared.event.event.Event.{Event}
+use Rattle.sr_hub.specs.declared.sockets.Heard.{Heard}
+use Rattle.sr_hub.specs.declared.sockets.Heard.TheVariants as heard
+use Rattle.sr_events.specs.Slot.{SlotState, fresh, has_turn, noted}
+use Rattle.sr_events.specs.Turns.{Turns, with_turn}
+
+-- the slots, the tokens that have a turn, and how many of these have it in this pass
+pub record Kept : Type 0 where
+  pub slots : List SlotState
+  pub turns : Turns
+  pub left : ℕ
+
+-- the slot of a token; one without a connection after the last
+abbrev pub slot_at : List SlotState → ℕ → SlotState
+slot_at slots token = slice_index_or slots token (fresh false 0)
+
+-- how many connections are open
+abbrev pub open_count : List SlotState → ℕ
+open_count slots = count_by (λ slot. slot.taken) slots
+
+-- a token has a turn
+abbrev pub is_in_turn : ℕ → Turns → Bool
+is_in_turn token turns = list_any (nat_eq token) turns.tokens
+
+-- only the slot of this token changes
+abbrev pub ChangesAt : ℕ → List SlotState → List SlotState → Type 0
+ChangesAt token old new = new ≡ slice_set old token (slot_at new token)
+
+-- the slots after an event about one generation of a slot: another generation's changes nothing
+abbrev pub with_event : ℕ → ℕ → Event → List SlotState → List SlotState
+with_event token generation event slots =
+    if nat_lt token (length slots) && (slot_at slots token).generation == generation
+    then slice_set slots token (noted event (slot_at slots token))
+    else slots
+
+-- whose turn it is once something was noted of a connection: it has one if something can be told of it
+abbrev pub settled : ℕ → List SlotState → Turns → Turns
+settled token slots turns = if has_turn (slot_at slots token) then with_turn token turns else turns
+
+-- this is told of the connection at a token; of bytes at most as many as there is room
+abbrev pub IsHeardOf : ℕ → ℕ → Heard → Type 0
+IsHeardOf token room heard.Came = ⊥
+IsHeardOf token room (heard.Bytes of count) = (of ≡ token) × (count ≤ room)
+IsHeardOf token room (heard.Room of) = of ≡ token
+IsHeardOf token room (heard.Over of) = of ≡ token
+IsHeardOf token room heard.Planned = ⊥
+IsHeardOf token room heard.Nothing = ⊥
+IsHeardOf token room heard.End = ⊥

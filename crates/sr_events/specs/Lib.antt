@@ -1,0 +1,6 @@
+pub mod Accepting
+pub mod Connections
+pub mod Slot
+pub mod Sockets
+pub mod Turns
+pub mod steps

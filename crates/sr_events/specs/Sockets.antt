@@ -1,0 +1,40 @@
+-- The sockets of an event loop, as its calls see them.
+
+use Rattle.std.specs.Prelude.{◌≡◌, ◌<◌, ◌≤◌, ◌⊎◌, ⊤, ℕ, Bool, true, false, Option, Some, None, [], length, replicate}
+use Rattle.sr_hub.specs.declared.sockets.Heard.{Heard}
+use Rattle.sr_hub.specs.declared.sockets.Heard.TheVariants as heard
+use Rattle.sr_events.specs.declared.acceptor.Waiting.{Waiting}
+use Rattle.sr_events.specs.declared.acceptor.Waiting.TheVariants as waiting
+use Rattle.sr_events.specs.Connections.{Kept}
+use Rattle.sr_events.specs.Slot.{fresh}
+use Rattle.sr_events.specs.Turns.{turns}
+
+-- the connections that have a token; whether some wait at the listener; whether one came that has no token yet; a token
+-- whose connection could not have it; and whether the waker was used
+pub record SocketsState : Type 0 where
+  pub kept : Kept
+  pub waiting : Waiting
+  pub came : Bool
+  pub lost : Option ℕ
+  pub woken : Bool
+
+-- room for this many connections, of which some may wait at the listener
+abbrev pub new_sockets : ℕ → SocketsState
+new_sockets most = record {
+  kept = record { slots = replicate most (fresh false 1); turns = turns [] most; left = 0 };
+  waiting = waiting.Maybe;
+  came = false;
+  lost = None;
+  woken = false;
+}
+
+-- what is told of these sockets, with room for that many bytes: a connection that came is kept until it has a token,
+-- and each token is one that there is, or one whose connection could not have it
+abbrev pub Tells : ℕ → SocketsState → Heard → SocketsState → Type 0
+Tells room old heard.Came new = new.came ≡ true
+Tells room old (heard.Bytes token count) new = (token < length new.kept.slots) × (count ≤ room)
+Tells room old (heard.Room token) new = token < length new.kept.slots
+Tells room old (heard.Over token) new = (old.lost ≡ Some token) ⊎ (token < length new.kept.slots)
+Tells room old heard.Planned new = ⊤
+Tells room old heard.Nothing new = ⊤
+Tells room old heard.End new = ⊤

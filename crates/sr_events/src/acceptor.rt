@@ -1,0 +1,191 @@
+ghost use Rattle.std.specs.Prelude.{◌≡◌, ◌↔◌, true, IsTrue, IsSomeAnd, Contains};
+ghost use Rattle.std.specs.IoError.{error_kind, raw_os_error};
+ghost use Rattle.std.specs.declared.io.ErrorKind.{ErrorKind};
+ghost use Rattle.sr_events.specs.Accepting.{Accepts, tried_again};
+
+use mio::net::{TcpListener, TcpStream};
+use std::io::{Error, ErrorKind, Write};
+
+/// How many connections are accepted at most until the sockets are polled again.
+const BATCH: usize = 64;
+
+/// What a client reads for which there is no place.
+const TURNED_AWAY: &[u8; 36] = b"-ERR max number of clients reached\r\n";
+
+/// The faults that are a listener's own, after which no accept succeeds: no descriptor or not one of a socket that
+/// listens, a bad address in memory, or an operation that it does not have. Their numbers are Linux's (accept(2)).
+const LISTENERS_OWN: &[i32] = &[
+    9, // EBADF
+    14, // EFAULT
+    22, // EINVAL
+    88, // ENOTSOCK
+    95, // EOPNOTSUPP
+];
+
+/// Whether connections wait at the listener.
+#[derive(Clone, Copy, Debug, PartialEq, Eq)]
+pub(crate) enum Waiting {
+    /// None, until the listener is reported again.
+    Nobody,
+    /// Some may.
+    Maybe,
+    /// Some may, which could not be accepted now. It is tried again a little later.
+    Later,
+}
+
+/// What came of an accept that failed.
+#[derive(Clone, Copy, Debug, PartialEq, Eq)]
+enum Fault {
+    /// No connection waits.
+    Empty,
+    /// This one failed, and the next need not: its client went away, or a signal came.
+    Passing,
+    /// The listener accepts no connection any more.
+    Own,
+    /// Something is lacking at the moment, as descriptors or memory.
+    Short,
+}
+
+/// The next connection of a listener.
+#[derive(Drop)]
+pub(crate) enum Accepted {
+    Stream(TcpStream),
+    /// None for now.
+    Nobody,
+    /// None will ever come again.
+    End,
+}
+
+/// A listener whose connections are accepted until none waits.
+#[derive(Drop)]
+pub(crate) struct Acceptor {
+    listener: TcpListener,
+    waiting: Waiting,
+    /// How many may be accepted until the sockets are polled again.
+    left: usize,
+}
+
+impl Acceptor {
+    /// Connections may wait already.
+    pub fn new(listener: TcpListener) -> Acceptor
+        ensures { result.waiting ≡ Waiting.Maybe }
+    {
+        Acceptor {
+            listener,
+            waiting: Waiting::Maybe,
+            left: BATCH,
+        }
+    }
+
+    /// Connections may wait at the listener.
+    pub fn wake(&mut self)
+        ensures { self.new ≡ record self.old { waiting = Waiting.Maybe } }
+    {
+        self.waiting = Waiting::Maybe;
+    }
+
+    /// Begins a pass, in which up to 64 connections are accepted.
+    pub fn begin_pass(&mut self)
+        ensures { self.new ≡ record self.old { waiting = tried_again self.old.waiting; left = BATCH } }
+    {
+        self.left = BATCH;
+        if self.waiting == Waiting::Later {
+            self.waiting = Waiting::Maybe;
+        }
+    }
+
+    /// Whether connections may wait that can be accepted now.
+    pub fn is_ready(&self) -> bool
+        ensures { IsTrue result ↔ (self.now.waiting ≡ Waiting.Maybe) }
+    {
+        self.waiting == Waiting::Maybe
+    }
+
+    /// Whether accepting has to be tried again a little later.
+    pub fn is_put_off(&self) -> bool
+        ensures { IsTrue result ↔ (self.now.waiting ≡ Waiting.Later) }
+    {
+        self.waiting == Waiting::Later
+    }
+
+    /// The next connection, until the pass is over. While there is no place for one, those that come are turned away.
+    pub fn next(&mut self, is_full: bool) -> Accepted
+        ensures { Accepts self.old result self.new }
+    {
+        while self.left > 0 && self.waiting == Waiting::Maybe {
+            self.left -= 1;
+            match self.listener.accept() {
+                Ok((stream, _)) if is_full => turn_away(stream),
+                Ok((stream, _)) => {
+                    // Without it replies may come late, and nothing else changes.
+                    let _ = stream.set_nodelay(true);
+                    return Accepted::Stream(stream);
+                }
+                Err(error) => match fault_of(&error) {
+                    Fault::Empty => self.waiting = Waiting::Nobody,
+                    Fault::Passing => {}
+                    Fault::Own => return Accepted::End,
+                    Fault::Short => self.waiting = Waiting::Later,
+                },
+            }
+        }
+        Accepted::Nobody
+    }
+}
+
+/// Tells a client that there is no place for it, as far as that can be written at once.
+fn turn_away(mut stream: TcpStream) {
+    let _ = stream.write(TURNED_AWAY);
+}
+
+/// What came of an accept that failed.
+fn fault_of(error: &Error) -> Fault
+    ensures empty { (result ≡ Fault.Empty) ↔ (error_kind error.now ≡ ErrorKind.WouldBlock) }
+    ensures own { result ≡ Fault.Own → IsSomeAnd (raw_os_error error.now) (Contains LISTENERS_OWN.now) }
+{
+    match error.kind() {
+        ErrorKind::WouldBlock => Fault::Empty,
+        ErrorKind::ConnectionAborted | ErrorKind::Interrupted => Fault::Passing,
+        _ if is_listeners_own(error) => Fault::Own,
+        _ => Fault::Short,
+    }
+}
+
+/// Whether a failed accept is the listener's own fault.
+fn is_listeners_own(error: &Error) -> bool
+    ensures { IsTrue result ↔ IsSomeAnd (raw_os_error error.now) (Contains LISTENERS_OWN.now) }
+{
+    match error.raw_os_error() {
+        Some(number) => LISTENERS_OWN.contains(&number),
+        None => false,
+    }
+}
+
+#[cfg(test)]
+mod tests {
+    use super::*;
+
+    #[test]
+    fn tells_the_faults_of_accept_apart(rt: HostRuntime) {
+        // Numbers of Linux (errno(3)), with what accept(2) says of them.
+        for (number, fault) in [
+            (11, Fault::Empty), // EAGAIN
+            (4, Fault::Passing), // EINTR
+            (103, Fault::Passing), // ECONNABORTED
+            (9, Fault::Own), // EBADF
+            (14, Fault::Own), // EFAULT
+            (22, Fault::Own), // EINVAL
+            (88, Fault::Own), // ENOTSOCK
+            (95, Fault::Own), // EOPNOTSUPP
+            (24, Fault::Short), // EMFILE
+            (23, Fault::Short), // ENFILE
+            (105, Fault::Short), // ENOBUFS
+            (12, Fault::Short), // ENOMEM
+            (71, Fault::Short), // EPROTO
+            (1, Fault::Short), // EPERM
+        ] {
+            let error = Error::from_raw_os_error(number);
+            assert_eq!(rt; fault_of(&error), fault, "at {number}");
+        }
+    }
+}

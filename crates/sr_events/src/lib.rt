@@ -1,0 +1,14 @@
+//! The sockets of an event loop over one listener: it polls them by epoll, and tells the loop one thing at a time.
+#![tactic(auto)]
+
+mod acceptor;
+mod connections;
+mod key;
+mod planner;
+mod ring;
+mod slot;
+mod sockets;
+
+pub use key::WAKER;
+pub use planner::{NoPlanner, Planner};
+pub use sockets::EventSockets;

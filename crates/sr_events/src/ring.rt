@@ -1,0 +1,96 @@
+ghost use Rattle.std.specs.Prelude.{◌≡◌, [], ◌∷◌, length, IfOk, IfSome, IfNone};
+ghost use Rattle.sr_events.specs.Turns.{turns, with_turn};
+
+use circular_buffer::HeapCircularBuffer;
+use std::alloc::{AllocError, Global};
+use std::marker::Model;
+
+/// The connections that have a turn, each at most once, in the order in which they come.
+#[derive(Drop)]
+pub(crate) struct Ring {
+    tokens: HeapCircularBuffer<usize>,
+    /// For each token whether it has a turn.
+    waits: Vec<bool>,
+}
+
+impl Model for Ring {
+    ghost use Rattle.std.specs.Prelude.{vec_len};
+    ghost use Rattle.sr_events.specs.Turns.{Turns, turns};
+    ghost use Rattle.sr_events.specs.steps.Ring.{IsRing};
+
+    ghost Value = { Turns };
+
+    ghost view = { λ ring. turns ring.tokens.items (vec_len ring.waits) };
+
+    ghost invariant = { λ ring. IsRing ring.tokens ring.waits.items };
+}
+
+impl Ring {
+    /// A ring for the tokens below `most`, of which none has a turn.
+    pub fn new(alloc: Global, most: usize) -> Result<Ring, AllocError>
+        ensures { IfOk result (λ ring. ring ≡ turns [] most) }
+    {
+        Ok(Ring {
+            tokens: HeapCircularBuffer::with_capacity(alloc, most)?,
+            waits: Vec::from_elem(alloc, false, most)?,
+        })
+    }
+
+    /// How many tokens have a turn.
+    pub fn len(&self) -> usize
+        ensures { result ≡ length self.now.tokens }
+    {
+        self.tokens.len()
+    }
+
+    /// Gives a token a turn after all others. One that has a turn keeps its own.
+    pub fn push(&mut self, token: usize)
+        ensures { self.new ≡ with_turn token self.old }
+    {
+        if token < self.waits.len() && !self.waits[token] {
+            self.waits[token] = true;
+            let _ = self.tokens.push_back(token);
+        }
+    }
+
+    /// The token whose turn it is.
+    pub fn pop(&mut self) -> Option<usize>
+        ensures some { IfSome result (λ token. self.old ≡ turns (token ∷ self.new.tokens) self.new.most) }
+        ensures none { IfNone result ((self.old.tokens ≡ []) × (self.new ≡ self.old)) }
+    {
+        let token = self.tokens.pop_front()?;
+        self.waits[token] = false;
+        Some(token)
+    }
+}
+
+#[cfg(test)]
+mod tests {
+    use super::*;
+    use std::test::Fail;
+
+    #[test]
+    fn gives_each_token_one_turn_in_the_order_of_coming(rt: HostRuntime) -> Result<(), Fail> {
+        let mut ring = Ring::new(rt.alloc(), 3)?;
+        // Token 3 is beyond those that there are.
+        for token in [2, 0, 2, 3, 1, 0] {
+            ring.push(token);
+        }
+        assert_eq!(rt; ring.len(), 3);
+        assert_eq!(rt; ring.pop(), Some(2));
+        // One that comes back waits for the others.
+        ring.push(2);
+        for expected in [Some(0), Some(1), Some(2), None] {
+            assert_eq!(rt; ring.pop(), expected);
+        }
+        Ok(())
+    }
+
+    #[test]
+    fn has_no_turn_to_give_without_tokens(rt: HostRuntime) -> Result<(), Fail> {
+        let mut ring = Ring::new(rt.alloc(), 0)?;
+        ring.push(0);
+        assert_eq!(rt; ring.pop(), None);
+        Ok(())
+    }
+}
