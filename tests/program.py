@@ -3,12 +3,14 @@
 
 usage: tests/program.py PROGRAM
 
-A refused command line ends with status 2, no reply and some text on standard error. An address of which another program is listening cannot
-be bound. At one that other machines may reach the server warns before it says that it listens. A reader that fails is a folder or a socket, a
-writer that fails is /dev/full. Prints what differs; the status is 1 if anything does.
+A refused command line ends with status 2, no reply and some text on standard error, which names the first fault. So does one that asks for
+more connections than the process may open files. An address of which another program is listening cannot be bound. At one that other machines
+may reach the server warns before it says that it listens. A reader that fails is a folder or a socket, a writer that fails is /dev/full.
+Prints what differs; the status is 1 if anything does.
 """
 
 import os
+import resource
 import socket
 import subprocess
 import sys
@@ -45,7 +47,37 @@ REFUSED = [
     "sr_server --listen 127.0.0.1:6379 --keep 0",
     "sr_server --listen 127.0.0.1:6379 --keep 1000000001",
     "sr_server --listen 127.0.0.1:6379 --keep 1 --keep 2",
+    "sr_server --connections 10",
+    "sr_server --listen 127.0.0.1:6379 --connections 0",
+    "sr_server --listen 127.0.0.1:6379 --connections 10001",
+    "sr_server --listen 127.0.0.1:6379 --connections all",
+    "sr_server --listen 127.0.0.1:6379 --connections 5 --connections 6",
 ]
+
+# What does not go together and which of two faults is reported: the text of the first.
+WORKERS, KEEP = b"--workers takes a number from 1 to 64", b"--keep takes a number from 1 to 1000000000"
+CONNECTIONS, IDLE = b"--connections takes a number from 1 to 10000", b"--idle takes a number from 0 to 86400"
+UNFINISHED = b"--unfinished takes a number from 1 to 1000000000000"
+FIRST = [
+    ("--stdio --keep 0 --workers 0", WORKERS),
+    ("--stdio --connections 0 --keep 0", KEEP),
+    ("--stdio --idle x --connections 0", CONNECTIONS),
+    ("--listen here --unfinished 0 --connections 1 --idle 86401", IDLE),
+    ("--listen here --unfinished 0", UNFINISHED),
+    ("--listen here --connections 1 --unfinished 1000000000001", UNFINISHED),
+    ("--listen here --workers 1 --connections 1", b"--listen takes an address and a port, as 127.0.0.1:6379 or [::1]:6379"),
+    ("--stdio --listen 127.0.0.1:6379 --keep 1", b"exactly one of --stdio and --listen is needed"),
+    ("--stdio --connections 1 --keep 1", b"--keep needs --listen"),
+    ("--stdio --idle 1 --connections 1", b"--connections needs --listen"),
+    ("--stdio --workers 1 --connections 1", b"--connections needs --listen"),
+    ("--listen 127.0.0.1:6379 --workers 1 --connections 1 --idle 1", b"--connections and --workers exclude each other"),
+    ("--listen 127.0.0.1:6379 --unfinished 1 --idle 0", b"--idle needs --connections"),
+    ("--stdio --idle 1", b"--idle needs --connections"),
+    ("--listen 127.0.0.1:6379 --workers 1 --unfinished 1", b"--unfinished needs --connections"),
+]
+
+# How many files a process has that may not open as many as a loop needs, how many connections are asked for, and whether they are too many.
+FILES = [(64, 48, False), (64, 49, True), (1024, 10000, True)]
 
 
 def run(program, line, **pipes):
@@ -53,6 +85,17 @@ def run(program, line, **pipes):
     pipes = {"stdout": subprocess.PIPE, "stderr": subprocess.PIPE, **pipes}
     ended = subprocess.run([program, *line.split()[1:]], timeout=SECONDS, check=False, **pipes)
     return ended.returncode, ended.stdout, ended.stderr
+
+
+def usage(text):
+    """What is said of a command line with this fault."""
+    return b"error: " + text + b"\n\nFor more information, try '--help'.\n"
+
+
+def with_files(program, most, connections):
+    """What a server says that is to serve this many connections by a loop in a process that may open `most` files."""
+    line = f"sr_server --listen {HOST}:{free_port()} --policy / --connections {connections}"
+    return run(program, line, stdin=subprocess.DEVNULL, preexec_fn=lambda: resource.setrlimit(resource.RLIMIT_NOFILE, (most, most)))
 
 
 def refused(program, line):
@@ -85,12 +128,12 @@ def to_full(program, line, name, sent):
         return run(program, line, input=sent, **{name: full})
 
 
-def to_taken(program):
+def to_taken(program, options=""):
     """A server that is told an address at which another one listens."""
     with socket.socket() as other:
         other.bind((HOST, 0))
         other.listen()
-        return run(program, f"sr_server --listen {HOST}:{other.getsockname()[1]}", stdin=subprocess.DEVNULL)
+        return run(program, f"sr_server --listen {HOST}:{other.getsockname()[1]}{options}", stdin=subprocess.DEVNULL)
 
 
 def begun(program, line):
@@ -107,6 +150,10 @@ def addresses(program):
     yield "an address that is taken", (1, b"", b"listen: cannot bind\n"), to_taken(program)
     local = f"{HOST}:{free_port()}"
     yield local, (f"listening on {local}\n".encode(), b""), begun(program, f"sr_server --listen {local} --workers 3 --keep 1000000000")
+    local = f"{HOST}:{free_port()}"
+    line = f"sr_server --listen {local} --connections 100 --idle 86400 --unfinished 1000000000000 --keep 1"
+    yield f"{local}, by one loop", (f"listening on {local}\n".encode(), b""), begun(program, line)
+    yield "an address that is taken, by one loop", (1, b"", b"listen: cannot bind\n"), to_taken(program, " --connections 5")
     every = f"0.0.0.0:0{free_port()}"
     yield every, (f"listening on {every}\n".encode(), WARNING), begun(program, f"sr_server --policy=/dev/null --listen={every}")
 
@@ -115,6 +162,14 @@ def rows(program):
     """What is tried, what is wanted of it and what came of it."""
     for line in REFUSED:
         yield line, (2, b"", True), refused(program, line)
+    for options, text in FIRST:
+        line = f"sr_server {options}"
+        yield line, (2, b"", usage(text)), run(program, line, input=PING)
+    for most, connections, too_many in FILES:
+        # The folder is no policy: where the files suffice, that is the first fault.
+        text = f"error: --connections: this process may open {most} files, of which 16 are its own\n"
+        wanted = (2, b"", text.encode()) if too_many else (1, b"", b"policy: cannot read\n")
+        yield f"{connections} connections with {most} files", wanted, with_files(program, most, connections)
     yield "a read that fails", (1, b"", b"session: read fault\n"), from_folder(program)
     yield "a read that fails after a request", (1, b":0\r\n", b"session: read fault\n"), from_reset(program)
     stdio = "sr_server --stdio"

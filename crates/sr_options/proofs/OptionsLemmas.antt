@@ -3,6 +3,7 @@ use Rattle.std.proofs.Common.{◌≡◌, ◌∙◌, ◌&&◌, ◌||◌, ap, ap�
 use Rattle.std.specs.Prelude.{⊤, find, fold, option_and_then, slice_get}
 use Rattle.std.specs.List.{list_all}
 use Rattle.std.specs.Str.{bytes_eq}
+use Rattle.std.proofs.lemmas.Slice.Eq.{bytes_eq-Decides}
 use Rattle.clap.specs.Words.{Row, Text, first_of, is_simple, matches_of, one_of, takes}
 use Rattle.clap.specs.Simple.{Shape, built, entered}
 use Rattle.clap.specs.Takes.{default_passes, entered_passes, is_valid, settle_passes, turn_passes, walk_passes}
@@ -10,7 +11,7 @@ use Rattle.clap.specs.Walk.{Held, Walk, at_row, finished, has_row, more_values, 
 use Rattle.clap.specs.declared.builder.value_parser.Reading.TheVariants.{AsWritten}
 use Rattle.clap.specs.declared.parser.matches.ValueSource.TheVariants.{CommandLine, DefaultValue}
 use Rattle.clap.proofs.OnLiterals.{clap_on_literals}
-use Rattle.sr_options.specs.Options.{AreOnce, Asked, Flag, has_name, is_given, keep, listen, name_of, policy, stdio, value_in, value_of, word_of, workers}
+use Rattle.sr_options.specs.Options.{AreOnce, Asked, Flag, connections, has_name, idle, is_given, keep, listen, name_of, policy, stdio, value_in, value_of, unfinished, word_of, workers}
 use Rattle.sr_options.specs.steps.Server.{server}
 
 pub server_is_simple : is_simple server ≡ true
@@ -71,6 +72,14 @@ met (policy path) rows none = ap (λ (rs : List Row). walk_from (held_with rs)) 
 met (workers number) rows none = ap (λ (rs : List Row). walk_from (held_with rs)) (placed (codes "workers") (more_values CommandLine (number ∷ [])) (row_of (workers number) ∷ []) rows none)
 met (keep number) rows none =
     ap (λ (rs : List Row). walk_from (held_with rs)) (placed (codes "keep") (more_values CommandLine (number ∷ [])) (row_of (keep number) ∷ []) rows none)
+met (connections number) rows none =
+    ap (λ (rs : List Row). walk_from (held_with rs))
+    (placed (codes "connections") (more_values CommandLine (number ∷ [])) (row_of (connections number) ∷ []) rows none)
+met (idle seconds) rows none =
+    ap (λ (rs : List Row). walk_from (held_with rs)) (placed (codes "idle") (more_values CommandLine (seconds ∷ [])) (row_of (idle seconds) ∷ []) rows none)
+met (unfinished bytes) rows none =
+    ap (λ (rs : List Row). walk_from (held_with rs))
+    (placed (codes "unfinished") (more_values CommandLine (bytes ∷ [])) (row_of (unfinished bytes) ∷ []) rows none)
 
 passed : (flag : Flag) (rows : List Row) → has_row (name_of flag) rows ≡ false → turn_passes top [] (walk_from (held_with rows)) (word_of flag) ≡ true
 unfolding clap_on_literals
@@ -79,38 +88,23 @@ passed (listen address) rows none = ap (λ b. ((not b || false) && true) && true
 passed (policy path) rows none = ap (λ b. ((not b || false) && true) && true) none
 passed (workers number) rows none = ap (λ b. ((not b || false) && true) && true) none
 passed (keep number) rows none = ap (λ b. ((not b || false) && true) && true) none
+passed (connections number) rows none = ap (λ b. ((not b || false) && true) && true) none
+passed (idle seconds) rows none = ap (λ b. ((not b || false) && true) && true) none
+passed (unfinished bytes) rows none = ap (λ b. ((not b || false) && true) && true) none
 
 -- no flag has a row yet
 abbrev AreNew : List Flag → List Row → Type 0
 AreNew [] rows = ⊤
 AreNew (flag ∷ flags) rows = (has_row (name_of flag) rows ≡ false) × AreNew flags rows
 
+false_unless : (b : Bool) → (b ≡ true → ⊥) → b ≡ false
+false_unless true none = absurd (none refl)
+false_unless false none = refl
+
 other_name : (a b : Flag) → bytes_eq (name_of b) (name_of a) ≡ false → bytes_eq (name_of a) (name_of b) ≡ false
-other_name stdio stdio e = e
-other_name stdio (listen x) e = refl
-other_name stdio (policy x) e = refl
-other_name stdio (workers x) e = refl
-other_name stdio (keep x) e = refl
-other_name (listen y) stdio e = refl
-other_name (listen y) (listen x) e = e
-other_name (listen y) (policy x) e = refl
-other_name (listen y) (workers x) e = refl
-other_name (listen y) (keep x) e = refl
-other_name (policy y) stdio e = refl
-other_name (policy y) (listen x) e = refl
-other_name (policy y) (policy x) e = e
-other_name (policy y) (workers x) e = refl
-other_name (policy y) (keep x) e = refl
-other_name (workers y) stdio e = refl
-other_name (workers y) (listen x) e = refl
-other_name (workers y) (policy x) e = refl
-other_name (workers y) (workers x) e = e
-other_name (workers y) (keep x) e = refl
-other_name (keep y) stdio e = refl
-other_name (keep y) (listen x) e = refl
-other_name (keep y) (policy x) e = refl
-other_name (keep y) (workers x) e = refl
-other_name (keep y) (keep x) e = e
+other_name a b e =
+    false_unless (bytes_eq (name_of a) (name_of b))
+    (λ is. true≢false (sym ((bytes_eq-Decides (name_of b) (name_of a)).1 (sym ((bytes_eq-Decides (name_of a) (name_of b)).0 is))) ∙ e))
 
 not_first : (b : Bool) (flag : Flag) (o : Option Flag) → is_some (option_map value_of (if b then Some flag else o)) ≡ false
     → (b ≡ false) × (is_some (option_map value_of o) ≡ false)
@@ -176,11 +170,13 @@ rows_of_all flags = with_stdio (has_row (codes "stdio") (map row_of flags)) (map
 finished_rows : (rows : List Row) → finished top.rules (held_with rows) ≡ with_stdio (has_row (codes "stdio") rows) rows
 finished_rows rows =
     let r = with_stdio (has_row (codes "stdio") rows) rows in
-    ap (λ xs. without_default (codes "help") (without_default (codes "keep") (without_default (codes "workers") (without_default (codes "policy") xs))))
-    (same (has_row (codes "listen") r) r)
-    ∙ ap (λ xs. without_default (codes "help") (without_default (codes "keep") (without_default (codes "workers") xs))) (same (has_row (codes "policy") r) r)
-    ∙ ap (λ xs. without_default (codes "help") (without_default (codes "keep") xs)) (same (has_row (codes "workers") r) r)
-    ∙ ap (λ xs. without_default (codes "help") xs) (same (has_row (codes "keep") r) r)
+    ap (λ xs. without_default (codes "help") (without_default (codes "unfinished") (without_default (codes "idle") (without_default (codes "connections") (without_default (codes "keep") (without_default (codes "workers") (without_default (codes "policy") xs))))))) (same (has_row (codes "listen") r) r)
+    ∙ ap (λ xs. without_default (codes "help") (without_default (codes "unfinished") (without_default (codes "idle") (without_default (codes "connections") (without_default (codes "keep") (without_default (codes "workers") xs)))))) (same (has_row (codes "policy") r) r)
+    ∙ ap (λ xs. without_default (codes "help") (without_default (codes "unfinished") (without_default (codes "idle") (without_default (codes "connections") (without_default (codes "keep") xs))))) (same (has_row (codes "workers") r) r)
+    ∙ ap (λ xs. without_default (codes "help") (without_default (codes "unfinished") (without_default (codes "idle") (without_default (codes "connections") xs)))) (same (has_row (codes "keep") r) r)
+    ∙ ap (λ xs. without_default (codes "help") (without_default (codes "unfinished") (without_default (codes "idle") xs))) (same (has_row (codes "connections") r) r)
+    ∙ ap (λ xs. without_default (codes "help") (without_default (codes "unfinished") xs)) (same (has_row (codes "idle") r) r)
+    ∙ ap (λ xs. without_default (codes "help") xs) (same (has_row (codes "unfinished") r) r)
     ∙ same (has_row (codes "help") r) r
 
 pub asked_rows : (name : Text) (flags : List Flag) → AreOnce flags → matches_of server (name ∷ map word_of flags) ≡ rows_of_all flags
@@ -213,6 +209,9 @@ has_stdio (listen x ∷ flags) = has_stdio flags
 has_stdio (policy x ∷ flags) = has_stdio flags
 has_stdio (workers x ∷ flags) = has_stdio flags
 has_stdio (keep x ∷ flags) = has_stdio flags
+has_stdio (connections x ∷ flags) = has_stdio flags
+has_stdio (idle x ∷ flags) = has_stdio flags
+has_stdio (unfinished x ∷ flags) = has_stdio flags
 
 stdio_found : (flags : List Flag) → one_of (codes "stdio") (map row_of flags) ≡ (if is_given flags (codes "stdio") then Some (codes "true") else None)
 stdio_found [] = refl
@@ -221,6 +220,9 @@ stdio_found (listen x ∷ flags) = stdio_found flags
 stdio_found (policy x ∷ flags) = stdio_found flags
 stdio_found (workers x ∷ flags) = stdio_found flags
 stdio_found (keep x ∷ flags) = stdio_found flags
+stdio_found (connections x ∷ flags) = stdio_found flags
+stdio_found (idle x ∷ flags) = stdio_found flags
+stdio_found (unfinished x ∷ flags) = stdio_found flags
 
 pub asked_stdio : (flags : List Flag) → one_of (codes "stdio") (rows_of_all flags) ≡ Some (if is_given flags (codes "stdio") then codes "true" else codes "false")
 asked_stdio flags = go (has_row (codes "stdio") (map row_of flags)) refl
@@ -241,6 +243,16 @@ pub flag_read : (read given : Bool) (text : Option Text) → text ≡ Some (if g
 flag_read read true text is if_true if_false = if_true is
 flag_read read false text is if_true if_false = if_false is
 
-pub same_asked : (a b : Asked) → a.stdio ≡ b.stdio → a.listen ≡ b.listen → a.policy ≡ b.policy → a.workers ≡ b.workers → a.keep ≡ b.keep → a ≡ b
-same_asked a b stdio_is listen_is policy_is workers_is keep_is =
-    λ i. record { stdio = stdio_is i; listen = listen_is i; policy = policy_is i; workers = workers_is i; keep = keep_is i }
+pub same_asked : (a b : Asked) → a.stdio ≡ b.stdio → a.listen ≡ b.listen → a.policy ≡ b.policy → a.workers ≡ b.workers → a.keep ≡ b.keep
+    → a.connections ≡ b.connections → a.idle ≡ b.idle → a.unfinished ≡ b.unfinished → a ≡ b
+same_asked a b stdio_is listen_is policy_is workers_is keep_is connections_is idle_is unfinished_is =
+    λ i. record {
+      stdio = stdio_is i;
+      listen = listen_is i;
+      policy = policy_is i;
+      workers = workers_is i;
+      keep = keep_is i;
+      connections = connections_is i;
+      idle = idle_is i;
+      unfinished = unfinished_is i;
+    }

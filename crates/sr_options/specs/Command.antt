@@ -1,28 +1,17 @@
 -- What the options of the command line ask for: a session over standard input and output, or a server for connections.
 -- Source: docs/COMMANDS.md.
 
-use Rattle.std.specs.Prelude.{◌≡◌, ◌≤◌, ℕ, List, true, false, Option, Some, None, is_some}
+use Rattle.std.specs.Prelude.{◌≡◌, ◌⊎◌, ℕ, List, true, false, Option, Some, None, is_some}
 use Rattle.std.specs.Net.Grammar.{IsSocketText}
-use Rattle.std.specs.Str.Parse.{IsNumeral, digits_value, without_leading_plus}
 use Rattle.std.specs.declared.net.socket_addr.SocketAddr.{SocketAddr}
+use Rattle.sr_options.specs.Numbers.{IsConnections, IsIdle, IsKeep, IsUnfinished, IsWorkers}
 use Rattle.sr_options.specs.Options.{Asked}
 use Rattle.sr_options.specs.declared.command.UsageFault.{UsageFault}
-use Rattle.sr_options.specs.declared.command.UsageFault.TheVariants.{Mode, Address, Workers, Keep, KeepAlone}
+use Rattle.sr_options.specs.declared.command.UsageFault.TheVariants as faults
 use Rattle.sr_options.specs.declared.request.Request.{Request}
 use Rattle.sr_options.specs.declared.request.Request.TheVariants as requests
-
--- how many connections are served at a time: 64, or the decimal number that is written, from 1 to 64
-abbrev pub IsWorkers : Option (List ℕ) → ℕ → Type 0
-IsWorkers None number = number ≡ 64
-IsWorkers (Some text) number = IsNumeral 10 (without_leading_plus text)
-    × (digits_value 10 (without_leading_plus text) ≡ number) × (1 ≤ number) × (number ≤ 64)
-
--- how many records are kept, at which a checkpoint is made beyond them: none is made without the option, or the decimal
--- number that is written, from 1 to 1,000,000,000
-abbrev pub IsKeep : Option (List ℕ) → Option ℕ → Type 0
-IsKeep None keep = keep ≡ None
-IsKeep (Some text) keep = (number : ℕ) × (keep ≡ Some number) × IsNumeral 10 (without_leading_plus text)
-    × (digits_value 10 (without_leading_plus text) ≡ number) × (1 ≤ number) × (number ≤ 1000000000)
+use Rattle.sr_options.specs.declared.way.Way.{Way}
+use Rattle.sr_options.specs.declared.way.Way.TheVariants as ways
 
 -- the options ask for one session over standard input and output
 pub record AsksForStdio (asked : Asked) : Type 0 where
@@ -30,44 +19,93 @@ pub record AsksForStdio (asked : Asked) : Type 0 where
   pub alone : asked.listen ≡ None
   pub workers : (number : ℕ) × IsWorkers asked.workers number
   pub unkept : asked.keep ≡ None
+  pub no_loop : asked.connections ≡ None
+  pub no_pause : asked.idle ≡ None
+  pub no_bound : asked.unfinished ≡ None
+
+-- the options ask to serve connections in this way: by workers, or by a loop, which only --connections asks for
+abbrev pub IsWay : Asked → Way → Type 0
+IsWay asked (ways.Workers number) = IsWorkers asked.workers number × (asked.connections ≡ None)
+    × (asked.idle ≡ None) × (asked.unfinished ≡ None)
+IsWay asked (ways.Loop looping) = (asked.workers ≡ None) × IsConnections asked.connections (Some looping.connections)
+    × IsIdle asked.idle looping.idle × IsUnfinished asked.unfinished looping.unfinished
 
 -- the options ask to serve the connections that come to an address, which they write as this text
-pub record AsksToListen (asked : Asked) (text : List ℕ) (address : SocketAddr) (number : ℕ) (keep : Option ℕ) : Type 0
+pub record AsksToListen (asked : Asked) (text : List ℕ) (address : SocketAddr) (way : Way) (keep : Option ℕ) : Type 0
   where
     pub given : asked.listen ≡ Some text
     pub alone : asked.stdio ≡ false
     pub spelled : IsSocketText text address
-    pub workers : IsWorkers asked.workers number
+    pub served : IsWay asked way
     pub kept : IsKeep asked.keep keep
 
 abbrev pub AsksForAddress : Asked → Type 0
 AsksForAddress asked =
-    (text : List ℕ) × (address : SocketAddr) × (number : ℕ) × (keep : Option ℕ)
-    × AsksToListen asked text address number keep
+    (text : List ℕ) × (address : SocketAddr) × (way : Way) × (keep : Option ℕ)
+    × AsksToListen asked text address way keep
 
 -- the options ask for what the program takes them for
 abbrev pub AsksFor : Asked → Request → Type 0
 AsksFor asked requests.Stdio = AsksForStdio asked
 AsksFor asked (requests.Listen listening) =
-    AsksToListen asked listening.text.now listening.address listening.workers listening.keep
+    AsksToListen asked listening.text.now listening.address listening.way listening.keep
 
 -- the options ask for nothing that the program can do
 pub record AsksForNothing (asked : Asked) : Type 0 where
   pub no_stdio : ¬ (AsksForStdio asked)
   pub no_address : ¬ (AsksForAddress asked)
 
--- the two numbers are ones that the program can do with
-abbrev pub AreNumbers : Asked → Type 0
-AreNumbers asked = ((number : ℕ) × IsWorkers asked.workers number) × ((keep : Option ℕ) × IsKeep asked.keep keep)
+-- the numbers that the program can do with
+abbrev pub HasWorkers : Asked → Type 0
+HasWorkers asked = (number : ℕ) × IsWorkers asked.workers number
 
--- what is wrong first: the number of workers, then that of records, then the address, then what is asked for, and that
--- records are kept for one session
+abbrev pub HasKeep : Asked → Type 0
+HasKeep asked = (keep : Option ℕ) × IsKeep asked.keep keep
+
+abbrev pub HasConnections : Asked → Type 0
+HasConnections asked = (connections : Option ℕ) × IsConnections asked.connections connections
+
+abbrev pub HasIdle : Asked → Type 0
+HasIdle asked = (idle : Option ℕ) × IsIdle asked.idle idle
+
+abbrev pub HasUnfinished : Asked → Type 0
+HasUnfinished asked = (number : ℕ) × IsUnfinished asked.unfinished number
+
+pub record AreNumbers (asked : Asked) : Type 0 where
+  pub workers : HasWorkers asked
+  pub keep : HasKeep asked
+  pub connections : HasConnections asked
+  pub idle : HasIdle asked
+  pub unfinished : HasUnfinished asked
+
+-- each number is one that the program can do with, and either a session is asked for, or a server at an address
+pub record IsReadable (asked : Asked) : Type 0 where
+  pub numbers : AreNumbers asked
+  pub mode : ((asked.stdio ≡ true) × (asked.listen ≡ None))
+      ⊎ ((asked.stdio ≡ false)
+      × ((text : List ℕ) × (address : SocketAddr) × (asked.listen ≡ Some text) × IsSocketText text address))
+
+-- what is wrong first: the number of workers, of records, of connections, of seconds, of bytes; then the address, and
+-- whether one thing is asked for; then what does not go together: with a session, records that are kept, and a loop;
+-- with a loop, workers; and without one what it alone has, seconds and bytes
 abbrev pub IsFaultOf : Asked → UsageFault → Type 0
-IsFaultOf asked Workers = (number : ℕ) → ¬ (IsWorkers asked.workers number)
-IsFaultOf asked Keep =
-    ((number : ℕ) × IsWorkers asked.workers number) × ((keep : Option ℕ) → ¬ (IsKeep asked.keep keep))
-IsFaultOf asked Address = AreNumbers asked × (asked.stdio ≡ false)
+IsFaultOf asked faults.Workers = (number : ℕ) → ¬ (IsWorkers asked.workers number)
+IsFaultOf asked faults.Keep = HasWorkers asked × ((keep : Option ℕ) → ¬ (IsKeep asked.keep keep))
+IsFaultOf asked faults.Connections = HasWorkers asked × HasKeep asked
+    × ((connections : Option ℕ) → ¬ (IsConnections asked.connections connections))
+IsFaultOf asked faults.Idle = HasWorkers asked × HasKeep asked × HasConnections asked
+    × ((idle : Option ℕ) → ¬ (IsIdle asked.idle idle))
+IsFaultOf asked faults.Unfinished = HasWorkers asked × HasKeep asked × HasConnections asked × HasIdle asked
+    × ((number : ℕ) → ¬ (IsUnfinished asked.unfinished number))
+IsFaultOf asked faults.Address = AreNumbers asked × (asked.stdio ≡ false)
     × ((text : List ℕ) × (asked.listen ≡ Some text) × ((address : SocketAddr) → ¬ (IsSocketText text address)))
-IsFaultOf asked Mode = AreNumbers asked × (asked.stdio ≡ is_some asked.listen)
-IsFaultOf asked KeepAlone = AreNumbers asked × (asked.stdio ≡ true) × (asked.listen ≡ None)
-    × (is_some asked.keep ≡ true)
+IsFaultOf asked faults.Mode = AreNumbers asked × (asked.stdio ≡ is_some asked.listen)
+IsFaultOf asked faults.KeepAlone = IsReadable asked × (asked.stdio ≡ true) × (is_some asked.keep ≡ true)
+IsFaultOf asked faults.ConnectionsAlone = IsReadable asked × (asked.stdio ≡ true) × (asked.keep ≡ None)
+    × (is_some asked.connections ≡ true)
+IsFaultOf asked faults.ConnectionsBeside = IsReadable asked × (asked.stdio ≡ false)
+    × (is_some asked.connections ≡ true) × (is_some asked.workers ≡ true)
+IsFaultOf asked faults.IdleAlone = IsReadable asked × ((asked.stdio ≡ false) ⊎ (asked.keep ≡ None))
+    × (asked.connections ≡ None) × (is_some asked.idle ≡ true)
+IsFaultOf asked faults.UnfinishedAlone = IsReadable asked × ((asked.stdio ≡ false) ⊎ (asked.keep ≡ None))
+    × (asked.connections ≡ None) × (asked.idle ≡ None) × (is_some asked.unfinished ≡ true)

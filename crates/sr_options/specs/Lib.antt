@@ -1,3 +1,5 @@
 pub mod Command
+pub mod Numbers
 pub mod Options
+pub mod Ways
 pub mod steps

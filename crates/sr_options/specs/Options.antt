@@ -12,6 +12,9 @@ pub data Flag : Type 0 where
   policy : List ℕ → Flag
   workers : List ℕ → Flag
   keep : List ℕ → Flag
+  connections : List ℕ → Flag
+  idle : List ℕ → Flag
+  unfinished : List ℕ → Flag
 
 abbrev pub name_of : Flag → List ℕ
 name_of stdio = codes "stdio"
@@ -19,6 +22,9 @@ name_of (listen address) = codes "listen"
 name_of (policy path) = codes "policy"
 name_of (workers number) = codes "workers"
 name_of (keep number) = codes "keep"
+name_of (connections number) = codes "connections"
+name_of (idle seconds) = codes "idle"
+name_of (unfinished bytes) = codes "unfinished"
 
 abbrev pub value_of : Flag → List ℕ
 value_of stdio = codes "true"
@@ -26,6 +32,9 @@ value_of (listen address) = address
 value_of (policy path) = path
 value_of (workers number) = number
 value_of (keep number) = number
+value_of (connections number) = number
+value_of (idle seconds) = seconds
+value_of (unfinished bytes) = bytes
 
 -- how it is written, in one word
 abbrev pub word_of : Flag → List ℕ
@@ -34,6 +43,9 @@ word_of (listen address) = codes "--listen=" ++ address
 word_of (policy path) = codes "--policy=" ++ path
 word_of (workers number) = codes "--workers=" ++ number
 word_of (keep number) = codes "--keep=" ++ number
+word_of (connections number) = codes "--connections=" ++ number
+word_of (idle seconds) = codes "--idle=" ++ seconds
+word_of (unfinished bytes) = codes "--unfinished=" ++ bytes
 
 abbrev pub has_name : List ℕ → Flag → Bool
 has_name name flag = bytes_eq (name_of flag) name
@@ -57,6 +69,9 @@ pub record Asked : Type 0 where
   pub policy : Option (List ℕ)
   pub workers : Option (List ℕ)
   pub keep : Option (List ℕ)
+  pub connections : Option (List ℕ)
+  pub idle : Option (List ℕ)
+  pub unfinished : Option (List ℕ)
 
 abbrev pub asked_by : List Flag → Asked
 asked_by flags = record {
@@ -65,6 +80,9 @@ asked_by flags = record {
   policy = value_in flags (codes "policy");
   workers = value_in flags (codes "workers");
   keep = value_in flags (codes "keep");
+  connections = value_in flags (codes "connections");
+  idle = value_in flags (codes "idle");
+  unfinished = value_in flags (codes "unfinished");
 }
 
 abbrev pub asked_of : Options → Asked
@@ -74,4 +92,7 @@ asked_of options = record {
   policy = option_map (λ text. text.now) options.policy;
   workers = option_map (λ text. text.now) options.workers;
   keep = option_map (λ text. text.now) options.keep;
+  connections = option_map (λ text. text.now) options.connections;
+  idle = option_map (λ text. text.now) options.idle;
+  unfinished = option_map (λ text. text.now) options.unfinished;
 }

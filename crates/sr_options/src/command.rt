@@ -1,36 +1,55 @@
-ghost use Rattle.std.specs.Prelude.{◌≡◌, ◌≤◌, ℕ, Option, option_map, IfErr, IfOk, IfSome, IsNone, OnErr};
-ghost use Rattle.sr_options.specs.Command.{AsksFor, AsksForNothing, IsFaultOf, IsKeep, IsWorkers};
+ghost use Rattle.std.specs.Prelude.{◌≡◌, ◌≤◌, false, IfErr, IfOk, IfSome, IsNone, OnErr};
+ghost use Rattle.sr_options.specs.Command.{AsksFor, AsksForNothing, IsFaultOf, IsReadable, IsWay};
 ghost use Rattle.sr_options.specs.Options.{asked_of};
+ghost use Rattle.sr_options.specs.Ways.{threads_of};
+ghost use Rattle.sr_options.specs.steps.Read.{AreRead, GoTogether};
 
+use crate::numbers::{Numbers, numbers_of};
 use crate::options::Options;
 use crate::request::{Listening, Request};
+use crate::way::{Looping, Way};
 use std::net::SocketAddr;
 use thiserror::Error;
-
-/// The most records that may be kept.
-const MOST_KEPT: u64 = 1_000_000_000;
-
-/// The most connections that are served at a time, and how many are without `--workers`.
-const MOST_WORKERS: usize = 64;
 
 /// Why the options ask for nothing that the program can do. Its text is for the user.
 #[derive(Clone, Copy, Debug, PartialEq, Eq, Error)]
 pub enum UsageFault {
-    /// Neither a session nor a server is asked for, or both.
-    #[error("exactly one of --stdio and --listen is needed")]
-    Mode,
-    /// What is to be listened at is not an address and a port.
-    #[error("--listen takes an address and a port, as 127.0.0.1:6379 or [::1]:6379")]
-    Address,
     /// The number of workers is none from 1 to 64.
     #[error("--workers takes a number from 1 to 64")]
     Workers,
     /// The number of records that are kept is none from 1 to 1,000,000,000.
     #[error("--keep takes a number from 1 to 1000000000")]
     Keep,
+    /// The number of connections is none from 1 to 10,000.
+    #[error("--connections takes a number from 1 to 10000")]
+    Connections,
+    /// The number of seconds is none from 0 to 86,400.
+    #[error("--idle takes a number from 0 to 86400")]
+    Idle,
+    /// The number of bytes is none from 1 to 1,000,000,000,000.
+    #[error("--unfinished takes a number from 1 to 1000000000000")]
+    Unfinished,
+    /// What is to be listened at is not an address and a port.
+    #[error("--listen takes an address and a port, as 127.0.0.1:6379 or [::1]:6379")]
+    Address,
+    /// Neither a session nor a server is asked for, or both.
+    #[error("exactly one of --stdio and --listen is needed")]
+    Mode,
     /// Records are to be kept for one session alone.
     #[error("--keep needs --listen")]
     KeepAlone,
+    /// A loop is to serve one session alone.
+    #[error("--connections needs --listen")]
+    ConnectionsAlone,
+    /// A loop and workers are to serve.
+    #[error("--connections and --workers exclude each other")]
+    ConnectionsBeside,
+    /// Connections are to be closed that no loop serves.
+    #[error("--idle needs --connections")]
+    IdleAlone,
+    /// Requests are to be bounded that no loop reads.
+    #[error("--unfinished needs --connections")]
+    UnfinishedAlone,
 }
 
 /// What the options ask for.
@@ -39,55 +58,63 @@ pub fn request_of<'a>(options: &Options<'a>) -> Result<Request<'a>, UsageFault>
     ensures err { OnErr result (AsksForNothing (asked_of options.now)) }
     ensures fault { IfErr result (IsFaultOf (asked_of options.now)) }
 {
-    let Some(workers) = workers_of(options.workers) else {
-        return Err(UsageFault::Workers);
-    };
-    let Some(keep) = keep_of(options.keep) else {
-        return Err(UsageFault::Keep);
+    let numbers = match numbers_of(options) {
+        Ok(numbers) => numbers,
+        Err(fault) => return Err(fault),
     };
     match (options.stdio, options.listen) {
-        (true, None) => match keep {
+        (true, None) => match clash_of(options) {
             None => Ok(Request::Stdio),
-            Some(_) => Err(UsageFault::KeepAlone),
+            Some(fault) => Err(fault),
         },
         (false, Some(text)) => match text.parse::<SocketAddr>() {
-            Ok(address) => Ok(Request::Listen(Listening {
-                address,
-                text,
-                workers,
-                keep,
-            })),
+            Ok(address) => match clash_of(options) {
+                None => Ok(Request::Listen(Listening {
+                    address,
+                    text,
+                    way: way_of(options, numbers),
+                    keep: numbers.keep,
+                })),
+                Some(fault) => Err(fault),
+            },
             Err(_) => Err(UsageFault::Address),
         },
         _ => Err(UsageFault::Mode),
     }
 }
 
-/// How many connections are served at a time. None if the text is not such a number.
-fn workers_of(text: Option<&str>) -> Option<usize>
-    ensures some { IfSome result (IsWorkers (option_map (λ text. text.now) text.entry)) }
-    ensures none { IsNone result → (number : ℕ) → ¬ (IsWorkers (option_map (λ text. text.now) text.entry) number) }
-    ensures range { IfSome result (λ number. (1 ≤ number) × (number ≤ 64)) }
+/// The first two options that do not go together, if there are any.
+fn clash_of(options: &Options<'_>) -> Option<UsageFault>
+    ensures some { IsReadable (asked_of options.now) → IfSome result (IsFaultOf (asked_of options.now)) }
+    ensures none { IsNone result → GoTogether (asked_of options.now) }
 {
-    match text {
-        None => Some(MOST_WORKERS),
-        Some(text) => match text.parse::<usize>() {
-            Ok(number) if number >= 1 && number <= MOST_WORKERS => Some(number),
-            _ => None,
-        },
+    if options.stdio && options.keep.is_some() {
+        return Some(UsageFault::KeepAlone);
+    }
+    match options.connections {
+        Some(_) if options.stdio => Some(UsageFault::ConnectionsAlone),
+        Some(_) if options.workers.is_some() => Some(UsageFault::ConnectionsBeside),
+        Some(_) => None,
+        None if options.idle.is_some() => Some(UsageFault::IdleAlone),
+        None if options.unfinished.is_some() => Some(UsageFault::UnfinishedAlone),
+        None => None,
     }
 }
 
-/// How many records are kept, if that is bounded. None if the text is no number for it.
-fn keep_of(text: Option<&str>) -> Option<Option<u64>>
-    ensures some { IfSome result (IsKeep (option_map (λ text. text.now) text.entry)) }
-    ensures none { IsNone result → (keep : Option ℕ) → ¬ (IsKeep (option_map (λ text. text.now) text.entry) keep) }
+/// How connections are to be served.
+fn way_of(options: &Options<'_>, numbers: Numbers) -> Way
+    requires read { AreRead (asked_of options.now) numbers }
+    requires together { GoTogether (asked_of options.now) }
+    requires at_address { options.now.stdio ≡ false }
+    ensures way { IsWay (asked_of options.now) result }
+    ensures range { (1 ≤ threads_of result) × (threads_of result ≤ 64) }
 {
-    match text {
-        None => Some(None),
-        Some(text) => match text.parse::<u64>() {
-            Ok(number) if number >= 1 && number <= MOST_KEPT => Some(Some(number)),
-            _ => None,
-        },
+    match numbers.connections {
+        None => Way::Workers(numbers.workers),
+        Some(connections) => Way::Loop(Looping {
+            connections,
+            idle: numbers.idle,
+            unfinished: numbers.unfinished,
+        }),
     }
 }

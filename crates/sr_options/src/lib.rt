@@ -2,9 +2,12 @@
 #![tactic(auto)]
 
 mod command;
+mod numbers;
 mod options;
 mod request;
+mod way;
 
 pub use command::{UsageFault, request_of};
 pub use options::{Options, read_options};
 pub use request::{Listening, Request};
+pub use way::{Looping, Way};

@@ -1,7 +1,7 @@
 ghost use Rattle.std.specs.Prelude.{◌≡◌, ℕ, List, ◌∷◌, map, false, IfOk, IfErr};
 ghost use Rattle.clap.specs.Words.{app_of, kind_of, rule_of};
 ghost use Rattle.sr_options.specs.Options.{AreOnce, Flag, asked_by, asked_of, word_of};
-ghost use Rattle.sr_options.specs.steps.Server.{plain_rule, server, valued_rule};
+ghost use Rattle.sr_options.specs.steps.Server.{general, plain_rule, server, valued_rule, with_loop};
 
 use clap::error::ErrorKind;
 use clap::{Arg, ArgAction, Command, Error};
@@ -11,6 +11,7 @@ use std::convert::AsStr;
 /// What help says at its end.
 const EXAMPLES: &str = "Examples:
   sr_server --listen 127.0.0.1:6379 --policy policy.toml --keep 100000
+  sr_server --listen 127.0.0.1:6379 --connections 5000 --idle 300
   sr_server --stdio < requests > replies";
 
 /// The options of the command line, as they are written.
@@ -22,10 +23,16 @@ pub struct Options<'a> {
     pub listen: Option<&'a str>,
     /// The path of the policy file.
     pub policy: Option<&'a str>,
-    /// How many connections are served at a time.
+    /// How many threads serve connections, each one at a time.
     pub workers: Option<&'a str>,
     /// How many records are kept.
     pub keep: Option<&'a str>,
+    /// How many connections one loop serves.
+    pub connections: Option<&'a str>,
+    /// After how many seconds without a whole request a connection is closed.
+    pub idle: Option<&'a str>,
+    /// How many bytes all requests that are not answered yet may hold together.
+    pub unfinished: Option<&'a str>,
 }
 
 /// Reads the options from the words of the command line, of which the first is the program's name.
@@ -45,12 +52,23 @@ pub fn read_options<'a, S: AsStr>(alloc: Global, words: &'a [S]) -> Result<Optio
         policy: matches.get_str("policy"),
         workers: matches.get_str("workers"),
         keep: matches.get_str("keep"),
+        connections: matches.get_str("connections"),
+        idle: matches.get_str("idle"),
+        unfinished: matches.get_str("unfinished"),
     })
 }
 
 /// The options that there are.
 fn command_line<'a>(alloc: Global) -> Result<Command<'a>, AllocError>
     ensures { IfOk result (λ command. app_of command ≡ server) }
+{
+    let command = general_options(alloc)?;
+    loop_options(alloc, command)
+}
+
+/// The options of one session and of each server.
+fn general_options<'a>(alloc: Global) -> Result<Command<'a>, AllocError>
+    ensures { IfOk result (λ command. app_of command ≡ general) }
 {
     Command::new(alloc, "sr_server")
         .about("Redis Streams over RESP2. Takes either --stdio or --listen.")
@@ -76,13 +94,38 @@ fn command_line<'a>(alloc: Global) -> Result<Command<'a>, AllocError>
             alloc,
             "workers",
             "N",
-            "Serve at most N connections at a time, from 1 to 64 [default: 64]",
+            "With --listen: serve at most N connections at a time, by threads, from 1 to 64 [default: 64]",
         ))?
         .arg(valued(
             alloc,
             "keep",
             "N",
             "With --listen: make a checkpoint, which lets go of all records, once there are more than N [default: never]",
+        ))
+}
+
+/// The options of a server by one loop, after others.
+fn loop_options<'a>(alloc: Global, command: Command<'a>) -> Result<Command<'a>, AllocError>
+    ensures { IfOk result (λ more. app_of more ≡ with_loop (app_of command.entry)) }
+{
+    command
+        .arg(valued(
+            alloc,
+            "connections",
+            "N",
+            "With --listen: serve up to N connections by one loop, from 1 to 10000 [default: by workers]",
+        ))?
+        .arg(valued(
+            alloc,
+            "idle",
+            "SECONDS",
+            "With --connections: close one that has sent no whole request for so long, unless it waits [default: 0, never]",
+        ))?
+        .arg(valued(
+            alloc,
+            "unfinished",
+            "BYTES",
+            "With --connections: end the one by whose bytes the requests not answered yet hold more [default: 1073741824]",
         ))
 }
 

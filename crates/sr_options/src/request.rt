@@ -1,5 +1,7 @@
 ghost use Rattle.std.specs.Prelude.{◌≤◌};
+ghost use Rattle.sr_options.specs.Ways.{threads_of};
 
+use crate::way::Way;
 use std::net::SocketAddr;
 
 /// What the command line asks for.
@@ -18,9 +20,9 @@ pub struct Listening<'a> {
     pub address: SocketAddr,
     /// The address as it was given.
     pub text: &'a str,
-    /// How many connections are served at a time.
-    pub workers: usize,
+    /// How the connections are served.
+    pub way: Way,
     /// How many records are kept: if there are more, a checkpoint is made. None: all of them.
     pub keep: Option<u64>,
-    ghost in_range: { (1 ≤ workers) × (workers ≤ 64) },
+    ghost in_range: { (1 ≤ threads_of way) × (threads_of way ≤ 64) },
 }

@@ -1,48 +1,66 @@
 //! The system's network: TCP, at an IP address and a port. Any reason why an address cannot be bound is one fault; a
 //! failed allocation is another.
-ghost use Rattle.std.specs.Prelude.{◌≡◌, ◌≤◌, ℕ, IfOk, IfErr, IsTrue};
-ghost use Rattle.sr_start.specs.Listening.{any_end, any_refusal};
+ghost use Rattle.std.specs.Prelude.{◌≡◌, ◌≤◌, IfOk, IfErr, IsTrue};
+ghost use Rattle.sr_options.specs.Ways.{threads_of};
+ghost use Rattle.sr_options.specs.declared.way.Way.{Way};
+ghost use Rattle.sr_start.specs.Listening.{any_end, any_files, any_refusal};
 
-use crossbeam_channel::{Sender, bounded};
+use crate::limits::{LIMITS, most_files};
+use crossbeam_channel::{Receiver, Sender, bounded};
+use mio::{Poll, Waker, net};
 use sr_book::Book;
-use sr_start::{Begun, Bound, ListenFault, Network, ServeFault, Serving, serve_begun};
+use sr_events::WAKER;
+use sr_options::{Looping, Way};
+use sr_start::{
+    Begun, Bound, ListenFault, LoopServing, Network, Polled, ServeFault, Serving, serve_begun,
+    serve_loop,
+};
 use std::alloc::Global;
-use std::io::ErrorKind;
-use std::net::{SocketAddr, TcpListener};
+use std::io::{Error, ErrorKind};
+use std::net::{Net, SocketAddr, TcpListener};
 use std::snapshot::Snapshot;
 use std::sync::Wait;
 use std::thread::{JoinHandle, Threads};
-use std::{rt, thread};
+use std::{fs, rt, thread};
 
-/// Begins to serve the connections of a listener, over this book, with this many workers and records kept, in a thread
-/// of its own.
+/// What listens, for the way in which its connections are served.
+#[derive(Drop)]
+pub(crate) enum SystemListener {
+    /// For workers: accepting waits for a connection.
+    Waits(TcpListener),
+    /// For a loop: it is polled.
+    Polls(net::TcpListener),
+}
+
+/// Begins to serve the connections of a listener, over this book, in this way and with so many records kept, in a
+/// thread of its own.
 ///
 /// A pointer, since a method of a trait cannot hand its runtime to threads: `main` makes it, and has that runtime
 /// itself.
 pub(crate) type Beginning = fn(
     &HostRuntime,
-    TcpListener,
+    SystemListener,
     Book,
-    usize,
+    Way,
     Option<u64>,
 ) -> Result<JoinHandle<ServeFault>, ServeFault>;
 
 /// Waits until serving has ended, and answers why. A pointer for the same reason.
 pub(crate) type Ending = fn(&HostRuntime, JoinHandle<ServeFault>) -> ServeFault;
 
-/// A beginning that may be called with 1 to 64 workers.
+/// A beginning that may be called with 1 to 64 threads.
 #[derive(Drop)]
 pub(crate) struct Beginner {
     by: Beginning,
-    ghost begins: { (rt : _) (listener : _) (book : _) (workers : ℕ) (keep : _) → (1 ≤ workers) × (workers ≤ 64)
-        → pre by rt listener book workers keep },
+    ghost begins: { (rt : _) (listener : _) (book : _) (way : Way) (keep : _)
+        → (1 ≤ threads_of way) × (threads_of way ≤ 64) → pre by rt listener book way keep },
 }
 
 impl Beginner {
     /// One that begins so.
     pub(crate) fn new(by: Beginning) -> Beginner
-        requires { (rt : _) (listener : _) (book : _) (workers : ℕ) (keep : _) → (1 ≤ workers) × (workers ≤ 64)
-            → pre by rt listener book workers keep }
+        requires { (rt : _) (listener : _) (book : _) (way : Way) (keep : _)
+            → (1 ≤ threads_of way) × (threads_of way ≤ 64) → pre by rt listener book way keep }
     {
         Beginner { by }
     }
@@ -51,14 +69,14 @@ impl Beginner {
     fn begin(
         &self,
         rt: &HostRuntime,
-        listener: TcpListener,
+        listener: SystemListener,
         book: Book,
-        workers: usize,
+        way: Way,
         keep: Option<u64>,
     ) -> Result<JoinHandle<ServeFault>, ServeFault>
-        requires { (1 ≤ workers) × (workers ≤ 64) }
+        requires { (1 ≤ threads_of way) × (threads_of way ≤ 64) }
     {
-        (self.by)(rt, listener, book, workers, keep)
+        (self.by)(rt, listener, book, way, keep)
     }
 }
 
@@ -103,9 +121,11 @@ impl<'a> SystemNetwork<'a> {
 }
 
 impl<'a> Network for SystemNetwork<'a> {
-    type Listener = TcpListener;
+    type Listener = SystemListener;
 
     type Server = JoinHandle<ServeFault>;
+
+    ghost may_open = { any_files };
 
     ghost may_refuse = { any_refusal };
 
@@ -113,8 +133,19 @@ impl<'a> Network for SystemNetwork<'a> {
 
     ghost may_end = { any_end };
 
-    fn listen(&mut self, address: SocketAddr) -> Result<Bound<TcpListener>, ListenFault> {
-        match TcpListener::bind(self.rt, address) {
+    fn most_files(&self) -> Option<u64> {
+        match fs::read_to_string(self.rt, LIMITS) {
+            Ok(limits) => most_files(&limits),
+            Err(_) => None,
+        }
+    }
+
+    fn listen(
+        &mut self,
+        address: SocketAddr,
+        way: Way,
+    ) -> Result<Bound<SystemListener>, ListenFault> {
+        match bind(self.rt, address, way) {
             Ok(listener) => Ok(Bound { listener, address }),
             Err(error) if error.kind() == ErrorKind::OutOfMemory => Err(ListenFault::Memory),
             Err(_) => Err(ListenFault::Bind),
@@ -123,37 +154,37 @@ impl<'a> Network for SystemNetwork<'a> {
 
     fn begin(
         &mut self,
-        bound: Bound<TcpListener>,
+        bound: Bound<SystemListener>,
         book: Book,
-        workers: usize,
+        way: Way,
         keep: Option<u64>,
     ) -> Result<Begun<JoinHandle<ServeFault>>, ServeFault>
-        requires workers { (1 ≤ workers) × (workers ≤ 64) }
+        requires way { (1 ≤ threads_of way) × (threads_of way ≤ 64) }
         ensures address { IfOk result (λ begun. begun.address ≡ bound.address) }
-        ensures workers { IfOk result (λ begun. begun.workers ≡ workers) }
+        ensures way { IfOk result (λ begun. begun.way ≡ way) }
         ensures keep { IfOk result (λ begun. begun.keep ≡ keep) }
         ensures book { IfOk result (λ begun. begun.book.value ≡ book) }
-        ensures err { IfErr result (λ fault. IsTrue (any_end bound.address workers keep book fault)) }
+        ensures err { IfErr result (λ fault. IsTrue (any_end bound.address way keep book fault)) }
     {
         let Bound { listener, address } = bound;
         let noted = Snapshot::of(&book);
-        let server = self.beginner.begin(self.rt, listener, book, workers, keep)?;
+        let server = self.beginner.begin(self.rt, listener, book, way, keep)?;
         Ok(Begun {
             server,
             address,
-            workers,
+            way,
             keep,
             book: noted,
         })
     }
 
     fn end(&mut self, begun: Begun<JoinHandle<ServeFault>>) -> ServeFault
-        ensures { IsTrue (any_end begun.address begun.workers begun.keep begun.book.value result) }
+        ensures { IsTrue (any_end begun.address begun.way begun.keep begun.book.value result) }
     {
         let Begun {
             server,
             address: _,
-            workers: _,
+            way: _,
             keep: _,
             book: _,
         } = begun;
@@ -161,27 +192,60 @@ impl<'a> Network for SystemNetwork<'a> {
     }
 }
 
+/// Listens at an address, for connections that will be served in this way. A loop's listener has the longest queue that
+/// the system allows.
+fn bind(rt: &HostRuntime, address: SocketAddr, way: Way) -> Result<SystemListener, Error> {
+    match way {
+        Way::Workers(_) => Ok(SystemListener::Waits(TcpListener::bind(rt, address)?)),
+        Way::Loop(_) => Ok(SystemListener::Polls(net::TcpListener::bind(rt, address)?)),
+    }
+}
+
 /// Begins to serve the connections of a listener in a thread of its own, and answers once all threads stand, or why
 /// they do not.
-pub(crate) fn begin_serving<R: Copy + Threads + Wait + rt::Clock + Send + Sync + Drop + 'static>(
+pub(crate) fn begin_serving<
+    R: Copy + Threads + Wait + Net + rt::Clock + Send + Sync + Drop + 'static,
+>(
+    rt: &R,
+    alloc: Global,
+    listener: SystemListener,
+    book: Book,
+    way: Way,
+    keep: Option<u64>,
+) -> Result<JoinHandle<ServeFault>, ServeFault>
+    requires way { (1 ≤ threads_of way) × (threads_of way ≤ 64) }
+{
+    match (listener, way) {
+        (SystemListener::Waits(listener), Way::Workers(workers)) => {
+            let serving = Serving {
+                workers,
+                accepts: u64::MAX,
+                keep,
+            };
+            begin_workers(rt, alloc, listener, book, serving)
+        }
+        (SystemListener::Polls(listener), Way::Loop(looping)) => {
+            begin_loop(rt, alloc, listener, book, looping, keep)
+        }
+        // It listens for the other way.
+        _ => Err(ServeFault::Accept),
+    }
+}
+
+/// Begins to serve by workers.
+fn begin_workers<R: Copy + Threads + Wait + rt::Clock + Send + Sync + Drop + 'static>(
     rt: &R,
     alloc: Global,
     listener: TcpListener,
     book: Book,
-    workers: usize,
-    keep: Option<u64>,
+    serving: Serving,
 ) -> Result<JoinHandle<ServeFault>, ServeFault>
-    requires workers { (1 ≤ workers) × (workers ≤ 64) }
+    requires workers { (1 ≤ serving.workers) × (serving.workers ≤ 64) }
 {
     let Ok((stands, stood)) = bounded(alloc, 1) else {
         return Err(ServeFault::Memory);
     };
     let host = *rt;
-    let serving = Serving {
-        workers,
-        accepts: u64::MAX,
-        keep,
-    };
     let Ok(server) = thread::spawn(
         rt,
         move || -> ServeFault
@@ -190,6 +254,56 @@ pub(crate) fn begin_serving<R: Copy + Threads + Wait + rt::Clock + Send + Sync +
     ) else {
         return Err(ServeFault::Thread);
     };
+    once_it_stands(rt, server, stood)
+}
+
+/// Begins to serve by a loop.
+fn begin_loop<R: Copy + Threads + Wait + Net + rt::Clock + Send + Sync + Drop + 'static>(
+    rt: &R,
+    alloc: Global,
+    listener: net::TcpListener,
+    book: Book,
+    looping: Looping,
+    keep: Option<u64>,
+) -> Result<JoinHandle<ServeFault>, ServeFault> {
+    let Ok((stands, stood)) = bounded(alloc, 1) else {
+        return Err(ServeFault::Memory);
+    };
+    let polled = match polled(rt, listener) {
+        Ok(polled) => polled,
+        Err(error) if error.kind() == ErrorKind::OutOfMemory => return Err(ServeFault::Memory),
+        Err(_) => return Err(ServeFault::Accept),
+    };
+    let serving = LoopServing {
+        looping,
+        keep,
+        stands,
+    };
+    let host = *rt;
+    let Ok(server) = thread::spawn(rt, move || serve_loop(&host, alloc, polled, book, serving))
+    else {
+        return Err(ServeFault::Thread);
+    };
+    once_it_stands(rt, server, stood)
+}
+
+/// A poll with its waker, and the listener that it will poll.
+fn polled<R: Net>(rt: &R, listener: net::TcpListener) -> Result<Polled, Error> {
+    let poll = Poll::new(rt)?;
+    let waker = Waker::new(poll.registry(), WAKER)?;
+    Ok(Polled {
+        poll,
+        waker,
+        listener,
+    })
+}
+
+/// A server once its threads stand, or why they do not.
+fn once_it_stands<R: Threads + Wait>(
+    rt: &R,
+    server: JoinHandle<ServeFault>,
+    stood: Receiver<()>,
+) -> Result<JoinHandle<ServeFault>, ServeFault> {
     match stood.recv(rt) {
         Ok(()) => Ok(server),
         Err(_) => Err(server.join(rt)),

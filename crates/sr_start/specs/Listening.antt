@@ -4,7 +4,9 @@
 use Rattle.std.specs.Prelude.{◌≡◌, ◌++◌, ℕ, Bool, false, IsTrue, true, List, [], ◌⊎◌, codes, Option, Result, Ok, Err}
 use Rattle.std.specs.declared.net.socket_addr.SocketAddr.{SocketAddr}
 use Rattle.sr_book.specs.Records.{BookState, empty_book}
+use Rattle.sr_options.specs.declared.way.Way.{Way}
 use Rattle.sr_policy.specs.Rules.{Rules}
+use Rattle.sr_start.specs.Files.{HasFiles}
 use Rattle.sr_start.specs.Policy.{Loads}
 use Rattle.sr_start.specs.declared.fault.Fault.{Fault}
 use Rattle.sr_start.specs.declared.fault.Fault.TheVariants as faults
@@ -34,32 +36,37 @@ abbrev pub line_of : List ℕ → List ℕ
 line_of text = codes "listening on " ++ text ++ codes "\n"
 
 -- the program serves the connections that come to an address, from an empty book with the rules of its policy, until
--- that ends; or it does not come to that, since it cannot begin, bind or open, and writes nothing. The line is written
--- whole, unless a write failed
-pub data Listens (may_hold : List ℕ → Option (List ℕ) → Bool) (may_refuse : SocketAddr → ListenFault → Bool)
-    (may_not_begin may_end : SocketAddr → ℕ → Option ℕ → BookState → ServeFault → Bool)
+-- that ends; or it does not come to that, since it cannot begin, bind or open, and writes nothing. It has the files
+-- that its connections need, unless it ended before that was asked. The line is written whole, unless a write failed
+pub data Listens (may_hold : List ℕ → Option (List ℕ) → Bool) (may_open : Option ℕ → Bool)
+    (may_refuse : SocketAddr → ListenFault → Bool)
+    (may_not_begin may_end : SocketAddr → Way → Option ℕ → BookState → ServeFault → Bool)
     (policy : Option (List ℕ)) (text : List ℕ)
-    (address : SocketAddr) (workers : ℕ) (keep : Option ℕ) (written : List ℕ) (failed : Bool)
+    (address : SocketAddr) (way : Way) (keep : Option ℕ) (written : List ℕ) (failed : Bool)
     (fault : Fault) : Type 0 where
-  ends : (rules : Rules) (end : ServeFault) → Loads may_hold policy (Ok rules)
-      → IsTrue (may_end address workers keep (empty_book rules) end) → (failed ≡ false → written ≡ line_of text)
+  ends : (rules : Rules) (end : ServeFault) → HasFiles may_open way → Loads may_hold policy (Ok rules)
+      → IsTrue (may_end address way keep (empty_book rules) end) → (failed ≡ false → written ≡ line_of text)
       → fault ≡ fault_of_serving end
-      → Listens may_hold may_refuse may_not_begin may_end policy text address workers keep written failed fault
-  begins_not : (rules : Rules) (end : ServeFault) → Loads may_hold policy (Ok rules)
-      → IsTrue (may_not_begin address workers keep (empty_book rules) end) → written ≡ [] → fault ≡ fault_of_serving end
-      → Listens may_hold may_refuse may_not_begin may_end policy text address workers keep written failed fault
-  binds_not : (rules : Rules) (refused : ListenFault) → Loads may_hold policy (Ok rules)
+      → Listens may_hold may_open may_refuse may_not_begin may_end policy text address way keep written failed fault
+  begins_not : (rules : Rules) (end : ServeFault) → HasFiles may_open way → Loads may_hold policy (Ok rules)
+      → IsTrue (may_not_begin address way keep (empty_book rules) end) → written ≡ [] → fault ≡ fault_of_serving end
+      → Listens may_hold may_open may_refuse may_not_begin may_end policy text address way keep written failed fault
+  binds_not : (rules : Rules) (refused : ListenFault) → HasFiles may_open way → Loads may_hold policy (Ok rules)
       → IsTrue (may_refuse address refused)
       → written ≡ [] → fault ≡ fault_of_listening refused
-      → Listens may_hold may_refuse may_not_begin may_end policy text address workers keep written failed fault
-  opens_not : Opens may_hold policy (Err fault) → written ≡ []
-      → Listens may_hold may_refuse may_not_begin may_end policy text address workers keep written failed fault
+      → Listens may_hold may_open may_refuse may_not_begin may_end policy text address way keep written failed fault
+  opens_not : HasFiles may_open way → Opens may_hold policy (Err fault) → written ≡ []
+      → Listens may_hold may_open may_refuse may_not_begin may_end policy text address way keep written failed fault
   starts_not : fault ≡ faults.StartMemory → written ≡ []
-      → Listens may_hold may_refuse may_not_begin may_end policy text address workers keep written failed fault
+      → Listens may_hold may_open may_refuse may_not_begin may_end policy text address way keep written failed fault
 
--- the system's network may refuse any address, and end in any way
+-- the process may be allowed to open any number of files; the system's network may refuse any address, and end in any
+-- way
+abbrev pub any_files : Option ℕ → Bool
+any_files most = true
+
 abbrev pub any_refusal : SocketAddr → ListenFault → Bool
 any_refusal address refused = true
 
-abbrev pub any_end : SocketAddr → ℕ → Option ℕ → BookState → ServeFault → Bool
-any_end address workers keep book end = true
+abbrev pub any_end : SocketAddr → Way → Option ℕ → BookState → ServeFault → Bool
+any_end address way keep book end = true

@@ -1,5 +1,6 @@
 ghost use Rattle.std.specs.Prelude.{◌≡◌, ℕ, List, false, true, option_map, OnOk, OnErr};
 ghost use Rattle.std.specs.Io.KnownBytes.{Appends};
+ghost use Rattle.sr_start.specs.Files.{HasFiles};
 ghost use Rattle.sr_start.specs.Listening.{Listens, fault_of_listening, fault_of_serving, line_of};
 
 use crate::fault::Fault;
@@ -32,18 +33,19 @@ where
     O: Sink,
     E: Write,
     requires unwritten { O.failed writer.old ≡ false }
+    requires files { HasFiles N.may_open asked.now.way }
     ensures listened { (written : List ℕ)
         × Appends (O.contents writer.old) (O.contents writer.new) written
-        × Listens (F.may_hold files.old) N.may_refuse N.may_not_begin N.may_end
+        × Listens (F.may_hold files.old) N.may_open N.may_refuse N.may_not_begin N.may_end
         (option_map (λ path. path.now) policy.entry)
-        asked.now.text.now asked.now.address asked.now.workers asked.now.keep written (O.failed writer.new) result }
+        asked.now.text.now asked.now.address asked.now.way asked.now.keep written (O.failed writer.new) result }
 {
     let book = match open_book(rt, files, policy) {
         Ok(book) => book,
         Err(fault) => return fault,
     };
-    match network.listen(asked.address) {
-        Ok(bound) => match network.begin(bound, book, asked.workers, asked.keep) {
+    match network.listen(asked.address, asked.way) {
+        Ok(bound) => match network.begin(bound, book, asked.way, asked.keep) {
             Ok(begun) => {
                 warn(err, asked.address);
                 let _ = announce(writer, asked.text);

@@ -1,5 +1,5 @@
-ghost use Rattle.std.specs.Prelude.{◌≡◌, ◌≤◌, ◌↔◌, ◌⊎◌, ℕ, List, ◌∷◌, map, true, false, Option, option_map, Result};
-ghost use Rattle.std.specs.Prelude.{IsOk, IfErr, IsErrOf};
+ghost use Rattle.std.specs.Prelude.{◌≡◌, ◌≢◌, ◌≤◌, ◌↔◌, ◌⊎◌, ℕ, List, ◌∷◌, map, true, false, Option, option_map};
+ghost use Rattle.std.specs.Prelude.{Result, IsOk, IfErr, IsErrOf};
 ghost use Rattle.std.specs.Io.KnownBytes.{Appends, Consumes};
 ghost use Rattle.sr_start.specs.Fault.{Serves, Runs, is_of_session, status_of};
 ghost use Rattle.sr_start.specs.Moment.{any_moment};
@@ -7,16 +7,19 @@ ghost use Rattle.sr_book.specs.Records.{empty_book};
 ghost use Rattle.sr_policy.specs.Rules.{Rules};
 ghost use Rattle.std.specs.declared.net.socket_addr.SocketAddr.{SocketAddr};
 ghost use Rattle.sr_options.specs.Command.{AsksForAddress, AsksForNothing, AsksForStdio, AsksToListen};
+ghost use Rattle.sr_start.specs.Files.{LacksFiles};
 ghost use Rattle.sr_start.specs.Listening.{Listens};
 ghost use Rattle.sr_options.specs.Options.{AreOnce, Flag, asked_by, word_of};
+ghost use Rattle.sr_options.specs.declared.way.Way.{Way};
 
 use crate::clock::SystemClock;
 use crate::fault::{Fault, outcome};
+use crate::limits::too_few_files;
 use crate::listen::listen;
 use crate::network::Network;
 use crate::opening::open_book;
 use crate::serving::TURNS;
-use crate::status::{refuse, refuse_usage, report};
+use crate::status::{refuse, refuse_files, refuse_usage, report};
 use crate::text_files::TextFiles;
 use sr_book::Book;
 use sr_options::{Request, read_options, request_of};
@@ -32,8 +35,8 @@ use std::rt;
 const BLOCKING: bool = false;
 
 /// Runs the program: reads the command line, whose first word is the program's name, and the policy file that it names,
-/// and serves one connection, or those that come to an address, and then keeps all records, or makes checkpoints
-/// (`--keep N`).
+/// and serves one connection, or those that come to an address, by workers or by a loop (`--connections N`), and then
+/// keeps all records, or makes checkpoints (`--keep N`).
 ///
 /// Answers the status that it ends with. What is said besides the replies and the line for the address goes to `err`.
 pub fn start<R, S, F, N, I, O, E>(
@@ -74,19 +77,30 @@ where
     ensures listened { (name : List ℕ) (flags : List Flag) → map S.text words.now ≡ name ∷ map word_of flags
         → AreOnce flags
         → AsksForAddress (asked_by flags)
-        → (text : List ℕ) × (address : SocketAddr) × (workers : ℕ) × (keep : Option ℕ)
-        × AsksToListen (asked_by flags) text address workers keep
+        → result ≢ 2
+        → (text : List ℕ) × (address : SocketAddr) × (way : Way) × (keep : Option ℕ)
+        × AsksToListen (asked_by flags) text address way keep
         × (written : List ℕ)
         × Appends (O.contents writer.old) (O.contents writer.new) written
         × (fault : Fault)
-        × Listens (F.may_hold files.old) N.may_refuse N.may_not_begin N.may_end (asked_by flags).policy text address
-        workers keep
+        × Listens (F.may_hold files.old) N.may_open N.may_refuse N.may_not_begin N.may_end (asked_by flags).policy text
+        address way keep
         written (O.failed writer.new) fault
         × (result ≡ 1)
         × (reader.new ≡ reader.old) }
 
-    // both of these or neither, no address and port, too few or many workers or records, or records that one session
-    // keeps: no file is read, and nothing is read or written
+    // --listen with status 2: a loop for more connections than the process may open files. If it may open as many, the
+    // status is 1: `Listens` says so
+    ensures files { (name : List ℕ) (flags : List Flag) → map S.text words.now ≡ name ∷ map word_of flags
+        → AreOnce flags
+        → AsksForAddress (asked_by flags)
+        → result ≡ 2
+        → (text : List ℕ) × (address : SocketAddr) × (way : Way) × (keep : Option ℕ)
+        × AsksToListen (asked_by flags) text address way keep
+        × LacksFiles N.may_open way }
+
+    // both of these or neither, no address and port, a number out of its range, or what does not go together: no file
+    // is read, and nothing is read or written
     ensures both { (name : List ℕ) (flags : List Flag) → map S.text words.now ≡ name ∷ map word_of flags → AreOnce flags
         → AsksForNothing (asked_by flags)
         → (1 ≤ result) × (files.new ≡ files.old) × (network.new ≡ network.old) × (reader.new ≡ reader.old)
@@ -107,10 +121,13 @@ where
     };
     match request_of(&options) {
         Ok(Request::Stdio) => report(err, connect(rt, files, options.policy, reader, writer)),
-        Ok(Request::Listen(asked)) => {
-            let fault = listen(rt, files, network, options.policy, &asked, writer, err);
-            report(err, Err(fault))
-        }
+        Ok(Request::Listen(asked)) => match too_few_files(network, asked.way) {
+            Some(most) => refuse_files(err, most),
+            None => {
+                let fault = listen(rt, files, network, options.policy, &asked, writer, err);
+                report(err, Err(fault))
+            }
+        },
         Err(fault) => refuse_usage(err, fault),
     }
 }

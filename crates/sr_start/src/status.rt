@@ -3,6 +3,7 @@ ghost use Rattle.clap.specs.Words.{kind_of};
 ghost use Rattle.sr_start.specs.Fault.{status_of};
 
 use crate::fault::Fault;
+use crate::limits::OWN_FILES;
 use clap::Error;
 use clap::error::ErrorKind;
 use sr_options::UsageFault;
@@ -42,5 +43,17 @@ pub(crate) fn refuse_usage<E: Write>(err: &mut E, fault: UsageFault) -> u8
     ensures { result ≡ 2 }
 {
     let _ = writeln!(err, "error: {fault}\n\nFor more information, try '--help'.");
+    REFUSED
+}
+
+/// Says that the process may open only this many files, too few for the connections that are asked for, and answers the
+/// status.
+pub(crate) fn refuse_files<E: Write>(err: &mut E, most: u64) -> u8
+    ensures { result ≡ 2 }
+{
+    let _ = writeln!(
+        err,
+        "error: --connections: this process may open {most} files, of which {OWN_FILES} are its own"
+    );
     REFUSED
 }

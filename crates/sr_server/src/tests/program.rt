@@ -8,6 +8,7 @@ use std::rt::Clock;
 use std::sync::atomic::{AtomicU64, Ordering};
 use std::time::Duration;
 
+mod limits;
 mod sockets;
 
 /// How the program ends, and the line that it writes then.

@@ -23,4 +23,7 @@ returns-clause-ok g c = λ name flags words_are once.
     let policy_is = c.get_str-2.ensures ∙ first_value-rows found (codes "policy") ∙ ap (first_of (codes "policy")) rows_are ∙ asked_value (codes "policy") flags refl in
     let workers_is = c.get_str-3.ensures ∙ first_value-rows found (codes "workers") ∙ ap (first_of (codes "workers")) rows_are ∙ asked_value (codes "workers") flags refl in
     let keep_is = c.get_str-4.ensures ∙ first_value-rows found (codes "keep") ∙ ap (first_of (codes "keep")) rows_are ∙ asked_value (codes "keep") flags refl in
-    same_asked _ (asked_by flags) stdio_is listen_is policy_is workers_is keep_is
+    let connections_is = c.get_str-5.ensures ∙ first_value-rows found (codes "connections") ∙ ap (first_of (codes "connections")) rows_are ∙ asked_value (codes "connections") flags refl in
+    let idle_is = c.get_str-6.ensures ∙ first_value-rows found (codes "idle") ∙ ap (first_of (codes "idle")) rows_are ∙ asked_value (codes "idle") flags refl in
+    let unfinished_is = c.get_str-7.ensures ∙ first_value-rows found (codes "unfinished") ∙ ap (first_of (codes "unfinished")) rows_are ∙ asked_value (codes "unfinished") flags refl in
+    same_asked _ (asked_by flags) stdio_is listen_is policy_is workers_is keep_is connections_is idle_is unfinished_is

@@ -6,7 +6,7 @@ use Rattle.sr_start.proofs.ListenLemmas.{may_end_so, said_unless_failed}
 use Rattle.sr_start.proofs.listen.listen.Goals as goal
 
 pub returns-in-Err : goal.returns-in-Err
-returns-in-Err g c = record { listened = ([], Appends-nil _, opens_not c.in-Err.ensures.book refl) }
+returns-in-Err g c = record { listened = ([], Appends-nil _, opens_not c.requires.files c.in-Err.ensures.book refl) }
 
 pub returns-in-Ok-begin : goal.returns-in-Ok-begin
 returns-in-Ok-begin g c =
@@ -14,8 +14,8 @@ returns-in-Ok-begin g c =
     let opened = c.in-Ok.ensures.book in
     let begun = c.in-Ok-begin.ensures in
     let end = may_end_so g.N.Network.may_end _ _ _ _ _ _ _ (empty_book opened.0) c.end.result
-    (begun.address ∙ c.in-Ok-listen.ensures.ok) begun.workers begun.keep (begun.book ∙ opened.2) c.end.ensures in
-    record { listened = (said.0, said.1, ends opened.0 c.end.result opened.1 end said.2 c.serving_fault.ensures) }
+    (begun.address ∙ c.in-Ok-listen.ensures.ok) begun.way begun.keep (begun.book ∙ opened.2) c.end.ensures in
+    record { listened = (said.0, said.1, ends opened.0 c.end.result c.requires.files opened.1 end said.2 c.serving_fault.ensures) }
 
 pub returns-in-Err-begin : goal.returns-in-Err-begin
 returns-in-Err-begin g c =
@@ -24,7 +24,7 @@ returns-in-Err-begin g c =
     c.in-Ok-listen.ensures.ok refl refl opened.2 c.in-Err-begin.ensures.err in
     record {
       listened =
-          ([], Appends-nil _, begins_not opened.0 c.in-Err-begin.fault opened.1 end refl c.serving_fault-in-Err-begin.ensures);
+          ([], Appends-nil _, begins_not opened.0 c.in-Err-begin.fault c.requires.files opened.1 end refl c.serving_fault-in-Err-begin.ensures);
     }
 
 pub returns-in-Err-listen : goal.returns-in-Err-listen
@@ -34,6 +34,6 @@ returns-in-Err-listen g c =
       listened = (
         [],
         Appends-nil _,
-        binds_not opened.0 c.in-Err-listen.fault opened.1 c.in-Err-listen.ensures.err refl c.listening_fault.ensures,
+        binds_not opened.0 c.in-Err-listen.fault c.requires.files opened.1 c.in-Err-listen.ensures.err refl c.listening_fault.ensures,
       );
     }

@@ -1,4 +1,4 @@
-use Rattle.std.proofs.Common.{[], ◌∙◌, Err, inl, inr, refl, subst, sym, true≢false}
+use Rattle.std.proofs.Common.{[], ◌∙◌, Err, arith, inl, inr, refl, subst, sym, true≢false}
 use Rattle.std.proofs.KnownBytes.{Consumes-nil, Appends-nil}
 use Rattle.sr_start.specs.declared.fault.Fault.TheVariants.{StartMemory}
 use Rattle.sr_options.specs.Command.{AsksForNothing, AsksForStdio, AsksToListen}
@@ -18,9 +18,14 @@ returns-in-Err-clause-served g c = λ name flags words_are once asks.
     ([], [], Consumes-nil _, Appends-nil _, Err StartMemory, starts_not refl refl (inl refl), is_1, refl, (λ e. (refl, refl)), (λ e. refl))
 
 pub returns-in-Err-clause-listened : goal.returns-in-Err-clause-listened
-returns-in-Err-clause-listened g c = λ name flags words_are once asks.
+returns-in-Err-clause-listened g c = λ name flags words_are once asks other.
     let is_1 = c.refuse.ensures.memory (c.in-Err.ensures.err name flags words_are once) in
     (asks.0, asks.1, asks.2, asks.3, asks.4, [], Appends-nil _, StartMemory, listens_not refl refl, is_1, refl)
+
+pub returns-in-Err-clause-files : goal.returns-in-Err-clause-files
+returns-in-Err-clause-files g c = λ name flags words_are once asks is.
+    let is_1 = c.refuse.ensures.memory (c.in-Err.ensures.err name flags words_are once) in
+    absurd (omega (arith, is_1, is))
 
 pub returns-in-Err-clause-both : goal.returns-in-Err-clause-both
 returns-in-Err-clause-both g c = λ name flags words_are once nothing. (refused-some _ c.refuse.ensures.status, refl, refl, refl, refl)
@@ -44,7 +49,7 @@ returns-in-Ok-Stdio-clause-served g c = λ name flags words_are once asks.
     (s.0, s.1, s.2, s.3, c.connect.result, runs, c.report.ensures, refl, c.connect.ensures.refused, c.connect.ensures.random)
 
 pub returns-in-Ok-Stdio-clause-listened : goal.returns-in-Ok-Stdio-clause-listened
-returns-in-Ok-Stdio-clause-listened g c = λ name flags words_are once asks.
+returns-in-Ok-Stdio-clause-listened g c = λ name flags words_are once asks other.
     let stdio = subst AsksForStdio (c.in-Ok.ensures.ok name flags words_are once) (rw c.in-Ok-Stdio.field-0-is at c.in-Ok-Stdio.ensures.ok) in
     absurd (not_both _ stdio asks)
 
@@ -62,42 +67,62 @@ returns-in-Ok-Stdio-clause-failed g c = ended-failed c.connect.result _ _ _ c.re
 pub returns-in-Ok-Stdio-clause-refused : goal.returns-in-Ok-Stdio-clause-refused
 returns-in-Ok-Stdio-clause-refused g c = λ e. absurd (ended-not_2 c.connect.result _ c.report.ensures e)
 
--- ---- they ask for an address
+-- ---- they ask for an address, and there are too few files
 
-pub returns-in-Ok-Listen-clause-served : goal.returns-in-Ok-Listen-clause-served
-returns-in-Ok-Listen-clause-served g c = λ name flags words_are once asks.
-    let asked = c.in-Ok-Listen.asked in
-    let listen = subst (λ (read : Asked). AsksToListen read asked.text.now asked.address asked.workers asked.keep)
-    (c.in-Ok.ensures.ok name flags words_are once) (rw c.in-Ok-Listen.field-0-is at c.in-Ok-Listen.ensures.ok) in
-    absurd (not_both _ asks (asked.text.now, asked.address, asked.workers, asked.keep, listen))
-
-pub returns-in-Ok-Listen-clause-listened : goal.returns-in-Ok-Listen-clause-listened
-returns-in-Ok-Listen-clause-listened g c = λ name flags words_are once asks.
+pub returns-in-Some-clause-served : goal.returns-in-Some-clause-served
+returns-in-Some-clause-served g c = λ name flags words_are once asks.
     let asked = c.in-Ok-Listen.asked in
     let read = c.in-Ok.ensures.ok name flags words_are once in
-    let listen = subst (λ (read : Asked). AsksToListen read asked.text.now asked.address asked.workers asked.keep)
+    let listen = subst (λ (read : Asked). AsksToListen read asked.text.now asked.address asked.way asked.keep)
+    read (rw c.in-Ok-Listen.field-0-is at c.in-Ok-Listen.ensures.ok) in
+    absurd (not_both _ asks (asked.text.now, asked.address, asked.way, asked.keep, listen))
+
+pub returns-in-Some-clause-files : goal.returns-in-Some-clause-files
+returns-in-Some-clause-files g c = λ name flags words_are once asks is.
+    let asked = c.in-Ok-Listen.asked in
+    let read = c.in-Ok.ensures.ok name flags words_are once in
+    let listen = subst (λ (read : Asked). AsksToListen read asked.text.now asked.address asked.way asked.keep)
+    read (rw c.in-Ok-Listen.field-0-is at c.in-Ok-Listen.ensures.ok) in
+    (asked.text.now, asked.address, asked.way, asked.keep, listen, c.in-Some.ensures.some refl)
+
+-- ---- they ask for an address
+
+pub returns-in-None-clause-served : goal.returns-in-None-clause-served
+returns-in-None-clause-served g c = λ name flags words_are once asks.
+    let asked = c.in-Ok-Listen.asked in
+    let read = c.in-Ok.ensures.ok name flags words_are once in
+    let listen = subst (λ (read : Asked). AsksToListen read asked.text.now asked.address asked.way asked.keep)
+    read (rw c.in-Ok-Listen.field-0-is at c.in-Ok-Listen.ensures.ok) in
+    absurd (not_both _ asks (asked.text.now, asked.address, asked.way, asked.keep, listen))
+
+pub returns-in-None-clause-listened : goal.returns-in-None-clause-listened
+returns-in-None-clause-listened g c = λ name flags words_are once asks other.
+    let asked = c.in-Ok-Listen.asked in
+    let read = c.in-Ok.ensures.ok name flags words_are once in
+    let listen = subst (λ (read : Asked). AsksToListen read asked.text.now asked.address asked.way asked.keep)
     read (rw c.in-Ok-Listen.field-0-is at c.in-Ok-Listen.ensures.ok) in
     let l = c.listen-fault.ensures.listened in
-    let listens = subst (λ (read : Asked). Listens (g.F.TextFiles.may_hold c.args.files.now) g.N.Network.may_refuse
-    g.N.Network.may_not_begin g.N.Network.may_end read.policy asked.text.now asked.address asked.workers asked.keep l.0 (g.O.Sink.failed c.listen-fault.new.writer) c.listen-fault.result) read l.2 in
-    (asked.text.now, asked.address, asked.workers, asked.keep, listen, l.0, l.1, c.listen-fault.result, listens, c.report-in-Ok-Listen.ensures, refl)
+    let listens = subst (λ (read : Asked). Listens (g.F.TextFiles.may_hold c.args.files.now) g.N.Network.may_open g.N.Network.may_refuse
+    g.N.Network.may_not_begin g.N.Network.may_end read.policy asked.text.now asked.address asked.way asked.keep l.0 (g.O.Sink.failed c.listen-fault.new.writer) c.listen-fault.result) read l.2 in
+    (asked.text.now, asked.address, asked.way, asked.keep, listen, l.0, l.1, c.listen-fault.result, listens, c.report-in-None.ensures, refl)
 
-pub returns-in-Ok-Listen-clause-both : goal.returns-in-Ok-Listen-clause-both
-returns-in-Ok-Listen-clause-both g c = λ name flags words_are once nothing.
+pub returns-in-None-clause-both : goal.returns-in-None-clause-both
+returns-in-None-clause-both g c = λ name flags words_are once nothing.
     let asked = c.in-Ok-Listen.asked in
-    let listen = subst (λ (read : Asked). AsksToListen read asked.text.now asked.address asked.workers asked.keep)
-    (c.in-Ok.ensures.ok name flags words_are once) (rw c.in-Ok-Listen.field-0-is at c.in-Ok-Listen.ensures.ok) in
-    absurd (nothing.no_address (asked.text.now, asked.address, asked.workers, asked.keep, listen))
+    let read = c.in-Ok.ensures.ok name flags words_are once in
+    let listen = subst (λ (read : Asked). AsksToListen read asked.text.now asked.address asked.way asked.keep)
+    read (rw c.in-Ok-Listen.field-0-is at c.in-Ok-Listen.ensures.ok) in
+    absurd (nothing.no_address (asked.text.now, asked.address, asked.way, asked.keep, listen))
 
-pub returns-in-Ok-Listen-clause-ok : goal.returns-in-Ok-Listen-clause-ok
-returns-in-Ok-Listen-clause-ok g c =
-    (λ e. absurd (refused-not_0 _ (inl c.report-in-Ok-Listen.ensures) e), λ e. absurd (true≢false (sym e ∙ c.requires.unread.0)))
+pub returns-in-None-clause-ok : goal.returns-in-None-clause-ok
+returns-in-None-clause-ok g c =
+    (λ e. absurd (refused-not_0 _ (inl c.report-in-None.ensures) e), λ e. absurd (true≢false (sym e ∙ c.requires.unread.0)))
 
-pub returns-in-Ok-Listen-clause-failed : goal.returns-in-Ok-Listen-clause-failed
-returns-in-Ok-Listen-clause-failed g c = λ e. c.report-in-Ok-Listen.ensures
+pub returns-in-None-clause-failed : goal.returns-in-None-clause-failed
+returns-in-None-clause-failed g c = λ e. c.report-in-None.ensures
 
-pub returns-in-Ok-Listen-clause-refused : goal.returns-in-Ok-Listen-clause-refused
-returns-in-Ok-Listen-clause-refused g c = λ e. absurd (ended-not_2 (Err c.listen-fault.result) _ c.report-in-Ok-Listen.ensures e)
+pub returns-in-None-clause-refused : goal.returns-in-None-clause-refused
+returns-in-None-clause-refused g c = λ e. absurd (ended-not_2 (Err c.listen-fault.result) _ c.report-in-None.ensures e)
 
 -- ---- they ask for nothing
 
@@ -107,7 +132,12 @@ returns-in-Err-request_of-clause-served g c = λ name flags words_are once asks.
     absurd (nothing.no_stdio asks)
 
 pub returns-in-Err-request_of-clause-listened : goal.returns-in-Err-request_of-clause-listened
-returns-in-Err-request_of-clause-listened g c = λ name flags words_are once asks.
+returns-in-Err-request_of-clause-listened g c = λ name flags words_are once asks other.
+    let nothing = subst AsksForNothing (c.in-Ok.ensures.ok name flags words_are once) c.in-Err-request_of.ensures.err in
+    absurd (nothing.no_address asks)
+
+pub returns-in-Err-request_of-clause-files : goal.returns-in-Err-request_of-clause-files
+returns-in-Err-request_of-clause-files g c = λ name flags words_are once asks is.
     let nothing = subst AsksForNothing (c.in-Ok.ensures.ok name flags words_are once) c.in-Err-request_of.ensures.err in
     absurd (nothing.no_address asks)
 

@@ -3,7 +3,7 @@ use Rattle.std.proofs.lemmas.Result.{IfOk-weaker}
 use Rattle.clap.specs.Simple.{app_of_fields}
 use Rattle.clap.specs.Words.{AddsArg, app_of, new_app, rule_of, with_rule}
 use Rattle.sr_options.specs.steps.Server.{plain_rule, valued_rule}
-use Rattle.sr_options.proofs.options.command_line.Goals as goal
+use Rattle.sr_options.proofs.options.general_options.Goals as goal
 
 pub returns : goal.returns
 returns c =
