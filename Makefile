@@ -1,7 +1,7 @@
 # All that is needed is the Rattle toolchain, whose command is `rt`, and the python3 that it runs on; for the whole gate also a C compiler, `cc`.
 
 .PHONY: run help try demo demo-live try-live install test replay histories plans check memory refusals compare clients live soak
-.PHONY: bench bench-net bench-solver check-solver
+.PHONY: connections bench bench-net bench-solver check-solver
 .PHONY: given given-server given-driver given-checker given-demo given-sessions given-requests given-groups given-moves given-streams
 .PHONY: given-room given-refused given-tests given-histories given-refusals given-plans given-live given-hub hub
 
@@ -25,6 +25,9 @@ NAMED = $(wildcard tests/commands/$(shell echo '$(T)' | tr A-Z a-z)*.session)
 # The histories of which each allocation is refused in turn.
 REFUSED = examples/histories/*.history tests/histories/runs.history tests/histories/waiting.history tests/histories/adding.history \
     tests/histories/commands.history tests/histories/carried-out.history tests/histories/refused-serving.history
+
+# The parts of tests/connections.py that measure no time.
+STEADY = readers_of_a_group readers_that_leave beyond_limit few_descriptors half_closed long_pipelines cut
 
 # Proves and builds the server, and sends it the commands of examples/first.session as a client spells them.
 run:
@@ -79,6 +82,7 @@ test:
 	@tests/listening.py $(SERVER)
 	@tests/faults.py $(SERVER)
 	@tests/waiting.py $(SERVER)
+	@tests/connections.py $(SERVER) $(STEADY)
 	@if command -v redis-server > /dev/null; then $(MAKE) --no-print-directory given-live; \
 	    else echo 'test: there is no redis-server, so sr_recover was not tried with one (make live)'; fi
 
@@ -156,6 +160,7 @@ replay:
 	@$(if $(T),,tests/listening.py $(SERVER))
 	@$(if $(T),,tests/faults.py $(SERVER))
 	@$(if $(T),,tests/waiting.py $(SERVER))
+	@$(if $(T),,tests/connections.py $(SERVER) $(STEADY))
 
 # The histories alone: events handed to a book, with their answers.
 histories:
@@ -215,8 +220,13 @@ given-live:
 	@tests/live.py
 	@tests/server_live.py
 
-# Misuses the server over sockets for a minute, beside two honest workers who may lose nothing. By hand for longer, or again with the seed
-# that was printed: make soak SECONDS=3600 SEED=7
+# Has thousands of clients use one loop: readers that wait, clients that come and go, slow and greedy ones, recoveries of a busy group.
+connections:
+	@cd crates/sr_server && rt run -- --stdio < /dev/null
+	@tests/connections.py $(SERVER)
+
+# Misuses the server over sockets for a minute in each way of serving, beside two honest workers who may lose nothing. By hand for longer,
+# or again with the seed that was printed: make soak SECONDS=3600 SEED=7
 soak:
 	@cd crates/sr_server && rt run -- --stdio < /dev/null
 	@scripts/soak $(SERVER) $(or $(SECONDS),60) $(SEED)
@@ -236,7 +246,7 @@ bench:
 	@cd crates/sr_recover && rt run -- --help > /dev/null
 	@bench/live.py $(RECOVER)
 
-# Times the server over sockets, by turns with a Redis server. (Debian: redis-server redis-tools; alone if there is none.)
+# Times the server over sockets, by turns with a Redis server. (Debian: redis-server redis-tools; alone if there is none. It needs cc.)
 bench-net:
 	@cd crates/sr_server && rt run -- --stdio < /dev/null
 	@python3 bench/net.py $(SERVER)

@@ -1,9 +1,9 @@
 #!/usr/bin/env python3
 """Sends the same commands to sr_server and to a Redis server over sockets, with readers that block, and prints what differs.
 
-usage: compare_net.py SR_SERVER [ROUNDS [SEED]]
+usage: compare_net.py SR_SERVER [ROUNDS [SEED [WAY]]]
 
-Both servers are started on the loopback interface (Debian: redis-server). In each round one connection makes random commands on two
+sr_server serves by `workers` and then by `connections`, or by the WAY that is named. Both servers are started on the loopback interface (Debian: redis-server). In each round one connection makes random commands on two
 streams with a group each, and four more read with BLOCK 0, each from then on until it is answered. After each command the replies
 of the readers that were answered by it are compared, and which readers they are. Left out is what differs by decision
 (docs/DECISIONS.md): XGROUP SETID, after which Redis leaves a reader waiting that has an answer, and an entry that is trimmed as it is
@@ -21,6 +21,7 @@ from lib import resp, servers  # noqa: E402
 
 READERS = 4
 STEPS = 30
+SERVED = 64  # connections that sr_server serves at a time
 BLOCKED = 0.004  # seconds after which a read has surely come to block
 ANSWERED = 0.02  # and after which a reader that is answered has surely its reply
 
@@ -152,17 +153,20 @@ def compare(servers, seed):
 
 
 def main():
-    if len(sys.argv) < 2:
+    if not 2 <= len(sys.argv) <= 5:
         sys.exit(__doc__)
     if not servers.Redis.installed():
         sys.exit("redis-server is not installed (Debian: redis-server)")
-    rounds, first = (int(word) for word in (sys.argv[2:] + ["50", "0"][len(sys.argv) - 2:])[:2])
+    rounds, first = (int(word) for word in (sys.argv[2:4] + ["50", "0"][len(sys.argv[2:4]):]))
     servers.stop_when_ended()
-    with servers.Server(sys.argv[1]) as ours, servers.Redis() as theirs:
-        counts = [compare([ours, theirs], seed) for seed in range(first, first + rounds)]
-    compared, same = (sum(column) for column in zip(*counts))
-    print(f"{same:,} of {compared:,} replies over sockets are the same, blocked readers among them")
-    return compared != same
+    differ = False
+    for way in servers.ways_of(sys.argv[4:]):
+        with servers.Server(sys.argv[1], **{way: SERVED}) as ours, servers.Redis() as theirs:
+            counts = [compare([ours, theirs], seed) for seed in range(first, first + rounds)]
+        compared, same = (sum(column) for column in zip(*counts))
+        print(f"{way}: {same:,} of {compared:,} replies over sockets are the same, blocked readers among them")
+        differ |= compared != same
+    return differ
 
 
 if __name__ == "__main__":

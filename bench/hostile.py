@@ -316,7 +316,7 @@ def main():
         policy.write(policy_text())
         policy.flush()
         for name, row, in_redis in rows():
-            own, waits = measured(lambda: servers.Server(sys.argv[1], policy.name, workers=64, keep=100_000), row, runs)
+            own, waits = measured(lambda: servers.Server(sys.argv[1], policy=policy.name, workers=64, keep=100_000), row, runs)
             line = f"{name[:-1]:78} {own:9.3f} {waits:8.1f}"
             if in_redis and has_redis:
                 other, waits = measured(servers.Redis, row, runs)

@@ -3,12 +3,14 @@
 
 usage: tests/bytes.py PROGRAM
 
-Prints what differs; the status is 1 if anything does.
+Over standard input and output; and over a socket, in both ways of serving, on which neither a line nor a status is seen. Prints what
+differs; the status is 1 if anything does.
 """
 
 import subprocess
 import sys
 
+from lib import servers, sockets
 from lib.resp import lines
 
 SECONDS = 60
@@ -37,7 +39,12 @@ def main():
         if found != wanted:
             wrong += 1
             print(f"{sent!r}\nexpected: {wanted}\ngiven:    {found}")
-    print(f"bytes: {len(ROWS)} inputs, {wrong} wrong")
+    for way in servers.WAYS:
+        for (sent, replied, _), found in zip(ROWS, sockets.exchanges(sys.argv[1], way, ([sent] for sent, *_ in ROWS))):
+            if found != replied.encode():
+                wrong += 1
+                print(f"{sent!r}, {way}\nexpected: {replied}\ngiven:    {found}")
+    print(f"bytes: {len(ROWS)} inputs, each in {1 + len(servers.WAYS)} ways, {wrong} wrong")
     sys.exit(1 if wrong else 0)
 
 

@@ -1,9 +1,9 @@
 #!/usr/bin/env python3
 """Has accepts of a server fail, moves the clock that it reads, and refuses it threads: what passes must pass, and nothing else ends it.
 
-usage: tests/faults.py PROGRAM
+usage: tests/faults.py PROGRAM [WAY ..]
 
-PROGRAM is sr_server.
+PROGRAM is sr_server, and WAY `workers` or `connections`, by which it serves; both if none is named.
 
 | Part | A wrong program that it catches |
 |---|---|
@@ -21,52 +21,31 @@ import contextlib
 import errno
 import mmap
 import os
-import signal
 import struct
 import subprocess
 import sys
 import tempfile
 import time
 
-from lib import resp, servers
+from lib import servers
+from lib.tally import judged
 
 SOURCE = os.path.join(os.path.dirname(os.path.abspath(__file__)), "lib", "faults.c")
-SECONDS = 20  # for all of it
+SECONDS = 20  # for all of one way
 PATIENCE = 3  # seconds for one answer, and for the end of the program
-WORKERS = 4
+SERVED = 4  # connections that are served at a time
+NEEDED = {servers.THREADS: SERVED + 2, servers.LOOP: 2}  # threads that a server begins: a loop, and one for its plans
 NUMBERS = ["error", "times", "failed", "ahead", "threads"]  # in the file that faults.c reads
 ALL = -1
 STEP = 600  # seconds by which the clock is moved
 
 # Those of the moment, and those that are the listener's own.
-PASSING = ["EMFILE", "ENFILE", "ENOBUFS", "ENOMEM", "EPERM", "EPROTO", "ENETDOWN", "EAGAIN", "ECONNABORTED"]
+PASSING = ["EMFILE", "ENFILE", "ENOBUFS", "ENOMEM", "EPERM", "EPROTO", "ENETDOWN", "ECONNABORTED"]
+BLOCKING = ["EAGAIN"]  # one more for a listener that blocks. To a loop it says that no connection waits
 OWN = ["EBADF", "EFAULT", "EINVAL", "ENOTSOCK", "EOPNOTSUPP"]
 
 LASTS = 0.3  # seconds
 RETRIES = range(5, 40)  # in that time, at one each 10 milliseconds
-
-
-class Late(Exception):
-    """All of it took too long."""
-
-
-class Tally:
-    """Counts answers, and prints those that differ."""
-
-    def __init__(self):
-        self.answers, self.differing = 0, 0
-
-    def compare(self, what, wanted, found):
-        self.answers += 1
-        if found != wanted:
-            self.wrong(f"{what}: expected {wanted!r}, not {found!r}")
-
-    def holds(self, what, holds):
-        self.compare(what, True, holds)
-
-    def wrong(self, text):
-        self.differing += 1
-        print(f"faults: {text}", flush=True)
 
 
 class Faults:
@@ -102,9 +81,9 @@ class Faults:
 class Trial:
     """A server to which faults happen, and what it says on standard error."""
 
-    def __init__(self, program, faults):
+    def __init__(self, program, way, faults, served=SERVED):
         self.errors = tempfile.TemporaryFile()
-        self.server = servers.Server(program, workers=WORKERS, env=faults.environment, errors=self.errors)
+        self.server = servers.Server(program, **{way: served}, env=faults.environment, errors=self.errors)
 
     def __enter__(self):
         return self
@@ -130,10 +109,10 @@ class Trial:
             return self.server.process.wait(PATIENCE)
 
 
-def passing(tally, faults, program):
+def passing(tally, faults, program, way):
     """One accept fails: the client is served, nothing is said, and the server lives."""
-    with Trial(program, faults) as trial:
-        for name in PASSING:
+    with Trial(program, way, faults) as trial:
+        for name in PASSING + BLOCKING * (way == servers.THREADS):
             faults.fail(name, 1)
             tally.compare(f"PING after {name}", b"PONG", trial.pinged())
             tally.compare(f"accepts that failed with {name}", 1, faults["failed"])
@@ -141,9 +120,9 @@ def passing(tally, faults, program):
         tally.compare("standard error", b"", trial.said())
 
 
-def lasting(tally, faults, program):
+def lasting(tally, faults, program, way):
     """Each accept fails for a while: it is tried again now and then, and in the end the client is served."""
-    with Trial(program, faults) as trial:
+    with Trial(program, way, faults) as trial:
         faults.fail("EMFILE", ALL)
         with trial.connect() as connection:
             time.sleep(LASTS)
@@ -153,29 +132,30 @@ def lasting(tally, faults, program):
             tally.compare("PING after a while", b"PONG", connection.call("PING"))
 
 
-def ending(tally, faults, program):
+def ending(tally, faults, program, way):
     """The listener is at fault: the program ends with its line and status, though clients are connected, one waits, and one is not served yet."""
     for name in OWN:
-        with Trial(program, faults) as trial, contextlib.ExitStack() as stack:
-            clients = [stack.enter_context(trial.connect()) for _ in range(WORKERS)]
+        with Trial(program, way, faults) as trial, contextlib.ExitStack() as stack:
+            clients = [stack.enter_context(trial.connect()) for _ in range(SERVED)]
             for client in clients:
                 tally.compare("PING", b"PONG", client.call("PING"))
             clients[-1].send("XREAD", "BLOCK", 0, "STREAMS", "s", "$")
             stack.enter_context(trial.connect())
             time.sleep(0.05)
             faults.fail(name, ALL)
-            stack.enter_context(trial.connect())
+            with contextlib.suppress(ConnectionError):  # it may be reset at once
+                stack.enter_context(trial.connect())
             tally.compare(f"status after {name}", 1, trial.status())
             tally.compare(f"standard error after {name}", b"listen: accept fault\n", trial.said())
             tally.compare(f"accepts that failed with {name}", 1, faults["failed"])
         faults.reset()
 
 
-def threadless(tally, faults, program):
+def threadless(tally, faults, program, way):
     """One of its threads cannot begin: the program does not say that it listens, and ends."""
-    for threads in range(WORKERS + 2):
+    for threads in range(NEEDED[way]):
         faults["threads"] = threads
-        words = [program, "--listen", f"{servers.HOST}:{servers.free_port()}", "--workers", str(WORKERS)]
+        words = [program, "--listen", f"{servers.HOST}:{servers.free_port()}", f"--{way}", str(SERVED)]
         try:
             ended = subprocess.run(words, env=faults.environment, capture_output=True, timeout=PATIENCE, check=False)
             found = ended.returncode, ended.stdout, ended.stderr
@@ -208,9 +188,9 @@ def passes(tally, what, connection, last):
     return second
 
 
-def set_back(tally, faults, program):
+def set_back(tally, faults, program, way):
     """The clock is set back: deadlines, idle times and ids go on."""
-    with Trial(program, faults) as trial, trial.connect() as connection, trial.connect() as waiting:
+    with Trial(program, way, faults) as trial, trial.connect() as connection, trial.connect() as waiting:
         last = connection.call("XADD", "s", "*", "a", "b")
         connection.call("XGROUP", "CREATE", "s", "g", "0")
         connection.call("XREADGROUP", "GROUP", "g", "A", "STREAMS", "s", ">")
@@ -233,9 +213,9 @@ def set_back(tally, faults, program):
         passes(tally, "ids after the clock is right again", connection, last)
 
 
-def set_ahead(tally, faults, program):
+def set_ahead(tally, faults, program, way):
     """The clock is set ahead and back again: moments go ahead with it, and on from there."""
-    with Trial(program, faults) as trial, trial.connect() as connection:
+    with Trial(program, way, faults) as trial, trial.connect() as connection:
         first = connection.call("XADD", "t", "*", "a", "b")
         faults["ahead"] = STEP
         ahead = connection.call("XADD", "t", "*", "a", "b")
@@ -251,39 +231,19 @@ def set_ahead(tally, faults, program):
         tally.holds(f"an id {far} milliseconds further ahead", STEP * 500 < far < STEP * 1000 + 1_000)
 
 
-def play(part, tally, faults, *words):
-    """Plays a part. A client that is not answered ends it."""
-    faults.reset()
-    try:
-        part(tally, faults, *words)
-    except (OSError, resp.ErrorReply, resp.Fault) as fault:
-        tally.wrong(f"{part.__name__}: {type(fault).__name__}: {fault}")
-
-
-def run(tally, program):
+def run(tally, program, way):
     with tempfile.TemporaryDirectory() as folder:
         faults = Faults(folder)
         for part in (passing, lasting, ending, threadless, set_back, set_ahead):
-            play(part, tally, faults, program)
-
-
-def end(*_):
-    raise Late
+            faults.reset()
+            tally.play(part, faults, program, way)
 
 
 def main():
-    if len(sys.argv) != 2:
+    if len(sys.argv) < 2:
         sys.exit(__doc__.split("\n\n")[1])
-    servers.stop_when_ended()
-    signal.signal(signal.SIGALRM, end)
-    signal.alarm(SECONDS)
-    tally = Tally()
-    try:
-        run(tally, sys.argv[1])
-    except Late:
-        tally.wrong(f"not done after {SECONDS} seconds")
-    print(f"faults: {tally.answers} answers, {tally.differing} differ")
-    return 1 if tally.differing else 0
+    program, *words = sys.argv[1:]
+    return max([judged(f"faults, {way}", SECONDS, lambda tally: run(tally, program, way)) for way in servers.ways_of(words)])
 
 
 if __name__ == "__main__":

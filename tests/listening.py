@@ -1,18 +1,19 @@
 #!/usr/bin/env python3
-"""Has clients use a server over sockets: reads that wait, clients that vanish, a recovery, many requests, many connections, checkpoints.
+"""Has clients use a server over sockets: reads that wait, clients that vanish, a recovery, the stored run, many requests, many connections,
+checkpoints.
 
-usage: tests/listening.py PROGRAM
+usage: tests/listening.py PROGRAM [WAY ..]
 
-PROGRAM is sr_server, or `redis-server` (Debian: redis-server), with which the answers to `answered` were compared: it has no workers. The
-server that gets 1,500 connections may have 256 descriptors open, so it ends if it accepts more of them than it serves.
+PROGRAM is sr_server, or `redis-server` (Debian: redis-server), with which the answers to `answered` were compared. WAY is `workers` or
+`connections`, by which sr_server serves; both if none is named. More connections than are served are tried with workers alone:
+`tests/connections.py` has those of a loop. There the server that gets 1,500 may have 256 descriptors open, so it ends if it accepts more of
+them than it serves.
 
 Prints each answer that differs, and how many there are; the status is 1 if one differs, or if the server ended or took too long.
 """
 
 import os
-import resource
 import select
-import signal
 import socket
 import struct
 import sys
@@ -20,19 +21,20 @@ import tempfile
 import time
 
 from lib import resp, servers
+from lib.tally import judged
 
-SECONDS = 90  # for all of it, on a machine that does much else
+STORED = os.path.join(os.path.dirname(os.path.abspath(__file__)), "..", "crates", "sr_server")
+SECONDS = 90  # for all of one way, on a machine that does much else
 PATIENCE = 8  # seconds for one answer
 QUIET = 0.2  # seconds after which nothing more is expected
 SOON = 0.5  # seconds within which a deadline of 50 milliseconds is answered, but for one of several: the machine may do something else
 DEADLINES = 5
 SINGLE = 20_000  # requests of one connection, each read by itself
 TURNS = 5_000  # connections, one after the other
-WORKERS = 4
-FEW = 2  # workers, when more connections come
+SOME = 4  # connections that are served at a time
+FEW = 2  # the same, when more of them come
 MANY, DESCRIPTORS = 1_500, 256
 BEYOND = 2  # connections that are accepted beyond the workers: one that waits for a worker, and one that waits for its place
-OWN = 100  # descriptors that this program needs for itself
 ROUNDS, AT_A_TIME, DEPTH = 4, 200_000, 1_000  # times that memory is looked at, after so many requests, of which so many are sent at once
 KEPT = 1_000  # records
 GROWS = 64 << 20  # bytes, at most, by which memory grows after the first round: without checkpoints it were more than twice as much
@@ -57,26 +59,6 @@ RECOVERY = [
     ),
     ("XLEN s", b":1\r\n"),
 ]
-
-
-class Late(Exception):
-    """All of it took too long."""
-
-
-class Tally:
-    """Counts answers, and prints those that differ."""
-
-    def __init__(self):
-        self.answers, self.differing = 0, 0
-
-    def compare(self, what, wanted, found):
-        self.answers += 1
-        if found != wanted:
-            self.wrong(f"{what}: expected {wanted!r}, not {found!r}")
-
-    def wrong(self, text):
-        self.differing += 1
-        print(f"listening: {text}", flush=True)
 
 
 def quiet(*connections, seconds=QUIET):
@@ -131,7 +113,7 @@ def vanish_while_waiting(tally, server, reader, other):
     tally.compare("PING after clients vanished", b"PONG", other.call("PING"))
     tally.compare("XADD after clients vanished", b"2-1", other.call("XADD", "s", "2-1", "a", "c"))
     tally.compare("a read that waited beside them", [ENTRIES[1]], reader.reply())
-    for number in range(WORKERS - 2):
+    for number in range(SOME - 2):
         gone[number] = server.connect(PATIENCE)
         tally.compare("PING in the place of one that vanished", b"PONG", gone[number].call("PING"))
     for connection in gone:
@@ -139,7 +121,7 @@ def vanish_while_waiting(tally, server, reader, other):
 
 
 def answered(tally, server):
-    """What clients are answered that are no more than the workers."""
+    """What clients are answered that are no more than are served."""
     with server.connect(PATIENCE) as reader, server.connect(PATIENCE) as other:
         wait_for_entry(tally, reader, other)
         wait_for_deadline(tally, reader)
@@ -214,6 +196,15 @@ def recovered(tally, server):
     tally.compare("a recovery at a seat", b"".join(reply for _, reply in RECOVERY), found)
 
 
+def stored(tally, server):
+    """The stored run of the program has the same replies over a socket as it has over standard output."""
+    with open(os.path.join(STORED, "stdin"), "rb") as sent, open(os.path.join(STORED, "stdout"), "rb") as wanted:
+        with server.connect(PATIENCE) as connection:
+            connection.socket.sendall(sent.read())
+            connection.socket.shutdown(socket.SHUT_WR)
+            tally.compare("the stored run", wanted.read(), connection.file.read())
+
+
 def started(number, port):
     """That many connections, each begun and none waited for: a listener takes only some of them."""
     connections = []
@@ -258,65 +249,46 @@ def bounded(tally, server, number):
     tally.compare(f"memory bounded after {number:,} requests each, KiB {told}", True, sizes[-1] <= sizes[0] + GROWS)
 
 
-def raised_limit():
-    """How many descriptors this program may have: enough for the many, if it is allowed so many."""
-    soft, hard = resource.getrlimit(resource.RLIMIT_NOFILE)
-    limit = MANY + OWN if hard == resource.RLIM_INFINITY else min(hard, MANY + OWN)
-    if soft != resource.RLIM_INFINITY and soft < limit:
-        resource.setrlimit(resource.RLIMIT_NOFILE, (limit, hard))
-    return limit
+def served(tally, program, way):
+    """All parts that both ways have."""
+    def few(part, number, *words, **options):
+        tally.serve(part, lambda: servers.Server(program, **{way: number}, **options), *words)
 
-
-def play(part, tally, server, *numbers):
-    """Plays a part with a server of its own. A client that is not answered ends it."""
-    with server:
-        try:
-            part(tally, server, *numbers)
-            tally.compare(f"{part.__name__}: the server runs", True, server.alive())
-        except (OSError, resp.ErrorReply, resp.Fault) as fault:
-            tally.wrong(f"{part.__name__}: {type(fault).__name__}: {fault}")
-
-
-def run(program, tally):
-    if os.path.basename(program) == "redis-server":
-        play(answered, tally, servers.Redis())
-        return
-    play(answered, tally, servers.Server(program, workers=WORKERS))
-    play(woken, tally, servers.Server(program, workers=WORKERS))
-    play(single_reads, tally, servers.Server(program, workers=FEW), SINGLE)
-    play(one_after_the_other, tally, servers.Server(program, workers=FEW), TURNS)
-    play(more_than_workers, tally, servers.Server(program, workers=FEW))
+    few(answered, SOME)
+    few(woken, SOME)
+    few(single_reads, FEW, SINGLE)
+    few(one_after_the_other, FEW, TURNS)
+    few(stored, FEW)
     with tempfile.NamedTemporaryFile("w", suffix=".toml") as policy:
         policy.write(POLICY)
         policy.flush()
-        play(recovered, tally, servers.Server(program, policy=policy.name, workers=FEW))
+        few(recovered, FEW, policy=policy.name)
     # A checkpoint a hundredth of a second after each request changes nothing.
-    play(answered, tally, servers.Server(program, workers=WORKERS, keep=1))
-    play(woken, tally, servers.Server(program, workers=WORKERS, keep=1))
-    play(bounded, tally, servers.Server(program, workers=FEW, keep=KEPT), AT_A_TIME)
-    number = min(MANY, raised_limit() - OWN)
-    play(many, tally, servers.Server(program, workers=FEW, descriptors=DESCRIPTORS), number)
+    few(answered, SOME, keep=1)
+    few(woken, SOME, keep=1)
+    few(bounded, FEW, AT_A_TIME, keep=KEPT)
 
 
-def end(*_):
-    raise Late
+def beyond_workers(tally, program):
+    """More connections than workers."""
+    number = min(MANY, servers.raised_limit(MANY))
+    tally.serve(more_than_workers, lambda: servers.Server(program, workers=FEW))
+    tally.serve(many, lambda: servers.Server(program, workers=FEW, descriptors=DESCRIPTORS), number)
+
+
+def run(tally, program, way):
+    served(tally, program, way)
+    if way == servers.THREADS:
+        beyond_workers(tally, program)
 
 
 def main():
-    if len(sys.argv) != 2:
+    if len(sys.argv) < 2:
         sys.exit(__doc__.split("\n\n")[1])
-    servers.stop_when_ended()
-    signal.signal(signal.SIGALRM, end)
-    signal.alarm(SECONDS)
-    tally = Tally()
-    try:
-        run(sys.argv[1], tally)
-    except Late:
-        tally.wrong(f"not done after {SECONDS} seconds")
-    except (OSError, resp.Fault) as fault:
-        tally.wrong(f"the server did not begin: {fault}")
-    print(f"listening: {tally.answers} answers, {tally.differing} differ")
-    return 1 if tally.differing else 0
+    program, *words = sys.argv[1:]
+    if os.path.basename(program) == "redis-server":
+        return judged("listening", SECONDS, lambda tally: tally.serve(answered, servers.Redis))
+    return max([judged(f"listening, {way}", SECONDS, lambda tally: run(tally, program, way)) for way in servers.ways_of(words)])
 
 
 if __name__ == "__main__":

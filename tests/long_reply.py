@@ -1,5 +1,5 @@
 #!/usr/bin/env python3
-"""Has sr_server write one reply of more than 16 MiB, on standard output and over a socket, and compares its bytes.
+"""Has sr_server write one reply of more than 16 MiB, on standard output and over a socket in both ways of serving, and compares its bytes.
 
 usage: tests/long_reply.py PROGRAM
 
@@ -11,7 +11,7 @@ import subprocess
 import sys
 
 from lib.resp import array, bulk, spelled, spelled_all
-from lib.servers import Server
+from lib.servers import WAYS, Server
 
 SECONDS = 120
 ENTRIES, SIZE = 17, 1_048_576  # a word may have as many bytes
@@ -29,9 +29,9 @@ def piped(program):
     return ran.stdout, (ran.returncode, ran.stderr)
 
 
-def socketed(program):
+def socketed(program, way):
     """What is replied over a socket, and whether the server goes on."""
-    with Server(program, workers=1) as server:
+    with Server(program, **{way: 2}) as server:
         found = b""
         with server.connect(SECONDS) as connection:
             with contextlib.suppress(OSError):
@@ -45,12 +45,13 @@ def main():
     if len(sys.argv) != 2:
         sys.exit(__doc__.split("\n\n")[1])
     wrong = 0
-    for name, (found, end), wanted in [("standard output", piped(sys.argv[1]), (0, b"")), ("a socket", socketed(sys.argv[1]), ENTRIES)]:
+    rows = [("standard output", piped(sys.argv[1]), (0, b""))] + [(f"a socket, {way}", socketed(sys.argv[1], way), ENTRIES) for way in WAYS]
+    for name, (found, end), wanted in rows:
         if (found, end) != (REPLIED, wanted):
             wrong += 1
             place = next((place for place, pair in enumerate(zip(found, REPLIED)) if pair[0] != pair[1]), min(len(found), len(REPLIED)))
             print(f"{name}: {len(found):,} bytes of {len(REPLIED):,}, right up to {place:,}; at the end {end}, expected {wanted}")
-    print(f"long_reply: {len(LONG):,} bytes, {wrong} of 2 wrong")
+    print(f"long_reply: {len(LONG):,} bytes, {wrong} of {len(rows)} wrong")
     return 1 if wrong else 0
 
 

@@ -1,9 +1,10 @@
 #!/usr/bin/env python3
 """Sends sr_server requests byte by byte, cut in two, in part and whole, and compares its replies and its status with what is written here.
 
-usage: tests/requests.py PROGRAM
+usage: tests/requests.py PROGRAM [WAY ..]
 
-Prints what differs; the status is 1 if anything does.
+WAY is `stdio`, or `workers` or `connections`, by which it serves a socket, on which no status is seen; all if none is named. Prints what
+differs; the status is 1 if anything does.
 """
 
 import fcntl
@@ -13,9 +14,11 @@ import sys
 import termios
 import time
 
+from lib import servers, sockets
 from lib.resp import lines, spelled
 
 SECONDS = 60
+STDIO = "stdio"
 
 PONG = b"+PONG\r\n"
 
@@ -126,18 +129,33 @@ def cases():
         yield [asked], (b"$3\r\n1-1\r\n*1\r\n*2\r\n$3\r\n1-1\r\n" + spelled(*texts), 0)
 
 
+def whole(program, way):
+    """Each case with what came of it. Over a socket the status is left out."""
+    if way == STDIO:
+        for pieces, wanted in cases():
+            yield pieces, wanted, answered(program, pieces)
+    else:
+        exchanges = sockets.exchanges(program, way, (pieces for pieces, _ in cases()))
+        for (pieces, (replies, _)), found in zip(cases(), exchanges):
+            yield pieces, (replies, None), (found, None)
+
+
 def main():
-    if len(sys.argv) != 2:
+    if len(sys.argv) < 2:
         sys.exit(__doc__.split("\n\n")[1])
-    count, wrong = 0, 0
-    for pieces, wanted in cases():
-        found = answered(sys.argv[1], pieces)
-        count += 1
-        if found != wanted:
-            wrong += 1
-            print(f"{[piece[:80] for piece in pieces]}\nexpected: {wanted[0][:200]}, status {wanted[1]}\ngiven:    {found[0][:200]}, status {found[1]}")
-    print(f"{sys.argv[1]}: {count} inputs, {wrong} wrong")
-    sys.exit(1 if wrong else 0)
+    program, *ways = sys.argv[1:]
+    failed = 0
+    for way in ways or (STDIO, *servers.WAYS):
+        count, wrong = 0, 0
+        for pieces, wanted, found in whole(program, way):
+            count += 1
+            if found != wanted:
+                wrong += 1
+                told = f"{[piece[:80] for piece in pieces]}"
+                print(f"{told}\nexpected: {wanted[0][:200]}, status {wanted[1]}\ngiven:    {found[0][:200]}, status {found[1]}")
+        print(f"{program}, {way}: {count} inputs, {wrong} wrong")
+        failed += wrong
+    sys.exit(1 if failed else 0)
 
 
 main()

@@ -2,10 +2,11 @@
 """Has readers wait in BLOCK 0 whose clients go away, and many readers of one group wait at once: who is gone holds no worker and is given
 nothing, and who is served is woken alone.
 
-usage: tests/waiting.py PROGRAM
+usage: tests/waiting.py PROGRAM [WAY ..]
 
-PROGRAM is sr_server. A wait looks for its client once a second, so clients that went away count as gone two seconds later. Wake-ups are
-the times that a thread of the server gave up its processor of its own accord, less those of a server at which nothing happens.
+PROGRAM is sr_server, and WAY `workers` or `connections`, by which it serves; both if none is named. A worker that waits looks for its client
+once a second, so clients that went away count as gone two seconds later; a loop leaves them at once. Wake-ups are the times that a thread
+of the server gave up its processor of its own accord, less those of a server at which nothing happens.
 
 | Part | A wrong program that it catches |
 |---|---|
@@ -17,40 +18,20 @@ Prints each answer that differs, and how many there are; the status is 1 if one 
 """
 
 import os
-import signal
 import sys
 import time
 
 from lib import resp, servers
+from lib.tally import judged
 
-SECONDS = 60  # for all of it
+SECONDS = 60  # for all of one way
 PATIENCE = 8  # seconds for one answer
-GONE = 2.5  # seconds after which every wait has looked for its client
-WORKERS = 8
+GONE = {servers.THREADS: 2.5, servers.LOOP: 0}  # seconds after which a server has left who is gone
+SERVED = 8  # connections that are served at a time
 RESTARTS = 80
 READERS = 50
 ROUNDS = 20
 MOST = 8  # wake-ups for one served reader: its own, its next request, and those of the client that adds
-
-
-class Late(Exception):
-    """All of it took too long."""
-
-
-class Tally:
-    """Counts answers, and prints those that differ."""
-
-    def __init__(self):
-        self.answers, self.differing = 0, 0
-
-    def compare(self, what, wanted, found):
-        self.answers += 1
-        if found != wanted:
-            self.wrong(f"{what}: expected {wanted!r}, not {found!r}")
-
-    def wrong(self, text):
-        self.differing += 1
-        print(f"waiting: {text}", flush=True)
 
 
 def read(*options):
@@ -64,27 +45,27 @@ def wait_and_vanish(server, *options):
         time.sleep(0.02)
 
 
-def restarted(tally, server):
-    """A consumer restarts many more times than there are workers, waiting each time: others are served all the while."""
+def restarted(tally, server, gone):
+    """A consumer restarts many more times than connections are served, waiting each time: others are served all the while."""
     with server.connect(PATIENCE) as other:
         other.call("XGROUP", "CREATE", "s", "g", "$", "MKSTREAM")
         for number in range(RESTARTS):
             wait_and_vanish(server)
-            if number % (WORKERS - 2) == 0:
+            if number % (SERVED - 2) == 0:
                 tally.compare(f"PING after {number + 1} restarts", b"PONG", other.call("PING"))
-                time.sleep(GONE / 2)
+                time.sleep(gone / 2)
     with server.connect(PATIENCE) as late:
         tally.compare("PING of a new client after all restarts", b"PONG", late.call("PING"))
 
 
-def given(tally, server):
+def given(tally, server, gone):
     """An entry goes to the reader that is there, and not to those that waited before it and are gone, with and without NOACK."""
     with server.connect(PATIENCE) as other, server.connect(PATIENCE) as reader:
         other.call("XGROUP", "CREATE", "s", "g", "$", "MKSTREAM")
         for number, options in ((1, []), (2, ["NOACK"])):
-            for _ in range(WORKERS - 4):
+            for _ in range(SERVED - 4):
                 wait_and_vanish(server, *options)
-            time.sleep(GONE)
+            time.sleep(gone)
             reader.send(*read(*options))
             time.sleep(0.1)
             tally.compare("XADD", b"%d-1" % number, other.call("XADD", "s", f"{number}-1", "a", "b"))
@@ -103,7 +84,7 @@ def switches(server):
     return count
 
 
-def woken(tally, server):
+def woken(tally, server, _):
     """Many readers of a group wait, and each entry wakes the one that is given it."""
     with server.connect(PATIENCE) as other:
         other.call("XGROUP", "CREATE", "s", "g", "$", "MKSTREAM")
@@ -135,29 +116,16 @@ def served(readers):
     return by_socket[ready[0]]
 
 
-def end(*_):
-    raise Late
+def run(tally, program, way):
+    for part, served in ((restarted, SERVED), (given, SERVED), (woken, READERS + 2)):
+        tally.serve(part, lambda: servers.Server(program, **{way: served}), GONE[way])
 
 
 def main():
-    if len(sys.argv) != 2:
+    if len(sys.argv) < 2:
         sys.exit(__doc__.split("\n\n")[1])
-    servers.stop_when_ended()
-    signal.signal(signal.SIGALRM, end)
-    signal.alarm(SECONDS)
-    tally = Tally()
-    try:
-        for part, workers in ((restarted, WORKERS), (given, WORKERS), (woken, READERS + 2)):
-            with servers.Server(sys.argv[1], workers=workers) as server:
-                try:
-                    part(tally, server)
-                    tally.compare(f"{part.__name__}: the server runs", True, server.alive())
-                except (OSError, resp.ErrorReply, resp.Fault) as fault:
-                    tally.wrong(f"{part.__name__}: {type(fault).__name__}: {fault}")
-    except Late:
-        tally.wrong(f"not done after {SECONDS} seconds")
-    print(f"waiting: {tally.answers} answers, {tally.differing} differ")
-    return 1 if tally.differing else 0
+    program, *words = sys.argv[1:]
+    return max([judged(f"waiting, {way}", SECONDS, lambda tally: run(tally, program, way)) for way in servers.ways_of(words)])
 
 
 if __name__ == "__main__":

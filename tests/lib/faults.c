@@ -1,7 +1,7 @@
 // Has a program's accepts and new threads fail, and moves the system's clock for it, as told in a file while it runs.
 //
 // ../faults.py builds it as a library and loads it with LD_PRELOAD. FAULTS names the file, which has these five numbers of 8 bytes.
-// An accept that fails takes no connection: that one waits on.
+// An accept that fails takes no connection: that one waits on. Where none waits, an accept is as it is without this library.
 #define _GNU_SOURCE
 #include <dlfcn.h>
 #include <errno.h>
@@ -47,11 +47,16 @@ static int takes(atomic_long *number)
     return left != 0;
 }
 
-int accept4(int socket, struct sockaddr *address, socklen_t *length, int flags)
+// Whether a connection waits at a listener. At one that blocks, this waits for it.
+static int has_one(int socket)
 {
     struct pollfd waits = { .fd = socket, .events = POLLIN };
-    poll(&waits, 1, -1);
-    if (takes(&told->times)) {
+    return poll(&waits, 1, fcntl(socket, F_GETFL) & O_NONBLOCK ? 0 : -1) > 0;
+}
+
+int accept4(int socket, struct sockaddr *address, socklen_t *length, int flags)
+{
+    if (has_one(socket) && takes(&told->times)) {
         atomic_fetch_add(&told->failed, 1);
         errno = (int)atomic_load(&told->error);
         return -1;

@@ -2,6 +2,8 @@
 
     with servers.Server("crates/sr_server/out/sr_server", workers=8) as server, server.connect() as connection:
         connection.call("PING")
+
+sr_server serves in two ways: `workers=N` has N threads, and `connections=N` one loop for N connections.
 """
 
 import functools
@@ -20,6 +22,8 @@ from .resp import ErrorReply, Fault, Replies, spelled
 HOST = "127.0.0.1"
 SECONDS = 20  # that a server has to begin or to end
 TRIES = 3  # another program may take the free port first
+WAYS = THREADS, LOOP = "workers", "connections"  # of serving, each by the option that says how many are served
+OWN = 100  # descriptors that a program needs beside its connections
 
 
 def stop_when_ended():
@@ -31,6 +35,22 @@ def free_port():
     with socket.socket() as probe:
         probe.bind((HOST, 0))
         return probe.getsockname()[1]
+
+
+def ways_of(words):
+    """The ways of serving that a command line names, or all."""
+    if not set(words) <= set(WAYS):
+        raise SystemExit(f"{' '.join(words)}: not among {', '.join(WAYS)}")
+    return words or WAYS
+
+
+def raised_limit(number):
+    """How many connections this program and its servers may have each: so many, if the system allows that."""
+    soft, hard = resource.getrlimit(resource.RLIMIT_NOFILE)
+    limit = number + OWN if hard == resource.RLIM_INFINITY else min(hard, number + OWN)
+    if soft != resource.RLIM_INFINITY and soft < limit:
+        resource.setrlimit(resource.RLIMIT_NOFILE, (limit, hard))
+    return limit - OWN
 
 
 class Connection(Replies):
@@ -112,18 +132,22 @@ class Process:
         return (int(user) + int(system)) / os.sysconf("SC_CLK_TCK")
 
 
+def limited(descriptors):
+    """What has a program begin with so many files and sockets at most."""
+    return functools.partial(resource.setrlimit, resource.RLIMIT_NOFILE, (descriptors, descriptors))
+
+
 class Server(Process):
     """`sr_server --listen`, which prints a line when it listens."""
 
     name = "sr_server"
 
-    def __init__(self, program, policy=None, workers=None, keep=None, descriptors=None, env=None, errors=None):
-        """`keep` is how many records are kept, and `descriptors` how many files and sockets it may have open; `errors` is the file that its standard error goes to."""
-        limit = descriptors and functools.partial(resource.setrlimit, resource.RLIMIT_NOFILE, (descriptors, descriptors))
-        options = [] if policy is None else ["--policy", str(policy)]
-        options += [] if workers is None else ["--workers", str(workers)]
-        options += [] if keep is None else ["--keep", str(keep)]
-        for tries in range(TRIES):
+    def __init__(self, program, descriptors=None, env=None, errors=None, **options):
+        """`options` are those of its command line, as `keep=1000` for `--keep 1000`; one that is None is not given. `descriptors` is how many
+        files and sockets it may have open, and `errors` the file that its standard error goes to."""
+        limit = descriptors and limited(descriptors)
+        options = [word for name, value in options.items() if value is not None for word in (f"--{name}", str(value))]
+        for _ in range(TRIES):
             self.port = free_port()
             address = f"{HOST}:{self.port}"
             words = [program, "--listen", address, *options]

@@ -1,0 +1,126 @@
+"""Very many readers that wait, and readers that go away while they wait."""
+
+import time
+
+from . import crowd
+from .crowd import Crowd
+from .resp import array, bulk, spelled, spelled_all, text_of_reply
+
+READERS = 5_000
+LEAVING = 2_000  # readers of a group of whom every second one goes away
+ROUNDS, MISSED = 10, 2  # times that one reader goes away just before an entry comes, and how often the entry may be lost to it: the
+# machine may let the server wait just before it reads what asked for much, so that it reads the entry with it
+MOMENT = 0.002  # seconds in which the server has begun with that
+QUIET = 0.2  # seconds after which nothing more is expected
+BUSY = 20_000  # entries of a range that keeps the server busy for some milliseconds
+
+
+def read(name, *options):
+    """A read of the group that waits."""
+    return spelled("XREADGROUP", "GROUP", "g", name, "BLOCK", 0, *options, "STREAMS", "s", ">")
+
+
+def ids(first, last):
+    return [b"%d-1" % number for number in range(first, last + 1)]
+
+
+def delivered(entry):
+    """The reply that has this one entry of the stream."""
+    return array([array([bulk(b"s"), array([array([bulk(entry), spelled("a", "b")])])])])
+
+
+def add(maker, entries):
+    """Adds entries in one piece, and answers the replies."""
+    maker.socket.sendall(spelled_all(["XADD", "s", entry, "a", "b"] for entry in entries))
+    return [maker.reply() for _ in entries]
+
+
+def in_turn(tally, sockets, entries, what):
+    """Each of these readers has the entry of its turn, and nobody has more."""
+    wanted = [delivered(entry) for entry in entries]
+    found = crowd.gathered(sockets, [len(text) for text in wanted])
+    wrong = next((place for place, pair in enumerate(zip(wanted, found)) if pair[0] != pair[1]), None)
+    told = "" if wrong is None else f", but {wrong + 1} has {found[wrong]!r}"
+    tally.compare(f"{what}: each has the entry of its turn{told}", None, wrong)
+    tally.compare(f"{what}: who has more", [], crowd.answered(sockets, QUIET))
+
+
+def readers_of_a_stream(tally, server):
+    """Very many readers of one stream wait, and each is given the one entry that comes."""
+    with Crowd(server, READERS) as readers, server.connect() as maker:
+        add(maker, ids(1, 1))
+        readers.send(spelled("XREAD", "BLOCK", 0, "STREAMS", "s", "$"))
+        # The second PING comes after all that was ready together with the first.
+        for _ in range(2):
+            crowd.pinged(maker.socket)
+        tally.compare("readers that are answered before there is an entry", [], crowd.answered(readers.sockets, QUIET))
+        tally.compare("XADD beside readers of a stream", ids(2, 2), add(maker, ids(2, 2)))
+        wanted = delivered(b"2-1")
+        tally.compare("readers of a stream that have the entry", READERS, readers.gathered(len(wanted)).count(wanted))
+        tally.compare("PINGs of those readers", READERS, readers.pinged())
+
+
+def readers_of_a_group(tally, server):
+    """Very many readers of one group wait, and of as many entries each is given one, in order of blocking."""
+    with Crowd(server, READERS) as readers, server.connect() as maker:
+        maker.call("XGROUP", "CREATE", "s", "g", "$", "MKSTREAM")
+        for place, each in enumerate(readers.sockets):
+            each.sendall(read(f"c{place}"))
+            crowd.pinged(maker.socket)  # so that the next one blocks later
+        entries = ids(1, READERS)
+        tally.compare("XADDs beside readers of a group", entries, add(maker, entries))
+        in_turn(tally, readers.sockets, entries, "readers of a group")
+        count, first, last, owners = maker.call("XPENDING", "s", "g")
+        tally.compare("what is pending", (READERS, b"1-1", entries[-1]), (count, first, last))
+        wanted = sorted([b"c%d" % place, b"1"] for place in range(READERS))
+        tally.holds("one entry is pending for each", sorted(owners) == wanted)
+
+
+def readers_that_leave(tally, server):
+    """Every second reader of a group goes away, some by a reset, and entries come at once: those that are there are given them all."""
+    with Crowd(server, LEAVING) as readers, server.connect() as maker:
+        maker.call("XGROUP", "CREATE", "s", "g", "$", "MKSTREAM")
+        for place, each in enumerate(readers.sockets):
+            each.sendall(read(f"c{place % 2}"))
+            crowd.pinged(maker.socket)
+        for place in range(0, LEAVING, 2):
+            crowd.leave(readers.sockets[place], killed=place % 4)
+        entries = ids(1, LEAVING // 2)
+        tally.compare("XADDs once readers left", entries, add(maker, entries))
+        in_turn(tally, readers.sockets[1::2], entries, "readers that are left")
+        wanted = [LEAVING // 2, b"1-1", entries[-1], [[b"c1", b"%d" % (LEAVING // 2)]]]
+        tally.compare("what is pending once readers left", wanted, maker.call("XPENDING", "s", "g"))
+
+
+def left_before_served(tally, server):
+    """A reader goes away just before an entry comes, both while the server is busy with what another client asks, or with what the one asks
+    that adds the entry: the next reader is given it, also with NOACK."""
+    with server.connect() as maker, server.connect() as other:
+        maker.socket.sendall(spelled_all(["XADD", "large", f"{number}-1", "a", "b"] for number in range(1, BUSY + 1)))
+        for _ in range(BUSY):
+            maker.reply()
+        maker.call("XGROUP", "CREATE", "s", "g", "$", "MKSTREAM")
+        asked, number = spelled("XRANGE", "large", "-", "+"), 0
+        other.socket.sendall(asked)
+        brought = len(text_of_reply(other.file))
+        for who, busy in (("another", other), ("the one that adds", maker)):
+            given = 0
+            for _ in range(ROUNDS):
+                number += 1
+                given += one_leaves(server, maker, number, lambda: busy.socket.sendall(asked), lambda: busy.file.read(brought))
+            tally.holds(f"the next reader has {given} of {ROUNDS} entries, while {who} keeps the server busy", given >= ROUNDS - MISSED)
+
+
+def one_leaves(server, maker, number, begin, end):
+    """A round in which one reader leaves, after what has the server do much begins. Whether the next reader is given the entry."""
+    with Crowd(server, 2) as (gone, here):
+        for each in (gone, here):
+            each.sendall(read("A", *["NOACK"] * (number // 2 % 2)))
+            crowd.pinged(maker.socket)
+        begin()
+        time.sleep(MOMENT)
+        crowd.leave(gone, killed=number % 4 < 2)
+        maker.send("XADD", "s", f"{number}-1", "a", "b")
+        end()
+        wanted = delivered(b"%d-1" % number)
+        return maker.reply() == b"%d-1" % number and crowd.gathered([here], len(wanted), seconds=1)[0] == wanted
