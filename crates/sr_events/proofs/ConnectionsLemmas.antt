@@ -15,53 +15,85 @@ use Rattle.sr_hub.specs.declared.sockets.Heard.{Heard}
 use Rattle.sr_hub.specs.declared.sockets.Heard.TheVariants as heard
 use Rattle.sr_events.specs.declared.slot.Output.{Output}
 use Rattle.sr_events.specs.declared.slot.Output.TheVariants as output
-use Rattle.sr_events.specs.Slot.{SlotState, TellsBy, fresh, has_turn, noted}
-use Rattle.sr_events.specs.Turns.{Turns, turns, with_turn}
-use Rattle.sr_events.specs.Connections.{ChangesAt, IsHeardOf, is_in_turn, open_count, settled, slot_at, with_event}
+use Rattle.sr_events.specs.Slot.{SlotState, TellsBy, fresh, has_ended, has_turn, noted}
+use Rattle.sr_events.specs.Turns.{Turns, turns, with_first_turn, with_turn}
+use Rattle.sr_events.specs.Connections.{ChangesAt, IsHeardOf, is_in_turn, open_count, settled, settled_after_event}
+use Rattle.sr_events.specs.Connections.{slot_at, with_event}
 use Rattle.sr_events.specs.steps.Connections.{IsKept, IsKeptBut, TellsAt}
 
--- whoever has a turn keeps it as another gets one
-kept_turn : (token other : ℕ) (ring : Turns) → is_in_turn other ring ≡ true
-    → is_in_turn other (with_turn token ring) ≡ true
-kept_turn token other ring there =
-    elim (ltb token ring.most && not (is_in_turn token ring))
-    as (λ b. is_in_turn other (cond b (turns (ring.tokens ++ token ∷ []) ring.most) ring) ≡ true) [
-      | true ↦ list_any-append (eqb other) ring.tokens (token ∷ [])
-          ∙ or_left (list_any (eqb other) ring.tokens) (list_any (eqb other) (token ∷ [])) there
-      | false ↦ there
-    ]
+-- a token has a turn if it is to have one, and whoever had a turn keeps it
+pub record Gives (token : ℕ) (wanted : Bool) (ring after : Turns) : Type 0 where
+  most : after.most ≡ ring.most
+  kept : (other : ℕ) → is_in_turn other ring ≡ true → is_in_turn other after ≡ true
+  given : wanted ≡ true → token < ring.most → is_in_turn token after ≡ true
 
--- a token that there is has a turn once it got one
-given_turn : (token : ℕ) (ring : Turns) → token < ring.most → is_in_turn token (with_turn token ring) ≡ true
-given_turn token ring within = ⊎_elim
-    (λ (there : is_in_turn token ring ≡ true). kept_turn token token ring there)
-    (λ (absent : is_in_turn token ring ≡ false).
-    let added : (ltb token ring.most && not (is_in_turn token ring)) ≡ true =
-    and_from (ltb token ring.most) (not (is_in_turn token ring)) (lt-ltb token ring.most within)
-    (not_from_false (is_in_turn token ring) absent) in
-    rw (cond-true (ltb token ring.most && not (is_in_turn token ring))
-    (turns (ring.tokens ++ token ∷ []) ring.most) ring added) (
-    list_any-append (eqb token) ring.tokens (token ∷ [])
+-- a token that has no turn yet gets one, wherever that is among the others
+module _ (token : ℕ) (ring : Turns) (more : List ℕ)
+    (others : (other : ℕ) → is_in_turn other ring ≡ true → list_any (eqb other) more ≡ true)
+    (there : list_any (eqb token) more ≡ true) where
+  abbrev is_added : Bool
+  is_added = ltb token ring.most && not (is_in_turn token ring)
+
+  abbrev enlarged : Turns
+  enlarged = cond is_added (turns more ring.most) ring
+
+  kept_turn : (other : ℕ) → is_in_turn other ring ≡ true → is_in_turn other enlarged ≡ true
+  kept_turn other here =
+      elim is_added as (λ b. is_in_turn other (cond b (turns more ring.most) ring) ≡ true)
+      [ true ↦ others other here | false ↦ here ]
+
+  given_turn : token < ring.most → is_in_turn token enlarged ≡ true
+  given_turn within = ⊎_elim
+      (λ (here : is_in_turn token ring ≡ true). kept_turn token here)
+      (λ (absent : is_in_turn token ring ≡ false).
+      let added : is_added ≡ true = and_from (ltb token ring.most) (not (is_in_turn token ring))
+      (lt-ltb token ring.most within) (not_from_false (is_in_turn token ring) absent) in
+      rw (cond-true is_added (turns more ring.most) ring added) there)
+      (cases_Bool (is_in_turn token ring))
+
+  Gives-enlarged : Gives token true ring enlarged
+  Gives-enlarged = record {
+    most = elim is_added as (λ b. (cond b (turns more ring.most) ring).most ≡ ring.most)
+        [ true ↦ refl | false ↦ refl ];
+    kept = kept_turn;
+    given = λ wanted. given_turn;
+  }
+
+Gives-last : (token : ℕ) (ring : Turns) → Gives token true ring (with_turn token ring)
+Gives-last token ring = Gives-enlarged token ring (ring.tokens ++ token ∷ [])
+    (λ other here. list_any-append (eqb other) ring.tokens (token ∷ [])
+    ∙ or_left (list_any (eqb other) ring.tokens) (list_any (eqb other) (token ∷ [])) here)
+    (list_any-append (eqb token) ring.tokens (token ∷ [])
     ∙ or_right (list_any (eqb token) ring.tokens) (eqb token token || false)
-    (or_left (eqb token token) false (eq-eqb token token refl))))
-    (cases_Bool (is_in_turn token ring))
+    (or_left (eqb token token) false (eq-eqb token token refl)))
 
-most_kept : (token : ℕ) (ring : Turns) → (with_turn token ring).most ≡ ring.most
-most_kept token ring =
-    elim (ltb token ring.most && not (is_in_turn token ring))
-    as (λ b. (cond b (turns (ring.tokens ++ token ∷ []) ring.most) ring).most ≡ ring.most)
-    [ true ↦ refl | false ↦ refl ]
+Gives-first : (token : ℕ) (ring : Turns) → Gives token true ring (with_first_turn token ring)
+Gives-first token ring = Gives-enlarged token ring (token ∷ ring.tokens)
+    (λ other here. or_right (eqb other token) (list_any (eqb other) ring.tokens) here)
+    (or_left (eqb token token) (list_any (eqb token) ring.tokens) (eq-eqb token token refl))
 
-most_settled : (token : ℕ) (slots : List SlotState) (ring : Turns) → (settled token slots ring).most ≡ ring.most
-most_settled token slots ring =
-    elim (has_turn (slot_at slots token)) as (λ b. (cond b (with_turn token ring) ring).most ≡ ring.most)
-    [ true ↦ most_kept token ring | false ↦ refl ]
+Gives-if : (token : ℕ) (wanted : Bool) (ring more : Turns) → Gives token true ring more
+    → Gives token wanted ring (cond wanted more ring)
+Gives-if token true ring more gives = gives
+Gives-if token false ring more gives = record {
+  most = refl;
+  kept = λ other here. here;
+  given = λ wanted. absurd (false≢true wanted);
+}
 
-kept_settled : (token other : ℕ) (slots : List SlotState) (ring : Turns) → is_in_turn other ring ≡ true
-    → is_in_turn other (settled token slots ring) ≡ true
-kept_settled token other slots ring there =
-    elim (has_turn (slot_at slots token)) as (λ b. is_in_turn other (cond b (with_turn token ring) ring) ≡ true)
-    [ true ↦ kept_turn token other ring there | false ↦ there ]
+Gives-settled : (token : ℕ) (slots : List SlotState) (ring : Turns)
+    → Gives token (has_turn (slot_at slots token)) ring (settled token slots ring)
+Gives-settled token slots ring =
+    Gives-if token (has_turn (slot_at slots token)) ring (with_turn token ring) (Gives-last token ring)
+
+Gives-event : (token : ℕ) (slots : List SlotState) (ring : Turns)
+    → Gives token (has_turn (slot_at slots token)) ring (settled_after_event token slots ring)
+Gives-event token slots ring =
+    Gives-if token (has_turn (slot_at slots token)) ring
+    (cond (has_ended (slot_at slots token)) (with_first_turn token ring) (with_turn token ring)) (
+    elim (has_ended (slot_at slots token))
+    as (λ b. Gives token true ring (cond b (with_first_turn token ring) (with_turn token ring)))
+    [ true ↦ Gives-first token ring | false ↦ Gives-last token ring ])
 
 -- only a slot that there is has a turn
 within_from_turn : (token : ℕ) (slots : List SlotState) → has_turn (slot_at slots token) ≡ true → token < length slots
@@ -95,12 +127,12 @@ module _ (token : ℕ) (old new : List SlotState) (changes : ChangesAt token old
 -- what was noted of one connection leaves all counted and in turn
 pub IsKept-settled : (token : ℕ) (old new : List SlotState) (taken : ℕ) (ring after : Turns)
     → IsKeptBut token old taken ring → ChangesAt token old new
-    → (slot_at new token).taken ≡ (slot_at old token).taken → after ≡ settled token new ring
+    → (slot_at new token).taken ≡ (slot_at old token).taken → Gives token (has_turn (slot_at new token)) ring after
     → IsKept new taken after
-IsKept-settled token old new taken ring after kept changes same is_after =
+IsKept-settled token old new taken ring after kept changes same gives =
     let length_same : length new ≡ length old = same_length token old new changes in
-    rw is_after (record {
-      most = most_settled token new ring ∙ kept.most ∙ sym length_same;
+    record {
+      most = gives.most ∙ kept.most ∙ sym length_same;
       counted = kept.counted ∙ sym (same_count token old new changes same);
       scheduled = λ other turn. ⊎_elim
           (λ (this : other ≡ token).
@@ -108,14 +140,13 @@ IsKept-settled token old new taken ring after kept changes same is_after =
           subst (λ t. has_turn (slot_at new t) ≡ true) this turn in
           let within : token < ring.most =
           omega (arith, within_from_turn token new turn_here, length_same, kept.most) in
-          rw this (rw (cond-true (has_turn (slot_at new token)) (with_turn token ring) ring turn_here)
-          (given_turn token ring within)))
+          rw this (gives.given turn_here within))
           (λ (apart : other ≡ token → ⊥).
           let as_before : has_turn (slot_at old other) ≡ true =
           subst (λ slot. has_turn slot ≡ true) (same_others token old new changes other apart) turn in
-          kept_settled token other new ring (kept.scheduled other apart as_before))
+          gives.kept other (kept.scheduled other apart as_before))
           (cases_eq other token);
-    })
+    }
 
 IsKeptBut-IsKept : (token : ℕ) (slots : List SlotState) (taken : ℕ) (ring : Turns) → IsKept slots taken ring
     → IsKeptBut token slots taken ring
@@ -161,11 +192,12 @@ ChangesAt-event token generation event old new is_new =
     (cases_Bool (ltb token (length old) && eqb (slot_at old token).generation generation))
 
 pub IsKept-event : (token generation : ℕ) (event : Event) (old new : List SlotState) (taken : ℕ) (ring after : Turns)
-    → IsKept old taken ring → new ≡ with_event token generation event old → after ≡ settled token new ring
-    → IsKept new taken after
+    → IsKept old taken ring → new ≡ with_event token generation event old
+    → after ≡ settled_after_event token new ring → IsKept new taken after
 IsKept-event token generation event old new taken ring after kept noted is_after =
     let (changes, same) = ChangesAt-event token generation event old new noted in
-    IsKept-settled token old new taken ring after (IsKeptBut-IsKept token old taken ring kept) changes same is_after
+    IsKept-settled token old new taken ring after (IsKeptBut-IsKept token old taken ring kept) changes same
+    (rw is_after (Gives-event token new ring))
 
 -- nothing that is told of a connection opens or closes it
 taken-Tells : (failed : Bool) (result : Output) (token room : ℕ) (old : SlotState) (told : Option Heard)
@@ -218,7 +250,7 @@ pub IsKept-told : (token room : ℕ) (old new : List SlotState) (taken : ℕ) (t
     → after ≡ settled token new popped → IsKept new taken after
 IsKept-told token room old new taken told ring popped after kept pops tells is_after =
     IsKept-settled token old new taken popped after (IsKeptBut-pop token old taken ring popped kept pops)
-    tells.others (taken-TellsAt token room old new told tells) is_after
+    tells.others (taken-TellsAt token room old new told tells) (rw is_after (Gives-settled token new popped))
 
 -- what is told of a connection is told of a token that there is
 pub told_within : (token room : ℕ) (old new : List SlotState) (told : Option Heard) → TellsAt token room old told new

@@ -6,8 +6,8 @@ use Rattle.std.specs.List.{list_any}
 use Rattle.mio.specs.declared.event.event.Event.{Event}
 use Rattle.sr_hub.specs.declared.sockets.Heard.{Heard}
 use Rattle.sr_hub.specs.declared.sockets.Heard.TheVariants as heard
-use Rattle.sr_events.specs.Slot.{SlotState, fresh, has_turn, noted}
-use Rattle.sr_events.specs.Turns.{Turns, with_turn}
+use Rattle.sr_events.specs.Slot.{SlotState, fresh, has_ended, has_turn, noted}
+use Rattle.sr_events.specs.Turns.{Turns, with_first_turn, with_turn}
 
 -- the slots, the tokens that have a turn, and how many of these have it in this pass
 pub record Kept : Type 0 where
@@ -41,6 +41,14 @@ with_event token generation event slots =
 -- whose turn it is once something was noted of a connection: it has one if something can be told of it
 abbrev pub settled : ℕ → List SlotState → Turns → Turns
 settled token slots turns = if has_turn (slot_at slots token) then with_turn token turns else turns
+
+-- whose turn it is once an event was noted of a connection: one that is over or whose peer sends no more comes before
+-- all others
+abbrev pub settled_after_event : ℕ → List SlotState → Turns → Turns
+settled_after_event token slots turns =
+    if has_turn (slot_at slots token)
+    then (if has_ended (slot_at slots token) then with_first_turn token turns else with_turn token turns)
+    else turns
 
 -- this is told of the connection at a token; of bytes at most as many as there is room
 abbrev pub IsHeardOf : ℕ → ℕ → Heard → Type 0

@@ -40,6 +40,10 @@ goes_on output.Room readable = true
 abbrev pub has_turn : SlotState → Bool
 has_turn slot = slot.taken && (slot.failed || goes_on slot.output slot.readable)
 
+-- the connection is over, or its peer sends no more
+abbrev pub has_ended : SlotState → Bool
+has_ended slot = slot.failed || slot.ended
+
 -- what an event that says so makes of a write that came short
 abbrev pub with_room : Output → Output
 with_room output.Taken = output.Taken

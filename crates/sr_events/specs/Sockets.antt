@@ -28,10 +28,11 @@ new_sockets most = record {
   woken = false;
 }
 
--- what is told of these sockets, with room for that many bytes: a connection that came is kept until it has a token,
--- and each token is one that there is, or one whose connection could not have it
+-- what is told of these sockets, with room for that many bytes: a connection comes only once each that is there had its
+-- turn in this pass, and is kept until it has a token; and each token is one that there is, or one whose connection
+-- could not have it
 abbrev pub Tells : ℕ → SocketsState → Heard → SocketsState → Type 0
-Tells room old heard.Came new = new.came ≡ true
+Tells room old heard.Came new = (new.came ≡ true) × ((new.kept.left ≡ 0) ⊎ (new.kept.turns.tokens ≡ []))
 Tells room old (heard.Bytes token count) new = (token < length new.kept.slots) × (count ≤ room)
 Tells room old (heard.Room token) new = token < length new.kept.slots
 Tells room old (heard.Over token) new = (old.lost ≡ Some token) ⊎ (token < length new.kept.slots)

@@ -17,3 +17,10 @@ with_turn token ring =
     if nat_lt token ring.most && not (list_any (nat_eq token) ring.tokens)
     then turns (ring.tokens ++ token ∷ []) ring.most
     else ring
+
+-- with a turn for this token before all others, if there is such a token and it has none
+abbrev pub with_first_turn : ℕ → Turns → Turns
+with_first_turn token ring =
+    if nat_lt token ring.most && not (list_any (nat_eq token) ring.tokens)
+    then turns (token ∷ ring.tokens) ring.most
+    else ring

@@ -14,7 +14,7 @@ const TURNED_AWAY: &[u8; 36] = b"-ERR max number of clients reached\r\n";
 
 /// The faults that are a listener's own, after which no accept succeeds: no descriptor or not one of a socket that
 /// listens, a bad address in memory, or an operation that it does not have. Their numbers are Linux's (accept(2)).
-const LISTENERS_OWN: &[i32] = &[
+pub const LISTENERS_OWN: &[i32] = &[
     9, // EBADF
     14, // EFAULT
     22, // EINVAL
@@ -134,7 +134,7 @@ impl Acceptor {
 }
 
 /// Tells a client that there is no place for it, as far as that can be written at once.
-fn turn_away(mut stream: TcpStream) {
+pub(crate) fn turn_away(mut stream: TcpStream) {
     let _ = stream.write(TURNED_AWAY);
 }
 
@@ -152,7 +152,7 @@ fn fault_of(error: &Error) -> Fault
 }
 
 /// Whether a failed accept is the listener's own fault.
-fn is_listeners_own(error: &Error) -> bool
+pub fn is_listeners_own(error: &Error) -> bool
     ensures { IsTrue result ↔ IsSomeAnd (raw_os_error error.now) (Contains LISTENERS_OWN.now) }
 {
     match error.raw_os_error() {

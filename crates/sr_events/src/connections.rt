@@ -2,7 +2,8 @@ ghost use Rattle.std.specs.Prelude.{◌≡◌, ◌≢◌, ◌+◌, ◌*◌, ◌/
 ghost use Rattle.std.specs.Prelude.{replicate};
 ghost use Rattle.std.specs.Prelude.{IfOk, IfSome, IfNone, IsTrue, slice_set, vec_len};
 ghost use Rattle.mio.specs.Event.{event_token};
-ghost use Rattle.sr_events.specs.Connections.{ChangesAt, IsHeardOf, open_count, settled, slot_at, with_event};
+ghost use Rattle.sr_events.specs.Connections.{ChangesAt, IsHeardOf, open_count, settled, settled_after_event, slot_at};
+ghost use Rattle.sr_events.specs.Connections.{with_event};
 ghost use Rattle.sr_events.specs.Slot.{Writes, fresh};
 ghost use Rattle.sr_events.specs.Turns.{turns};
 ghost use Rattle.sr_events.specs.steps.Connections.{TellsAt};
@@ -78,12 +79,14 @@ impl Connections {
     pub fn note(&mut self, event: &Event)
         ensures slots { let token = (event_token event.now).0 in
             self.new.slots ≡ with_event (token % 2 ^ 32) (token / 2 ^ 32) event.now self.old.slots }
+        ensures turns { let token = (event_token event.now).0 in
+            self.new.turns ≡ settled_after_event (token % 2 ^ 32) self.new.slots self.old.turns }
         ensures left { self.new.left ≡ self.old.left }
     {
         let key = Key::of(event.token());
         let token = key.slot as usize;
         note_at(&mut self.slots, token, key.generation, event);
-        settle(&self.slots, &mut self.ring, token);
+        settle_after_event(&self.slots, &mut self.ring, token);
     }
 
     /// What is told of the next connections in turn, until the pass is over.
@@ -177,6 +180,18 @@ fn settle(slots: &[Slot], ring: &mut Ring, token: usize)
 {
     if token < slots.len() && slots[token].has_turn() {
         ring.push(token);
+    }
+}
+
+/// The same of a connection of which an event was noted: one that is over or whose peer sends no more comes before all
+/// others.
+fn settle_after_event(slots: &[Slot], ring: &mut Ring, token: usize)
+    ensures { ring.new ≡ settled_after_event token slots.now ring.old }
+{
+    if token < slots.len() && slots[token].has_ended() && slots[token].has_turn() {
+        ring.push_front(token);
+    } else {
+        settle(slots, ring, token);
     }
 }
 

@@ -9,6 +9,7 @@ mod ring;
 mod slot;
 mod sockets;
 
+pub use acceptor::{LISTENERS_OWN, is_listeners_own};
 pub use key::WAKER;
 pub use planner::{NoPlanner, Planner};
 pub use sockets::EventSockets;

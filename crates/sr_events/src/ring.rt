@@ -1,5 +1,6 @@
-ghost use Rattle.std.specs.Prelude.{◌≡◌, [], ◌∷◌, length, IfOk, IfSome, IfNone};
-ghost use Rattle.sr_events.specs.Turns.{turns, with_turn};
+ghost use Rattle.std.specs.Prelude.{◌≡◌, ◌&&◌, [], ◌∷◌, length, not, if◌then◌else◌, IfOk, IfSome, IfNone};
+ghost use Rattle.std.specs.Prelude.{false, true, nat_lt, slice_index_or, slice_set};
+ghost use Rattle.sr_events.specs.Turns.{turns, with_first_turn, with_turn};
 
 use circular_buffer::HeapCircularBuffer;
 use std::alloc::{AllocError, Global};
@@ -47,9 +48,17 @@ impl Ring {
     pub fn push(&mut self, token: usize)
         ensures { self.new ≡ with_turn token self.old }
     {
-        if token < self.waits.len() && !self.waits[token] {
-            self.waits[token] = true;
+        if begin_to_wait(&mut self.waits, token) {
             let _ = self.tokens.push_back(token);
+        }
+    }
+
+    /// Gives a token a turn before all others. One that has a turn keeps its own.
+    pub fn push_front(&mut self, token: usize)
+        ensures { self.new ≡ with_first_turn token self.old }
+    {
+        if begin_to_wait(&mut self.waits, token) {
+            let _ = self.tokens.push_front(token);
         }
     }
 
@@ -62,6 +71,19 @@ impl Ring {
         self.waits[token] = false;
         Some(token)
     }
+}
+
+/// Notes that a token has a turn. Answers whether it is one of those that there are, and had none.
+fn begin_to_wait(waits: &mut Vec<bool>, token: usize) -> bool
+    ensures value { result ≡
+        (nat_lt token (length waits.old.items) && not (slice_index_or waits.old.items token false)) }
+    ensures flags { waits.new.items ≡ (if result then slice_set waits.old.items token true else waits.old.items) }
+{
+    if token < waits.len() && !waits[token] {
+        waits[token] = true;
+        return true;
+    }
+    false
 }
 
 #[cfg(test)]
@@ -87,9 +109,26 @@ mod tests {
     }
 
     #[test]
+    fn gives_a_first_turn_before_those_that_wait(rt: HostRuntime) -> Result<(), Fail> {
+        let mut ring = Ring::new(rt.alloc(), 4)?;
+        ring.push(0);
+        ring.push(1);
+        // Token 1 keeps its turn, and token 4 is beyond those that there are.
+        for token in [2, 1, 4, 3] {
+            ring.push_front(token);
+        }
+        for expected in [3, 2, 0, 1] {
+            assert_eq!(rt; ring.pop(), Some(expected));
+        }
+        assert_eq!(rt; ring.pop(), None);
+        Ok(())
+    }
+
+    #[test]
     fn has_no_turn_to_give_without_tokens(rt: HostRuntime) -> Result<(), Fail> {
         let mut ring = Ring::new(rt.alloc(), 0)?;
         ring.push(0);
+        ring.push_front(0);
         assert_eq!(rt; ring.pop(), None);
         Ok(())
     }

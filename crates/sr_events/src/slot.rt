@@ -1,6 +1,6 @@
 ghost use Rattle.std.specs.Prelude.{◌≡◌, ◌≢◌, ◌||◌, true, false, length};
 ghost use Rattle.mio.specs.Event.{is_readable, is_error, is_read_closed, is_write_closed};
-ghost use Rattle.sr_events.specs.Slot.{Reads, Tells, Writes, fresh, has_turn, noted};
+ghost use Rattle.sr_events.specs.Slot.{Reads, Tells, Writes, fresh, has_ended, has_turn, noted};
 
 use crate::key::generation_after;
 use mio::event::Event;
@@ -130,6 +130,13 @@ impl Slot {
                 Output::Full => false,
                 Output::Room => true,
             }
+    }
+
+    /// Whether the connection is over, or its peer sends no more.
+    pub fn has_ended(&self) -> bool
+        ensures { result ≡ has_ended self.now }
+    {
+        self.failed || self.ended
     }
 
     /// Notes what an event says of the connection.

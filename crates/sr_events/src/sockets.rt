@@ -8,7 +8,7 @@ ghost use Rattle.sr_hub.specs.Heard.{count_of};
 ghost use Rattle.sr_events.specs.Connections.{slot_at};
 ghost use Rattle.sr_events.specs.Sockets.{Tells, new_sockets};
 
-use crate::acceptor::{Accepted, Acceptor, Waiting};
+use crate::acceptor::{Accepted, Acceptor, Waiting, turn_away};
 use crate::connections::Connections;
 use crate::key::{LISTENER, WAKER};
 use crate::planner::Planner;
@@ -28,9 +28,9 @@ const RETRY: u64 = 10;
 
 /// The sockets of an event loop: those of the connections of one listener, each at the token that it was given.
 ///
-/// Each call of `next` tells one thing. Connections are told of in turn, and the sockets are polled after each pass
-/// over those that have a turn, so that one that sends without pause keeps nobody out. A connection that has bytes to
-/// be written is not read.
+/// Each call of `next` tells one thing. Connections are told of in turn, those that have gone first, and then others
+/// come. The sockets are polled after each pass over those that have a turn, so that one that sends without pause keeps
+/// nobody out. A connection that has bytes to be written is not read.
 #[derive(Drop)]
 pub struct EventSockets<P: Planner> {
     poll: Poll,
@@ -88,7 +88,7 @@ impl<P: Planner + Drop> EventSockets<P> {
         })
     }
 
-    /// What can be told without a poll.
+    /// What can be told without a poll: of the connections that are there, and then who comes.
     fn at_hand(&mut self, buffer: &mut [u8]) -> Option<Heard>
         ensures told { IfSome result (λ heard. Tells (length buffer.new) self.old heard self.new) }
         ensures lost { (token : ℕ) → self.old.lost ≡ Some token → result ≡ Some (Heard.Over token) }
@@ -101,13 +101,16 @@ impl<P: Planner + Drop> EventSockets<P> {
             self.woken = false;
             return Some(Heard::Planned);
         }
+        if let Some(heard) = self.connections.next(buffer) {
+            return Some(heard);
+        }
         match self.acceptor.next(self.connections.is_full()) {
             Accepted::Stream(stream) => {
                 self.latest = Some(stream);
                 Some(Heard::Came)
             }
             Accepted::End => Some(Heard::End),
-            Accepted::Nobody => self.connections.next(buffer),
+            Accepted::Nobody => None,
         }
     }
 
@@ -190,6 +193,14 @@ impl<P: Planner + Drop> Sockets for EventSockets<P> {
     {
         if !self.seat(token) {
             self.lost = Some(token);
+        }
+    }
+
+    fn turn_away(&mut self)
+        ensures { self.new ≡ record self.old { came = false } }
+    {
+        if let Some(stream) = self.latest.take() {
+            turn_away(stream);
         }
     }
 

@@ -1,10 +1,11 @@
 -- A whole run of a hub, one call after another.
-use Rattle.std.proofs.Common.{◌≡◌, ◌<◌, ℕ, ◌+◌, Bool, true, false, cond, ◌==◌, List, [], ◌∷◌, ◌++◌, append_assoc, length, take, get_or, Option, Some, None, option_map, IfSome, refl, ap, sym, subst, ◌∙◌, add-one, arith}
+use Rattle.std.proofs.Common.{◌≡◌, ◌<◌, ◌⊎◌, inl, inr, ℕ, ◌+◌, Bool, true, false, cond, ◌==◌, List, [], ◌∷◌, ◌++◌, append_assoc, length, take, get_or, Option, Some, None, option_map, IfSome, IsTrue, Result, Ok, Err, OnOk, OnErr, IfOk, refl, ap, sym, subst, ◌∙◌, add-one}
 use Rattle.std.proofs.Math.Seq.{take-suc}
 use Rattle.std.proofs.lemmas.List.{append-nil}
-use Rattle.std.proofs.lemmas.Grind.{common_steps}
 use Rattle.std.specs.Global.{Vec}
-use Rattle.sr_book.specs.Records.{Recorded}
+use Rattle.sr_book.specs.Records.{BookState, Recorded, rebased}
+use Rattle.sr_book.specs.declared.event.BookFault.{BookFault}
+use Rattle.sr_book.specs.declared.event.Event.TheVariants as events
 use Rattle.sr_hub.specs.declared.deeds.Deed.{Deed}
 use Rattle.sr_hub.specs.declared.deeds.Deed.TheVariants as deeds
 use Rattle.sr_hub.specs.declared.deeds.Outcome.{Outcome}
@@ -12,28 +13,51 @@ use Rattle.sr_hub.specs.declared.deeds.Outcome.TheVariants as outcomes
 use Rattle.sr_hub.specs.declared.deeds.Timed.{Timed}
 use Rattle.sr_hub.specs.Line.{ConnectionState, IsLine}
 use Rattle.sr_hub.specs.Lines.{AreLines, GoOn, HubState, with_more}
-use Rattle.sr_hub.specs.Deeds.{given_after, given_by, taken_after, taken_by}
-use Rattle.sr_hub.specs.steps.Running.{Does, Runs}
+use Rattle.sr_hub.specs.Said.{LeavesOf, Occurs, SaysOf}
+use Rattle.sr_hub.specs.Deeds.{Does, DoesAll, IsSaidBy, given_after, given_by, taken_after, taken_by}
 use Rattle.sr_hub.specs.steps.Serving.{Keeps}
 use Rattle.sr_hub.proofs.HubLemmas.{none-added}
 
 -- ---- one call
 
+-- a call that is this one
+pub does-as : (timed : Timed) (deed : Deed) (outcome : Outcome) (old new : HubState) → timed.deed ≡ deed
+    → IsSaidBy deed timed.moment outcome old new.book
+    → ((records : List Recorded) (taken given : ℕ → List ℕ) → AreLines records taken given old → GoOn records (taken_by deed outcome taken) (given_by deed outcome given) new)
+    → Does timed outcome old new
+does-as timed deed outcome old new is said goes = record {
+  said = subst (λ (d : Deed). IsSaidBy d timed.moment outcome old new.book) (sym is) said;
+  goes_on = subst (λ (d : Deed). (records : List Recorded) (taken given : ℕ → List ℕ) → AreLines records taken given old → GoOn records (taken_by d outcome taken) (given_by d outcome given) new) (sym is) goes;
+}
+
+-- the same, if it is known of the call alone
+pub does-at : (timed : Timed) (deed : Deed) (outcome : Outcome) (old new : HubState) → timed.deed ≡ deed
+    → Does (record { moment = timed.moment; deed = deed }) outcome old new → Does timed outcome old new
+does-at timed deed outcome old new is does = does-as timed deed outcome old new is does.said does.goes_on
+
 -- a connection does not come
-pub connects-not : (old new : HubState) → Keeps old new → Does deeds.Connect outcomes.Other old new
-connects-not old new keeps = record { goes_on = keeps.goes_on }
+pub connects-not : (moment : ℕ) (old new : HubState) → new ≡ old → Keeps old new → Does (record { moment = moment; deed = deeds.Connect }) outcomes.Other old new
+connects-not moment old new same keeps = record { said = ap (λ (h : HubState). h.book) same; goes_on = keeps.goes_on }
+
+-- deadlines are looked at
+pub does-tick : (timed : Timed) (old new : HubState) (result : Result Bool BookFault) → timed.deed ≡ deeds.Tick
+    → IfOk result (λ done. IsTrue done → Occurs old.book timed.moment events.Expire new.book) → IfOk result (λ done. done ≡ false → new ≡ old) → OnErr result (new ≡ old)
+    → ((records : List Recorded) (taken given : ℕ → List ℕ) → AreLines records taken given old → GoOn records taken given new) → Does timed outcomes.Other old new
+does-tick timed old new (Ok true) is event none refused goes = does-as timed deeds.Tick outcomes.Other old new is (inl (event refl)) goes
+does-tick timed old new (Ok false) is event none refused goes = does-as timed deeds.Tick outcomes.Other old new is (inr (ap (λ (h : HubState). h.book) (none refl))) goes
+does-tick timed old new (Err fault) is event none refused goes = does-as timed deeds.Tick outcomes.Other old new is (inr (ap (λ (h : HubState). h.book) refused)) goes
 
 -- a connection is over
-pub does-close : (deed : Deed) (token : ℕ) (old new : HubState) → deed ≡ deeds.Close token → Keeps old new → Does deed outcomes.Other old new
-does-close deed token old new is keeps =
-    let closes : Does (deeds.Close token) outcomes.Other old new = record { goes_on = keeps.goes_on } in
-    subst (λ (d : Deed). Does d outcomes.Other old new) (sym is) closes
+pub does-close : (timed : Timed) (token : ℕ) (old new : HubState) (result : Result (Unit {0}) BookFault) → timed.deed ≡ deeds.Close token
+    → OnOk result (LeavesOf (old.at token) old.book timed.moment new.book) → OnErr result (new ≡ old) → Keeps old new → Does timed outcomes.Other old new
+does-close timed token old new (Ok done) is left refused keeps = does-as timed (deeds.Close token) outcomes.Other old new is (inl left) keeps.goes_on
+does-close timed token old new (Err fault) is left refused keeps = does-as timed (deeds.Close token) outcomes.Other old new is (inr (ap (λ (h : HubState). h.book) refused)) keeps.goes_on
 
 -- a checkpoint is made
-pub does-compact : (deed : Deed) (keep : ℕ) (old new : HubState) → deed ≡ deeds.Compact keep → Keeps old new → Does deed outcomes.Other old new
-does-compact deed keep old new is keeps =
-    let compacts : Does (deeds.Compact keep) outcomes.Other old new = record { goes_on = keeps.goes_on } in
-    subst (λ (d : Deed). Does d outcomes.Other old new) (sym is) compacts
+pub does-compact : (timed : Timed) (keep : ℕ) (old new : HubState) (done : Bool) → timed.deed ≡ deeds.Compact keep → (IsTrue done → new.book ≡ rebased old.book) → (done ≡ false → new ≡ old) → Keeps old new
+    → Does timed outcomes.Other old new
+does-compact timed keep old new true is book none keeps = does-as timed (deeds.Compact keep) outcomes.Other old new is (inl (book refl)) keeps.goes_on
+does-compact timed keep old new false is book none keeps = does-as timed (deeds.Compact keep) outcomes.Other old new is (inr (ap (λ (h : HubState). h.book) (none refl))) keeps.goes_on
 
 -- no bytes at a token are the same bytes
 more-none : (token : ℕ) (all : ℕ → List ℕ) (at : ℕ) → with_more token [] all at ≡ all at
@@ -44,12 +68,11 @@ more-none token all at = by (at == token)
     by false = refl
 
 -- bytes are passed over
-pub does-pass : (deed : Deed) (token : ℕ) (old new : HubState) → deed ≡ deeds.PassOver token
+pub does-pass : (timed : Timed) (token : ℕ) (old new : HubState) → timed.deed ≡ deeds.PassOver token → new.book ≡ old.book
     → ((piece : List ℕ) (records : List Recorded) (taken given : ℕ → List ℕ) → AreLines records taken given old → GoOn records (with_more token piece taken) given new)
-    → Does deed outcomes.Other old new
-does-pass deed token old new is goes =
-    let passes : Does (deeds.PassOver token) outcomes.Other old new = record { goes_on = λ records taken given lines. same records taken given (goes [] records taken given lines) } in
-    subst (λ (d : Deed). Does d outcomes.Other old new) (sym is) passes
+    → Does timed outcomes.Other old new
+does-pass timed token old new is book goes =
+    does-as timed (deeds.PassOver token) outcomes.Other old new is book (λ records taken given lines. same records taken given (goes [] records taken given lines))
   where
     same : (records : List Recorded) (taken given : ℕ → List ℕ) → GoOn records (with_more token [] taken) given new → GoOn records taken given new
     same records taken given on = record {
@@ -61,17 +84,18 @@ does-pass deed token old new is goes =
     }
 
 -- nothing is sent
-pub sends-none : (token count : ℕ) (hub : HubState) → Does (deeds.Send token count) outcomes.Other hub hub
-sends-none token count hub = record { goes_on = λ records taken given lines. none-added records taken given hub lines }
+pub sends-none : (moment token count : ℕ) (hub : HubState) → Does (record { moment = moment; deed = deeds.Send token count }) outcomes.Other hub hub
+sends-none moment token count hub = record { said = refl; goes_on = λ records taken given lines. none-added records taken given hub lines }
 
 -- a copy of the first bytes is sent
-pub sends-some : (token count first : ℕ) (bytes : List ℕ) (sent : Vec ℕ) (old new : HubState)
+pub sends-some : (moment token count first : ℕ) (bytes : List ℕ) (sent : Vec ℕ) (old new : HubState)
     → Some bytes ≡ option_map (λ (line : ConnectionState). line.unsent) (old.at token)
     → IfSome (old.at token) (λ line. (records : List Recorded) (taken given : ℕ → List ℕ)
     → AreLines records taken given old → AreLines records taken (with_more token (take first line.unsent) given) new)
-    → sent.items ≡ take first bytes
-    → Does (deeds.Send token count) (outcomes.Sent sent) old new
-sends-some token count first bytes sent old new shown goes copied = record {
+    → sent.items ≡ take first bytes → new.book ≡ old.book
+    → Does (record { moment = moment; deed = deeds.Send token count }) (outcomes.Sent sent) old new
+sends-some moment token count first bytes sent old new shown goes copied book = record {
+  said = book;
   goes_on = λ records taken given lines. none-added records taken (with_more token sent.items given) new
       (subst Sent (sym copied) (by (old.at token) shown goes) records taken given lines);
 }
@@ -86,53 +110,47 @@ sends-some token count first bytes sent old new shown goes copied = record {
 
 -- ---- a list of calls
 
-taken_after-append : (done : List Timed) (told : List Outcome) (timed : Timed) (outcome : Outcome) (taken : ℕ → List ℕ) → length told ≡ length done
-    → taken_after (done ++ timed ∷ []) (told ++ outcome ∷ []) taken ≡ taken_by timed.deed outcome (taken_after done told taken)
-taken_after-append [] [] timed outcome taken same = refl
-taken_after-append [] (first ∷ more) timed outcome taken same = absurd (cc)
-taken_after-append (one ∷ rest) [] timed outcome taken same = absurd (cc)
-taken_after-append (one ∷ rest) (first ∷ more) timed outcome taken same =
-    taken_after-append rest more timed outcome (taken_by one.deed first taken) (omega (arith, same))
-
-given_after-append : (done : List Timed) (told : List Outcome) (timed : Timed) (outcome : Outcome) (given : ℕ → List ℕ) → length told ≡ length done
-    → given_after (done ++ timed ∷ []) (told ++ outcome ∷ []) given ≡ given_by timed.deed outcome (given_after done told given)
-given_after-append [] [] timed outcome given same = refl
-given_after-append [] (first ∷ more) timed outcome given same = absurd (cc)
-given_after-append (one ∷ rest) [] timed outcome given same = absurd (cc)
-given_after-append (one ∷ rest) (first ∷ more) timed outcome given same =
-    given_after-append rest more timed outcome (given_by one.deed first given) (omega (arith, same))
-
-pub runs-none : (told : List Outcome) (hub : HubState) → told ≡ [] → Runs [] told hub hub
-runs-none told hub none = record { goes_on = λ records taken given lines. none-added records taken given hub lines }
+pub all-none : (told : List Outcome) (hub : HubState) → told ≡ [] → DoesAll [] told hub hub
+all-none told hub none = (none, refl)
 
 -- one more call
-runs-more : (done : List Timed) (told : List Outcome) (timed : Timed) (outcome : Outcome) (a b c : HubState) → length told ≡ length done
-    → Runs done told a b → Does timed.deed outcome b c → Runs (done ++ timed ∷ []) (told ++ outcome ∷ []) a c
-runs-more done told timed outcome a b c same runs does = record {
-  goes_on = λ records taken given lines.
-      let before : ℕ → List ℕ = taken_after done told taken in
-      let sent : ℕ → List ℕ = given_after done told given in
-      let one : GoOn records before sent b = runs.goes_on records taken given lines in
-      let two : GoOn (records ++ one.added) (taken_by timed.deed outcome before) (given_by timed.deed outcome sent) c =
-      does.goes_on (records ++ one.added) before sent one.lines in
-      let on : GoOn records (taken_by timed.deed outcome before) (given_by timed.deed outcome sent) c = record {
-        added = one.added ++ two.added;
-        lines = subst (λ (r : List Recorded). AreLines r (taken_by timed.deed outcome before) (given_by timed.deed outcome sent) c)
-            (append_assoc records one.added two.added) two.lines;
-      } in
-      subst (λ (t : ℕ → List ℕ). GoOn records t (given_after (done ++ timed ∷ []) (told ++ outcome ∷ []) given) c) (sym (taken_after-append done told timed outcome taken same))
-      (subst (λ (g : ℕ → List ℕ). GoOn records (taken_by timed.deed outcome before) g c) (sym (given_after-append done told timed outcome given same)) on);
-}
-
-length-take : (deeds : List Timed) (index : ℕ) → index < length deeds → length (take index deeds) ≡ index
-length-take deeds index within = grind (arith, common_steps)
+all-more : (done : List Timed) (told : List Outcome) (timed : Timed) (outcome : Outcome) (a b c : HubState) → DoesAll done told a b → Does timed outcome b c
+    → DoesAll (done ++ timed ∷ []) (told ++ outcome ∷ []) a c
+all-more [] told timed outcome a b c all does =
+    (outcome, [], c, subst (λ (h : HubState). Does timed outcome h c) all.1 does, (refl, refl), ap (λ (o : List Outcome). o ++ outcome ∷ []) all.0)
+all-more (first ∷ rest) told timed outcome a b c all does =
+    let one : Outcome = all.0 in
+    let more : List Outcome = all.1 in
+    let middle : HubState = all.2 in
+    (one, more ++ outcome ∷ [], middle, all.3, all-more rest more timed outcome middle b c all.4 does, ap (λ (o : List Outcome). o ++ outcome ∷ []) all.5)
 
 -- the next call of the list
-pub runs-next : (calls : List Timed) (index : ℕ) (told now : List Outcome) (default : Timed) (outcome : Outcome) (a b c : HubState) → index < length calls → length told ≡ index
-    → Runs (take index calls) told a b → Does (get_or calls index default).deed outcome b c → now ≡ told ++ outcome ∷ [] → Runs (take (index + 1) calls) now a c
-runs-next calls index told now default outcome a b c within each runs does is =
+pub all-next : (calls : List Timed) (index : ℕ) (told now : List Outcome) (default : Timed) (outcome : Outcome) (a b c : HubState) → index < length calls
+    → DoesAll (take index calls) told a b → Does (get_or calls index default) outcome b c → now ≡ told ++ outcome ∷ [] → DoesAll (take (index + 1) calls) now a c
+all-next calls index told now default outcome a b c within all does is =
     let next : take (index + 1) calls ≡ take index calls ++ get_or calls index default ∷ [] =
     ap (λ (n : ℕ). take n calls) (add-one index) ∙ take-suc calls index default within in
-    subst (λ (d : List Timed). Runs d now a c) (sym next)
-    (subst (λ (o : List Outcome). Runs (take index calls ++ get_or calls index default ∷ []) o a c) (sym is)
-    (runs-more (take index calls) told (get_or calls index default) outcome a b c (each ∙ sym (length-take calls index within)) runs does))
+    subst (λ (d : List Timed). DoesAll d now a c) (sym next)
+    (subst (λ (o : List Outcome). DoesAll (take index calls ++ get_or calls index default ∷ []) o a c) (sym is)
+    (all-more (take index calls) told (get_or calls index default) outcome a b c all does))
+
+-- after all of them each connection is a line
+pub all-lines : (calls : List Timed) (told : List Outcome) (old new : HubState) → DoesAll calls told old new → (records : List Recorded) (taken given : ℕ → List ℕ) → AreLines records taken given old
+    → GoOn records (taken_after calls told taken) (given_after calls told given) new
+all-lines [] told old new all records taken given lines =
+    subst (λ (h : HubState). GoOn records taken given h) (sym all.1) (none-added records taken given old lines)
+all-lines (first ∷ rest) told old new all records taken given lines =
+    let outcome : Outcome = all.0 in
+    let more : List Outcome = all.1 in
+    let middle : HubState = all.2 in
+    let taken_then : ℕ → List ℕ = taken_by first.deed outcome taken in
+    let given_then : ℕ → List ℕ = given_by first.deed outcome given in
+    let one : GoOn records taken_then given_then middle = all.3.goes_on records taken given lines in
+    let two : GoOn (records ++ one.added) (taken_after rest more taken_then) (given_after rest more given_then) new =
+    all-lines rest more middle new all.4 (records ++ one.added) taken_then given_then one.lines in
+    let on : GoOn records (taken_after rest more taken_then) (given_after rest more given_then) new = record {
+      added = one.added ++ two.added;
+      lines = subst (λ (r : List Recorded). AreLines r (taken_after rest more taken_then) (given_after rest more given_then) new)
+          (append_assoc records one.added two.added) two.lines;
+    } in
+    subst (λ (o : List Outcome). GoOn records (taken_after (first ∷ rest) o taken) (given_after (first ∷ rest) o given) new) (sym all.5) on

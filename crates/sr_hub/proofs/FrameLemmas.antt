@@ -18,7 +18,7 @@ use Rattle.sr_hub.specs.declared.stage.Stage.TheVariants as stages
 use Rattle.sr_hub.specs.Told.{is_by, said_in, spoken}
 use Rattle.sr_hub.specs.Line.{ConnectionState, IsFree, IsJudging, IsLine, IsResting, IsWaitingFor, Stays}
 use Rattle.sr_hub.specs.Lines.{AreAll}
-use Rattle.sr_hub.specs.steps.Moves.{IsOwn}
+use Rattle.sr_hub.specs.Said.{IsOwn}
 use Rattle.sr_hub.proofs.PassLemmas.{Passes, led-passes}
 use Rattle.sr_hub.proofs.SoundLemmas.{IsReachedBy, reached-grows, reached-sound}
 

@@ -12,6 +12,7 @@ use Rattle.sr_book.proofs.SessionLaws.{left-closed}
 use Rattle.sr_hub.specs.declared.stage.Stage.TheVariants as stages
 use Rattle.sr_hub.specs.Line.{ConnectionState}
 use Rattle.sr_hub.specs.Lines.{AreApart, AreLines, GoOn, HubState, with_none}
+use Rattle.sr_hub.specs.Said.{LeavesOf, Occurs}
 use Rattle.sr_hub.specs.steps.Calls.{ComesAt, ComesNot, GoesAt, GoesNot, hub_of, no_one, some_one}
 use Rattle.sr_hub.specs.steps.Telling.{Happens}
 use Rattle.sr_hub.proofs.ComingLemmas.{expired-apart, expired-lines, joined-apart, joined-lines, left-apart, left-lines}
@@ -19,18 +20,19 @@ use Rattle.sr_hub.proofs.HubLemmas.{compact-lines, same-lines}
 
 -- ---- a connection comes
 
-pub record ConnectClauses (result : Result ℕ BookFault) (old new : HubState) : Type 0 where
+pub record ConnectClauses (moment : ℕ) (result : Result ℕ BookFault) (old new : HubState) : Type 0 where
   pub free : IfOk result (λ token. old.at token ≡ None)
   pub session : IfOk result (λ token. IsSomeAnd (new.at token) (λ line. line.session ≡ next_index old.book))
   pub others : IfOk result (λ token. (other : ℕ) → other ≢ token → new.at other ≡ old.at other)
   pub lines : IfOk result (λ token. (records : List Recorded) (taken given : ℕ → List ℕ) → AreLines records taken given old
       → GoOn records (with_none token taken) (with_none token given) new)
+  pub event : OnOk result (Occurs old.book moment events.Join new.book)
   pub refused : IfErr result (λ fault. IsRefusal (refusal old.book.server (next_index old.book) events.Join) fault)
   pub err : OnErr result (new ≡ old)
   pub apart : AreApart new
 
 pub connect-clauses : (moment : ℕ) (result : Result ℕ BookFault) (old new : HubState) → AreApart old → IfOk result (λ token. ComesAt token moment old new)
-    → IfErr result (λ fault. ComesNot fault old new) → ConnectClauses result old new
+    → IfErr result (λ fault. ComesNot fault old new) → ConnectClauses moment result old new
 connect-clauses moment (Ok token) old new apart comes refused =
     let P : Option ConnectionState → Type 0 = λ o. IsSomeAnd o (λ line. line.session ≡ next_index old.book) in
     record {
@@ -39,6 +41,7 @@ connect-clauses moment (Ok token) old new apart comes refused =
       others = comes.others;
       lines = λ records taken given lines.
           joined-lines token old new comes.fresh moment comes.happens.answer comes.happens.stepped comes.there comes.others comes.number records taken given comes.stands comes.unsent comes.idle lines;
+      event = record { answer = comes.happens.answer; stepped = comes.happens.stepped };
       refused = tt;
       err = tt;
       apart = joined-apart token old new comes.fresh moment comes.happens.answer comes.happens.stepped comes.there comes.others comes.number comes.happens.history apart;
@@ -48,6 +51,7 @@ connect-clauses moment (Err fault) old new apart comes refused = record {
   session = tt;
   others = tt;
   lines = tt;
+  event = tt;
   refused = refused.refused;
   err = refused.same;
   apart = subst AreApart (sym refused.same) apart;
@@ -55,17 +59,18 @@ connect-clauses moment (Err fault) old new apart comes refused = record {
 
 -- ---- a connection goes
 
-pub record CloseClauses (token : ℕ) (result : Result (Unit {0}) BookFault) (old new : HubState) : Type 0 where
+pub record CloseClauses (token moment : ℕ) (result : Result (Unit {0}) BookFault) (old new : HubState) : Type 0 where
   pub gone : OnOk result (new.at token ≡ None)
   pub left : OnOk result (IfSome (old.at token) (λ line. is_open line.session new.book.server.sessions ≡ false))
   pub others : (other : ℕ) → other ≢ token → new.at other ≡ old.at other
   pub lines : OnOk result ((records : List Recorded) (taken given : ℕ → List ℕ) → AreLines records taken given old → GoOn records taken given new)
+  pub event : OnOk result (LeavesOf (old.at token) old.book moment new.book)
   pub none : old.at token ≡ None → new ≡ old
   pub refused : IfErr result (λ fault. IfSome (old.at token) (λ line. IsRefusal (refusal old.book.server (next_index old.book) (events.Leave line.session)) fault))
   pub err : OnErr result (new ≡ old)
   pub apart : AreApart new
 
-close-ok : (token moment : ℕ) (done : Unit {0}) (old new : HubState) → AreApart old → GoesAt token moment old new → CloseClauses token (Ok done) old new
+close-ok : (token moment : ℕ) (done : Unit {0}) (old new : HubState) → AreApart old → GoesAt token moment old new → CloseClauses token moment (Ok done) old new
 close-ok token moment done old new apart (no_one none same) =
     let P : Option ConnectionState → Type 0 = λ o. IfSome o (λ line. is_open line.session new.book.server.sessions ≡ false) in
     record {
@@ -73,6 +78,7 @@ close-ok token moment done old new apart (no_one none same) =
       left = subst P (sym none) tt;
       others = λ other away. ap (λ (h : HubState). h.at other) same;
       lines = same-lines old new same;
+      event = subst (λ (o : Option ConnectionState). LeavesOf o old.book moment new.book) (sym none) (ap (λ (h : HubState). h.book) same);
       none = λ is. same;
       refused = tt;
       err = tt;
@@ -85,6 +91,9 @@ close-ok token moment done old new apart (some_one gone was happens none others)
       left = subst P (sym was) (left-closed old.book moment gone.session happens.answer new.book happens.stepped).1;
       others = others;
       lines = left-lines token old new gone moment happens.answer was happens.stepped none others apart;
+      event =
+          let occurs : Occurs old.book moment (events.Leave gone.session) new.book = record { answer = happens.answer; stepped = happens.stepped } in
+          subst (λ (o : Option ConnectionState). LeavesOf o old.book moment new.book) (sym was) occurs;
       none = λ is. absurd (let it : Some gone ≡ None = sym was ∙ is in cc);
       refused = tt;
       err = tt;
@@ -92,7 +101,7 @@ close-ok token moment done old new apart (some_one gone was happens none others)
     }
 
 pub close-clauses : (token moment : ℕ) (result : Result (Unit {0}) BookFault) (old new : HubState) → AreApart old → OnOk result (GoesAt token moment old new)
-    → IfErr result (λ fault. GoesNot token fault old new) → CloseClauses token result old new
+    → IfErr result (λ fault. GoesNot token fault old new) → CloseClauses token moment result old new
 close-clauses token moment (Ok done) old new apart goes refused = close-ok token moment done old new apart goes
 close-clauses token moment (Err fault) old new apart goes refused =
     let P : Option ConnectionState → Type 0 = λ o. IfSome o (λ line. IsRefusal (refusal old.book.server (next_index old.book) (events.Leave line.session)) fault) in
@@ -101,6 +110,7 @@ close-clauses token moment (Err fault) old new apart goes refused =
       left = tt;
       others = λ other away. ap (λ (h : HubState). h.at other) refused.same;
       lines = tt;
+      event = tt;
       none = λ is. refused.same;
       refused = subst P (sym refused.was) refused.refused;
       err = refused.same;
@@ -134,6 +144,7 @@ goes-at before new old_book book token moment gone there happens takes = some_on
 pub record TickClauses (moment : ℕ) (result : Result Bool BookFault) (old new : HubState) : Type 0 where
   pub due : IfOk result (λ done. done ≡ list_any (is_due (next_moment old.book moment)) old.book.server.waiting)
   pub lines : (records : List Recorded) (taken given : ℕ → List ℕ) → AreLines records taken given old → GoOn records taken given new
+  pub event : IfOk result (λ done. IsTrue done → Occurs old.book moment events.Expire new.book)
   pub none : IfOk result (λ done. done ≡ false → new ≡ old)
   pub same : (token : ℕ) → new.at token ≡ old.at token
   pub refused : IfErr result (λ fault. IsRefusal (refusal old.book.server (next_index old.book) events.Expire) fault)
@@ -149,6 +160,7 @@ tick-clauses moment (Ok true) slab old_book book apart due happens none refused 
     record {
       due = due;
       lines = expired-lines (hub_of old_book slab) (hub_of book slab) moment h.answer h.stepped (λ token. refl);
+      event = λ is. record { answer = h.answer; stepped = h.stepped };
       none = λ is. absurd (true≢false is);
       same = λ token. refl;
       refused = tt;
@@ -160,6 +172,7 @@ tick-clauses moment (Ok false) slab old_book book apart due happens none refused
     record {
       due = due;
       lines = same-lines (hub_of old_book slab) (hub_of book slab) same;
+      event = λ is. absurd (true≢false (sym is));
       none = λ is. same;
       same = λ token. refl;
       refused = tt;
@@ -171,6 +184,7 @@ tick-clauses moment (Err fault) slab old_book book apart due happens none refuse
     record {
       due = tt;
       lines = same-lines (hub_of old_book slab) (hub_of book slab) same;
+      event = tt;
       none = tt;
       same = λ token. refl;
       refused = refused.0;

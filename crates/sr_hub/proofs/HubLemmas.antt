@@ -11,6 +11,7 @@ use Rattle.sr_hub.specs.declared.stage.Stage.TheVariants as stages
 use Rattle.sr_hub.specs.Told.{spoken}
 use Rattle.sr_hub.specs.Line.{ConnectionState, IsAtRest, IsLine, is_ended}
 use Rattle.sr_hub.specs.Lines.{AreAll, AreApart, AreLines, GoOn, HubState, with_more}
+use Rattle.sr_hub.specs.Said.{Says, SaysOf}
 use Rattle.sr_hub.specs.steps.Calls.{Changes, IsRefusedAt, MovesAt, SendsAt, TakesAt, hub_of, is_gone, is_there}
 use Rattle.sr_hub.specs.steps.Moves.{Adds, KeepsOpen, Moves, Takes}
 use Rattle.sr_hub.specs.steps.Telling.{Feeds, FeedsNot, IsUntaken, ended, unfed}
@@ -102,6 +103,28 @@ more-at token bytes all = ap (λ (b : Bool). cond b (all token ++ bytes) (all to
 
 more-other : (token : ℕ) (bytes : List ℕ) (all : ℕ → List ℕ) (other : ℕ) → other ≢ token → with_more token bytes all other ≡ all other
 more-other token bytes all other away = ap (λ (b : Bool). cond b (all other ++ bytes) (all other)) (ne_eqb other token away)
+
+-- ---- what the book records
+
+-- nothing
+says-none : (session : ℕ) (old new : BookState) → new ≡ old → Says session old new
+says-none session old new same = record {
+  added = [];
+  same_base = ap (λ (b : BookState). b.base) same;
+  grown = ap (λ (b : BookState). b.records) same ∙ sym (append-nil old.records);
+  own = tt;
+}
+
+-- whatever is at a token, nothing
+pub says-same : (at : Option ConnectionState) (old new : BookState) → new ≡ old → SaysOf at old new
+says-same None old new same = same
+says-same (Some line) old new same = says-none line.session old new same
+
+-- what the connection there has it record
+pub says-at : (at : Option ConnectionState) (line : ConnectionState) (old new : BookState) (more : List Recorded) → at ≡ Some line → Adds line.session old more new → SaysOf at old new
+says-at at line old new more was adds =
+    let says : Says line.session old new = record { added = more; same_base = adds.same_base; grown = adds.grown; own = adds.own } in
+    subst (λ (o : Option ConnectionState). SaysOf o old new) (sym was) says
 
 -- ---- the calls of a hub
 
@@ -319,6 +342,7 @@ pub record TakeClauses (token : ℕ) (piece : List ℕ) (result : Result (Unit {
   pub ended : IsErrOf result take_faults.Ended ↔ IsSomeAnd (old.at token) (λ line. is_ended line.stage ≡ true)
   pub stays : OnErr result (new.book ≡ old.book)
   pub cut_off : IsErrOf result take_faults.Memory → IsSomeAnd (new.at token) (λ line. line.stage ≡ stages.CutOff)
+  pub said : SaysOf (old.at token) old.book new.book
 
 err-same : (one other : TakeFault) → ◌≡◌ {A = Result (Unit {0}) TakeFault} (Err one) (Err other) → one ≡ other
 err-same one other is = cc
@@ -336,6 +360,7 @@ take-clauses token piece (Ok done) old new apart takes refused = record {
   ended = ((λ is. absurd (no-err done take_faults.Ended is)), (λ some. absurd (took-going token piece old new takes some)));
   stays = tt;
   cut_off = λ is. absurd (no-err done take_faults.Memory is);
+  said = says-at (old.at token) takes.before old.book new.book takes.takes.more takes.changes.was takes.takes.adds;
 }
 take-clauses token piece (Err fault) old new apart takes refused =
     let gone = refused-gone token fault old new refused in
@@ -348,6 +373,7 @@ take-clauses token piece (Err fault) old new apart takes refused =
       ended = ((λ is. ended.0 (err-same fault take_faults.Ended is)), (λ some. ap (λ (f : TakeFault). Err f) (ended.1 some)));
       stays = refused-book token fault old new refused;
       cut_off = λ is. refused-cut_off token old new (subst (λ (f : TakeFault). IsRefusedAt token f old new) (err-same fault take_faults.Memory is) refused);
+      said = says-same (old.at token) old.book new.book (refused-book token fault old new refused);
     }
 
 pub take-apart : (token : ℕ) (piece : List ℕ) (result : Result (Unit {0}) TakeFault) (old new : HubState) → AreApart old → OnOk result (TakesAt token piece old new)
@@ -361,6 +387,7 @@ pub record GoOnClauses (token : ℕ) (result : Bool) (old new : HubState) : Type
   pub rest : IsTrue result → IsSomeAnd (new.at token) (λ line. IsAtRest 65536 new.book.server line line.stage)
   pub others : (other : ℕ) → other ≢ token → new.at other ≡ old.at other
   pub none : result ≡ false → new ≡ old
+  pub said : SaysOf (old.at token) old.book new.book
   pub apart : AreApart new
 
 pub same-lines : (old new : HubState) → new ≡ old → (records : List Recorded) (taken given : ℕ → List ℕ) → AreLines records taken given old → GoOn records taken given new
@@ -374,6 +401,7 @@ go_on-clauses token true old new apart moves none = record {
   rest = λ is. moved-rest token old new (moves refl);
   others = (moves refl).changes.others;
   none = none;
+  said = says-at (old.at token) (moves refl).before old.book new.book (moves refl).moves.more (moves refl).changes.was (moves refl).moves.adds;
   apart = moved-apart token old new apart (moves refl);
 }
 go_on-clauses token false old new apart moves none = record {
@@ -381,6 +409,7 @@ go_on-clauses token false old new apart moves none = record {
   rest = λ is. absurd (true≢false (sym is));
   others = λ other away. ap (λ (h : HubState). h.at other) (none refl);
   none = none;
+  said = says-same (old.at token) old.book new.book (ap (λ (h : HubState). h.book) (none refl));
   apart = subst AreApart (sym (none refl)) apart;
 }
 
@@ -443,12 +472,14 @@ pub record MovedClauses (token : ℕ) (old new : HubState) : Type 0 where
   pub lines : (records : List Recorded) (taken given : ℕ → List ℕ) → AreLines records taken given old → GoOn records taken given new
   pub rest : IsSomeAnd (new.at token) (λ line. IsAtRest 65536 new.book.server line line.stage)
   pub others : (other : ℕ) → other ≢ token → new.at other ≡ old.at other
+  pub said : SaysOf (old.at token) old.book new.book
 
 pub moved-clauses : (token : ℕ) (old new : HubState) → AreApart old → MovesAt token old new → MovedClauses token old new
 moved-clauses token old new apart moves = record {
   lines = moved-lines token old new apart moves;
   rest = moved-rest token old new moves;
   others = moves.changes.others;
+  said = says-at (old.at token) moves.before old.book new.book moves.moves.more moves.changes.was moves.moves.adds;
 }
 
 pub record SentClauses (token count : ℕ) (old new : HubState) : Type 0 where

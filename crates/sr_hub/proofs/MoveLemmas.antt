@@ -1,5 +1,5 @@
 -- One connection and the book: what comes of an event of its session, and one step after another.
-use Rattle.std.proofs.Common.{◌≡◌, ◌==◌, ◌⊎◌, inl, inr, ℕ, zero, suc, max, ◌+◌, ◌≤◌, ◌^◌, Bool, true, false, List, [], ◌∷◌, ◌++◌, length, length-append, append_assoc, Some, None, IsSome, IsSomeAnd, refl, ap, sym, subst, ◌∙◌, arith, true≢false}
+use Rattle.std.proofs.Common.{◌≡◌, ◌==◌, ◌⊎◌, inl, inr, ℕ, zero, suc, max, ◌+◌, ◌≤◌, ◌^◌, Bool, true, false, List, [], ◌∷◌, ◌++◌, length, length-append, append_assoc, Option, Some, None, IsSome, IsSomeAnd, refl, ap, sym, subst, ◌∙◌, arith, true≢false}
 use Rattle.std.proofs.lemmas.List.{append-nil}
 use Rattle.std.specs.List.{AllByRecursion}
 use Rattle.sr_resp.specs.Request.{Words}
@@ -37,12 +37,13 @@ use Rattle.sr_book.proofs.SessionLaws.{servings-open}
 use Rattle.sr_session.specs.Answered.{code_of}
 use Rattle.sr_session.proofs.LetterLemmas.{HasNone, history-none}
 use Rattle.sr_hub.specs.Told.{AreOf, AreRounds, IsBroken, IsSilent, IsTold, IsVerdictOn, broke_off, is_full, lacks_index, lacks_memory, refused, replied, spoken}
-use Rattle.sr_hub.specs.Line.{ConnectionState, IsAtRest, IsFree, IsJudging, IsLine, IsWaitingFor, Stays, is_ended, last_text, wanted_of}
+use Rattle.sr_hub.specs.Line.{ConnectionState, IsAtRest, IsFree, IsJudging, IsLine, IsWaitingFor, Stays, is_ended, last_text}
 use Rattle.sr_hub.specs.declared.stage.Judging.{Judging}
 use Rattle.sr_hub.specs.declared.stage.Stage.{Stage}
 use Rattle.sr_hub.specs.declared.stage.Stage.TheVariants as stages
 use Rattle.sr_hub.specs.steps.Left.{Concludes, judging_of}
-use Rattle.sr_hub.specs.steps.Moves.{Adds, Answers, IsHolding, IsOwn, KeepsOpen, Moves, Takes}
+use Rattle.sr_hub.specs.Said.{IsOwn}
+use Rattle.sr_hub.specs.steps.Moves.{Adds, Answers, IsHolding, KeepsOpen, Moves, Takes}
 use Rattle.sr_hub.specs.steps.Telling.{Comes, IsRefusedBy, Tells, TellsFault, cut_off, is_sound, lacks, refusal_code, told, went_wrong}
 use Rattle.sr_hub.proofs.FrameLemmas.{addressed-append, all-grows, spoken-append}
 use Rattle.sr_hub.proofs.OwnLemmas.{IsHeardOut, board-replied, call-blocked, call-replied, conclude-replied, conclude-stale, snapshot-replied, snapshot-taken, step-adds, step-refused}
@@ -621,34 +622,10 @@ module _ (old : BookState) (line : ConnectionState) (at : ℕ) (new : BookState)
       → Moves old line new after
   concluded-refused code by_fault tells = moves-refused old line at at_round.judging at_round.is judged apply (later == 0) of_round code new after by_fault tells
 
--- what a caller that has a verdict on the snapshot that is wanted knows
-pub concludes-of : (stage : Stage) (judged : Judged) (apply : Bool) (later : ℕ) → IsSomeAnd (wanted_of stage) (λ shown. judged.snapshot ≡ shown)
-    → IsSomeAnd (judging_of stage) (λ judging. (judging.apply ≡ apply) × (judging.later ≡ later)) → Concludes stage judged apply later
-concludes-of stages.Idle judged apply later wanted round = absurd wanted
-concludes-of stages.Waiting judged apply later wanted round = absurd wanted
-concludes-of (stages.Judges judging) judged apply later wanted round = (round.0, round.1, wanted)
-concludes-of stages.Broken judged apply later wanted round = absurd wanted
-concludes-of stages.CutOff judged apply later wanted round = absurd wanted
-
--- there is a recovery if a snapshot is wanted
-pub wanted-judges : (stage : Stage) (P : Shown → Type 0) → IsSomeAnd (wanted_of stage) P → IsSome (judging_of stage)
-wanted-judges stages.Idle P wanted = absurd wanted
-wanted-judges stages.Waiting P wanted = absurd wanted
-wanted-judges (stages.Judges judging) P wanted = refl
-wanted-judges stages.Broken P wanted = absurd wanted
-wanted-judges stages.CutOff P wanted = absurd wanted
-
--- memory is lacking for a verdict
-pub lacking-moves : (old : BookState) (line after : ConnectionState) (P : Shown → Type 0) → IsSomeAnd (wanted_of line.stage) P → Tells (reply_text (error_reply errors.Memory)) line after
-    → Moves old line old after
-lacking-moves old line after P wanted tells = by line.stage refl wanted
-  where
-    by : (stage : Stage) → line.stage ≡ stage → IsSomeAnd (wanted_of stage) P → Moves old line old after
-    by stages.Idle is some = absurd some
-    by stages.Waiting is some = absurd some
-    by (stages.Judges judging) is some = moves-lacking old line 0 judging is after tells
-    by stages.Broken is some = absurd some
-    by stages.CutOff is some = absurd some
+-- there is a value if there is one of which something holds
+pub some-is : {A : Type 0} (o : Option A) (P : A → Type 0) → IsSomeAnd o P → IsSome o
+some-is None P some = absurd some
+some-is (Some x) P some = refl
 
 -- not the last round
 pub some-later : (later : ℕ) → (later == 0) ≡ false → 1 ≤ later

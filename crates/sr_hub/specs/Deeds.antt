@@ -1,8 +1,11 @@
--- Whole runs of a hub: the bytes that were taken from each connection and given to it by a list of calls, as their
--- outcomes tell.
+-- Whole runs of a hub: what a list of calls has the book record, and the bytes that were taken from each connection and
+-- given to it, as the outcomes of the calls tell.
 
-use Rattle.std.specs.Prelude.{ℕ, List, [], ◌∷◌}
-use Rattle.sr_hub.specs.Lines.{with_more, with_none}
+use Rattle.std.specs.Prelude.{◌≡◌, ◌⊎◌, ℕ, List, [], ◌∷◌}
+use Rattle.sr_book.specs.Records.{BookState, Recorded, rebased}
+use Rattle.sr_book.specs.declared.event.Event.TheVariants as events
+use Rattle.sr_hub.specs.Lines.{AreLines, GoOn, HubState, with_more, with_none}
+use Rattle.sr_hub.specs.Said.{LeavesOf, Occurs, SaysOf}
 use Rattle.sr_hub.specs.declared.deeds.Deed.{Deed}
 use Rattle.sr_hub.specs.declared.deeds.Deed.TheVariants as deeds
 use Rattle.sr_hub.specs.declared.deeds.Outcome.{Outcome}
@@ -56,3 +59,37 @@ abbrev pub given_after : List Timed → List Outcome → (ℕ → List ℕ) → 
 given_after [] outcomes given = given
 given_after (timed ∷ rest) [] given = given
 given_after (timed ∷ rest) (outcome ∷ more) given = given_after rest more (given_by timed.deed outcome given)
+
+-- ---- the calls, one after another
+
+-- a session joined, if a connection came
+abbrev pub JoinsBy : Outcome → BookState → ℕ → BookState → Type 0
+JoinsBy (outcomes.Came token) old moment new = Occurs old moment events.Join new
+JoinsBy (outcomes.Sent bytes) old moment new = new ≡ old
+JoinsBy outcomes.Other old moment new = new ≡ old
+
+-- what one call, at a moment, has the book record
+abbrev pub IsSaidBy : Deed → ℕ → Outcome → HubState → BookState → Type 0
+IsSaidBy deeds.Connect moment outcome old new = JoinsBy outcome old.book moment new
+IsSaidBy (deeds.Take token piece) moment outcome old new = SaysOf (old.at token) old.book new
+IsSaidBy (deeds.PassOver token) moment outcome old new = new ≡ old.book
+IsSaidBy (deeds.GoOn token) moment outcome old new = SaysOf (old.at token) old.book new
+IsSaidBy (deeds.Send token count) moment outcome old new = new ≡ old.book
+IsSaidBy (deeds.Judge token) moment outcome old new = SaysOf (old.at token) old.book new
+IsSaidBy deeds.Tick moment outcome old new = Occurs old.book moment events.Expire new ⊎ (new ≡ old.book)
+IsSaidBy (deeds.Close token) moment outcome old new =
+    LeavesOf (old.at token) old.book moment new ⊎ (new ≡ old.book)
+IsSaidBy (deeds.Compact keep) moment outcome old new = (new ≡ rebased old.book) ⊎ (new ≡ old.book)
+
+-- one call: each connection goes on as a line of the bytes that were taken and given by it
+pub record Does (timed : Timed) (outcome : Outcome) (old new : HubState) : Type 0 where
+  pub said : IsSaidBy timed.deed timed.moment outcome old new.book
+  pub goes_on : (records : List Recorded) (taken given : ℕ → List ℕ) → AreLines records taken given old
+      → GoOn records (taken_by timed.deed outcome taken) (given_by timed.deed outcome given) new
+
+-- the calls of a list, each with its outcome
+abbrev pub DoesAll : List Timed → List Outcome → HubState → HubState → Type 0
+DoesAll [] outcomes old new = (outcomes ≡ []) × (new ≡ old)
+DoesAll (first ∷ rest) outcomes old new =
+    (outcome : Outcome) × (more : List Outcome) × (middle : HubState) × Does first outcome old middle
+    × DoesAll rest more middle new × (outcomes ≡ outcome ∷ more)

@@ -3,5 +3,5 @@ pub mod Calls
 pub mod Left
 pub mod Moves
 pub mod Serving
+pub mod Shelf
 pub mod Telling
-pub mod Running

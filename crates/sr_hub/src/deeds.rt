@@ -1,9 +1,8 @@
 //! Whole runs of a hub: one call after another.
 ghost use Rattle.std.specs.Prelude.{◌≡◌, ℕ, List, IfOk, OnErr, length};
 ghost use Rattle.sr_book.specs.Records.{Recorded};
-ghost use Rattle.sr_hub.specs.Deeds.{given_after, taken_after};
+ghost use Rattle.sr_hub.specs.Deeds.{Does, DoesAll, given_after, taken_after};
 ghost use Rattle.sr_hub.specs.Lines.{AreLines, GoOn, state_of};
-ghost use Rattle.sr_hub.specs.steps.Running.{Does};
 
 use crate::Hub;
 use std::alloc::{AllocError, Global};
@@ -52,13 +51,17 @@ pub enum Outcome {
 /// Makes these calls of a hub, each at its moment, and answers what came of each. An `Err` says that memory is lacking
 /// for that, and changes nothing.
 ///
-/// Whatever the calls are, each connection goes on as a line of the bytes that were taken from it and sent to it.
+/// Whatever the calls are, each has the book record events of its connection's session alone, or at most the one event
+/// that it stands for, and servings. Each connection goes on as a line of the bytes that were taken from it and sent
+/// to it.
 pub fn run_hub(
     alloc: Global,
     hub: &mut Hub,
     deeds: &[Timed<'_>],
 ) -> Result<Vec<Outcome>, AllocError>
     ensures each { IfOk result (λ outcomes. length outcomes.items ≡ length deeds.now) }
+    ensures calls { IfOk result (λ outcomes.
+        DoesAll deeds.now outcomes.items (state_of hub.old) (state_of hub.new)) }
     ensures lines { IfOk result (λ outcomes. (records : List Recorded) (taken given : ℕ → List ℕ)
         → AreLines records taken given (state_of hub.old)
         → GoOn records (taken_after deeds.now outcomes.items taken) (given_after deeds.now outcomes.items given)
@@ -74,7 +77,7 @@ pub fn run_hub(
 
 /// Makes one call of a hub.
 fn do_deed(alloc: Global, hub: &mut Hub, timed: &Timed<'_>) -> Outcome
-    ensures { Does timed.now.deed result (state_of hub.old) (state_of hub.new) }
+    ensures { Does timed.now result (state_of hub.old) (state_of hub.new) }
 {
     let moment = timed.moment;
     match timed.deed {
@@ -113,7 +116,7 @@ fn do_deed(alloc: Global, hub: &mut Hub, timed: &Timed<'_>) -> Outcome
 
 /// A connection comes.
 fn connect(alloc: Global, hub: &mut Hub, moment: u64) -> Outcome
-    ensures { Does Deed.Connect result (state_of hub.old) (state_of hub.new) }
+    ensures { Does (record { moment = moment; deed = Deed.Connect }) result (state_of hub.old) (state_of hub.new) }
 {
     match hub.connect(alloc, moment) {
         Ok(token) => Outcome::Came(token),
@@ -124,7 +127,8 @@ fn connect(alloc: Global, hub: &mut Hub, moment: u64) -> Outcome
 /// Sends the first of the bytes that are to be sent to a connection, at most this many. Nothing is sent if there is no
 /// such connection, or if memory is lacking for a copy of them.
 fn send(alloc: Global, hub: &mut Hub, token: usize, count: usize) -> Outcome
-    ensures { Does (Deed.Send token count) result (state_of hub.old) (state_of hub.new) }
+    ensures { (moment : ℕ) → Does (record { moment = moment; deed = Deed.Send token count })
+        result (state_of hub.old) (state_of hub.new) }
 {
     let Some(bytes) = hub.unsent(token) else {
         return Outcome::Other;

@@ -19,6 +19,9 @@ const PART: usize = 1_000;
 /// Within which bounds a loop keeps what it serves.
 #[derive(Clone, Copy)]
 pub struct Habits {
+    /// How many connections are served at a time, with those that are over and whose session could not leave yet.
+    /// Further ones are turned away.
+    pub connections: usize,
     /// How many records are kept: if there are more, a checkpoint is made. None: all of them.
     pub keep: Option<u64>,
     /// After this many milliseconds without a whole request a connection that does not wait is closed. None: never.
@@ -62,6 +65,11 @@ impl<'a, C: Clock> Keeper<'a, C> {
             quiet: false,
             dropped: Vec::new(alloc),
         }
+    }
+
+    /// Whether there is no place for a further connection.
+    pub(crate) fn is_full(&self) -> bool {
+        self.watch.len() >= self.habits.connections
     }
 
     /// What the clock told last.

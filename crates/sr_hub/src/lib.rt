@@ -3,14 +3,17 @@
 #![tactic(auto)]
 
 mod answering;
+mod bookkeeping;
 mod connection;
 mod copy;
 mod deeds;
 mod hub;
 mod keeper;
 mod laws;
+mod placed;
 mod rounds;
 mod serve;
+mod shelf;
 mod sockets;
 mod stage;
 mod unsent;

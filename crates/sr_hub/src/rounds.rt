@@ -5,15 +5,17 @@ ghost use Rattle.sr_args.specs.declared.call.Command.TheVariants as commands;
 ghost use Rattle.sr_args.specs.Command.{IsCommand};
 ghost use Rattle.sr_hub.specs.Line.{wanted_of};
 ghost use Rattle.sr_hub.specs.steps.Moves.{Answers, Moves};
-ghost use Rattle.sr_hub.specs.steps.Left.{Concludes, judging_of};
+ghost use Rattle.sr_hub.specs.steps.Left.{Concludes};
 ghost use Rattle.sr_hub.specs.declared.stage.Stage.{Stage as ConnectionStage};
 
 use crate::answering::said;
+use crate::shelf::Shelf;
 use crate::{Connection, Judging, Stage};
 use sr_args::Names;
 use sr_book::{Book, Event, Out};
 use sr_bytes::Name;
 use sr_plan::Verdict;
+use sr_policy::Snapshot;
 use sr_resp::ErrCode;
 use std::alloc::{AllocError, Global};
 
@@ -27,13 +29,44 @@ pub(crate) struct Recovery {
     pub(crate) dead: Names,
 }
 
-/// Takes the snapshot with which a recovery begins: then a verdict is wanted, or it is answered at once.
+/// A recovery in one of its rounds.
+#[derive(Drop)]
+struct Round {
+    apply: bool,
+    /// How many rounds it may make after this one.
+    later: u64,
+    /// Where the snapshot for the next one is kept.
+    shelf: Shelf,
+}
+
+/// Begins a recovery, if there is memory to keep its snapshots.
 pub(crate) fn begin_recovery(
     alloc: Global,
     book: &mut Book,
     connection: &mut Connection,
     moment: u64,
     recovery: Recovery,
+)
+    requires { connection.old.stage ≡ Stage.Idle }
+    ensures answers { (words : RequestWords) → IsCommand words (commands.Recover recovery.apply recovery.tries
+        recovery.key recovery.group recovery.dead)
+        → Answers words book.old connection.old book.new connection.new }
+    ensures requests { connection.new.requests ≡ connection.old.requests }
+{
+    match Shelf::new(alloc) {
+        Ok(shelf) => take_snapshot(alloc, book, connection, moment, recovery, shelf),
+        Err(AllocError) => connection.tell_error(alloc, ErrCode::Memory),
+    }
+}
+
+/// Takes the snapshot with which a recovery begins: then a verdict is wanted, or it is answered at once.
+fn take_snapshot(
+    alloc: Global,
+    book: &mut Book,
+    connection: &mut Connection,
+    moment: u64,
+    recovery: Recovery,
+    shelf: Shelf,
 )
     requires { connection.old.stage ≡ Stage.Idle }
     ensures answers { (words : RequestWords) → IsCommand words (commands.Recover recovery.apply recovery.tries
@@ -62,7 +95,7 @@ pub(crate) fn begin_recovery(
                 connection.pass_to(Stage::Judges(Judging {
                     apply,
                     later,
-                    snapshot,
+                    snapshot: shelf.keep(snapshot),
                 }))
             }
             Out::Joined(_) | Out::Blocked | Out::Stale(_) | Out::Expired(_) | Out::Left =>
@@ -85,23 +118,10 @@ pub(crate) fn conclude_round(
         IfSome verdict (λ judged. judged.snapshot ≡ shown)) }
     ensures { Moves book.old connection.old book.new connection.new }
 {
-    let round = round_of(&connection.stage);
+    let (_, round) = take_round(connection);
     match verdict {
+        Some(verdict) => conclude_verdict(alloc, book, connection, moment, verdict, round),
         None => connection.tell_error(alloc, ErrCode::Memory),
-        Some(verdict) => conclude_verdict(
-            alloc, book, connection, moment, verdict, round.0, round.1,
-        ),
-    }
-}
-
-/// Whether the plan of a recovery is carried out, and how many rounds it may make after the next one.
-fn round_of(stage: &Stage) -> (bool, u64)
-    requires { IsSome (judging_of stage.now) }
-    ensures { IsSomeAnd (judging_of stage.now) (λ judging. (judging.apply ≡ result.0) × (judging.later ≡ result.1)) }
-{
-    match stage {
-        Stage::Judges(judging) => (judging.apply, judging.later),
-        Stage::Idle | Stage::Waiting | Stage::Broken | Stage::CutOff => unreachable!(),
     }
 }
 
@@ -111,6 +131,24 @@ pub(crate) fn judge_round(alloc: Global, book: &mut Book, connection: &mut Conne
     requires { IsSome (wanted_of connection.old.stage) }
     ensures { Moves book.old connection.old book.new connection.new }
 {
+    let (snapshot, round) = take_round(connection);
+    match Verdict::make(alloc, snapshot) {
+        Ok(verdict) => conclude_verdict(alloc, book, connection, moment, verdict, round),
+        Err(AllocError) => connection.tell_error(alloc, ErrCode::Memory),
+    }
+}
+
+/// Takes the recovery of a connection out: the snapshot that is wanted, and its round. The connection is as if it was
+/// cut off until it passes to another stage. Takes no memory.
+fn take_round(connection: &mut Connection) -> (Snapshot, Round)
+    requires { IsSome (wanted_of connection.old.stage) }
+    ensures stage { connection.old.stage ≡ Stage.Judges (record {
+      apply = result.1.apply;
+      later = result.1.later;
+      snapshot = result.0;
+    }) }
+    ensures rest { connection.new ≡ record connection.old { stage = Stage.CutOff } }
+{
     let Stage::Judges(judging) = connection.take_stage() else {
         unreachable!()
     };
@@ -119,26 +157,32 @@ pub(crate) fn judge_round(alloc: Global, book: &mut Book, connection: &mut Conne
         later,
         snapshot,
     } = judging;
-    match Verdict::make(alloc, snapshot) {
-        Ok(verdict) => conclude_verdict(alloc, book, connection, moment, verdict, apply, later),
-        Err(AllocError) => connection.tell_error(alloc, ErrCode::Memory),
-    }
+    let (snapshot, shelf) = snapshot.take_out();
+    let round = Round {
+        apply,
+        later,
+        shelf,
+    };
+    (snapshot, round)
 }
 
-/// Concludes this verdict, in a recovery that may make this many rounds after this one, whatever stage of it the
-/// connection was in.
+/// Concludes this verdict in this round of a recovery, whatever stage of it the connection was in.
 fn conclude_verdict(
     alloc: Global,
     book: &mut Book,
     connection: &mut Connection,
     moment: u64,
     verdict: Verdict,
-    apply: bool,
-    later: u64,
+    round: Round,
 )
-    ensures { (stage : ConnectionStage) → Concludes stage verdict apply later
+    ensures { (stage : ConnectionStage) → Concludes stage verdict round.apply round.later
         → Moves book.old (record connection.old { stage = stage }) book.new connection.new }
 {
+    let Round {
+        apply,
+        later,
+        shelf,
+    } = round;
     verdict.sound();
     let event = Event::Conclude {
         session: connection.session,
@@ -154,7 +198,7 @@ fn conclude_verdict(
                 connection.pass_to(Stage::Judges(Judging {
                     apply,
                     later: fewer,
-                    snapshot,
+                    snapshot: shelf.keep(snapshot),
                 }))
             }
             Out::Joined(_) | Out::Blocked | Out::Snap(_) | Out::Expired(_) | Out::Left =>

@@ -73,10 +73,14 @@ fn hear<S: Sockets, C: Clock>(
     true
 }
 
-/// A connection came: gives it a token, or refuses it.
+/// A connection came: gives it a token, turns it away if there is no place for it, or refuses it if memory is lacking.
 fn admit<S: Sockets, C: Clock>(hub: &mut Hub, sockets: &mut S, keeper: &mut Keeper<'_, C>)
     ensures { Serves (state_of hub.old) (S.may_have sockets.old) (state_of hub.new) (S.may_have sockets.new) }
 {
+    if keeper.is_full() {
+        sockets.turn_away();
+        return;
+    }
     if keeper.watch.reserve().is_err() {
         sockets.refuse();
         return;

@@ -64,6 +64,10 @@ pub trait Sockets {
         ensures { (taken given : ℕ → List ℕ) → may_have self.old taken given
             → may_have self.new (with_none token taken) (with_none token given) };
 
+    /// Tells the client of the connection that came last that there is no place for it, and closes the connection.
+    fn turn_away(&mut self)
+        ensures { (taken given : ℕ → List ℕ) → may_have self.old taken given → may_have self.new taken given };
+
     /// Closes the connection that came last.
     fn refuse(&mut self)
         ensures { (taken given : ℕ → List ℕ) → may_have self.old taken given → may_have self.new taken given };

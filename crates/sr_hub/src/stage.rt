@@ -1,4 +1,4 @@
-use sr_policy::Snapshot;
+use crate::shelf::KeptSnapshot;
 
 /// A recovery between two of its rounds.
 #[derive(Drop)]
@@ -8,7 +8,7 @@ pub struct Judging {
     /// How many rounds it may make after the next one.
     pub later: u64,
     /// The snapshot on which the next verdict is to be made.
-    pub snapshot: Snapshot,
+    pub snapshot: KeptSnapshot,
 }
 
 /// What a connection is doing.

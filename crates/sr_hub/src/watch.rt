@@ -46,6 +46,11 @@ impl Watch {
         }
     }
 
+    /// How many connections there are.
+    pub(crate) fn len(&self) -> usize {
+        self.tokens.len()
+    }
+
     /// Makes room for one more connection.
     pub(crate) fn reserve(&mut self) -> Result<(), AllocError> {
         self.tokens.reserve(1)?;

@@ -5,18 +5,26 @@ ghost use Rattle.sr_run.specs.Shared.{HasMade, HasNotMade, HasSeen};
 use crate::Shared;
 use crate::shared::Turn;
 use sr_book::{Answer, Event, Letter};
-use sr_seats::{Seat, SeatFault};
+use sr_seats::{ActFault, Seat, SeatFault};
 use sr_session::{Desk, DeskFault};
 use std::alloc::Global;
 use std::net::TcpStream;
-use std::rt;
 use std::sync::Wait;
 use std::sync::ledger::Ledger;
+use std::time::Duration;
+use std::{rt, thread};
+
+/// How long a desk sleeps before it tries a leave again, in milliseconds.
+const RETRY: u64 = 10;
+
+/// How many times it does so, which takes some ten seconds.
+const RETRIES: u32 = 1_000;
 
 /// A desk over a book behind a lock, at a seat. It shows no book, since others may use it between any two events.
 ///
 /// It keeps the lock from one event to the next until the session pauses, joins or leaves: so the requests of one read
-/// are carried out in one turn. Its `await_reply` waits for as long as the session does.
+/// are carried out in one turn. Its `await_reply` waits for as long as the session does. A leave for which there is no
+/// memory is tried again, a thousand times at most, 10 milliseconds apart, and others have their turns in between.
 #[derive(Drop)]
 pub struct SeatDesk<'a, L: Ledger, R: Wait> {
     rt: &'a R,
@@ -79,9 +87,18 @@ impl<'a, L: Ledger, R: Wait + rt::Clock> Desk for SeatDesk<'a, L, R> {
             Some(turn) => turn,
             None => self.shared.turn(self.rt),
         };
-        let result = act_in(self.rt, &mut turn, self.seat, alloc, moment, event);
+        let result = turn.act(self.rt, alloc, self.seat, moment, event);
         self.turn = kept(turn, goes_on);
-        result
+        match result {
+            Ok(answer) => Ok(answer),
+            Err(
+                ActFault {
+                    fault: SeatFault::Memory,
+                    event: Event::Leave { session },
+                },
+            ) => leave_again(self.rt, self.shared, self.seat, alloc, moment, session),
+            Err(refused) => Err(desk_fault(refused.fault)),
+        }
     }
 
     fn await_reply(&mut self, alloc: Global, session: u64) -> Result<Letter, DeskFault>
@@ -124,22 +141,28 @@ fn kept<L: Ledger>(turn: Turn<'_, L>, goes_on: bool) -> Option<Turn<'_, L>> {
     }
 }
 
-/// Carries out an event of a seat, and drops it if it was not.
-fn act_in<L: Ledger, R: Wait>(
+/// Tries a leave again for which there was no memory, until it is made, is refused for another reason, or was tried
+/// often enough. While this sleeps the lock is free.
+fn leave_again<L: Ledger, R: Wait + rt::Clock>(
     rt: &R,
-    turn: &mut Turn<'_, L>,
+    shared: &Shared<L>,
     seat: &mut Seat<L>,
     alloc: Global,
     told: u64,
-    event: Event,
+    session: u64,
 ) -> Result<Answer, DeskFault>
     ensures ok { IfOk result (λ answer. HasMade answer.index seat.old seat.new) }
     ensures err { IfErr result (λ fault. HasRefused fault seat.old seat.new) }
 {
-    match turn.act(rt, alloc, seat, told, event) {
-        Ok(answer) => Ok(answer),
-        Err(refused) => Err(desk_fault(refused.fault)),
+    for _ in 0..RETRIES {
+        thread::sleep(rt, Duration::from_millis(RETRY));
+        match shared.act(rt, alloc, seat, told, Event::Leave { session }) {
+            Ok(answer) => return Ok(answer),
+            Err(refused) if refused.fault == SeatFault::Memory => {}
+            Err(refused) => return Err(desk_fault(refused.fault)),
+        }
     }
+    Err(DeskFault::Memory)
 }
 
 /// The letter of a session, which the seat has seen then.

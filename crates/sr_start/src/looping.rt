@@ -97,6 +97,7 @@ fn run_loop<R: Wait + rt::Clock>(
 
 /// Within which bounds a loop keeps what it serves.
 fn habits_of(looping: Looping, keep: Option<u64>) -> Habits
+    ensures connections { result.connections ≡ looping.connections }
     ensures keep { result.keep ≡ keep }
     ensures idle { result.idle ≡ option_map (λ seconds. seconds * 1000) looping.idle }
     ensures unfinished { result.unfinished ≡ looping.unfinished }
@@ -106,6 +107,7 @@ fn habits_of(looping: Looping, keep: Option<u64>) -> Habits
         None => None,
     };
     Habits {
+        connections: looping.connections,
         keep,
         idle,
         unfinished: looping.unfinished,

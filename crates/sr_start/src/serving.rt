@@ -3,11 +3,12 @@ ghost use Rattle.std.specs.Prelude.{◌≡◌, ◌⊎◌, ◌↔◌, ◌+◌, �
 use crate::clock::SystemClock;
 use crossbeam_channel::{Receiver, SendError, Sender, bounded};
 use sr_book::{Book, Record};
+use sr_events::is_listeners_own;
 use sr_resp::WriteTo;
 use sr_run::{HoldFault, Seat, SeatDesk, Shared, open};
 use sr_session::{Clock, Ended, NoGate, ReadFrom, run_session};
 use std::alloc::{AllocError, Global};
-use std::io::{Error, ErrorKind};
+use std::io::ErrorKind;
 use std::marker::Brand;
 use std::net::{Shutdown, TcpListener, TcpStream};
 use std::sync::ledger::{Blank, Ledger};
@@ -35,16 +36,6 @@ const BLOCKING: bool = true;
 
 /// How long the accepting thread sleeps after a failed accept that is the moment's, in milliseconds.
 const RETRY: u64 = 10;
-
-/// The faults that are a listener's own, after which no accept succeeds: no descriptor or not one of a socket that
-/// listens, a bad address in memory, or an operation that it does not have. Their numbers are Linux's (accept(2)).
-const LISTENERS_OWN: &[i32] = &[
-    9, // EBADF
-    14, // EFAULT
-    22, // EINVAL
-    88, // ENOTSOCK
-    95, // EOPNOTSUPP
-];
 
 /// The connections that are served now, so that all of them can be shut down.
 #[derive(Drop)]
@@ -334,14 +325,6 @@ fn accept<R: Wait + rt::Clock>(rt: &R, listener: &TcpListener) -> Result<TcpStre
         }
     }
     unreachable!()
-}
-
-/// Whether a failed accept is the listener's own fault.
-fn is_listeners_own(error: &Error) -> bool {
-    match error.raw_os_error() {
-        Some(number) => LISTENERS_OWN.contains(&number),
-        None => false,
-    }
 }
 
 /// Shuts down the connections that are served, and has no further one served. Their sessions end.

@@ -1,22 +1,16 @@
 -- Cited by private clauses alone: one connection and the book, while the connection's requests are answered.
 
-use Rattle.std.specs.Prelude.{⊤, ◌≡◌, ℕ, true, List, [], ◌∷◌, ◌++◌, Some}
+use Rattle.std.specs.Prelude.{◌≡◌, ℕ, true, List, [], ◌∷◌, ◌++◌}
 use Rattle.std.specs.List.{AllByRecursion}
 use Rattle.sr_resp.specs.Request.{Words}
 use Rattle.sr_resp.specs.Stream.{Stands}
-use Rattle.sr_book.specs.Server.{Server, is_open, speaker}
+use Rattle.sr_book.specs.Server.{Server, is_open}
 use Rattle.sr_book.specs.Records.{BookState, Legal, Recorded, next_index}
-use Rattle.sr_book.specs.declared.event.Act.{Act}
-use Rattle.sr_book.specs.declared.event.Act.TheVariants as acts
 use Rattle.sr_session.specs.Session.{AreAnswered}
 use Rattle.sr_hub.specs.Told.{IsSilent, IsTold}
 use Rattle.sr_hub.specs.Line.{ConnectionState, IsFree, IsJoined, IsLine}
 use Rattle.sr_hub.specs.Lines.{AreAll}
-
--- an event of this session, or a serving
-abbrev pub IsOwn : ℕ → Act → Type 0
-IsOwn session (acts.Event event) = speaker event ≡ Some session
-IsOwn session (acts.Serve other) = ⊤
+use Rattle.sr_hub.specs.Said.{IsOwn}
 
 -- records were added, which lead legally on; their events are of this session
 pub record Adds (session : ℕ) (old : BookState) (more : List Recorded) (new : BookState) : Type 0 where

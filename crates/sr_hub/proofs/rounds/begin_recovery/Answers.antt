@@ -1,42 +1,11 @@
-use Rattle.std.proofs.Common.{◌≡◌, ◌-◌, suc, max, ap, arith, refl, subst}
 use Rattle.sr_args.specs.declared.call.Command.TheVariants as commands
-use Rattle.sr_book.specs.declared.event.Event.{Event}
-use Rattle.sr_book.specs.declared.event.Event.TheVariants as events
-use Rattle.sr_session.proofs.DeskLemmas.{stray-recovery}
-use Rattle.sr_hub.specs.Line.{ConnectionState}
-use Rattle.sr_hub.specs.declared.stage.Judging.{Judging}
-use Rattle.sr_hub.specs.steps.Telling.{IsRefusedBy}
-use Rattle.sr_hub.proofs.MoveLemmas.{answers-refused, answers-snapped, answers-snapshot, asks, comes-same}
-use Rattle.sr_hub.proofs.StrayLemmas.{snapshot-out}
+use Rattle.sr_args.specs.declared.fault.CallFault.TheVariants as call_faults
+use Rattle.sr_hub.proofs.MoveLemmas.{answers-fault}
 use Rattle.sr_hub.proofs.rounds.begin_recovery.Goals as goal
 
-pub unreachable-requires : goal.unreachable-requires
-unreachable-requires c =
-    stray-recovery c.in-Ok.out c.in-Joined.is (snapshot-out c.args.book.now c.args.moment c.connection.inside.session c.args.recovery.key c.args.recovery.group c.args.recovery.dead c.in-Ok.out c.said.new.book c.in-Ok.ensures.ok)
-
-pub returns-in-Reply-clause-answers : goal.returns-in-Reply-clause-answers
-returns-in-Reply-clause-answers c = λ words is.
-    let r = c.args.recovery in
-    let same : events.Snapshot c.connection.inside.session r.key r.group r.dead ≡ events.Snapshot c.args.connection.now.session r.key r.group r.dead =
-    ap (λ (line : ConnectionState). events.Snapshot line.session r.key r.group r.dead) c.connection.view_is in
-    answers-snapshot words r.apply r.tries r.key r.group r.dead c.args.book.now c.args.connection.now c.args.moment c.said.new.book c.tell.new.self c.in-Reply.reply is
-    (comes-same _ _ _ _ _ _ _ same c.in-Reply.is c.in-Ok.ensures.ok) c.tell.ensures
-
-pub returns-in-Snap-clause-answers : goal.returns-in-Snap-clause-answers
-returns-in-Snap-clause-answers c = λ words is.
-    let r = c.args.recovery in
-    let same : events.Snapshot c.connection.inside.session r.key r.group r.dead ≡ events.Snapshot c.args.connection.now.session r.key r.group r.dead =
-    ap (λ (line : ConnectionState). events.Snapshot line.session r.key r.group r.dead) c.connection.view_is in
-    let judging : Judging = record { apply = r.apply; later = c.max-later.result - 1; snapshot = c.in-Snap.snapshot } in
-    let later : suc (c.max-later.result - 1) ≡ max r.tries 1 = omega (arith, c.max-later.ensures) in
-    answers-snapped words r.apply r.tries r.key r.group r.dead c.args.book.now c.args.connection.now c.args.moment c.said.new.book c.pass_to.new.self judging is
-    (comes-same _ _ _ _ _ _ _ same c.in-Snap.is c.in-Ok.ensures.ok) refl later c.pass_to.ensures
-
+-- the words are a command, for which memory is lacking
 pub returns-in-Err-clause-answers : goal.returns-in-Err-clause-answers
 returns-in-Err-clause-answers c = λ words is.
     let r = c.args.recovery in
-    let event : Event = events.Snapshot c.args.connection.now.session r.key r.group r.dead in
-    let same : events.Snapshot c.connection.inside.session r.key r.group r.dead ≡ event =
-    ap (λ (line : ConnectionState). events.Snapshot line.session r.key r.group r.dead) c.connection.view_is in
-    answers-refused words (commands.Recover r.apply r.tries r.key r.group r.dead) event c.args.book.now c.args.connection.now c.args.moment c.in-Err.code c.said.new.book c.tell_error.new.self is (asks refl)
-    (subst (λ (e : Event). IsRefusedBy c.args.book.now c.args.moment e c.in-Err.code c.said.new.book) same c.in-Err.ensures.err) c.tell_error.ensures
+    answers-fault words call_faults.Memory c.args.book.now c.args.connection.now c.tell_error.new.self
+    (commands.Recover r.apply r.tries r.key r.group r.dead, is) c.tell_error.ensures

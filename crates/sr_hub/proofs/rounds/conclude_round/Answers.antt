@@ -1,24 +1,23 @@
 use Rattle.std.proofs.Common.{◌≡◌, subst, sym, Option, IfSome, IsSomeAnd}
 use Rattle.sr_plan.specs.Verdict.{Judged}
 use Rattle.sr_policy.specs.Snapshot.{Shown}
-use Rattle.sr_hub.specs.Line.{ConnectionState, wanted_of}
-use Rattle.sr_hub.specs.steps.Left.{judging_of}
-use Rattle.sr_hub.proofs.MoveLemmas.{concludes-of, lacking-moves, wanted-judges}
+use Rattle.sr_hub.specs.Line.{wanted_of}
+use Rattle.sr_hub.specs.declared.stage.Stage.{Stage}
+use Rattle.sr_hub.proofs.MoveLemmas.{judged-moves, some-is, unjudged-moves}
 use Rattle.sr_hub.proofs.rounds.conclude_round.Goals as goal
 
-pub round_of-round-requires : goal.round_of-round-requires
-round_of-round-requires c =
-    let P : Shown → Type 0 = λ shown. IfSome c.args.verdict (λ judged. judged.snapshot ≡ shown) in
-    wanted-judges c.connection.inside.stage P (subst (λ (l : ConnectionState). IsSomeAnd (wanted_of l.stage) P) (sym c.connection.view_is) c.requires)
+pub take_round-round-requires : goal.take_round-round-requires
+take_round-round-requires c = some-is (wanted_of c.args.connection.now.stage) (λ (shown : Shown). IfSome c.args.verdict (λ (judged : Judged). judged.snapshot ≡ shown)) c.requires
 
+-- the verdict is on the snapshot that was taken out
 pub returns-in-Some : goal.returns-in-Some
 returns-in-Some c =
-    let Wants : Option Judged → Type 0 = λ v. IsSomeAnd (wanted_of c.args.connection.now.stage) (λ shown. IfSome v (λ judged. judged.snapshot ≡ shown)) in
-    let Rounds : ConnectionState → Type 0 = λ l. IsSomeAnd (judging_of l.stage) (λ judging. (judging.apply ≡ c.round_of-round.result.0) × (judging.later ≡ c.round_of-round.result.1)) in
-    c.conclude_verdict.ensures c.args.connection.now.stage
-    (concludes-of c.args.connection.now.stage c.in-Some.verdict c.round_of-round.result.0 c.round_of-round.result.1 (subst Wants c.in-Some.is c.requires) (subst Rounds c.connection.view_is c.round_of-round.ensures))
+    let Of : Option Judged → Shown → Type 0 = λ verdict shown. IfSome verdict (λ judged. judged.snapshot ≡ shown) in
+    let wanted : Of c.args.verdict c.take_round-round.result.0 = subst (λ (stage : Stage). IsSomeAnd (wanted_of stage) (Of c.args.verdict)) c.take_round-round.ensures.stage c.requires in
+    judged-moves c.args.book.now c.conclude_verdict.new.book c.args.connection.now c.take_round-round.new.connection c.conclude_verdict.new.connection _ c.in-Some.verdict
+    (sym c.take_round-round.ensures.stage) c.take_round-round.ensures.rest (subst (λ (v : Option Judged). Of v c.take_round-round.result.0) c.in-Some.is wanted) c.conclude_verdict.ensures
 
 pub returns-in-None : goal.returns-in-None
 returns-in-None c =
-    let P : Shown → Type 0 = λ shown. IfSome c.args.verdict (λ judged. judged.snapshot ≡ shown) in
-    lacking-moves c.args.book.now c.args.connection.now c.tell_error.new.self P c.requires c.tell_error.ensures
+    unjudged-moves c.args.book.now c.args.connection.now c.take_round-round.new.connection c.tell_error.new.self _
+    (sym c.take_round-round.ensures.stage) c.take_round-round.ensures.rest c.tell_error.ensures

@@ -1,12 +1,13 @@
+use Rattle.std.proofs.Common.{sym}
 use Rattle.sr_hub.proofs.MoveLemmas.{judged-moves, unjudged-moves}
 use Rattle.sr_hub.proofs.rounds.judge_round.Goals as goal
 
 pub returns-in-Ok : goal.returns-in-Ok
 returns-in-Ok c =
-    judged-moves c.args.book.now c.conclude_verdict.new.book c.args.connection.now c.take_stage.new.self c.conclude_verdict.new.connection c.in-Judges.judging c.in-Ok.verdict
-    c.in-Judges.ensures.stage c.take_stage.ensures.rest c.in-Ok.ensures c.conclude_verdict.ensures
+    judged-moves c.args.book.now c.conclude_verdict.new.book c.args.connection.now c.take_round-snapshot.new.connection c.conclude_verdict.new.connection _ c.in-Ok.verdict
+    (sym c.take_round-snapshot.ensures.stage) c.take_round-snapshot.ensures.rest c.in-Ok.ensures c.conclude_verdict.ensures
 
 pub returns-in-Err : goal.returns-in-Err
 returns-in-Err c =
-    unjudged-moves c.args.book.now c.args.connection.now c.take_stage.new.self c.tell_error.new.self c.in-Judges.judging
-    c.in-Judges.ensures.stage c.take_stage.ensures.rest c.tell_error.ensures
+    unjudged-moves c.args.book.now c.args.connection.now c.take_round-snapshot.new.connection c.tell_error.new.self _
+    (sym c.take_round-snapshot.ensures.stage) c.take_round-snapshot.ensures.rest c.tell_error.ensures

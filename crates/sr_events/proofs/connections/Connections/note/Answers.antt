@@ -3,5 +3,6 @@ use Rattle.sr_events.proofs.connections.Connections.note.Goals as goal
 
 pub invariant_of-self : goal.invariant_of-self
 invariant_of-self c = IsKept-event c.of-key.result.slot c.of-key.result.generation c.args.event.now
-    c.self.inside.slots.items c.note_at.new.slots.items c.self.inside.taken c.self.inside.ring c.settle.new.ring
-    c.self.invariant c.note_at.ensures (rw c.deref.ensures.value at c.settle.ensures)
+    c.self.inside.slots.items c.note_at.new.slots.items c.self.inside.taken c.self.inside.ring
+    c.settle_after_event.new.ring c.self.invariant c.note_at.ensures
+    (rw c.deref.ensures.value at c.settle_after_event.ensures)

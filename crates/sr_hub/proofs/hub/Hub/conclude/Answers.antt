@@ -31,3 +31,9 @@ returns-clause-others c =
     let old : HubState = hub_of c.self.inside.book c.self.inside.connections in
     let new : HubState = hub_of c.conclude_at.new.book c.conclude_at.new.connections in
     (subst (λ (p : HubParts). MovedClauses c.args.token (state_of p) new) c.self.view_is (moved-clauses c.args.token old new c.self.invariant c.conclude_at.ensures)).others
+
+pub returns-clause-said : goal.returns-clause-said
+returns-clause-said c =
+    let old : HubState = hub_of c.self.inside.book c.self.inside.connections in
+    let new : HubState = hub_of c.conclude_at.new.book c.conclude_at.new.connections in
+    (subst (λ (p : HubParts). MovedClauses c.args.token (state_of p) new) c.self.view_is (moved-clauses c.args.token old new c.self.invariant c.conclude_at.ensures)).said

@@ -37,3 +37,10 @@ returns-clause-none c =
     let new : HubState = hub_of c.go_on_at.new.book c.go_on_at.new.connections in
     (subst (λ (p : HubParts). GoOnClauses c.args.token c.go_on_at.result (state_of p) new) c.self.view_is
     (go_on-clauses c.args.token c.go_on_at.result old new c.self.invariant c.go_on_at.ensures.moves (λ is. hub-same _ _ _ _ (c.go_on_at.ensures.none is).0 (c.go_on_at.ensures.none is).1))).none
+
+pub returns-clause-said : goal.returns-clause-said
+returns-clause-said c =
+    let old : HubState = hub_of c.self.inside.book c.self.inside.connections in
+    let new : HubState = hub_of c.go_on_at.new.book c.go_on_at.new.connections in
+    (subst (λ (p : HubParts). GoOnClauses c.args.token c.go_on_at.result (state_of p) new) c.self.view_is
+    (go_on-clauses c.args.token c.go_on_at.result old new c.self.invariant c.go_on_at.ensures.moves (λ is. hub-same _ _ _ _ (c.go_on_at.ensures.none is).0 (c.go_on_at.ensures.none is).1))).said

@@ -56,3 +56,10 @@ returns-clause-cut_off c =
     let new : HubState = hub_of c.take_at.new.book c.take_at.new.connections in
     (subst (λ (p : HubParts). TakeClauses c.args.token c.args.piece.now c.take_at.result (state_of p) new) c.self.view_is
     (take-clauses c.args.token c.args.piece.now c.take_at.result old new c.self.invariant c.take_at.ensures.ok c.take_at.ensures.err)).cut_off
+
+pub returns-clause-said : goal.returns-clause-said
+returns-clause-said c =
+    let old : HubState = hub_of c.self.inside.book c.self.inside.connections in
+    let new : HubState = hub_of c.take_at.new.book c.take_at.new.connections in
+    (subst (λ (p : HubParts). TakeClauses c.args.token c.args.piece.now c.take_at.result (state_of p) new) c.self.view_is
+    (take-clauses c.args.token c.args.piece.now c.take_at.result old new c.self.invariant c.take_at.ensures.ok c.take_at.ensures.err)).said

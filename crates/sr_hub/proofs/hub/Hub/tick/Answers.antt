@@ -36,3 +36,8 @@ pub returns-clause-err : goal.returns-clause-err
 returns-clause-err c =
     let new : HubState = hub_of c.expire.new.book c.self.inside.connections in
     (subst (λ (p : HubParts). TickClauses c.args.moment c.expire.result (state_of p) new) c.self.view_is (tick-clauses c.args.moment c.expire.result c.self.inside.connections c.self.inside.book c.expire.new.book c.self.invariant c.expire.ensures.due c.expire.ensures.happens c.expire.ensures.none c.expire.ensures.err)).err
+
+pub returns-clause-event : goal.returns-clause-event
+returns-clause-event c =
+    let new : HubState = hub_of c.expire.new.book c.self.inside.connections in
+    (subst (λ (p : HubParts). TickClauses c.args.moment c.expire.result (state_of p) new) c.self.view_is (tick-clauses c.args.moment c.expire.result c.self.inside.connections c.self.inside.book c.expire.new.book c.self.invariant c.expire.ensures.due c.expire.ensures.happens c.expire.ensures.none c.expire.ensures.err)).event

@@ -2,7 +2,7 @@ use Rattle.std.proofs.Common.{◌≡◌, IfSome, IsSomeAnd, Option, subst, sym}
 use Rattle.sr_hub.specs.Line.{ConnectionState, wanted_of}
 use Rattle.sr_hub.proofs.HubLemmas.{moves-at}
 use Rattle.sr_hub.proofs.MoveLemmas.{moves-then}
-use Rattle.sr_hub.proofs.hub.conclude_at.Goals as goal
+use Rattle.sr_hub.proofs.placed.conclude_at.Goals as goal
 
 pub returns : goal.returns
 returns c =

@@ -1,6 +1,6 @@
 use Rattle.sr_hub.proofs.HubLemmas.{moves-at}
 use Rattle.sr_hub.proofs.MoveLemmas.{moves-then}
-use Rattle.sr_hub.proofs.hub.judge_at.Goals as goal
+use Rattle.sr_hub.proofs.placed.judge_at.Goals as goal
 
 pub returns : goal.returns
 returns c =

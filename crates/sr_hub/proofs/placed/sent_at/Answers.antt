@@ -1,7 +1,7 @@
 use Rattle.std.proofs.Common.{◌≤◌, IsSomeAnd, Option, length, subst, sym}
 use Rattle.sr_hub.specs.Line.{ConnectionState}
 use Rattle.sr_hub.proofs.HubLemmas.{sends-to}
-use Rattle.sr_hub.proofs.hub.sent_at.Goals as goal
+use Rattle.sr_hub.proofs.placed.sent_at.Goals as goal
 
 pub unreachable-requires : goal.unreachable-requires
 unreachable-requires c = subst (λ (o : Option ConnectionState). IsSomeAnd o (λ line. c.args.count ≤ length line.unsent)) (sym c.in_default.ensures.value) c.requires

@@ -1,7 +1,7 @@
 use Rattle.std.proofs.Common.{refl, sym, Err}
 use Rattle.sr_hub.specs.steps.Calls.{is_gone}
 use Rattle.sr_hub.proofs.HubLemmas.{hub-same, refuses-at}
-use Rattle.sr_hub.proofs.hub.pass_over_at.Goals as goal
+use Rattle.sr_hub.proofs.placed.pass_over_at.Goals as goal
 
 pub returns-in_default-clause-refused : goal.returns-in_default-clause-refused
 returns-in_default-clause-refused c = is_gone refl (sym c.in_default.ensures.value) (hub-same _ _ _ _ refl c.in_default.ensures.absent)

@@ -1,7 +1,7 @@
 use Rattle.std.proofs.Common.{refl, sym}
 use Rattle.sr_hub.specs.steps.Calls.{is_gone}
 use Rattle.sr_hub.proofs.HubLemmas.{hub-same, refuses-at, takes-at}
-use Rattle.sr_hub.proofs.hub.take_at.Goals as goal
+use Rattle.sr_hub.proofs.placed.take_at.Goals as goal
 
 pub returns-in_default-clause-err : goal.returns-in_default-clause-err
 returns-in_default-clause-err c = is_gone refl (sym c.in_default.ensures.value) (hub-same _ _ _ _ refl c.in_default.ensures.absent)

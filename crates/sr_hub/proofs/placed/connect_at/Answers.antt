@@ -4,7 +4,7 @@ use Rattle.sr_book.specs.Records.{BookState}
 use Rattle.sr_hub.specs.Line.{ConnectionState}
 use Rattle.sr_hub.specs.steps.Calls.{hub_of}
 use Rattle.sr_hub.proofs.GoingLemmas.{comes-at}
-use Rattle.sr_hub.proofs.hub.connect_at.Goals as goal
+use Rattle.sr_hub.proofs.placed.connect_at.Goals as goal
 
 pub returns-then-is_err-clause-err : goal.returns-then-is_err-clause-err
 returns-then-is_err-clause-err c = record {

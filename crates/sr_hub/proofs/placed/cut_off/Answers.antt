@@ -1,7 +1,7 @@
 use Rattle.std.proofs.Common.{◌≡◌, false, ap, refl, sym, ◌∙◌}
 use Rattle.sr_hub.specs.Line.{ConnectionState, is_ended}
 use Rattle.sr_hub.specs.steps.Telling.{ended, unfed}
-use Rattle.sr_hub.proofs.hub.cut_off.Goals as goal
+use Rattle.sr_hub.proofs.placed.cut_off.Goals as goal
 
 pub returns-then-has_ended-clause-untaken : goal.returns-then-has_ended-clause-untaken
 returns-then-has_ended-clause-untaken c =

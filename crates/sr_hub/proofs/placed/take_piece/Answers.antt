@@ -2,7 +2,7 @@ use Rattle.std.proofs.Common.{◌≡◌, false, ap, refl, sym, ◌∙◌}
 use Rattle.sr_hub.specs.Line.{ConnectionState, is_ended}
 use Rattle.sr_hub.specs.steps.Telling.{ended}
 use Rattle.sr_hub.proofs.HubLemmas.{fed-takes, unfed-after}
-use Rattle.sr_hub.proofs.hub.take_piece.Goals as goal
+use Rattle.sr_hub.proofs.placed.take_piece.Goals as goal
 
 pub returns-then-has_ended-clause-err : goal.returns-then-has_ended-clause-err
 returns-then-has_ended-clause-err c =

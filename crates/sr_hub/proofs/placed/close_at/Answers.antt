@@ -5,7 +5,7 @@ use Rattle.sr_book.specs.declared.event.Event.TheVariants as events
 use Rattle.sr_hub.specs.steps.Calls.{hub_of, no_one}
 use Rattle.sr_hub.specs.steps.Telling.{Happens}
 use Rattle.sr_hub.proofs.GoingLemmas.{goes-at}
-use Rattle.sr_hub.proofs.hub.close_at.Goals as goal
+use Rattle.sr_hub.proofs.placed.close_at.Goals as goal
 
 pub returns-in_default-clause-ok : goal.returns-in_default-clause-ok
 returns-in_default-clause-ok c = no_one (sym c.in_default.ensures) refl

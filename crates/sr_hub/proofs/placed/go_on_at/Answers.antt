@@ -1,5 +1,5 @@
 use Rattle.sr_hub.proofs.HubLemmas.{moves-at}
-use Rattle.sr_hub.proofs.hub.go_on_at.Goals as goal
+use Rattle.sr_hub.proofs.placed.go_on_at.Goals as goal
 
 pub returns-clause-moves : goal.returns-clause-moves
 returns-clause-moves c = λ is.

@@ -1,0 +1,39 @@
+-- What a call of a hub has the book record: the events of one session, or one event; and servings.
+
+use Rattle.std.specs.Prelude.{⊤, ◌≡◌, ℕ, List, ◌++◌, Option, Some, None}
+use Rattle.std.specs.List.{AllByRecursion}
+use Rattle.sr_book.specs.Server.{speaker}
+use Rattle.sr_book.specs.Records.{BookState, IsStepped, Recorded}
+use Rattle.sr_book.specs.declared.answer.Answer.{Answer}
+use Rattle.sr_book.specs.declared.event.Act.{Act}
+use Rattle.sr_book.specs.declared.event.Act.TheVariants as acts
+use Rattle.sr_book.specs.declared.event.Event.{Event}
+use Rattle.sr_book.specs.declared.event.Event.TheVariants as events
+use Rattle.sr_hub.specs.Line.{ConnectionState}
+
+-- an event of this session, or a serving
+abbrev pub IsOwn : ℕ → Act → Type 0
+IsOwn session (acts.Event event) = speaker event ≡ Some session
+IsOwn session (acts.Serve other) = ⊤
+
+-- records were added: events of this session, and servings
+pub record Says (session : ℕ) (old new : BookState) : Type 0 where
+  pub added : List Recorded
+  pub same_base : new.base ≡ old.base
+  pub grown : new.records ≡ old.records ++ added
+  pub own : AllByRecursion (λ recorded. IsOwn session recorded.act) added
+
+-- what the connection at a token, if there is one, has the book record
+abbrev pub SaysOf : Option ConnectionState → BookState → BookState → Type 0
+SaysOf None old new = new ≡ old
+SaysOf (Some line) old new = Says line.session old new
+
+-- one record was added of this event, at a moment that is handed in, and then servings
+pub record Occurs (old : BookState) (moment : ℕ) (event : Event) (new : BookState) : Type 0 where
+  pub answer : Answer
+  pub stepped : IsStepped old moment event answer new
+
+-- the session of the connection at a token, if there is one, left
+abbrev pub LeavesOf : Option ConnectionState → BookState → ℕ → BookState → Type 0
+LeavesOf None old moment new = new ≡ old
+LeavesOf (Some line) old moment new = Occurs old moment (events.Leave line.session) new

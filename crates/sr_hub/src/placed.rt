@@ -1,0 +1,227 @@
+//! What is done with the connection at a token: it is taken out of its slab, and put back at the same token.
+ghost use Rattle.std.specs.Prelude.{◌≡◌, ◌≤◌, ◌↔◌, None, IfOk, IfErr, IfSome, IsSomeAnd, IsTrue, OnOk, OnErr};
+ghost use Rattle.std.specs.Prelude.{IsSome, false, true, length};
+ghost use Rattle.slab.specs.Slab.{get};
+ghost use Rattle.sr_book.specs.Records.{BookState};
+ghost use Rattle.sr_hub.specs.Line.{IsAtRest, is_ended, wanted_of};
+ghost use Rattle.sr_hub.specs.steps.Calls.{ComesAt, ComesNot, GoesAt, GoesNot, IsRefusedAt, MovesAt, SendsAt, TakesAt};
+ghost use Rattle.sr_hub.specs.steps.Calls.{hub_of};
+ghost use Rattle.sr_hub.specs.steps.Moves.{Takes};
+ghost use Rattle.sr_hub.specs.steps.Telling.{IsUntaken};
+
+use crate::answering::answer_waiting;
+use crate::bookkeeping::{join, lacking, leave};
+use crate::rounds::{conclude_round, judge_round};
+use crate::{Connection, Stage, TakeFault};
+use slab::Slab;
+use sr_book::{Book, BookFault};
+use sr_plan::Verdict;
+use std::alloc::{AllocError, Global};
+
+/// Makes room for a connection, and has its session join.
+pub(crate) fn connect_at(
+    alloc: Global,
+    book: &mut Book,
+    connections: &mut Slab<Connection>,
+    moment: u64,
+) -> Result<usize, BookFault>
+    ensures ok { IfOk result (λ token.
+        ComesAt token moment (hub_of book.old connections.old) (hub_of book.new connections.new)) }
+    ensures err { IfErr result (λ fault.
+        ComesNot fault (hub_of book.old connections.old) (hub_of book.new connections.new)) }
+{
+    if connections.reserve(1).is_err() {
+        return Err(lacking(book));
+    }
+    match join(alloc, book, moment) {
+        Ok(session) => Ok(connections.insert_reserved(Connection::new(alloc, session, moment))),
+        Err(fault) => Err(fault),
+    }
+}
+
+/// Has the session of the connection at a token leave, and lets go of the connection.
+pub(crate) fn close_at(
+    alloc: Global,
+    book: &mut Book,
+    connections: &mut Slab<Connection>,
+    token: usize,
+    moment: u64,
+) -> Result<(), BookFault>
+    ensures ok { OnOk result
+        (GoesAt token moment (hub_of book.old connections.old) (hub_of book.new connections.new)) }
+    ensures err { IfErr result (λ fault.
+        GoesNot token fault (hub_of book.old connections.old) (hub_of book.new connections.new)) }
+{
+    let Some(connection) = connections.get(token) else {
+        return Ok(());
+    };
+    match leave(alloc, book, moment, connection.session()) {
+        Ok(()) => {
+            connections.try_remove(token);
+            Ok(())
+        }
+        Err(fault) => Err(fault),
+    }
+}
+
+/// Goes on with the connection at a token, if there is one.
+pub(crate) fn go_on_at(
+    alloc: Global,
+    book: &mut Book,
+    connections: &mut Slab<Connection>,
+    token: usize,
+    moment: u64,
+) -> bool
+    ensures there { result ≡ false ↔ (get connections.old token ≡ None) }
+    ensures moves { IsTrue result → MovesAt token (hub_of book.old connections.old) (hub_of book.new connections.new) }
+    ensures none { result ≡ false → (book.new ≡ book.old) × (connections.new ≡ connections.old) }
+{
+    let Some(mut connection) = connections.try_remove(token) else {
+        return false;
+    };
+    answer_waiting(alloc, book, &mut connection, moment);
+    connections.insert_reserved(connection);
+    true
+}
+
+/// Takes the next bytes of the connection at a token, and goes on with it.
+pub(crate) fn take_at(
+    alloc: Global,
+    book: &mut Book,
+    connections: &mut Slab<Connection>,
+    token: usize,
+    moment: u64,
+    piece: &[u8],
+) -> Result<(), TakeFault>
+    ensures ok { OnOk result
+        (TakesAt token piece.now (hub_of book.old connections.old) (hub_of book.new connections.new)) }
+    ensures err { IfErr result (λ fault.
+        IsRefusedAt token fault (hub_of book.old connections.old) (hub_of book.new connections.new)) }
+{
+    let Some(mut connection) = connections.try_remove(token) else {
+        return Err(TakeFault::Gone);
+    };
+    let taken = take_piece(alloc, book, &mut connection, moment, piece);
+    connections.insert_reserved(connection);
+    taken
+}
+
+/// Cuts the connection at a token off, if there is one that is not at its end.
+pub(crate) fn pass_over_at(
+    book: &Book,
+    connections: &mut Slab<Connection>,
+    token: usize,
+) -> TakeFault
+    ensures refused { IsRefusedAt token result (hub_of book.now connections.old) (hub_of book.now connections.new) }
+    ensures ended { IfSome (get connections.new token) (λ line. is_ended line.stage ≡ true) }
+{
+    let Some(mut connection) = connections.try_remove(token) else {
+        return TakeFault::Gone;
+    };
+    let fault = cut_off(&mut connection);
+    connections.insert_reserved(connection);
+    fault
+}
+
+/// Cuts a connection off that is not at its end.
+fn cut_off(connection: &mut Connection) -> TakeFault
+    ensures untaken { IsUntaken result connection.old connection.new }
+    ensures ended { is_ended connection.new.stage ≡ true }
+{
+    if has_ended(&connection.stage) {
+        return TakeFault::Ended;
+    }
+    connection.pass_to(Stage::CutOff);
+    TakeFault::Memory
+}
+
+/// Takes the first bytes that are to be sent away from the connection at a token.
+pub(crate) fn sent_at(connections: &mut Slab<Connection>, token: usize, count: usize)
+    requires { IsSomeAnd (get connections.old token) (λ line. count ≤ length line.unsent) }
+    ensures { (book : BookState) → SendsAt token count (hub_of book connections.old) (hub_of book connections.new) }
+{
+    let Some(mut connection) = connections.try_remove(token) else {
+        unreachable!()
+    };
+    connection.sent(count);
+    connections.insert_reserved(connection);
+}
+
+/// Concludes a verdict for the connection at a token, and goes on with it.
+pub(crate) fn conclude_at(
+    alloc: Global,
+    book: &mut Book,
+    connections: &mut Slab<Connection>,
+    token: usize,
+    moment: u64,
+    verdict: Option<Verdict>,
+)
+    requires { IsSomeAnd (get connections.old token) (λ line. IsSomeAnd (wanted_of line.stage) (λ shown.
+        IfSome verdict (λ judged. judged.snapshot ≡ shown))) }
+    ensures { MovesAt token (hub_of book.old connections.old) (hub_of book.new connections.new) }
+{
+    let Some(mut connection) = connections.try_remove(token) else {
+        unreachable!()
+    };
+    conclude_round(alloc, book, &mut connection, moment, verdict);
+    answer_waiting(alloc, book, &mut connection, moment);
+    connections.insert_reserved(connection);
+}
+
+/// Makes a verdict for the connection at a token, concludes it, and goes on with the connection.
+pub(crate) fn judge_at(
+    alloc: Global,
+    book: &mut Book,
+    connections: &mut Slab<Connection>,
+    token: usize,
+    moment: u64,
+)
+    requires { IsSomeAnd (get connections.old token) (λ line. IsSome (wanted_of line.stage)) }
+    ensures { MovesAt token (hub_of book.old connections.old) (hub_of book.new connections.new) }
+{
+    let Some(mut connection) = connections.try_remove(token) else {
+        unreachable!()
+    };
+    judge_round(alloc, book, &mut connection, moment);
+    answer_waiting(alloc, book, &mut connection, moment);
+    connections.insert_reserved(connection);
+}
+
+/// Takes the next piece of a connection's bytes, and answers each request that is whole now, as far as it goes.
+fn take_piece(
+    alloc: Global,
+    book: &mut Book,
+    connection: &mut Connection,
+    moment: u64,
+    piece: &[u8],
+) -> Result<(), TakeFault>
+    ensures goes { OnOk result (is_ended connection.old.stage ≡ false) }
+    ensures ok { OnOk result (Takes piece.now book.old connection.old book.new connection.new) }
+    ensures rest { OnOk result (IsAtRest 65536 book.new.server connection.new connection.new.stage) }
+    ensures err { IfErr result (λ fault. IsUntaken fault connection.old connection.new) }
+    ensures stays { OnErr result (book.new ≡ book.old) }
+{
+    if has_ended(&connection.stage) {
+        return Err(TakeFault::Ended);
+    }
+    match connection.feed(alloc, piece) {
+        Ok(()) => {
+            answer_waiting(alloc, book, connection, moment);
+            Ok(())
+        }
+        Err(AllocError) => {
+            connection.pass_to(Stage::CutOff);
+            Err(TakeFault::Memory)
+        }
+    }
+}
+
+/// Whether a connection gets no more replies.
+pub(crate) fn has_ended(stage: &Stage) -> bool
+    ensures { result ≡ is_ended stage.now }
+{
+    match stage {
+        Stage::Idle | Stage::Waiting | Stage::Judges(_) => false,
+        Stage::Broken | Stage::CutOff => true,
+    }
+}
