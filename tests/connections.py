@@ -12,10 +12,11 @@ name of one in the table; all if none is named.
 | `readers_of_a_stream` | serves some readers of a stream alone; walks all of them for each event |
 | `readers_of_a_group` | serves readers of a group in another order than that of blocking, or two of them by one entry |
 | `readers_that_leave` | gives an entry to a reader that is gone |
-| `left_before_served` | the same, if it goes away in the moment before the entry comes, while the server does something else, also for the client that adds it |
+| `left_before_served` | the same, if it goes away in the moment before the entry comes, while the server does something else, also for the client that adds it, and that has more to be read |
 | `come_and_go` | keeps a descriptor or memory of a connection that is gone, in a request or while its read waits |
 | `slow_clients` | waits for one client; writes all of a reply before it serves others |
 | `beyond_limit` | closes a connection beyond the limit without a word, or serves it; never lets one in again |
+| `come_again` | turns away a client that closes and connects again, since it accepts before it learns who has gone |
 | `idle` | counts bytes that are no whole request; closes a connection that waits, or just after it waited |
 | `unfinished` | closes others than who sends too much; counts on what is answered or gone |
 | `after_a_wait` | keeps all that comes after a read that waits |
@@ -57,6 +58,7 @@ PARTS = [
     (load.come_and_go, MANY, {}, False),
     (load.slow_clients, SLOW, {}, True),
     (bounds.beyond_limit, bounds.LIMIT, {}, True),
+    (bounds.come_again, bounds.LIMIT, {}, False),
     (bounds.idle, MANY, {"idle": bounds.IDLE}, False),
     (bounds.unfinished, MANY, {"unfinished": bounds.UNFINISHED}, False),
     (bounds.after_a_wait, MANY, {"unfinished": bounds.UNFINISHED}, False),

@@ -4,7 +4,7 @@ import re
 import subprocess
 import time
 
-from . import crowd, servers
+from . import busy, crowd, servers
 from .connections_load import settled
 from .crowd import PING, PONG, Crowd
 from .resp import spelled
@@ -13,6 +13,7 @@ LIMIT = 16  # connections that the server of `beyond_limit` serves
 MORE = 200  # that come at once beyond them
 REFUSAL = b"-ERR max number of clients reached\r\n"
 SOON = 5  # seconds in which one is let in once another has closed
+AGAIN = 100  # times that a client closes and connects again
 
 IDLE = 1  # seconds, as --idle has it
 CLOSED = IDLE - 0.1, IDLE + 2  # when an idle connection is closed: the server looks at them once a second
@@ -76,6 +77,30 @@ def beyond_limit(tally, server):
         crowd.leave(gone, killed=True)
         tally.holds("another is let in once one that waited was reset", lets_in(server))
         tally.compare("those that are left", LIMIT - 2, served.pinged())
+
+
+def come_again(tally, server):
+    """A client that closes and at once connects again is let in each time while others take all places but its own, also if the server learns
+    of both at once, since it is busy."""
+    with server.connect() as other, Crowd(server, LIMIT - 2) as others:
+        replied, served = busy.made(other), 0
+        again = crowd.opened(server.port, servers.SECONDS)
+        crowd.pinged(again)
+        tally.compare("what one more connection is told beside it", REFUSAL, told(server))
+        crowd.pinged(again)  # once the server does not look for more of them
+        for number in range(AGAIN):
+            is_busy = number % 2 == 1
+            if is_busy:
+                other.socket.sendall(busy.ASKED)
+                time.sleep(busy.MOMENT)
+            crowd.leave(again, killed=number % 4 < 2)
+            again = crowd.opened(server.port, servers.SECONDS)
+            if is_busy:
+                other.file.read(replied)
+            served += is_served(again)
+        again.close()
+        tally.compare("how often it is let in", AGAIN, served)
+        tally.compare("those that are served beside it", LIMIT - 2, others.pinged())
 
 
 class Idlers:

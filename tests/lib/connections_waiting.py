@@ -2,17 +2,16 @@
 
 import time
 
-from . import crowd
+from . import busy, crowd
 from .crowd import Crowd
-from .resp import array, bulk, spelled, spelled_all, text_of_reply
+from .resp import array, bulk, spelled, spelled_all
 
 READERS = 5_000
 LEAVING = 2_000  # readers of a group of whom every second one goes away
 ROUNDS, MISSED = 10, 2  # times that one reader goes away just before an entry comes, and how often the entry may be lost to it: the
 # machine may let the server wait just before it reads what asked for much, so that it reads the entry with it
-MOMENT = 0.002  # seconds in which the server has begun with that
+LOT = b"x" * 20_000  # more than the server reads at a time (16 KiB)
 QUIET = 0.2  # seconds after which nothing more is expected
-BUSY = 20_000  # entries of a range that keeps the server busy for some milliseconds
 
 
 def read(name, *options):
@@ -94,20 +93,25 @@ def readers_that_leave(tally, server):
 
 def left_before_served(tally, server):
     """A reader goes away just before an entry comes, both while the server is busy with what another client asks, or with what the one asks
-    that adds the entry: the next reader is given it, also with NOACK."""
+    that adds the entry, also if this one sends more before it than is read at a time: the next reader is given it, also with NOACK."""
     with server.connect() as maker, server.connect() as other:
-        maker.socket.sendall(spelled_all(["XADD", "large", f"{number}-1", "a", "b"] for number in range(1, BUSY + 1)))
-        for _ in range(BUSY):
-            maker.reply()
+        replied, number = busy.made(other), 0
         maker.call("XGROUP", "CREATE", "s", "g", "$", "MKSTREAM")
-        asked, number = spelled("XRANGE", "large", "-", "+"), 0
-        other.socket.sendall(asked)
-        brought = len(text_of_reply(other.file))
-        for who, busy in (("another", other), ("the one that adds", maker)):
+        for who, asks, more, answer in (
+            ("another", other, b"", b""),
+            ("the one that adds", maker, b"", b""),
+            ("the one that adds, by a lot,", maker, spelled("PING", LOT), bulk(LOT)),
+        ):
             given = 0
             for _ in range(ROUNDS):
                 number += 1
-                given += one_leaves(server, maker, number, lambda: busy.socket.sendall(asked), lambda: busy.file.read(brought))
+                given += one_leaves(
+                    server,
+                    maker,
+                    number,
+                    lambda: asks.socket.sendall(busy.ASKED + more),
+                    lambda: asks.file.read(replied + len(answer)),
+                )
             tally.holds(f"the next reader has {given} of {ROUNDS} entries, while {who} keeps the server busy", given >= ROUNDS - MISSED)
 
 
@@ -118,7 +122,7 @@ def one_leaves(server, maker, number, begin, end):
             each.sendall(read("A", *["NOACK"] * (number // 2 % 2)))
             crowd.pinged(maker.socket)
         begin()
-        time.sleep(MOMENT)
+        time.sleep(busy.MOMENT)
         crowd.leave(gone, killed=number % 4 < 2)
         maker.send("XADD", "s", f"{number}-1", "a", "b")
         end()
