@@ -27,7 +27,7 @@ REFUSED = examples/histories/*.history tests/histories/runs.history tests/histor
     tests/histories/commands.history tests/histories/carried-out.history tests/histories/refused-serving.history
 
 # The parts of tests/connections.py that measure no time.
-STEADY = readers_of_a_group readers_that_leave beyond_limit few_descriptors half_closed long_pipelines cut
+STEADY = readers_of_a_group readers_that_leave beyond_limit come_again few_descriptors half_closed long_pipelines cut
 
 # Proves and builds the server, and sends it the commands of examples/first.session as a client spells them.
 run:
@@ -75,6 +75,7 @@ install:
 # demo has to print what the README shows.
 test:
 	@scripts/links
+	@scripts/guide
 	@scripts/lines
 	@command -v cc > /dev/null || { echo 'test: FAILED, since there is no C compiler, cc, with which memory is refused'; exit 1; }
 	rt ci
