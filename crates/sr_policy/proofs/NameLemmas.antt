@@ -1,13 +1,14 @@
 -- Names that rise, and what binary search finds among them.
-use Rattle.std.proofs.Common.{◌≡◌, ℕ, zero, suc, ◌+◌, ◌<◌, ◌≤◌, Bool, true, false, ◌||◌, cond, List, [], ◌∷◌, length}
-use Rattle.std.proofs.Common.{map, get_or, slice_get, Option, Some, None, refl, ap, subst, ◌∙◌, nat_eq, arith}
+use Rattle.std.proofs.Common.{◌≡◌, ℕ, zero, suc, ◌+◌, ◌-◌, ◌<◌, ◌≤◌, Bool, true, false, not, ◌||◌, cond, List, [], ◌∷◌, length}
+use Rattle.std.proofs.Common.{map, get_or, slice_get, Option, Some, None, refl, ap, sym, subst, ◌∙◌, nat_eq, arith, true≢false}
 use Rattle.std.specs.Cmp.Lexicographic.{pointwise, slice_cmp, texts_ties}
+use Rattle.std.specs.List.{AllWithin}
 use Rattle.std.specs.List.Sorted.{IsPartitionedBy}
 use Rattle.std.specs.Ordering.{is_eq, is_lt, nat_cmp}
 use Rattle.std.specs.declared.cmp.Ordering.{Ordering}
 use Rattle.std.specs.declared.cmp.Ordering.TheVariants.{Less, Equal, Greater}
 use Rattle.std.proofs.lemmas.Cmp.{nat_list_cmp_total, nat_list_eq_equiv}
-use Rattle.std.proofs.lemmas.List.{get_or-map, length-map}
+use Rattle.std.proofs.lemmas.List.{get_or-map, get_or_default, length-map}
 use Rattle.sr_bytes.specs.Order.{AreInOrder, ComesBefore, comes_before}
 use Rattle.sr_policy.specs.Rules.{Text, value_at}
 use Rattle.sr_policy.specs.Snapshot.{is_among}
@@ -119,6 +120,32 @@ module _ {X : Type 0} (key : X → Text) where
   pub before_first : (xs : List X) (name : Text) → AreInOrder (λ a b. ComesBefore (key a) (key b)) xs
       → IsPartitionedBy (λ x. comes_before (key x) name) xs
   before_first xs name order = first xs name (rises xs order)
+
+  -- where one comes before the name, all up to it do
+  pub all_before : (xs : List X) (name : Text) (place : ℕ) (x : X) → AreInOrder (λ a b. ComesBefore (key a) (key b)) xs
+      → 0 < place → place ≤ length xs → comes_before (key (get_or xs (place - 1) x)) name ≡ true
+      → AllWithin (λ y. comes_before (key y) name ≡ true) xs 0 place
+  all_before xs name place x order some within last k d low high =
+      let same : get_or xs (place - 1) d ≡ get_or xs (place - 1) x = get_or_default xs (place - 1) d x (omega arith) in
+      before_first xs name order k (place - 1) d (omega arith) (omega arith)
+      (ap (λ y. comes_before (key y) name) same ∙ last)
+
+  -- and where one does not, none from it on does
+  pub none_behind : (xs : List X) (name : Text) (place : ℕ) (x : X) → AreInOrder (λ a b. ComesBefore (key a) (key b)) xs
+      → place < length xs → comes_before (key (get_or xs place x)) name ≡ false
+      → AllWithin (λ y. comes_before (key y) name ≡ false) xs place (length xs)
+  none_behind xs name place x order within next k d low high = by (comes_before (key (get_or xs k d)) name) refl
+    where
+      by : (test : Bool) → comes_before (key (get_or xs k d)) name ≡ test → test ≡ false
+      by false e = refl
+      by true e =
+          let same : get_or xs place d ≡ get_or xs place x = get_or_default xs place d x within in
+          let here : comes_before (key (get_or xs place d)) name ≡ true = before_first xs name order place k d low high e in
+          absurd (true≢false (sym here ∙ ap (λ y. comes_before (key y) name) same ∙ next))
+
+pub of_not : (b : Bool) → not b ≡ true → b ≡ false
+of_not false e = refl
+of_not true e = cc
 
 -- what a pair holds, if there is one and it has the name
 abbrev pub held_by : {V : Type 0} → Text → Option (Text × V) → Option V

@@ -257,10 +257,21 @@ fn rates_in(alloc: Global, row: Option<&Numbers>, live: &[Live]) -> Result<Rates
         ≡ map (λ consumer. option_and_then (value_at consumer.name) (option_map (λ r. r.now) row.entry)) live.now) }
 {
     let mut rates = Vec::with_capacity(alloc, live.len())?;
+    let mut place = 0;
     for consumer in live {
-        rates.push(rate_in(row, &consumer.name))?;
+        rates.push(next_rate(row, &mut place, &consumer.name))?;
     }
     Ok(Rates::new(rates))
+}
+
+/// The rate of one consumer after another in the same way, `place` being where the next one is looked for first.
+fn next_rate(row: Option<&Numbers>, place: &mut usize, consumer: &Name) -> Option<u64>
+    ensures { result ≡ option_and_then (value_at consumer.now) (option_map (λ rates. rates.now) row.entry) }
+{
+    match row {
+        Some(rates) => rates.next(place, consumer),
+        None => None,
+    }
 }
 
 /// The value of the first pair with this field.
