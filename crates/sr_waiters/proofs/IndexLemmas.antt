@@ -1,16 +1,15 @@
 -- The sessions of each key: after a list in the map changes, key by key, and after the reads do.
-use Rattle.std.proofs.Common.{◌≡◌, ◌≢◌, ◌==◌, ◌-◌, ◌<◌, ◌≤◌, ◌⊎◌, ℕ, Bool, true, false, cond, not, ◌||◌, ◌&&◌, List, [], ◌∷◌, ◌++◌, filter, map, nat_eq, Option, Some, None, IsSome, inl, inr, refl, ap, sym, subst, ◌∙◌, true≢false, arith}
+use Rattle.std.proofs.Common.{◌≡◌, ◌≢◌, ◌==◌, ℕ, Bool, true, false, cond, not, ◌||◌, ◌&&◌, List, [], ◌∷◌, ◌++◌, filter, map, nat_eq, Option, Some, None, inl, inr, refl, ap, sym, subst, ◌∙◌, true≢false}
 use Rattle.std.proofs.lemmas.Bool.{eq-eqb, eqb-true, or_parts}
 use Rattle.std.proofs.lemmas.Cmp.{nat_eq_equiv}
 use Rattle.std.specs.List.{AllByRecursion}
 use Rattle.std.specs.Cmp.Lexicographic.{pointwise, bytes_decides}
 use Rattle.std.specs.Global.{Vec}
 use Rattle.std.specs.HashMap.{HashMap, Updates, get}
-use Rattle.sr_args.specs.Different.{AreDifferent, IsAmong}
+use Rattle.sr_args.specs.Different.{IsAmong}
 use Rattle.sr_args.specs.declared.call.Call.{Call}
 use Rattle.sr_waiters.specs.Index.{Changes, Gives, IsIndexed, and_read, asking, changed, readers, reads_of, sessions_by, sessions_in, with_session, without}
 use Rattle.sr_waiters.specs.Waiters.{AreOnce, Key, Waiting, asks, call_of, first_that, has_key, has_session, read_of, session_of, without_session}
-use Rattle.sr_waiters.proofs.ReadLemmas.{without_absent}
 
 abbrev is_same : Key → Key → Bool
 is_same a b = pointwise nat_eq a b

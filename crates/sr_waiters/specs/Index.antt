@@ -57,3 +57,9 @@ module _ {S : Type 0} where
       (index : HashMap Key (Vec ℕ) S) : Type 0 where
     pub sessions : (key : Key) → changed change (has_key key left) (sessions_by index key) ≡ goal key
     pub different : AreDifferent (map (λ stream. stream.0) left)
+
+  -- an index has some of the reads, in their order, and these others are left
+  pub record AreIndexed (index : HashMap Key (Vec ℕ) S) (left all : List Waiting) : Type 0 where
+    pub done : List Waiting
+    pub joined : done ++ left ≡ all
+    pub indexed : IsIndexed index done

@@ -63,7 +63,12 @@ pub(crate) fn put_if_indexed(
 }
 
 /// Puts the session of a read last in the list of each key that it asks. An `Err` leaves some of them without it.
-fn put_read(index: &mut Index, alloc: Global, call: &Call, session: u64) -> Result<(), AllocError>
+pub(crate) fn put_read(
+    index: &mut Index,
+    alloc: Global,
+    call: &Call,
+    session: u64,
+) -> Result<(), AllocError>
     ensures { OnOk result ((key : reads.Key) → sessions_by index.new key
         ≡ changed (with_session session) (reads.asks key call.now) (sessions_by index.old key)) }
 {

@@ -1,11 +1,11 @@
-ghost use Rattle.std.specs.Prelude.{◌≡◌, Bool};
+ghost use Rattle.std.specs.Prelude.{◌≡◌, Bool, IfOk, IsTrue};
 ghost use Rattle.sr_args.specs.declared.call.Call as calls;
 ghost use Rattle.sr_waiters.specs.Calls.{ComputesTest};
-ghost use Rattle.sr_waiters.specs.Index.{reads_of};
+ghost use Rattle.sr_waiters.specs.Index.{IsIndexed, reads_of};
 ghost use Rattle.sr_waiters.specs.Layout.{shown_reads};
 ghost use Rattle.sr_waiters.specs.Waiters.{first_that, session_of};
 
-use crate::index::{Index, asks, put_if_indexed, sessions_at, take_read};
+use crate::index::{Index, asks, put_if_indexed, put_read, sessions_at, take_read};
 use indexmap::IndexMap;
 use sr_args::Call;
 use sr_bytes::Name;
@@ -40,7 +40,7 @@ impl Blocked {
 pub struct Waiters {
     reads: IndexMap<u64, Blocked, RandomState>,
     index: Index,
-    /// Whether the index has each read: not if memory for it was refused once.
+    /// Whether the index has each read: not if memory for it was refused when the last one joined.
     indexed: bool,
 }
 
@@ -108,7 +108,8 @@ impl Waiters {
         self.reads.reserve(additional)
     }
 
-    /// The read goes last. It needs no memory: if memory for the index is refused, the reads do without it.
+    /// The read goes last. It needs no memory: if memory for the index is refused, the reads do without it until the next
+    /// one joins.
     #[tactic(auto, using(crate::proofs::ReadLemmas::shown_joined))]
     pub fn join(&mut self, session: u64, call: Call, deadline: Option<u64>)
         requires room { 0 < self.old.room }
@@ -118,7 +119,8 @@ impl Waiters {
         ensures room { self.old.room ≤ self.new.room + 1 }
     {
         let alloc = *self.reads.allocator();
-        self.indexed = put_if_indexed(&mut self.index, alloc, self.indexed, &call, session);
+        let indexed = index_again(&mut self.index, alloc, self.indexed, &self.reads);
+        self.indexed = put_if_indexed(&mut self.index, alloc, indexed, &call, session);
         let read = Blocked { call, deadline };
         drop(self.reads.insert(session, read).unwrap());
     }
@@ -234,6 +236,39 @@ impl Waiters {
     {
         let _ = &self.reads;
     }
+}
+
+/// Makes the index of these reads anew if it has not each of them. Answers whether it has: not if memory is refused.
+fn index_again(
+    index: &mut Index,
+    alloc: Global,
+    indexed: bool,
+    reads: &IndexMap<u64, Blocked, RandomState>,
+) -> bool
+    requires { IsTrue indexed → IsIndexed index.old (shown_reads reads.now.entries) }
+    ensures { IsTrue result → IsIndexed index.new (shown_reads reads.now.entries) }
+{
+    if indexed {
+        return true;
+    }
+    match index_of(alloc, reads) {
+        Ok(anew) => {
+            *index = anew;
+            true
+        }
+        Err(AllocError) => false,
+    }
+}
+
+/// An index of these reads.
+fn index_of(alloc: Global, reads: &IndexMap<u64, Blocked, RandomState>) -> Result<Index, AllocError>
+    ensures { IfOk result (λ index. IsIndexed index (shown_reads reads.now.entries)) }
+{
+    let mut index = HashMap::with_hasher(alloc, *reads.hasher());
+    for (session, read) in reads.iter() {
+        put_read(&mut index, alloc, &read.call, *session)?;
+    }
+    Ok(index)
 }
 
 /// The first of these sessions that waits with a call that passes the test.

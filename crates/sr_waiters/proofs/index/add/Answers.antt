@@ -1,4 +1,4 @@
-use Rattle.std.proofs.Common.{◌≡◌, ℕ, List, Some, IsSome, ap, subst, refl, ◌∙◌, nat_eq}
+use Rattle.std.proofs.Common.{◌≡◌, Some, IsSome, ap, subst, refl, ◌∙◌, nat_eq}
 use Rattle.std.specs.Cmp.Lexicographic.{pointwise}
 use Rattle.std.specs.HashMap.{Updates}
 use Rattle.sr_waiters.specs.Index.{sessions_by, sessions_in, with_session}

@@ -1,6 +1,5 @@
 use Rattle.std.proofs.Common.{◌≡◌, ◌+◌, ◌∷◌, ℕ, List, drop, subst, sym, ap, refl, ◌∙◌}
 use Rattle.std.proofs.lemmas.List.{drop_all, drop_more}
-use Rattle.std.proofs.lemmas.Result.{IfOk-from_err}
 use Rattle.sr_waiters.specs.Index.{Changes, changed, sessions_by, with_session}
 use Rattle.sr_waiters.specs.Waiters.{Key, has_key}
 use Rattle.sr_waiters.proofs.IndexLemmas.{changes-next}

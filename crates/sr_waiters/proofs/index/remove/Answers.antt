@@ -1,4 +1,4 @@
-use Rattle.std.proofs.Common.{rules, ◌≡◌, ◌==◌, ℕ, List, Some, IsSome, not, ap, subst, refl, ◌∙◌, nat_eq}
+use Rattle.std.proofs.Common.{rules, ◌≡◌, ◌==◌, ℕ, Some, IsSome, not, ap, subst, refl, ◌∙◌, nat_eq}
 use Rattle.std.proofs.lemmas.Fn.{filter_same}
 use Rattle.std.specs.Cmp.Lexicographic.{pointwise}
 use Rattle.std.specs.HashMap.{Updates}

@@ -1,6 +1,5 @@
-use Rattle.std.proofs.Common.{◌≡◌, ◌+◌, ◌∷◌, ℕ, Bool, List, Option, Some, None, true, false, drop, get_or, ap, sym, ◌∙◌}
+use Rattle.std.proofs.Common.{◌≡◌, ◌+◌, ◌∷◌, ℕ, List, Some, None, true, false, drop, get_or, ap, sym, ◌∙◌}
 use Rattle.std.proofs.lemmas.List.{drop_more}
-use Rattle.sr_args.specs.declared.call.Call.{Call}
 use Rattle.sr_waiters.specs.Index.{reads_of}
 use Rattle.sr_waiters.specs.Layout.{shown_reads}
 use Rattle.sr_waiters.specs.Waiters.{call_of, first_that, read_of, session_of}

@@ -1,5 +1,4 @@
-use Rattle.std.proofs.Common.{Bool, List, ℕ, ◌&&◌, ◌∙◌, ap}
-use Rattle.sr_args.specs.declared.call.Call.{Call}
+use Rattle.std.proofs.Common.{List, ℕ, ◌&&◌, ◌∙◌, ap}
 use Rattle.sr_waiters.specs.Index.{reads_of}
 use Rattle.sr_waiters.specs.Layout.{shown_reads}
 use Rattle.sr_waiters.specs.Waiters.{WaitersState, asks, first_that, session_of}

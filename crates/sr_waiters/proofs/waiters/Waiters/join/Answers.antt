@@ -19,5 +19,5 @@ invariant_of-self c = (
       let list : shown_reads c.insert.new.self.entries ≡ shown ++ read ∷ [] = search (rules, shown_joined) in
       let puts = c.put_if_indexed-self-inside.ensures yes in
       subst (λ (l : List Waiting). IsIndexed c.put_if_indexed-self-inside.new.index l) (sym list)
-      (indexed-joined inside.index c.put_if_indexed-self-inside.new.index shown (c.self.invariant.1 puts.0) read puts.1),
+      (indexed-joined c.index_again-indexed.new.index c.put_if_indexed-self-inside.new.index shown (c.index_again-indexed.ensures puts.0) read puts.1),
 )
