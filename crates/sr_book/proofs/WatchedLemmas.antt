@@ -1,14 +1,21 @@
 -- If no waiting read had an answer, none has one after a read and after an event that leaves the streams, and after a call on
--- one key those that have one have it from their streams at this key. What is served changes neither.
+-- one key, or a plan, those that have one have it from their streams at this key. What is served changes neither.
 use Rattle.std.proofs.Common.{◌≡◌, ℕ, Bool, true, false, cond, ◌&&◌, ◌||◌, not, List, [], ◌∷◌, ◌++◌, filter, Option, Some, None, refl, ap, sym, subst, ◌∙◌, true≢false}
 use Rattle.std.specs.Prelude.{Result, Ok, Err, IfNone, IfSome, IfOk, OnErr, is_none, ◌==◌}
 use Rattle.std.specs.List.{AllByRecursion}
 use Rattle.std.specs.declared.alloc.AllocError.{AllocError}
 use Rattle.sr_args.specs.declared.call.Call.{Call}
 use Rattle.sr_args.specs.declared.call.Call.TheVariants as calls
+use Rattle.sr_check.specs.PlanReply.{verdict_answer}
+use Rattle.sr_plan.specs.Batches.{BatchState, batches_in}
+use Rattle.sr_plan.specs.Calls.{calls_for, claim_call}
+use Rattle.sr_plan.specs.Verdict.{Judged}
+use Rattle.sr_policy.specs.Rules.{Text}
+use Rattle.sr_policy.specs.Same.{same}
 use Rattle.sr_policy.specs.Snapshot.{Shown}
 use Rattle.sr_space.specs.Blocking.{executed, finds_nothing}
 use Rattle.sr_space.specs.Keys.{Key, Keys}
+use Rattle.sr_space.specs.Commit.{after_calls}
 use Rattle.sr_space.specs.Effect.{at_once, key_of}
 use Rattle.sr_space.specs.Readers.{is_read, read_at, read_beside}
 use Rattle.sr_space.specs.declared.blocking.Outcome.{Outcome}
@@ -26,7 +33,7 @@ use Rattle.sr_book.specs.declared.event.Event.TheVariants as events
 use Rattle.sr_book.specs.declared.watched.Ready.{Ready}
 use Rattle.sr_book.specs.declared.watched.Ready.TheVariants.{Nobody, At, Unknown}
 use Rattle.sr_book.specs.Records.{IsSettled}
-use Rattle.sr_book.specs.Server.{Server, Serving, acted, called, served, serving, snapped_for}
+use Rattle.sr_book.specs.Server.{Server, Serving, acted, called, concluded, fresh_snapshot, keys_after, outdated, replied, served, serving, snapped_for}
 use Rattle.sr_book.specs.Watched.{AreQuietBeside, IsBound, IsKnown, IsQuietAt, wakes_nobody, woken_at}
 
 -- ---- no read passes a test
@@ -169,6 +176,29 @@ module _ (keys : Keys) (moment before later : ℕ) (call : Call) where
       let parts = none-head (ready keys before read.call) read (first_that (ready keys before) waiting) was in
       (finds-beside keys moment before later call read.call key is ∙ one-beside key keys before read.call (not-false (finds_nothing keys before read.call) parts.0), beside-after key waiting is parts.1)
 
+-- ---- the claims of a plan
+
+module _ (key : Key) (keys : Keys) (moment : ℕ) where
+  -- what finds nothing finds nothing beside a key
+  beside-still : (waiting : List Waiting) → NoneReady keys moment waiting → AreBeside key keys moment waiting
+  beside-still [] was = tt
+  beside-still (read ∷ waiting) was =
+      let parts = none-head (ready keys moment read.call) read (first_that (ready keys moment) waiting) was in
+      (one-beside key keys moment read.call (not-false (finds_nothing keys moment read.call) parts.0), beside-still waiting parts.1)
+
+  -- and a claim at the key changes nothing beside it
+  beside-claim : (name : Text) (batch : BatchState) (waiting : List Waiting) → AreBeside key keys moment waiting
+      → AreBeside key (at_once keys moment (claim_call key name batch)).keys moment waiting
+  beside-claim name batch [] is = tt
+  beside-claim name batch (read ∷ waiting) is =
+      (finds-beside keys moment moment moment (claim_call key name batch) read.call key refl ∙ is.0, beside-claim name batch waiting is.1)
+
+beside-claims : (key : Key) (moment : ℕ) (name : Text) (batches : List BatchState) (keys : Keys) (waiting : List Waiting) → AreBeside key keys moment waiting
+    → AreBeside key (after_calls moment (calls_for key name batches) keys) moment waiting
+beside-claims key moment name [] keys waiting is = is
+beside-claims key moment name (batch ∷ batches) keys waiting is =
+    beside-claims key moment name batches (at_once keys moment (claim_call key name batch)).keys waiting (beside-claim key keys moment name batch waiting is)
+
 -- ---- events
 
 module _ (old : Server) (moment : ℕ) (settled : IsSettled old) where
@@ -198,12 +228,29 @@ module _ (old : Server) (moment : ℕ) (settled : IsSettled old) where
   settled-call session (calls.Ping call) false is None at quiet = stays
   settled-call session call false is None at quiet = cc
 
+  -- a plan that is not to be carried out
+  settled-concluded : (session : ℕ) (judged : Judged) (last : Bool) (found : Result Shown SnapFault)
+      → IsSettled (concluded session moment false last judged old found).server
+  settled-concluded session judged last (Err fault) = stays
+  settled-concluded session judged last (Ok shown) = by (same shown judged.snapshot) last
+    where
+      by : (holds final : Bool) → IsSettled
+          (cond holds (replied session moment old old.keys (verdict_answer judged.snapshot judged.answer false)) (outdated session moment final old shown)).server
+      by true final = stays
+      by false true = stays
+      by false false = stays
+
+  settled-unless : (session : ℕ) (judged : Judged) (apply last : Bool) → not apply ≡ true
+      → IsSettled (concluded session moment apply last judged old (fresh_snapshot old judged.snapshot)).server
+  settled-unless session judged true last quiet = cc
+  settled-unless session judged false last quiet = settled-concluded session judged last (fresh_snapshot old judged.snapshot)
+
   pub settled-stays : (index : ℕ) (event : Event) → wakes_nobody event ≡ true → IsSettled (acted old index moment event).server
   settled-stays index events.Join quiet = stays
   settled-stays index (events.Call session call) quiet = settled-call session call (is_read call) refl (key_of call) refl quiet
   settled-stays index (events.Board session key group) quiet = stays
   settled-stays index (events.Snapshot session key group dead) quiet = settled-snapped session (snapped old.rules old.keys key group dead)
-  settled-stays index (events.Conclude session judged apply last) quiet = cc
+  settled-stays index (events.Conclude session judged apply last) quiet = settled-unless session judged apply last quiet
   settled-stays index events.Expire quiet = none-filter (ready old.keys moment) (λ read. not (is_due moment read)) old.waiting stays
   settled-stays index (events.Leave session) quiet = none-filter (ready old.keys moment) (λ read. not (read.session == session)) old.waiting stays
 
@@ -215,8 +262,30 @@ module _ (old : Server) (moment : ℕ) (settled : IsSettled old) where
       all-append (IsBeside key (done call) moment) old.waiting read (beside-after old.keys moment old.last moment call key old.waiting is settled)
       (one-beside key (done call) moment again (waiting-nothing old.keys moment moment call again deadline e))
 
+  beside-concluded : (session : ℕ) (judged : Judged) (apply last : Bool) (found : Result Shown SnapFault)
+      → AreQuietBeside judged.snapshot.key (concluded session moment apply last judged old found).server
+  beside-concluded session judged apply last (Err fault) = beside-still judged.snapshot.key old.keys moment old.waiting stays
+  beside-concluded session judged apply last (Ok shown) = by (same shown judged.snapshot) apply last
+    where
+      key : Key
+      key = judged.snapshot.key
+
+      still : AreBeside key old.keys moment old.waiting
+      still = beside-still key old.keys moment old.waiting stays
+
+      by : (holds carried final : Bool) → AreQuietBeside key
+          (cond holds (replied session moment old (keys_after carried moment judged old.keys) (verdict_answer judged.snapshot judged.answer carried)) (outdated session moment final old shown)).server
+      by true true final = beside-claims key moment judged.snapshot.group (batches_in judged.snapshot judged.answer) old.keys old.waiting still
+      by true false final = still
+      by false carried true = still
+      by false carried false = still
+
   pub beside-acted : (index : ℕ) (event : Event) (key : Key) → woken_at event ≡ Some key → AreQuietBeside key (acted old index moment event).server
   beside-acted index (events.Call session call) key is = beside-called session call key is (executed old.keys moment call).outcome refl
+  beside-acted index (events.Conclude session judged apply last) key is =
+      let same-key : judged.snapshot.key ≡ key = cc in
+      subst (λ (k : Key). AreQuietBeside k (concluded session moment apply last judged old (fresh_snapshot old judged.snapshot)).server) same-key
+      (beside-concluded session judged apply last (fresh_snapshot old judged.snapshot))
   beside-acted index event key is = cc
 
 -- ---- what is known

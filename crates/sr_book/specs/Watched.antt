@@ -1,5 +1,5 @@
 -- What is known of the waiting reads that have an answer. No public clause cites this.
-use Rattle.std.specs.Prelude.{⊤, ◌≡◌, ◌↔◌, ◌&&◌, ◌||◌, not, Bool, true, false, IsTrue, Option, None, is_none}
+use Rattle.std.specs.Prelude.{⊤, ◌≡◌, ◌↔◌, ◌&&◌, ◌||◌, not, Bool, true, false, IsTrue, Option, Some, None, is_none}
 use Rattle.std.specs.List.{AllByRecursion}
 use Rattle.sr_args.specs.declared.call.Call.{Call}
 use Rattle.sr_space.specs.Blocking.{finds_nothing}
@@ -41,13 +41,14 @@ pub record IsKnown (ready : Ready) (server : Server) : Type 0 where
   pub bound : IsBound ready server
   pub nobody : IsTrue (is_nobody ready) ↔ IsSettled server
 
--- an event that gives no waiting read an answer: one that is on no key, or a read
+-- an event that gives no waiting read an answer: one that is on no key, a read, or a plan that is not to be carried out
 abbrev pub wakes_nobody : Event → Bool
 wakes_nobody (events.Call session call) = is_read call || is_none (key_of call)
-wakes_nobody (events.Conclude session judged apply last) = false
+wakes_nobody (events.Conclude session judged apply last) = not apply
 wakes_nobody event = true
 
--- the key of a call on one: the only one at which it gives waiting reads an answer
+-- the key of a call on one, or of a plan: the only one at which it gives waiting reads an answer
 abbrev pub woken_at : Event → Option Key
 woken_at (events.Call session call) = key_of call
+woken_at (events.Conclude session judged apply last) = Some judged.snapshot.key
 woken_at event = None

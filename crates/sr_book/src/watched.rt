@@ -24,7 +24,8 @@ enum Ready {
 }
 
 /// The state of the one-thread server, which knows whether a waiting read has an answer, and where: so a call on one
-/// key and a serving after it ask for the stream at that key alone, and a read or an event on no key asks nobody.
+/// key, a plan that is carried out and a serving after either ask for the stream at that key alone, and a read or an
+/// event on no key asks nobody.
 pub(crate) struct Watched {
     machine: Machine,
     ready: Ready,

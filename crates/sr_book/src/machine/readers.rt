@@ -57,23 +57,25 @@ ghost use Rattle.std.specs.Prelude.{◌≡◌};
 ghost use Rattle.std.specs.Option.{option_copied};
 ghost use Rattle.sr_book.specs.Watched as watched;
 
-/// Whether an event gives no waiting read an answer: one that is on no key, or a read. Takes no memory.
+/// Whether an event gives no waiting read an answer: one that is on no key, a read, or a plan that is not to be carried
+/// out. Takes no memory.
 pub(crate) fn wakes_nobody(event: &Event) -> bool
     ensures { result ≡ watched.wakes_nobody event.now }
 {
     match event {
         Event::Call { call, .. } => is_read(call) || key_of(call).is_none(),
-        Event::Conclude { .. } => false,
+        Event::Conclude { apply, .. } => !*apply,
         _ => true,
     }
 }
 
-/// The key of a call on one, the only one at which it gives waiting reads an answer. Takes no memory.
+/// The key of a call on one, or of a plan, the only one at which it gives waiting reads an answer. Takes no memory.
 pub(crate) fn woken_at(event: &Event) -> Option<&Name>
     ensures { option_copied result ≡ watched.woken_at event.now }
 {
     match event {
         Event::Call { call, .. } => key_of(call),
+        Event::Conclude { verdict, .. } => Some(verdict.snapshot().key()),
         _ => None,
     }
 }
