@@ -56,8 +56,8 @@ impl Numbers {
         found(self.pairs.as_slice(), name).copied()
     }
 
-    /// The same, for one name after another: `place` is where the next name is looked for first, so if the names come in
-    /// byte order each takes two comparisons or three, and is searched for only where the numbers have others between.
+    /// The same, for one name after another: `place` is where the next name is looked for first. So if the names come
+    /// in byte order each takes two comparisons or three, and is searched for only where there are others between.
     pub(crate) fn next(&self, place: &mut usize, name: &Name) -> Option<u64>
         ensures { result ≡ value_at name.now self.now }
     {
@@ -139,7 +139,8 @@ fn are_before<V>(pairs: &[(Name, V)], place: usize, name: &Name) -> bool
 fn are_behind<V>(pairs: &[(Name, V)], place: usize, name: &Name) -> bool
     requires order { AreInOrder ComesBefore (map (λ pair. pair.0) pairs.now) }
     requires bound { place ≤ length pairs.now }
-    ensures { IsTrue result → AllWithin (λ pair. comes_before pair.0 name.now ≡ false) pairs.now place (length pairs.now) }
+    ensures { IsTrue result
+        → AllWithin (λ pair. comes_before pair.0 name.now ≡ false) pairs.now place (length pairs.now) }
 {
     place == pairs.len() || !pairs[place].0.comes_before(name)
 }

@@ -108,8 +108,8 @@ impl Waiters {
         self.reads.reserve(additional)
     }
 
-    /// The read goes last. It needs no memory: if memory for the index is refused, the reads do without it until the next
-    /// one joins.
+    /// The read goes last. It needs no memory: if memory for the index is refused, the reads do without it until the
+    /// next one joins.
     #[tactic(auto, using(crate::proofs::ReadLemmas::shown_joined))]
     pub fn join(&mut self, session: u64, call: Call, deadline: Option<u64>)
         requires room { 0 < self.old.room }
