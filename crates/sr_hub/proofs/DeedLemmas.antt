@@ -1,9 +1,9 @@
 -- A whole run of a hub, one call after another.
-use Rattle.std.proofs.Common.{◌≡◌, ◌<◌, ◌⊎◌, inl, inr, ℕ, ◌+◌, Bool, true, false, cond, ◌==◌, List, [], ◌∷◌, ◌++◌, append_assoc, length, take, get_or, Option, Some, None, option_map, IfSome, IsTrue, Result, Ok, Err, OnOk, OnErr, IfOk, refl, ap, sym, subst, ◌∙◌, add-one}
+use Rattle.std.proofs.Common.{◌≡◌, ◌<◌, inl, inr, ℕ, ◌+◌, Bool, true, false, cond, ◌==◌, List, [], ◌∷◌, ◌++◌, append_assoc, length, take, get_or, Option, Some, None, option_map, IfSome, IsTrue, Result, Ok, Err, OnOk, OnErr, IfOk, refl, ap, sym, subst, ◌∙◌, add-one}
 use Rattle.std.proofs.Math.Seq.{take-suc}
 use Rattle.std.proofs.lemmas.List.{append-nil}
 use Rattle.std.specs.Global.{Vec}
-use Rattle.sr_book.specs.Records.{BookState, Recorded, rebased}
+use Rattle.sr_book.specs.Records.{Recorded, rebased}
 use Rattle.sr_book.specs.declared.event.BookFault.{BookFault}
 use Rattle.sr_book.specs.declared.event.Event.TheVariants as events
 use Rattle.sr_hub.specs.declared.deeds.Deed.{Deed}
@@ -13,7 +13,7 @@ use Rattle.sr_hub.specs.declared.deeds.Outcome.TheVariants as outcomes
 use Rattle.sr_hub.specs.declared.deeds.Timed.{Timed}
 use Rattle.sr_hub.specs.Line.{ConnectionState, IsLine}
 use Rattle.sr_hub.specs.Lines.{AreLines, GoOn, HubState, with_more}
-use Rattle.sr_hub.specs.Said.{LeavesOf, Occurs, SaysOf}
+use Rattle.sr_hub.specs.Said.{LeavesOf, Occurs}
 use Rattle.sr_hub.specs.Deeds.{Does, DoesAll, IsSaidBy, given_after, given_by, taken_after, taken_by}
 use Rattle.sr_hub.specs.steps.Serving.{Keeps}
 use Rattle.sr_hub.proofs.HubLemmas.{none-added}
