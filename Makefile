@@ -14,6 +14,11 @@ RECOVER = crates/sr_recover/out/sr_recover
 TESTS = crates/sr_server/out/sr_server_tests
 TWO = $(MAKE) --no-print-directory --output-sync -j2
 
+# How many checks `rt ci` makes at a time: one a processor, if there are 5 GB of memory for each. None took more than 4, but it would allow for
+# up to 10, and so leave processors idle.
+JOBS = $(shell awk -v most=$$(nproc) '/^MemAvailable/ { jobs = int($$2 / 5000000) } END { print jobs < 1 ? 1 : jobs < most ? jobs : most }' \
+    /proc/meminfo)
+
 # Where `make install` puts the programs, the pages and the unit.
 PREFIX = /usr/local
 PAGES = $(DESTDIR)$(PREFIX)/share/doc/sr_server
@@ -78,7 +83,7 @@ test:
 	@scripts/guide
 	@scripts/lines
 	@command -v cc > /dev/null || { echo 'test: FAILED, since there is no C compiler, cc, with which memory is refused'; exit 1; }
-	rt ci
+	RT_JOBS=$(JOBS) rt ci
 	@$(TWO) given
 	@tests/listening.py $(SERVER)
 	@tests/faults.py $(SERVER)
