@@ -31,6 +31,14 @@ comes_before-trans a b c p q = ap is_lt (nat_list_cmp_total.trans a b c (less a 
 differ : (a b : Text) → comes_before a b ≡ true → pointwise nat_eq a b ≡ false
 differ a b before = texts_ties a b ∙ ap is_eq (less a b before)
 
+-- no name comes before itself
+irreflexive : (a : Text) → comes_before a a ≡ false
+irreflexive a = by (comes_before a a) refl
+  where
+    by : (test : Bool) → comes_before a a ≡ test → test ≡ false
+    by false e = refl
+    by true e = absurd (true≢false (sym (nat_list_eq_equiv.refl a) ∙ differ a a e))
+
 -- of two names that differ, one comes before the other
 other_way : (a b : Text) → pointwise nat_eq a b ≡ false → comes_before b a ≡ false → comes_before a b ≡ true
 other_way a b apart behind = by (slice_cmp nat_cmp a b) refl
@@ -142,6 +150,24 @@ module _ {X : Type 0} (key : X → Text) where
           let same : get_or xs place d ≡ get_or xs place x = get_or_default xs place d x within in
           let here : comes_before (key (get_or xs place d)) name ≡ true = before_first xs name order place k d low high e in
           absurd (true≢false (sym here ∙ ap (λ y. comes_before (key y) name) same ∙ next))
+
+  -- so where one is the name, those below come before it and no others do
+  pub place_of_equal : (xs : List X) (name : Text) (place : ℕ) (x : X) → AreInOrder (λ a b. ComesBefore (key a) (key b)) xs
+      → place < length xs → key (get_or xs place x) ≡ name → IsPlace key name xs place
+  place_of_equal xs name place x order within same = (below place refl, none_behind xs name place x order within itself)
+    where
+      itself : comes_before (key (get_or xs place x)) name ≡ false
+      itself = ap (λ other. comes_before other name) same ∙ irreflexive name
+
+      below : (n : ℕ) → place ≡ n → AllWithin (λ y. comes_before (key y) name ≡ true) xs 0 place
+      below zero is = λ k d low high. absurd (omega arith)
+      below (suc n) is =
+          let one : n + 1 ≡ place = omega arith in
+          let last : comes_before (key (get_or xs n x)) name ≡ true =
+          subst (λ other. comes_before (key (get_or xs n x)) other ≡ true) same
+          (subst (λ i. comes_before (key (get_or xs n x)) (key (get_or xs i x)) ≡ true) one (order n x (omega arith))) in
+          all_before xs name place x order (omega arith) (omega arith)
+          (subst (λ i. comes_before (key (get_or xs i x)) name ≡ true) (omega arith) last)
 
 pub of_not : (b : Bool) → not b ≡ true → b ≡ false
 of_not false e = refl

@@ -57,7 +57,7 @@ impl Numbers {
     }
 
     /// The same, for one name after another: `place` is where the next name is looked for first. So if the names come
-    /// in byte order each takes two comparisons or three, and is searched for only where there are others between.
+    /// in byte order each takes one comparison or three, and is searched for only where there are others between.
     pub(crate) fn next(&self, place: &mut usize, name: &Name) -> Option<u64>
         ensures { result ≡ value_at name.now self.now }
     {
@@ -107,11 +107,23 @@ fn place_near<V>(pairs: &[(Name, V)], near: usize, name: &Name) -> usize
     ensures bound { result ≤ length pairs.now }
     ensures place { IsPlace (λ pair. pair.0) name.now pairs.now result }
 {
-    if is_place(pairs, near, name) {
+    if has_name(pairs, near, name) || is_place(pairs, near, name) {
         near
     } else {
         place_for(pairs, name)
     }
+}
+
+/// Whether the pair at this place has the name. If so, that many of the pairs have names that come before it.
+fn has_name<V>(pairs: &[(Name, V)], place: usize, name: &Name) -> bool
+    requires { AreInOrder ComesBefore (map (λ pair. pair.0) pairs.now) }
+    ensures bound { IsTrue result → place ≤ length pairs.now }
+    ensures place { IsTrue result → IsPlace (λ pair. pair.0) name.now pairs.now place }
+{
+    if place >= pairs.len() {
+        return false;
+    }
+    pairs[place].0 == *name
 }
 
 /// Whether that many of the pairs have names that come before this one, and no others do.
