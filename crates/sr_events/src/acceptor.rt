@@ -1,4 +1,4 @@
-ghost use Rattle.std.specs.Prelude.{◌≡◌, ◌↔◌, true, IsTrue, IsSomeAnd, Contains};
+ghost use Rattle.std.specs.Prelude.{◌≡◌, ◌≢◌, ◌↔◌, ◌⊎◌, true, IsTrue, IsSomeAnd, Contains};
 ghost use Rattle.std.specs.IoError.{error_kind, raw_os_error};
 ghost use Rattle.std.specs.declared.io.ErrorKind.{ErrorKind};
 ghost use Rattle.sr_events.specs.Accepting.{Accepts, tried_again};
@@ -141,7 +141,10 @@ pub(crate) fn turn_away(mut stream: TcpStream) {
 /// What came of an accept that failed.
 fn fault_of(error: &Error) -> Fault
     ensures empty { (result ≡ Fault.Empty) ↔ (error_kind error.now ≡ ErrorKind.WouldBlock) }
-    ensures own { result ≡ Fault.Own → IsSomeAnd (raw_os_error error.now) (Contains LISTENERS_OWN.now) }
+    ensures passing { (result ≡ Fault.Passing) ↔ ((error_kind error.now ≡ ErrorKind.ConnectionAborted)
+        ⊎ (error_kind error.now ≡ ErrorKind.Interrupted)) }
+    ensures own { (result ≡ Fault.Own) ↔ ((result ≢ Fault.Empty) × (result ≢ Fault.Passing)
+        × IsSomeAnd (raw_os_error error.now) (Contains LISTENERS_OWN.now)) }
 {
     match error.kind() {
         ErrorKind::WouldBlock => Fault::Empty,
@@ -158,34 +161,5 @@ pub fn is_listeners_own(error: &Error) -> bool
     match error.raw_os_error() {
         Some(number) => LISTENERS_OWN.contains(&number),
         None => false,
-    }
-}
-
-#[cfg(test)]
-mod tests {
-    use super::*;
-
-    #[test]
-    fn tells_the_faults_of_accept_apart(rt: HostRuntime) {
-        // Numbers of Linux (errno(3)), with what accept(2) says of them.
-        for (number, fault) in [
-            (11, Fault::Empty), // EAGAIN
-            (4, Fault::Passing), // EINTR
-            (103, Fault::Passing), // ECONNABORTED
-            (9, Fault::Own), // EBADF
-            (14, Fault::Own), // EFAULT
-            (22, Fault::Own), // EINVAL
-            (88, Fault::Own), // ENOTSOCK
-            (95, Fault::Own), // EOPNOTSUPP
-            (24, Fault::Short), // EMFILE
-            (23, Fault::Short), // ENFILE
-            (105, Fault::Short), // ENOBUFS
-            (12, Fault::Short), // ENOMEM
-            (71, Fault::Short), // EPROTO
-            (1, Fault::Short), // EPERM
-        ] {
-            let error = Error::from_raw_os_error(number);
-            assert_eq!(rt; fault_of(&error), fault, "at {number}");
-        }
     }
 }

@@ -52,24 +52,3 @@ pub(crate) fn generation_after(generation: u32) -> u32
         None => 1,
     }
 }
-
-#[cfg(test)]
-mod tests {
-    use super::*;
-
-    #[test]
-    fn keeps_slot_and_generation_apart(rt: HostRuntime) {
-        for (generation, slot, token) in [
-            (1, 0, 0x1_0000_0000),
-            (1, 7, 0x1_0000_0007),
-            (2, u32::MAX, 0x2_ffff_ffff),
-            (u32::MAX, u32::MAX, usize::MAX),
-        ] {
-            let key = Key { generation, slot };
-            assert_eq!(rt; key.token(), Token(token));
-            assert_eq!(rt; Key::of(Token(token)), key);
-        }
-        assert_eq!(rt; generation_after(1), 2);
-        assert_eq!(rt; generation_after(u32::MAX), 1);
-    }
-}
