@@ -1,9 +1,10 @@
 #!/usr/bin/env python3
-"""Times requests that cost more than their length lets expect, beside a Redis server: bench/hostile.py PROGRAM [RUNS]
+"""Times requests that cost more than their length lets expect, beside a Redis server: bench/hostile.py PROGRAM [RUNS [WAY]]
 
-Each row is a server of its own. A number is milliseconds from the first byte of the request to the last of its reply: the least of RUNS
-runs (5 if not given). `waits` is the longest that a PING of another client, sent every millisecond, waited during a run. The ratio is
-PROGRAM's to Redis's; what Redis has not is timed alone. Without `redis-server` (Debian: redis-server) all are.
+Each row is a server of its own, which serves in this way: `connections`, one loop, if none is given, or `workers`. A number is milliseconds
+from the first byte of the request to the last of its reply: the least of RUNS runs (5 if not given). `waits` is the longest that a PING
+of another client, sent every millisecond, waited during a run. The ratio is PROGRAM's to Redis's; what Redis has not is timed alone. Without
+`redis-server` (Debian: redis-server) all are.
 """
 
 import os
@@ -20,7 +21,7 @@ from lib.resp import spelled  # noqa: E402
 
 SECONDS = 120
 RUNS = 5
-KEYS, READERS = 2_000, 60
+KEYS, READERS, LONG = 2_000, 60, 100_000
 KIB, MIB = 1 << 10, 1 << 20
 
 
@@ -115,13 +116,20 @@ def many_owners(server, runs):
         return [timed(connection, "RECOVER.PLAN", "s", "g", "DEAD", *names) for _ in range(runs)]
 
 
-def many_rates(server, _):
-    """RECOVER.RUN of 4,096 entries with 1,024 classes of 64 rates."""
-    with server.connect(SECONDS) as connection:
-        connection.call("XGROUP", "CREATE", "s", "g", "0", "MKSTREAM")
-        send_all(connection, (["XADD", "s", "*", "c", f"k{number % 1024}"] for number in range(4_096)))
-        connection.call("XREADGROUP", "GROUP", "g", "dead", "COUNT", 4_096, "STREAMS", "s", ">")
-        return [timed(connection, "RECOVER.RUN", "s", "g", "DEAD", "dead")]
+def many_rates(classes):
+    def row(server, runs):
+        times = []
+        with server.connect(SECONDS) as connection:
+            for run in range(runs):
+                connection.call("XGROUP", "CREATE", f"s{run}", "g", "0", "MKSTREAM")
+                send_all(connection, (["XADD", f"s{run}", "*", "c", f"k{number % classes}"] for number in range(4_096)))
+                connection.call("XREADGROUP", "GROUP", "g", "dead", "COUNT", 4_096, "STREAMS", f"s{run}", ">")
+                until_idle(server)
+                times.append(timed(connection, "RECOVER.RUN", f"s{run}", "g", "DEAD", "dead"))
+        return times
+
+    row.__doc__ = f"RECOVER.RUN of 4,096 entries of {classes:,} classes of 64 rates."
+    return row
 
 
 def until_idle(server):
@@ -191,16 +199,18 @@ def wake_one(server, _):
 
 
 def long_ranges(server, _):
-    """110 XRANGEs of 20,000 entries each in one packet, to the last byte."""
+    """110 XRANGEs of 100,000 entries each in one packet, to the last byte."""
     with server.connect(SECONDS) as connection:
-        send_all(connection, (["XADD", "s", f"{number}-1", "f", "v"] for number in range(1, 20_001)))
+        send_all(connection, (["XADD", "s", f"{number}-1", "f", "v"] for number in range(1, LONG + 1)))
         request = spelled("XRANGE", "s", "-", "+")
         connection.socket.sendall(request)
-        length = len(b"*20000\r\n") + sum(len(f"*2\r\n${len(name)}\r\n{name}\r\n*2\r\n$1\r\nf\r\n$1\r\nv\r\n") for name in (f"{number}-1" for number in range(1, 20_001)))
+        names = (f"{number}-1" for number in range(1, LONG + 1))
+        length = len(f"*{LONG}\r\n") + sum(len(f"*2\r\n${len(name)}\r\n{name}\r\n*2\r\n$1\r\nf\r\n$1\r\nv\r\n") for name in names)
         connection.file.read(length)
         with Run() as run:
             connection.socket.sendall(request * 110)
-            connection.file.read(length * 110)
+            for _ in range(110):
+                connection.file.read(length)
         return [run.took]
 
 
@@ -271,7 +281,9 @@ def rows():
     """Each row: its name, its function, and whether Redis has it."""
     yield many_dead.__doc__, many_dead, False
     yield many_owners.__doc__, many_owners, False
-    yield many_rates.__doc__, many_rates, False
+    for classes in (16, 1_024):
+        row = many_rates(classes)
+        yield row.__doc__, row, False
     for words in (["PING"], ["XADD", "elsewhere", "*", "f", "v"]):
         row = beside_readers(*words)
         yield row.__doc__, row, True
@@ -307,16 +319,17 @@ def measured(make, row, runs):
 
 
 def main():
-    if len(sys.argv) not in (2, 3):
+    if len(sys.argv) not in (2, 3, 4) or sys.argv[3:] not in ([], [servers.THREADS], [servers.LOOP]):
         sys.exit(__doc__)
-    runs = int(sys.argv[2]) if len(sys.argv) == 3 else RUNS
+    runs = int(sys.argv[2]) if len(sys.argv) > 2 else RUNS
+    serving = {"workers": 64} if sys.argv[3:] == [servers.THREADS] else {"connections": 1_000}
     has_redis = servers.Redis.installed()
     print(f"{'':78} {'ms':>9} {'waits':>8} {'Redis':>9} {'waits':>8} {'ratio':>6}")
     with tempfile.NamedTemporaryFile("w", suffix=".toml") as policy:
         policy.write(policy_text())
         policy.flush()
         for name, row, in_redis in rows():
-            own, waits = measured(lambda: servers.Server(sys.argv[1], policy=policy.name, workers=64, keep=100_000), row, runs)
+            own, waits = measured(lambda: servers.Server(sys.argv[1], policy=policy.name, keep=100_000, **serving), row, runs)
             line = f"{name[:-1]:78} {own:9.3f} {waits:8.1f}"
             if in_redis and has_redis:
                 other, waits = measured(servers.Redis, row, runs)

@@ -12,3 +12,4 @@ pub mod ServeLemmas
 pub mod ShownLemmas
 pub mod SoundLemmas
 pub mod StrayLemmas
+pub mod TimeLemmas

@@ -5,7 +5,7 @@ use Rattle.std.specs.Prelude.{◌≡◌, ◌⊎◌, ℕ, List, [], ◌∷◌}
 use Rattle.sr_book.specs.Records.{BookState, Recorded, rebased}
 use Rattle.sr_book.specs.declared.event.Event.TheVariants as events
 use Rattle.sr_hub.specs.Lines.{AreLines, GoOn, HubState, with_more, with_none}
-use Rattle.sr_hub.specs.Said.{LeavesOf, Occurs, SaysOf}
+use Rattle.sr_hub.specs.Said.{IsTimed, LeavesOf, Occurs, SaysOf}
 use Rattle.sr_hub.specs.declared.deeds.Deed.{Deed}
 use Rattle.sr_hub.specs.declared.deeds.Deed.TheVariants as deeds
 use Rattle.sr_hub.specs.declared.deeds.Outcome.{Outcome}
@@ -71,11 +71,14 @@ JoinsBy outcomes.Other old moment new = new ≡ old
 -- what one call, at a moment, has the book record
 abbrev pub IsSaidBy : Deed → ℕ → Outcome → HubState → BookState → Type 0
 IsSaidBy deeds.Connect moment outcome old new = JoinsBy outcome old.book moment new
-IsSaidBy (deeds.Take token piece) moment outcome old new = SaysOf (old.at token) old.book new
+IsSaidBy (deeds.Take token piece) moment outcome old new =
+    SaysOf (old.at token) old.book new × IsTimed moment old.book new
 IsSaidBy (deeds.PassOver token) moment outcome old new = new ≡ old.book
-IsSaidBy (deeds.GoOn token) moment outcome old new = SaysOf (old.at token) old.book new
+IsSaidBy (deeds.GoOn token) moment outcome old new =
+    SaysOf (old.at token) old.book new × IsTimed moment old.book new
 IsSaidBy (deeds.Send token count) moment outcome old new = new ≡ old.book
-IsSaidBy (deeds.Judge token) moment outcome old new = SaysOf (old.at token) old.book new
+IsSaidBy (deeds.Judge token) moment outcome old new =
+    SaysOf (old.at token) old.book new × IsTimed moment old.book new
 IsSaidBy deeds.Tick moment outcome old new = Occurs old.book moment events.Expire new ⊎ (new ≡ old.book)
 IsSaidBy (deeds.Close token) moment outcome old new =
     LeavesOf (old.at token) old.book moment new ⊎ (new ≡ old.book)

@@ -3,7 +3,7 @@
 use Rattle.std.specs.Prelude.{⊤, ◌≡◌, ℕ, List, ◌++◌, Option, Some, None}
 use Rattle.std.specs.List.{AllByRecursion}
 use Rattle.sr_book.specs.Server.{speaker}
-use Rattle.sr_book.specs.Records.{BookState, IsStepped, Recorded}
+use Rattle.sr_book.specs.Records.{BookState, IsStepped, Recorded, next_moment}
 use Rattle.sr_book.specs.declared.answer.Answer.{Answer}
 use Rattle.sr_book.specs.declared.event.Act.{Act}
 use Rattle.sr_book.specs.declared.event.Act.TheVariants as acts
@@ -27,6 +27,13 @@ pub record Says (session : ℕ) (old new : BookState) : Type 0 where
 abbrev pub SaysOf : Option ConnectionState → BookState → BookState → Type 0
 SaysOf None old new = new ≡ old
 SaysOf (Some line) old new = Says line.session old new
+
+-- records were added, each at the moment of a record for this one, and the next would be at the same
+pub record IsTimed (moment : ℕ) (old new : BookState) : Type 0 where
+  pub added : List Recorded
+  pub grown : new.records ≡ old.records ++ added
+  pub at : AllByRecursion (λ recorded. recorded.moment ≡ next_moment old moment) added
+  pub stays : next_moment new moment ≡ next_moment old moment
 
 -- one record was added of this event, at a moment that is handed in, and then servings
 pub record Occurs (old : BookState) (moment : ℕ) (event : Event) (new : BookState) : Type 0 where

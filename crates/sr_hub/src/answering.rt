@@ -7,6 +7,7 @@ ghost use Rattle.sr_book.specs.Records.{IsCertain};
 ghost use Rattle.sr_book.specs.Server.{letter_of};
 ghost use Rattle.sr_session.specs.steps.Asked.{IsAsked};
 ghost use Rattle.sr_hub.specs.Line.{IsAtRest};
+ghost use Rattle.sr_hub.specs.Said.{IsTimed};
 ghost use Rattle.sr_hub.specs.steps.Moves.{Answers, Moves};
 ghost use Rattle.sr_hub.specs.steps.Left.{left};
 ghost use Rattle.sr_hub.specs.steps.Telling.{Comes, IsRefusedBy, refusal_code};
@@ -32,16 +33,19 @@ pub(crate) fn answer_waiting(
 )
     ensures moves { Moves book.old connection.old book.new connection.new }
     ensures rest { IsAtRest 65536 book.new.server connection.new connection.new.stage }
+    ensures timed { IsTimed moment book.old book.new }
 {
     while answer_more(alloc, book, connection, moment) {}
 }
 
 /// Takes the letter of a connection that waits, or answers the next request of one that does not. Answers whether
 /// there was one.
+#[tactic(auto, using(crate::proofs::TimeLemmas::timed))]
 fn answer_more(alloc: Global, book: &mut Book, connection: &mut Connection, moment: u64) -> bool
     ensures moves { Moves book.old connection.old book.new connection.new }
     ensures fewer { IsTrue result → left connection.new < left connection.old }
     ensures rest { result ≡ false → IsAtRest 65536 book.new.server connection.new connection.new.stage }
+    ensures timed { IsTimed moment book.old book.new }
 {
     match &connection.stage {
         Stage::Idle => answer_next(alloc, book, connection, moment),
@@ -52,11 +56,13 @@ fn answer_more(alloc: Global, book: &mut Book, connection: &mut Connection, mome
 
 /// Answers the next request of a connection that can take one, if one waits and few bytes are to be sent. If none waits
 /// and its bytes went wrong, it is told so. Answers whether there was a request.
+#[tactic(auto, using(crate::proofs::TimeLemmas::timed))]
 fn answer_next(alloc: Global, book: &mut Book, connection: &mut Connection, moment: u64) -> bool
     requires { connection.old.stage ≡ Stage.Idle }
     ensures moves { Moves book.old connection.old book.new connection.new }
     ensures fewer { IsTrue result → left connection.new < left connection.old }
     ensures rest { result ≡ false → IsAtRest 65536 book.new.server connection.new connection.new.stage }
+    ensures timed { IsTimed moment book.old book.new }
 {
     if connection.unsent.len() >= FULL {
         return false;
@@ -103,6 +109,7 @@ pub(crate) fn has_letter(book: &Book, session: u64) -> bool
 }
 
 /// Answers one request: the command that its words are, or why they are none.
+#[tactic(auto, using(crate::proofs::TimeLemmas::timed))]
 fn answer_asked(
     alloc: Global,
     book: &mut Book,
@@ -114,6 +121,7 @@ fn answer_asked(
     ensures answers { (words : RequestWords) → IsAsked words asked
         → Answers words book.old connection.old book.new connection.new }
     ensures requests { connection.new.requests ≡ connection.old.requests }
+    ensures timed { IsTimed moment book.old book.new }
 {
     match asked {
         Ok(command) => answer_command(alloc, book, connection, moment, command),
@@ -122,6 +130,7 @@ fn answer_asked(
 }
 
 /// Answers one command.
+#[tactic(auto, using(crate::proofs::TimeLemmas::timed))]
 fn answer_command(
     alloc: Global,
     book: &mut Book,
@@ -133,6 +142,7 @@ fn answer_command(
     ensures answers { (words : RequestWords) → IsCommand words command
         → Answers words book.old connection.old book.new connection.new }
     ensures requests { connection.new.requests ≡ connection.old.requests }
+    ensures timed { IsTimed moment book.old book.new }
 {
     match command {
         Command::Call(call) => answer_call(alloc, book, connection, moment, call),
@@ -157,11 +167,13 @@ fn answer_command(
 }
 
 /// Answers a call, or has the connection wait for its letter.
+#[tactic(auto, using(crate::proofs::TimeLemmas::timed))]
 fn answer_call(alloc: Global, book: &mut Book, connection: &mut Connection, moment: u64, call: Call)
     requires { connection.old.stage ≡ Stage.Idle }
     ensures answers { (words : RequestWords) → IsCommand words (commands.Call call)
         → Answers words book.old connection.old book.new connection.new }
     ensures requests { connection.new.requests ≡ connection.old.requests }
+    ensures timed { IsTimed moment book.old book.new }
 {
     let event = Event::Call {
         session: connection.session,
@@ -179,6 +191,7 @@ fn answer_call(alloc: Global, book: &mut Book, connection: &mut Connection, mome
 }
 
 /// Answers with the board of a group.
+#[tactic(auto, using(crate::proofs::TimeLemmas::timed))]
 fn answer_board(
     alloc: Global,
     book: &mut Book,
@@ -191,6 +204,7 @@ fn answer_board(
     ensures answers { (words : RequestWords) → IsCommand words (commands.Board key group)
         → Answers words book.old connection.old book.new connection.new }
     ensures requests { connection.new.requests ≡ connection.old.requests }
+    ensures timed { IsTimed moment book.old book.new }
 {
     let event = Event::Board {
         session: connection.session,

@@ -3,6 +3,7 @@ ghost use Rattle.std.specs.Prelude.{◌≡◌, ◌≤◌, ◌↔◌, None, IfOk,
 ghost use Rattle.std.specs.Prelude.{IsSome, false, true, length};
 ghost use Rattle.slab.specs.Slab.{get};
 ghost use Rattle.sr_book.specs.Records.{BookState};
+ghost use Rattle.sr_hub.specs.Said.{IsTimed};
 ghost use Rattle.sr_hub.specs.Line.{IsAtRest, is_ended, wanted_of};
 ghost use Rattle.sr_hub.specs.steps.Calls.{ComesAt, ComesNot, GoesAt, GoesNot, IsRefusedAt, MovesAt, SendsAt, TakesAt};
 ghost use Rattle.sr_hub.specs.steps.Calls.{hub_of};
@@ -65,6 +66,7 @@ pub(crate) fn close_at(
 }
 
 /// Goes on with the connection at a token, if there is one.
+#[tactic(auto, using(crate::proofs::TimeLemmas::timed))]
 pub(crate) fn go_on_at(
     alloc: Global,
     book: &mut Book,
@@ -75,6 +77,7 @@ pub(crate) fn go_on_at(
     ensures there { result ≡ false ↔ (get connections.old token ≡ None) }
     ensures moves { IsTrue result → MovesAt token (hub_of book.old connections.old) (hub_of book.new connections.new) }
     ensures none { result ≡ false → (book.new ≡ book.old) × (connections.new ≡ connections.old) }
+    ensures timed { IsTimed moment book.old book.new }
 {
     let Some(mut connection) = connections.try_remove(token) else {
         return false;
@@ -85,6 +88,7 @@ pub(crate) fn go_on_at(
 }
 
 /// Takes the next bytes of the connection at a token, and goes on with it.
+#[tactic(auto, using(crate::proofs::TimeLemmas::timed))]
 pub(crate) fn take_at(
     alloc: Global,
     book: &mut Book,
@@ -97,6 +101,7 @@ pub(crate) fn take_at(
         (TakesAt token piece.now (hub_of book.old connections.old) (hub_of book.new connections.new)) }
     ensures err { IfErr result (λ fault.
         IsRefusedAt token fault (hub_of book.old connections.old) (hub_of book.new connections.new)) }
+    ensures timed { IsTimed moment book.old book.new }
 {
     let Some(mut connection) = connections.try_remove(token) else {
         return Err(TakeFault::Gone);
@@ -158,7 +163,8 @@ pub(crate) fn conclude_at(
 )
     requires { IsSomeAnd (get connections.old token) (λ line. IsSomeAnd (wanted_of line.stage) (λ shown.
         IfSome verdict (λ judged. judged.snapshot ≡ shown))) }
-    ensures { MovesAt token (hub_of book.old connections.old) (hub_of book.new connections.new) }
+    ensures moves { MovesAt token (hub_of book.old connections.old) (hub_of book.new connections.new) }
+    ensures timed { IsTimed moment book.old book.new }
 {
     let Some(mut connection) = connections.try_remove(token) else {
         unreachable!()
@@ -177,7 +183,8 @@ pub(crate) fn judge_at(
     moment: u64,
 )
     requires { IsSomeAnd (get connections.old token) (λ line. IsSome (wanted_of line.stage)) }
-    ensures { MovesAt token (hub_of book.old connections.old) (hub_of book.new connections.new) }
+    ensures moves { MovesAt token (hub_of book.old connections.old) (hub_of book.new connections.new) }
+    ensures timed { IsTimed moment book.old book.new }
 {
     let Some(mut connection) = connections.try_remove(token) else {
         unreachable!()
@@ -188,6 +195,7 @@ pub(crate) fn judge_at(
 }
 
 /// Takes the next piece of a connection's bytes, and answers each request that is whole now, as far as it goes.
+#[tactic(auto, using(crate::proofs::TimeLemmas::timed))]
 fn take_piece(
     alloc: Global,
     book: &mut Book,
@@ -200,6 +208,7 @@ fn take_piece(
     ensures rest { OnOk result (IsAtRest 65536 book.new.server connection.new connection.new.stage) }
     ensures err { IfErr result (λ fault. IsUntaken fault connection.old connection.new) }
     ensures stays { OnErr result (book.new ≡ book.old) }
+    ensures timed { IsTimed moment book.old book.new }
 {
     if has_ended(&connection.stage) {
         return Err(TakeFault::Ended);

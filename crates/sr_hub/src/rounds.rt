@@ -4,6 +4,7 @@ ghost use Rattle.sr_resp.specs.Request.{Words as RequestWords};
 ghost use Rattle.sr_args.specs.declared.call.Command.TheVariants as commands;
 ghost use Rattle.sr_args.specs.Command.{IsCommand};
 ghost use Rattle.sr_hub.specs.Line.{wanted_of};
+ghost use Rattle.sr_hub.specs.Said.{IsTimed};
 ghost use Rattle.sr_hub.specs.steps.Moves.{Answers, Moves};
 ghost use Rattle.sr_hub.specs.steps.Left.{Concludes};
 ghost use Rattle.sr_hub.specs.declared.stage.Stage.{Stage as ConnectionStage};
@@ -40,6 +41,7 @@ struct Round {
 }
 
 /// Begins a recovery, if there is memory to keep its snapshots.
+#[tactic(auto, using(crate::proofs::TimeLemmas::timed))]
 pub(crate) fn begin_recovery(
     alloc: Global,
     book: &mut Book,
@@ -52,6 +54,7 @@ pub(crate) fn begin_recovery(
         recovery.key recovery.group recovery.dead)
         → Answers words book.old connection.old book.new connection.new }
     ensures requests { connection.new.requests ≡ connection.old.requests }
+    ensures timed { IsTimed moment book.old book.new }
 {
     match Shelf::new(alloc) {
         Ok(shelf) => take_snapshot(alloc, book, connection, moment, recovery, shelf),
@@ -60,6 +63,7 @@ pub(crate) fn begin_recovery(
 }
 
 /// Takes the snapshot with which a recovery begins: then a verdict is wanted, or it is answered at once.
+#[tactic(auto, using(crate::proofs::TimeLemmas::timed))]
 fn take_snapshot(
     alloc: Global,
     book: &mut Book,
@@ -73,6 +77,7 @@ fn take_snapshot(
         recovery.key recovery.group recovery.dead)
         → Answers words book.old connection.old book.new connection.new }
     ensures requests { connection.new.requests ≡ connection.old.requests }
+    ensures timed { IsTimed moment book.old book.new }
 {
     let Recovery {
         apply,
@@ -107,6 +112,7 @@ fn take_snapshot(
 
 /// Concludes a verdict on the snapshot that is wanted: the recovery is replied, or has a fresh snapshot for its next
 /// round. `None` says that memory was lacking for a verdict.
+#[tactic(auto, using(crate::proofs::TimeLemmas::timed))]
 pub(crate) fn conclude_round(
     alloc: Global,
     book: &mut Book,
@@ -116,7 +122,8 @@ pub(crate) fn conclude_round(
 )
     requires { IsSomeAnd (wanted_of connection.old.stage) (λ shown.
         IfSome verdict (λ judged. judged.snapshot ≡ shown)) }
-    ensures { Moves book.old connection.old book.new connection.new }
+    ensures moves { Moves book.old connection.old book.new connection.new }
+    ensures timed { IsTimed moment book.old book.new }
 {
     let (_, round) = take_round(connection);
     match verdict {
@@ -127,9 +134,11 @@ pub(crate) fn conclude_round(
 
 /// Makes a verdict on the snapshot that is wanted, and concludes it: the recovery is replied, or has a fresh snapshot
 /// for its next round.
+#[tactic(auto, using(crate::proofs::TimeLemmas::timed))]
 pub(crate) fn judge_round(alloc: Global, book: &mut Book, connection: &mut Connection, moment: u64)
     requires { IsSome (wanted_of connection.old.stage) }
-    ensures { Moves book.old connection.old book.new connection.new }
+    ensures moves { Moves book.old connection.old book.new connection.new }
+    ensures timed { IsTimed moment book.old book.new }
 {
     let (snapshot, round) = take_round(connection);
     match Verdict::make(alloc, snapshot) {
@@ -167,6 +176,7 @@ fn take_round(connection: &mut Connection) -> (Snapshot, Round)
 }
 
 /// Concludes this verdict in this round of a recovery, whatever stage of it the connection was in.
+#[tactic(auto, using(crate::proofs::TimeLemmas::timed))]
 fn conclude_verdict(
     alloc: Global,
     book: &mut Book,
@@ -175,8 +185,9 @@ fn conclude_verdict(
     verdict: Verdict,
     round: Round,
 )
-    ensures { (stage : ConnectionStage) → Concludes stage verdict round.apply round.later
+    ensures moves { (stage : ConnectionStage) → Concludes stage verdict round.apply round.later
         → Moves book.old (record connection.old { stage = stage }) book.new connection.new }
+    ensures timed { IsTimed moment book.old book.new }
 {
     let Round {
         apply,

@@ -12,7 +12,7 @@ returns-in-Connect c =
 pub returns-in-Take : goal.returns-in-Take
 returns-in-Take c =
     does-as c.args.timed.now (deeds.Take c.in-Take.token c.in-Take.piece) outcomes.Other (state_of c.args.hub.now) (state_of c.take-taken.new.self) c.in-Take.is
-    c.take-taken.ensures.said c.take-taken.ensures.lines
+    (c.take-taken.ensures.said, c.take-taken.ensures.timed) c.take-taken.ensures.lines
 
 pub returns-in-PassOver : goal.returns-in-PassOver
 returns-in-PassOver c =
@@ -21,7 +21,7 @@ returns-in-PassOver c =
 pub returns-in-GoOn : goal.returns-in-GoOn
 returns-in-GoOn c =
     does-as c.args.timed.now (deeds.GoOn c.in-GoOn.token) outcomes.Other (state_of c.args.hub.now) (state_of c.go_on.new.self) c.in-GoOn.is
-    c.go_on.ensures.said c.go_on.ensures.lines
+    (c.go_on.ensures.said, c.go_on.ensures.timed) c.go_on.ensures.lines
 
 pub returns-in-Send : goal.returns-in-Send
 returns-in-Send c =
@@ -31,7 +31,7 @@ returns-in-Send c =
 pub returns-in-Judge : goal.returns-in-Judge
 returns-in-Judge c =
     does-as c.args.timed.now (deeds.Judge c.in-Judge.token) outcomes.Other (state_of c.args.hub.now) (state_of c.judge.new.self) c.in-Judge.is
-    c.judge.ensures.said c.judge.ensures.lines
+    (c.judge.ensures.said, c.judge.ensures.timed) c.judge.ensures.lines
 
 pub returns-in-Tick : goal.returns-in-Tick
 returns-in-Tick c =

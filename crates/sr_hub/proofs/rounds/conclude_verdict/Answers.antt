@@ -19,16 +19,16 @@ overflow_sub-fewer c =
     some-later c.args.round.later (subst (IsConcludeOut (c.args.round.later == 0)) c.in-Stale.is
     (conclude-out c.args.book.now c.args.moment c.connection.inside.session c.args.verdict c.args.round.apply (c.args.round.later == 0) c.in-Ok.out c.said.new.book c.in-Ok.ensures.ok))
 
-pub returns-in-Reply : goal.returns-in-Reply
-returns-in-Reply c = λ stage concludes.
+pub returns-in-Reply-clause-moves : goal.returns-in-Reply-clause-moves
+returns-in-Reply-clause-moves c = λ stage concludes.
     let line : ConnectionState = record c.args.connection.now { stage = stage } in
     let same : events.Conclude c.connection.inside.session c.args.verdict c.args.round.apply (c.args.round.later == 0) ≡ events.Conclude line.session c.args.verdict c.args.round.apply (c.args.round.later == 0) =
     ap (λ (l : ConnectionState). events.Conclude l.session c.args.verdict c.args.round.apply (c.args.round.later == 0)) c.connection.view_is in
     concluded-replied c.args.book.now line c.args.moment c.said.new.book c.tell.new.self c.args.verdict c.args.round.apply c.args.round.later concludes c.in-Reply.reply
     (comes-same _ _ _ _ _ _ _ same c.in-Reply.is c.in-Ok.ensures.ok) (tells-from _ c.args.connection.now.stage stage c.args.connection.now c.tell.new.self c.tell.ensures)
 
-pub returns-in-Stale : goal.returns-in-Stale
-returns-in-Stale c = λ stage concludes.
+pub returns-in-Stale-clause-moves : goal.returns-in-Stale-clause-moves
+returns-in-Stale-clause-moves c = λ stage concludes.
     let line : ConnectionState = record c.args.connection.now { stage = stage } in
     let same : events.Conclude c.connection.inside.session c.args.verdict c.args.round.apply (c.args.round.later == 0) ≡ events.Conclude line.session c.args.verdict c.args.round.apply (c.args.round.later == 0) =
     ap (λ (l : ConnectionState). events.Conclude l.session c.args.verdict c.args.round.apply (c.args.round.later == 0)) c.connection.view_is in
@@ -38,8 +38,8 @@ returns-in-Stale c = λ stage concludes.
     concluded-stale c.args.book.now line c.args.moment c.said.new.book c.pass_to.new.self c.args.verdict c.args.round.apply c.args.round.later concludes c.keep.result (c.args.round.later - 1) less
     (comes-same _ _ _ _ _ _ _ same (c.in-Stale.is ∙ ap (λ (shown : Shown). outs.Stale shown) (sym c.keep.ensures)) c.in-Ok.ensures.ok) c.pass_to.ensures
 
-pub returns-in-Err : goal.returns-in-Err
-returns-in-Err c = λ stage concludes.
+pub returns-in-Err-clause-moves : goal.returns-in-Err-clause-moves
+returns-in-Err-clause-moves c = λ stage concludes.
     let line : ConnectionState = record c.args.connection.now { stage = stage } in
     let event : Event = events.Conclude line.session c.args.verdict c.args.round.apply (c.args.round.later == 0) in
     let same : events.Conclude c.connection.inside.session c.args.verdict c.args.round.apply (c.args.round.later == 0) ≡ event =

@@ -1,6 +1,7 @@
 use Rattle.std.proofs.Common.{subst}
 use Rattle.sr_hub.specs.Lines.{HubParts, HubState, state_of}
 use Rattle.sr_hub.specs.steps.Calls.{hub_of}
+use Rattle.sr_hub.specs.Said.{IsTimed}
 use Rattle.sr_hub.proofs.HubLemmas.{GoOnClauses, go_on-clauses, hub-same}
 use Rattle.sr_hub.proofs.hub.Hub.go_on.Goals as goal
 
@@ -44,3 +45,6 @@ returns-clause-said c =
     let new : HubState = hub_of c.go_on_at.new.book c.go_on_at.new.connections in
     (subst (λ (p : HubParts). GoOnClauses c.args.token c.go_on_at.result (state_of p) new) c.self.view_is
     (go_on-clauses c.args.token c.go_on_at.result old new c.self.invariant c.go_on_at.ensures.moves (λ is. hub-same _ _ _ _ (c.go_on_at.ensures.none is).0 (c.go_on_at.ensures.none is).1))).said
+
+pub returns-clause-timed : goal.returns-clause-timed
+returns-clause-timed c = subst (λ (p : HubParts). IsTimed c.args.moment p.book c.go_on_at.new.book) c.self.view_is c.go_on_at.ensures.timed

@@ -1,6 +1,7 @@
 use Rattle.std.proofs.Common.{subst}
 use Rattle.sr_hub.specs.Lines.{HubParts, HubState, state_of}
 use Rattle.sr_hub.specs.steps.Calls.{hub_of}
+use Rattle.sr_hub.specs.Said.{IsTimed}
 use Rattle.sr_hub.proofs.HubLemmas.{TakeClauses, take-apart, take-clauses}
 use Rattle.sr_hub.proofs.hub.Hub.take.Goals as goal
 
@@ -63,3 +64,6 @@ returns-clause-said c =
     let new : HubState = hub_of c.take_at.new.book c.take_at.new.connections in
     (subst (λ (p : HubParts). TakeClauses c.args.token c.args.piece.now c.take_at.result (state_of p) new) c.self.view_is
     (take-clauses c.args.token c.args.piece.now c.take_at.result old new c.self.invariant c.take_at.ensures.ok c.take_at.ensures.err)).said
+
+pub returns-clause-timed : goal.returns-clause-timed
+returns-clause-timed c = subst (λ (p : HubParts). IsTimed c.args.moment p.book c.take_at.new.book) c.self.view_is c.take_at.ensures.timed
