@@ -21,7 +21,7 @@ from lib.resp import spelled  # noqa: E402
 
 SECONDS = 120
 RUNS = 5
-KEYS, READERS, LONG = 2_000, 60, 100_000
+KEYS, READERS, LONG = 2_000, 60, 20_000
 KIB, MIB = 1 << 10, 1 << 20
 
 
@@ -199,7 +199,7 @@ def wake_one(server, _):
 
 
 def long_ranges(server, _):
-    """110 XRANGEs of 100,000 entries each in one packet, to the last byte."""
+    """110 XRANGEs of 20,000 entries each in one packet, to the last byte."""
     with server.connect(SECONDS) as connection:
         send_all(connection, (["XADD", "s", f"{number}-1", "f", "v"] for number in range(1, LONG + 1)))
         request = spelled("XRANGE", "s", "-", "+")
