@@ -93,11 +93,12 @@ class Run:
 
     def go_on(self, server):
         """Has another client come, as soon as there is a place for it, after the first is gone."""
-        if not comes(lambda: has_place(server), LEFT):
+        connection = first_served(server)
+        if not connection:
             self.wrong = f"no place for another client within {LEFT} seconds"
             return
         try:
-            with server.connect(PATIENCE) as connection:
+            with connection:
                 connection.send(*GROUP)
                 connection.reply()  # (the group is there, unless it was what was refused)
                 connection.call("XADD", "s", "1-1", "a", "b")
@@ -109,13 +110,19 @@ class Run:
                 self.wrong = f"the next client adds an entry, and reads {entry!r}"
 
 
-def has_place(server):
-    """Whether the server serves a client that comes now."""
-    try:
-        with server.connect(PATIENCE) as connection:
-            return connection.call("PING") == b"PONG"
-    except (OSError, resp.ErrorReply):
-        return False
+def first_served(server):
+    """The first client that comes now and is served, or None if none is for some time."""
+    until = time.monotonic() + LEFT
+    while time.monotonic() < until:
+        connection = server.connect(PATIENCE)
+        try:
+            if connection.call("PING") == b"PONG":
+                return connection
+        except (OSError, resp.ErrorReply):
+            pass  # (there is no place for it)
+        connection.close()
+        time.sleep(0.005)
+    return None
 
 
 def comes(is_so, seconds):
