@@ -14,7 +14,6 @@ MORE = 200  # that come at once beyond them
 REFUSAL = b"-ERR max number of clients reached\r\n"
 SOON = 5  # seconds in which one is let in once another has closed
 AGAIN = 100  # times that a client closes and connects again
-RARE = 5  # times in which the system may deliver the new connection before the end of the old one, since another processor handles it
 
 IDLE = 1  # seconds, as --idle has it
 CLOSED = IDLE - 0.1, IDLE + 2  # when an idle connection is closed: the server looks at them once a second
@@ -81,8 +80,8 @@ def beyond_limit(tally, server):
 
 
 def come_again(tally, server):
-    """A client that closes and at once connects again is let in each time, but for rare ones, while others take all places but its own, also if
-    the server learns of both at once, since it is busy."""
+    """A client that closes and at once connects again is let in each time while others take all places but its own, also if the server learns
+    of both at once, since it is busy."""
     with server.connect() as other, Crowd(server, LIMIT - 2) as others:
         replied, served = busy.made(other), 0
         again = crowd.opened(server.port, servers.SECONDS)
@@ -100,7 +99,7 @@ def come_again(tally, server):
                 other.file.read(replied)
             served += is_served(again)
         again.close()
-        tally.compare("whether it is let in each time, but for rare ones", True, served >= AGAIN - RARE)
+        tally.compare("how often it is let in", AGAIN, served)
         tally.compare("those that are served beside it", LIMIT - 2, others.pinged())
 
 
