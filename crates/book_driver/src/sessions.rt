@@ -12,19 +12,19 @@ pub(crate) const NO_PLACE: usize = usize::MAX;
 
 /// What a session holds of the last snapshot that it got.
 #[derive(Drop)]
-pub(crate) enum Held {
+pub(crate) enum LastSnapshot {
     /// The snapshot itself.
     Snapshot(Snapshot),
     /// The verdict that was made of it.
     Verdict(Verdict),
 }
 
-impl Held {
+impl LastSnapshot {
     /// The verdict. If memory is refused for it, the snapshot is dropped.
     pub(crate) fn verdict(self, alloc: Global) -> Result<Verdict, AllocError> {
         match self {
-            Held::Snapshot(snapshot) => Verdict::make(alloc, snapshot),
-            Held::Verdict(verdict) => Ok(verdict),
+            LastSnapshot::Snapshot(snapshot) => Verdict::make(alloc, snapshot),
+            LastSnapshot::Verdict(verdict) => Ok(verdict),
         }
     }
 }
@@ -33,7 +33,7 @@ impl Held {
 #[derive(Drop)]
 struct Session {
     number: u64,
-    held: Option<Held>,
+    held: Option<LastSnapshot>,
 }
 
 /// The sessions, in the order of their join lines. A line names one by its place among them.
@@ -71,13 +71,13 @@ impl Sessions {
             Ok(answer) => match answer.out {
                 Out::Joined(number) => self.add(number),
                 Out::Snap(snapshot) | Out::Stale(snapshot) => {
-                    self.hold(place, Held::Snapshot(snapshot));
+                    self.hold(place, LastSnapshot::Snapshot(snapshot));
                 }
                 _ => {}
             },
             Err(refused) => match refused.event {
                 Event::Join => self.add(NO_SESSION),
-                Event::Conclude { verdict, .. } => self.hold(place, Held::Verdict(verdict)),
+                Event::Conclude { verdict, .. } => self.hold(place, LastSnapshot::Verdict(verdict)),
                 _ => {}
             },
         }
@@ -91,14 +91,14 @@ impl Sessions {
     }
 
     /// The session at a place holds this from now on.
-    fn hold(&mut self, place: usize, held: Held) {
+    fn hold(&mut self, place: usize, held: LastSnapshot) {
         if let Some(session) = self.list.get_mut(place) {
             session.held = Some(held);
         }
     }
 
     /// What the session at a place holds. It holds nothing then.
-    pub(crate) fn take(&mut self, place: usize) -> Option<Held> {
+    pub(crate) fn take(&mut self, place: usize) -> Option<LastSnapshot> {
         match self.list.get_mut(place) {
             Some(session) => session.held.take(),
             None => None,

@@ -2,14 +2,14 @@
 -- Source: docs/RECOVERY.md.
 
 use Rattle.std.specs.Prelude.{ℕ, List, Bool}
-use Rattle.sr_policy.specs.Snapshot.{Shown}
+use Rattle.sr_policy.specs.{SnapshotState}
 use Rattle.sr_check.specs.Verified.{IsVerified, IsCheapestReply, IsShortageReply}
 use Rattle.sr_check.specs.declared.judge.Verified.TheVariants as says
 use Rattle.plan_check.specs.declared.finding.Finding.{Finding}
 use Rattle.plan_check.specs.declared.finding.Finding.TheVariants as found
 
 -- what is found of the bytes of a reply to the problem of a snapshot: what sr_check says of them
-abbrev pub IsFound : Shown → List ℕ → Finding → Type 0
+abbrev pub IsFound : SnapshotState → List ℕ → Finding → Type 0
 IsFound shown text (found.Cheapest total) = (done : Bool) × IsCheapestReply shown text done total
 IsFound shown text (found.Impossible places entries) = IsShortageReply shown text places
 IsFound shown text (found.Wrong reason) = IsVerified shown text (says.Wrong reason)

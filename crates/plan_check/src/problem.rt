@@ -1,8 +1,8 @@
 //! A problem, read line by line, and the snapshot that it describes.
 ghost use Rattle.std.specs.Prelude.{ℕ, ◌^◌, ◌<◌, ◌≤◌, IfOk, IsErrOf, IfErr, ◌≡◌};
-ghost use Rattle.sr_bytes.specs.Decimal.{IsDecimal};
+ghost use Rattle.sr_bytes.specs.{IsDecimal};
 ghost use Rattle.sr_ids.specs.declared.id.Id as ids;
-ghost use Rattle.sr_ids.specs.Spelling.{SpellsId};
+ghost use Rattle.sr_ids.specs.{SpellsId};
 
 use crate::fault::Fault;
 use crate::words::{MOST_DIGITS, words_of};

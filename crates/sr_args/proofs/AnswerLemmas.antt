@@ -4,7 +4,7 @@ use Rattle.sr_args.specs.declared.table.CommandName.{CommandName}
 use Rattle.sr_args.specs.declared.call.Command.{Command}
 use Rattle.sr_args.specs.declared.fault.CallFault.{CallFault}
 use Rattle.sr_args.specs.declared.fault.CallFault.TheVariants.{Unknown, Arity, Syntax, Number, BadId, Memory}
-use Rattle.sr_args.specs.Place.{Word, HasNumbers, HasIds}
+use Rattle.sr_args.specs.FormWord.{Word, HasNumbers, HasIds}
 use Rattle.sr_args.specs.Table.{IsHalfNamed}
 use Rattle.sr_args.specs.Form.{Reading, Values, places, Reads, Means}
 use Rattle.sr_args.specs.commands.{form_of, command_of}

@@ -2,14 +2,14 @@
 use Rattle.std.proofs.Common.{◌≡◌, ℤ, List, [], Ok, Err, ap, to_z, of_z, w64}
 use Rattle.std.specs.List.{flat_map}
 use Rattle.sr_ids.specs.declared.id.Id.{Id}
-use Rattle.sr_ids.specs.Spelling.{IsStart}
+use Rattle.sr_ids.specs.{IsStart}
 use Rattle.sr_args.specs.declared.call.Call.TheVariants.{Xautoclaim}
 use Rattle.sr_args.specs.declared.commands.named.ConsumerNamed.{ConsumerNamed}
 use Rattle.sr_args.specs.declared.options.Choice.{Choice}
 use Rattle.sr_args.specs.declared.options.ValueFault.{ValueFault}
 use Rattle.sr_args.specs.declared.options.ValueFault.TheVariants as faults
 use Rattle.sr_args.specs.Number.{IsInt}
-use Rattle.sr_args.specs.Place.{Word, HasNumbers}
+use Rattle.sr_args.specs.FormWord.{Word, HasNumbers}
 use Rattle.sr_args.specs.Options.{Written, option_places, nothing}
 use Rattle.sr_args.specs.Form.{Reads, places}
 use Rattle.sr_args.specs.commands.Xautoclaim.{form, call}

@@ -12,8 +12,8 @@ use Rattle.sr_args.specs.declared.name.Sign.{Sign}
 use Rattle.sr_args.specs.declared.options.Choice.{Choice}
 use Rattle.sr_args.specs.declared.options.ValueFault.{ValueFault}
 use Rattle.sr_args.specs.declared.options.ValueFault.TheVariants as faults
-use Rattle.sr_args.specs.Place.{Word, Place, HasNumber, HasId, HasNumbers, HasIds}
-use Rattle.sr_args.specs.Options.{TrimReading, Written, count, no_make, make_key, ids_only, idle, since, deliveries, named_group, no_ack, block, trimming, count_place, sign_places, bound_place, limit_places, option_places, Chosen, nothing, IsBound, IsLimit, IsTrim, Sets, Choose}
+use Rattle.sr_args.specs.FormWord.{Word, FormWord, HasNumber, HasId, HasNumbers, HasIds}
+use Rattle.sr_args.specs.Options.{TrimReading, Written, count, idle, since, deliveries, named_group, block, trimming, count_place, sign_places, bound_place, limit_places, option_places, Chosen, nothing, IsBound, IsLimit, IsTrim, Sets, Choose}
 use Rattle.sr_args.specs.steps.Options.{AreJudged, IsJudged, GivesBound, GivesTrim, chosen_of, trim_operands}
 use Rattle.sr_args.specs.declared.commands.xclaim.TimeAsked.TheVariants as times
 use Rattle.sr_args.specs.declared.number.CountRange.{CountRange}
@@ -23,27 +23,27 @@ use Rattle.sr_args.specs.Number.IsInt.{positive, negative}
 use Rattle.sr_args.proofs.NumberLemmas.{IsInt-one, IsNat-one}
 
 -- numbers and ids of places one after the other
-pub HasNumbers-append : (ps qs : List Place) → HasNumbers ps → HasNumbers qs → HasNumbers (ps ++ qs)
+pub HasNumbers-append : (ps qs : List FormWord) → HasNumbers ps → HasNumbers qs → HasNumbers (ps ++ qs)
 HasNumbers-append [] qs p q = q
 HasNumbers-append (place ∷ ps) qs p q = (p.0, HasNumbers-append ps qs p.1 q)
 
-pub HasNumbers-front : (ps qs : List Place) → HasNumbers (ps ++ qs) → HasNumbers ps
+pub HasNumbers-front : (ps qs : List FormWord) → HasNumbers (ps ++ qs) → HasNumbers ps
 HasNumbers-front [] qs p = tt
 HasNumbers-front (place ∷ ps) qs p = (p.0, HasNumbers-front ps qs p.1)
 
-pub HasNumbers-back : (ps qs : List Place) → HasNumbers (ps ++ qs) → HasNumbers qs
+pub HasNumbers-back : (ps qs : List FormWord) → HasNumbers (ps ++ qs) → HasNumbers qs
 HasNumbers-back [] qs p = p
 HasNumbers-back (place ∷ ps) qs p = HasNumbers-back ps qs p.1
 
-pub HasIds-append : (ps qs : List Place) → HasIds ps → HasIds qs → HasIds (ps ++ qs)
+pub HasIds-append : (ps qs : List FormWord) → HasIds ps → HasIds qs → HasIds (ps ++ qs)
 HasIds-append [] qs p q = q
 HasIds-append (place ∷ ps) qs p q = (p.0, HasIds-append ps qs p.1 q)
 
-pub HasIds-front : (ps qs : List Place) → HasIds (ps ++ qs) → HasIds ps
+pub HasIds-front : (ps qs : List FormWord) → HasIds (ps ++ qs) → HasIds ps
 HasIds-front [] qs p = tt
 HasIds-front (place ∷ ps) qs p = (p.0, HasIds-front ps qs p.1)
 
-pub HasIds-back : (ps qs : List Place) → HasIds (ps ++ qs) → HasIds qs
+pub HasIds-back : (ps qs : List FormWord) → HasIds (ps ++ qs) → HasIds qs
 HasIds-back [] qs p = p
 HasIds-back (place ∷ ps) qs p = HasIds-back ps qs p.1
 
@@ -92,7 +92,7 @@ bound_value-one measures.MinId word (bounds.MinId i) (bounds.MaxLen n) p q = abs
 bound_value-one measures.MinId word (bounds.MaxLen m) b p q = absurd p
 
 -- what follows the name of a trim
-abbrev after_sign : TrimReading → List Place
+abbrev after_sign : TrimReading → List FormWord
 after_sign t = bound_place t.by t.bound ∷ limit_places t.limit
 
 pub trim-numbers : (t : TrimReading) (trim : Trim) → IsTrim t trim → HasNumbers (option_places (trimming t))

@@ -13,7 +13,7 @@ use Rattle.sr_args.specs.declared.options.OptionSet.TheVariants as sets
 use Rattle.sr_args.specs.declared.options.ValueFault.{ValueFault}
 use Rattle.sr_args.specs.declared.options.ValueFault.TheVariants as faults
 use Rattle.sr_args.specs.Number.{IsInt}
-use Rattle.sr_args.specs.Place.{Word, Place, Stands, Fits, option, any, numeric, spelled, strict_id, HasNumbers, HasIds}
+use Rattle.sr_args.specs.FormWord.{Word, FormWord, Stands, Fits, option, any, numeric, spelled, strict_id, HasNumbers, HasIds}
 use Rattle.sr_args.specs.Options.{Written, option_places, AreOptionsFit, IsUnnamed, nothing}
 use Rattle.sr_args.specs.Form.{Reading, Reads, places, AreUnnamed, IsNoneOf, AreNoneOf, AreBarred, AreIds}
 use Rattle.sr_args.specs.commands.Xclaim.{form, call, unsupported}
@@ -55,13 +55,13 @@ IsNoneOf-same : (names : List OptionName) (word other : Word) → map to_ascii_l
 IsNoneOf-same [] word other e n = tt
 IsNoneOf-same (name ∷ names) word other e n = (λ same. n.0 (e ∙ same), IsNoneOf-same names word other e n.1)
 
-same_case : (word other : Word) (place : Place) → Stands word place → Stands other place → map to_ascii_lowercase word ≡ map to_ascii_lowercase other
+same_case : (word other : Word) (place : FormWord) → Stands word place → Stands other place → map to_ascii_lowercase word ≡ map to_ascii_lowercase other
 same_case word other (option name) p q = p ∙ sym q
 same_case word other (any x) p q = ap (map to_ascii_lowercase) (p ∙ sym q)
 same_case word other (numeric range x) p q = ap (map to_ascii_lowercase) (p ∙ sym q)
 same_case word other (spelled spelling x) p q = ap (map to_ascii_lowercase) (p ∙ sym q)
 
-AreNoneOf-others : (names : List OptionName) (ps : List Place) (words others : List Word) → Fits words ps → AreNoneOf names words → Fits others ps → AreNoneOf names others
+AreNoneOf-others : (names : List OptionName) (ps : List FormWord) (words others : List Word) → Fits words ps → AreNoneOf names words → Fits others ps → AreNoneOf names others
 AreNoneOf-others names [] [] [] f n g = tt
 AreNoneOf-others names [] (w ∷ words) others f n g = absurd f
 AreNoneOf-others names [] [] (o ∷ others) f n g = absurd g
@@ -70,7 +70,7 @@ AreNoneOf-others names (p ∷ ps) (w ∷ words) [] f n g = tt
 AreNoneOf-others names (p ∷ ps) (w ∷ words) (o ∷ others) f n g =
     (IsNoneOf-same names w o (same_case w o p f.0 g.0) n.0, AreNoneOf-others names ps words others f.1 n.1 g.1)
 
-pub AreBarred-from_words : (names : List OptionName) (ps : List Place) (words : List Word) → Fits words ps → AreNoneOf names words → AreBarred names ps
+pub AreBarred-from_words : (names : List OptionName) (ps : List FormWord) (words : List Word) → Fits words ps → AreNoneOf names words → AreBarred names ps
 AreBarred-from_words names ps words f n = record { unnamed = λ others g. AreNoneOf-others names ps words others f n g }
 
 -- the words of a reading after the least idle time
@@ -121,7 +121,7 @@ claim-word_left words after rest left last more key group consumer least_idle wo
     let one = tail-reading rest left many t c in
     rw g at (ends.only c.written [] c.fit (IsPast-end sets.Xclaim) (rw append-nil one.1)).1
 
-Fits-ids-then : (ids left : List Word) (ps : List Place) → Fits left ps → Fits (ids ++ left) (map (spelled strict_id) ids ++ ps)
+Fits-ids-then : (ids left : List Word) (ps : List FormWord) → Fits left ps → Fits (ids ++ left) (map (spelled strict_id) ids ++ ps)
 Fits-ids-then [] left ps f = f
 Fits-ids-then (i ∷ ids) left ps f = (refl, Fits-ids-then ids left ps f)
 

@@ -9,7 +9,7 @@ use Rattle.sr_ids.proofs.EndLemmas.{IsEnd-one}
 use Rattle.sr_args.specs.Options.{Written, AreOptionsFit, IsUnnamed, is_of, first_name, nothing, option_places}
 use Rattle.sr_args.specs.declared.name.OptionName.{OptionName}
 use Rattle.sr_args.specs.declared.options.OptionSet.{OptionSet}
-use Rattle.sr_args.specs.Place.{Word, Place, Range, int, nat, from_one, tries, Number, Writes, IdForm, strict_id, range_start, range_end, new_id, position, read_id, IdOf, Spells, Fits, HasNumbers, HasIds, any, spelled}
+use Rattle.sr_args.specs.FormWord.{Word, FormWord, Range, int, nat, from_one, tries, Number, Writes, IdForm, strict_id, range_start, range_end, new_id, position, read_id, IdOf, Spells, Fits, HasNumbers, HasIds, any, spelled}
 use Rattle.sr_args.specs.Form.{Form, end, text, id, number, optional_text, ids, pairs, options, grouped, trim, before, maybe, ids_before, streams, texts_after, barring, named_places, IsNamedFirst, AreUnnamed, IsMaybeNumber, Reading, Values, places, pair_places, IsFit, Reads, AreIds, Means}
 use Rattle.sr_args.proofs.ChoiceLemmas.{HasNumbers-append, HasIds-append, Choose-one, Choose-numbers, Choose-ids, IsTrim-one, trim-numbers, trim-ids}
 use Rattle.sr_args.proofs.NumberLemmas.{IsInt-one, IsNat-one}
@@ -60,7 +60,7 @@ pairs-one (w ∷ []) (p ∷ r) (q ∷ s) f g = absurd f.1
 pairs-one (w ∷ v ∷ words) (p ∷ r) (q ∷ s) f g =
     same_cons p q r s (same_pair p q (sym f.0 ∙ g.0) (sym f.1.0 ∙ g.1.0)) (pairs-one words r s f.1.1 g.1.1)
 
-before-one : (name : OptionName) (range : Range) (words : List Word) (a b : Option Word) (ps qs : List Place) → IsNamedFirst name a ps → IsNamedFirst name b qs → Fits words (named_places name range a ++ ps) → Fits words (named_places name range b ++ qs) → (a ≡ b) × GoOn ps qs
+before-one : (name : OptionName) (range : Range) (words : List Word) (a b : Option Word) (ps qs : List FormWord) → IsNamedFirst name a ps → IsNamedFirst name b qs → Fits words (named_places name range a ++ ps) → Fits words (named_places name range b ++ qs) → (a ≡ b) × GoOn ps qs
 before-one name range words None None ps qs m n f g = (refl, record { rest = words; left = f; right = g })
 before-one name range [] None (Some b) ps qs m n f g = absurd g
 before-one name range (w ∷ words) None (Some b) ps qs m n f g = absurd (m.unnamed w words f g.0)
@@ -70,7 +70,7 @@ before-one name range (w ∷ []) (Some a) (Some b) ps qs m n f g = absurd f.1
 before-one name range (w ∷ v ∷ words) (Some a) (Some b) ps qs m n f g =
     (ap Some (sym f.1.0 ∙ g.1.0), record { rest = words; left = f.1.1; right = g.1.1 })
 
-no_word-no_place : (words : List Word) (ps : List Place) → ps ≢ [] → Fits words [] → Fits words ps → ⊥
+no_word-no_place : (words : List Word) (ps : List FormWord) → ps ≢ [] → Fits words [] → Fits words ps → ⊥
 no_word-no_place [] [] some f g = some refl
 no_word-no_place [] (p ∷ ps) some f g = g
 no_word-no_place (w ∷ words) ps some f g = f

@@ -3,7 +3,7 @@
 use Rattle.std.proofs.Common.{◌≡◌, ◌≢◌, List, [], ◌∷◌, Option, Some, None, Err, refl, sym, ap, ◌∙◌}
 use Rattle.sr_args.specs.declared.fault.CallFault.{CallFault}
 use Rattle.sr_args.specs.declared.fault.CallFault.TheVariants as call_faults
-use Rattle.sr_args.specs.Place.{Word, Place, Fits}
+use Rattle.sr_args.specs.FormWord.{Word, FormWord, Fits}
 use Rattle.sr_args.specs.Form.{Form, text, maybe, Reading, Values, Reads, places}
 use Rattle.sr_args.specs.steps.Gives.{Gives, GivesCall}
 
@@ -65,7 +65,7 @@ in_group_fault {A} {B} form f g make words after rest key group fault made d e g
     (text_fault form f (λ (v : Values (text form)). (v.0, f v.1)) (λ (k : Word) (x : A). (k, x)) after rest group fault e (λ k v. refl) gives)
 
 -- a form that may be left out, if there is a word
-some_place : (words : List Word) (ps : List Place) → words ≢ [] → Fits words ps → ps ≢ []
+some_place : (words : List Word) (ps : List FormWord) → words ≢ [] → Fits words ps → ps ≢ []
 some_place [] ps some f none = some refl
 some_place (w ∷ words) ps some f none = rw none at f
 

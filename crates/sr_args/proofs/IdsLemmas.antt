@@ -2,8 +2,8 @@
 use Rattle.std.proofs.Common.{◌≡◌, ℕ, ◌<◌, ◌-◌, zero, suc, List, [], ◌∷◌, ◌++◌, map, take, refl, sym, subst, arith}
 use Rattle.std.proofs.lemmas.List.{append_assoc}
 use Rattle.sr_ids.specs.declared.id.Id.{Id}
-use Rattle.sr_ids.specs.Spelling.{SpellsId}
-use Rattle.sr_args.specs.Place.{Word, strict_id, spelled, HasId, HasIds}
+use Rattle.sr_ids.specs.{SpellsId}
+use Rattle.sr_args.specs.FormWord.{Word, strict_id, spelled, HasId, HasIds}
 use Rattle.sr_args.specs.Form.{AreIds}
 
 pub take-next : (n : ℕ) (words rest : List Word) (word : Word) → 0 < n → words ≡ word ∷ rest → take n words ≡ word ∷ take (n - 1) rest

@@ -11,7 +11,7 @@ use Rattle.sr_args.specs.declared.options.OptionKind.{OptionKind}
 use Rattle.sr_args.specs.declared.options.OptionKind.TheVariants as kinds
 use Rattle.sr_args.specs.declared.options.OptionSet.{OptionSet}
 use Rattle.sr_args.specs.Name.{IsSameName, option_text}
-use Rattle.sr_args.specs.Place.{Word, Place, Fits, option}
+use Rattle.sr_args.specs.FormWord.{Word, FormWord, Fits, option}
 use Rattle.sr_args.specs.Options.{Written, first_name, operand_places, option_places, is_of, kind, IsOptionFit, IsIn, AreDistinct, AreOptionsFit, IsUnnamed, IsPast, nothing, group_in, group_in_one}
 use Rattle.sr_args.specs.declared.options.Choice.{Choice}
 use Rattle.sr_args.specs.steps.Options.{Begins, BeginsNone, IsOptionNamed, IsOptionEnd, GoesOn, BeginsOptions, BeginsNoOptions, EndsOptions, AreSeen, IsUnderway, chosen_of, index_of}
@@ -140,11 +140,11 @@ group_in-last (p ∷ os) o =
     ap (λ (named : Option (Word × Word)). option_or (group_in_one p) named) (group_in-last os o) ∙ or_assoc (group_in_one p) (group_in os) (group_in_one o)
 
 -- places of options, and of one more
-then-last : (os : List Written) (o : Written) (ps : List Place) → flat_map option_places (os ++ o ∷ []) ++ ps ≡ flat_map option_places os ++ (option_places o ++ ps)
+then-last : (os : List Written) (o : Written) (ps : List FormWord) → flat_map option_places (os ++ o ∷ []) ++ ps ≡ flat_map option_places os ++ (option_places o ++ ps)
 then-last [] o ps = append_assoc (option_places o) [] ps
 then-last (p ∷ os) o ps =
     append_assoc (option_places p) (flat_map option_places (os ++ o ∷ [])) ps
-    ∙ ap (λ (rs : List Place). option_places p ++ rs) (then-last os o ps)
+    ∙ ap (λ (rs : List FormWord). option_places p ++ rs) (then-last os o ps)
     ∙ sym (append_assoc (option_places p) (flat_map option_places os) (option_places o ++ ps))
 
 -- the words left begin with the name of an option of the set
@@ -155,7 +155,7 @@ pub record IsNamedNext (set : OptionSet) (name : OptionName) (left rest : List W
   pub same : IsSameName word (option_text name)
 
 -- a reading of the words left begins with an option of this name, and what follows the name fits it
-pub record TakesNext (set : OptionSet) (name : OptionName) (rest : List Word) (tail : List Written) (places : List Place) : Type 0 where
+pub record TakesNext (set : OptionSet) (name : OptionName) (rest : List Word) (tail : List Written) (places : List FormWord) : Type 0 where
   pub o : Written
   pub others : List Written
   pub are : tail ≡ o ∷ others
@@ -163,10 +163,10 @@ pub record TakesNext (set : OptionSet) (name : OptionName) (rest : List Word) (t
   pub last : IsOptionEnd o (then_places others places)
   pub fits : Fits rest (operand_places o ++ then_places others places)
 
-takes_next-at : (set : OptionSet) (name : OptionName) (word : Word) (rest : List Word) (tail : List Written) (places : List Place) → is_of set name ≡ true → IsSameName word (option_text name) → All (IsOptionFit set) tail → All (λ o. is_of set (first_name o) ≡ true) tail → IsPast set places → Fits (word ∷ rest) (then_places tail places) → TakesNext set name rest tail places
+takes_next-at : (set : OptionSet) (name : OptionName) (word : Word) (rest : List Word) (tail : List Written) (places : List FormWord) → is_of set name ≡ true → IsSameName word (option_text name) → All (IsOptionFit set) tail → All (λ o. is_of set (first_name o) ≡ true) tail → IsPast set places → Fits (word ∷ rest) (then_places tail places) → TakesNext set name rest tail places
 takes_next-at set name word rest [] places of same each of_set p f = absurd (p.unnamed word rest f name of same)
 takes_next-at set name word rest (o ∷ others) places of same each of_set p f =
-    let fits : Fits (word ∷ rest) (option (first_name o) ∷ (operand_places o ++ then_places others places)) = subst (λ (rs : List Place). Fits (word ∷ rest) rs) (then-cons o others places) f in
+    let fits : Fits (word ∷ rest) (option (first_name o) ∷ (operand_places o ++ then_places others places)) = subst (λ (rs : List FormWord). Fits (word ∷ rest) rs) (then-cons o others places) f in
     record {
       o = o;
       others = others;
@@ -176,7 +176,7 @@ takes_next-at set name word rest (o ∷ others) places of same each of_set p f =
       fits = fits.1;
     }
 
-takes_next : (set : OptionSet) (words : List Word) (written : List Written) (left : List Word) (name : OptionName) (rest : List Word) (others : List Written) (places : List Place) → BeginsOptions set words written left → IsNamedNext set name left rest → AreOptionsFit set others → IsPast set places → (g : GoesOn written others left places) → TakesNext set name rest g.tail places
+takes_next : (set : OptionSet) (words : List Word) (written : List Written) (left : List Word) (name : OptionName) (rest : List Word) (others : List Written) (places : List FormWord) → BeginsOptions set words written left → IsNamedNext set name left rest → AreOptionsFit set others → IsPast set places → (g : GoesOn written others left places) → TakesNext set name rest g.tail places
 takes_next set words written left name rest others places b n r p g =
     let each : All (IsOptionFit set) g.tail = All-back (IsOptionFit set) written g.tail (subst (λ (os : List Written). All (IsOptionFit set) os) g.are r.each) in
     let of_set : All (λ o. is_of set (first_name o) ≡ true) g.tail = All-back (λ o. is_of set (first_name o) ≡ true) written g.tail (subst (λ (os : List Written). All (λ o. is_of set (first_name o) ≡ true) os) g.are r.of_set) in
@@ -201,7 +201,7 @@ BeginsNoOptions-from_twice set words written left name rest new o b n read i oth
     twice-apart written o t.others (subst (λ (os : List Written). AreDistinct (map kind os)) are r.once) i
 
 -- one option more
-more-only : (set : OptionSet) (words : List Word) (written : List Written) (left : List Word) (name : OptionName) (rest new : List Word) (o : Written) → BeginsOptions set words written left → IsNamedNext set name left rest → Begins operand_places (IsOptionNamed set name) IsOptionEnd rest o new → (others : List Written) (places : List Place) → AreOptionsFit set others → IsPast set places → Fits words (flat_map option_places others ++ places) → GoesOn (written ++ o ∷ []) others new places
+more-only : (set : OptionSet) (words : List Word) (written : List Written) (left : List Word) (name : OptionName) (rest new : List Word) (o : Written) → BeginsOptions set words written left → IsNamedNext set name left rest → Begins operand_places (IsOptionNamed set name) IsOptionEnd rest o new → (others : List Written) (places : List FormWord) → AreOptionsFit set others → IsPast set places → Fits words (flat_map option_places others ++ places) → GoesOn (written ++ o ∷ []) others new places
 more-only set words written left name rest new o b n read others places r p f =
     let g = b.only others places r p f in
     let t = takes_next set words written left name rest others places b n r p g in
@@ -213,10 +213,10 @@ more-only set words written left name rest new o b n read others places r p f =
       fits = one.1;
     }
 
-more-fits : (words left rest new : List Word) (written : List Written) (o : Written) (word : Word) (places : List Place) → ((ps : List Place) → Fits left ps → Fits words (flat_map option_places written ++ ps)) → left ≡ word ∷ rest → IsSameName word (option_text (first_name o)) → Fits rest (operand_places o ++ places) → Fits words (flat_map option_places (written ++ o ∷ []) ++ places)
+more-fits : (words left rest new : List Word) (written : List Written) (o : Written) (word : Word) (places : List FormWord) → ((ps : List FormWord) → Fits left ps → Fits words (flat_map option_places written ++ ps)) → left ≡ word ∷ rest → IsSameName word (option_text (first_name o)) → Fits rest (operand_places o ++ places) → Fits words (flat_map option_places (written ++ o ∷ []) ++ places)
 more-fits words left rest new written o word places fits are same f =
     let here : Fits left (option_places o ++ places) = subst (λ (ws : List Word). Fits ws (option_places o ++ places)) (sym are) (same, f) in
-    subst (λ (ps : List Place). Fits words ps) (sym (then-last written o places)) (fits (option_places o ++ places) here)
+    subst (λ (ps : List FormWord). Fits words ps) (sym (then-last written o places)) (fits (option_places o ++ places) here)
 
 pub BeginsOptions-more : (set : OptionSet) (words : List Word) (written : List Written) (left : List Word) (name : OptionName) (rest new : List Word) (o : Written) → BeginsOptions set words written left → IsNamedNext set name left rest → Begins operand_places (IsOptionNamed set name) IsOptionEnd rest o new → (IsIn (kind o) (map kind written) → ⊥) → BeginsOptions set words (written ++ o ∷ []) new
 BeginsOptions-more set words written left name rest new o b n read unseen =
@@ -233,7 +233,7 @@ BeginsOptions-more set words written left name rest new o b n read unseen =
     }
 
 -- the end
-end-only : (set : OptionSet) (left : List Word) (tail : List Written) (places : List Place) → ((word : Word) (rest : List Word) → left ≡ word ∷ rest → IsUnnamed set word) → All (λ o. is_of set (first_name o) ≡ true) tail → Fits left (flat_map option_places tail ++ places) → (tail ≡ []) × Fits left places
+end-only : (set : OptionSet) (left : List Word) (tail : List Written) (places : List FormWord) → ((word : Word) (rest : List Word) → left ≡ word ∷ rest → IsUnnamed set word) → All (λ o. is_of set (first_name o) ≡ true) tail → Fits left (flat_map option_places tail ++ places) → (tail ≡ []) × Fits left places
 end-only set left [] places past of_set f = (refl, f)
 end-only set [] (o ∷ tail) places past of_set f = absurd f
 end-only set (word ∷ rest) (o ∷ tail) places past of_set f = absurd (past word rest refl (first_name o) (head-of_set set o tail of_set) f.0)

@@ -13,7 +13,7 @@ use Rattle.sr_args.specs.declared.name.OptionName.{OptionName}
 use Rattle.sr_args.specs.declared.name.OptionName.TheVariants as options
 use Rattle.sr_args.specs.declared.name.TheConstants.{OPTIONS}
 use Rattle.sr_args.specs.Name.{IsSameName, option_text}
-use Rattle.sr_args.specs.Place.{Word}
+use Rattle.sr_args.specs.FormWord.{Word}
 use Rattle.sr_args.specs.Row.{Row}
 use Rattle.sr_args.specs.Table.{Begins, IsCut, IsNamed}
 use Rattle.sr_args.specs.commands.{row_of}

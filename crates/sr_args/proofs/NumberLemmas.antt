@@ -4,7 +4,7 @@ use Rattle.std.specs.Option.{SomeIff}
 use Rattle.std.specs.Result.{OkIff, result_ok}
 use Rattle.std.proofs.lemmas.Int.{ints}
 use Rattle.std.specs.Str.Parse.{AllDigits}
-use Rattle.sr_bytes.specs.Decimal.{IsDecimal}
+use Rattle.sr_bytes.specs.{IsDecimal}
 use Rattle.sr_bytes.proofs.DecimalLemmas.{IsDecimal-one}
 use Rattle.sr_args.specs.Number.{IsInt, IsNat}
 use Rattle.sr_args.specs.Number.IsInt.{positive, negative}

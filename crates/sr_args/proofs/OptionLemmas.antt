@@ -8,7 +8,7 @@ use Rattle.std.proofs.lemmas.Option.{same_Some}
 use Rattle.sr_args.specs.declared.name.Measure.{Measure}
 use Rattle.sr_args.specs.declared.name.Measure.TheVariants as measures
 use Rattle.sr_args.specs.declared.name.OptionName.{OptionName}
-use Rattle.sr_args.specs.declared.name.OptionName.TheVariants.{Count, NoMkStream, MaxLen, MinId, Limit, MkStream, JustId, Idle, Time, RetryCount, Group, NoAck, Block, Force, LastId, Streams, Tries, Dead}
+use Rattle.sr_args.specs.declared.name.OptionName.TheVariants.{Count, NoMkStream, Limit, MkStream, JustId, Idle, Time, RetryCount, Group, NoAck, Block, Streams}
 use Rattle.sr_args.specs.declared.name.TheConstants.{OPTIONS}
 use Rattle.sr_args.specs.declared.name.Sign.{Sign}
 use Rattle.sr_args.specs.declared.name.Sign.TheVariants.{Exact, Nearly}
@@ -19,7 +19,7 @@ use Rattle.sr_args.specs.declared.options.OptionSet.TheVariants as sets
 use Rattle.sr_args.specs.Name.{IsSameName, measure_name, option_text, sign_text}
 use Rattle.sr_args.specs.declared.number.CountRange.{CountRange}
 use Rattle.sr_args.specs.declared.number.CountRange.TheVariants.{Any, FromOne}
-use Rattle.sr_args.specs.Place.{Word, Place, Range, int, nat, from_one, Stands, Fits, option, any, numeric, spelled, IdForm}
+use Rattle.sr_args.specs.FormWord.{Word, FormWord, Range, int, nat, from_one, Stands, Fits, option, any, numeric, spelled, IdForm}
 use Rattle.sr_args.specs.Options.{TrimReading, Written, count, no_make, make_key, ids_only, idle, since, deliveries, named_group, no_ack, block, trimming, sign_places, bound_place, limit_places, count_place, first_name, operand_places, option_places, kind, is_of, IsTrimFit, IsOptionFit, AreOptionsFit, IsUnnamed, IsPast}
 use Rattle.sr_args.specs.steps.Options.{IsUnlimited, IsSigned, IsOptionEnd}
 
@@ -68,7 +68,7 @@ Fits-texts [] = tt
 Fits-texts (word ∷ words) = (refl, Fits-texts words)
 
 -- the words after a part of a form that is read in one way, and the two forms that go on with them
-pub record GoOn (ps qs : List Place) : Type 0 where
+pub record GoOn (ps qs : List FormWord) : Type 0 where
   pub rest : List Word
   pub left : Fits rest ps
   pub right : Fits rest qs
@@ -82,7 +82,7 @@ pub bound-itself : (by : Measure) (word : Word) → Stands word (bound_place by 
 bound-itself measures.MaxLen word = refl
 bound-itself measures.MinId word = refl
 
-sign-one : (words : List Word) (by by′ : Measure) (s t : Option Sign) (x y : Word) (ps qs : List Place) → IsSigned (s, x) → IsSigned (t, y) → Fits words (sign_places s ++ (bound_place by x ∷ ps)) → Fits words (sign_places t ++ (bound_place by′ y ∷ qs)) → (s ≡ t) × (x ≡ y) × GoOn ps qs
+sign-one : (words : List Word) (by by′ : Measure) (s t : Option Sign) (x y : Word) (ps qs : List FormWord) → IsSigned (s, x) → IsSigned (t, y) → Fits words (sign_places s ++ (bound_place by x ∷ ps)) → Fits words (sign_places t ++ (bound_place by′ y ∷ qs)) → (s ≡ t) × (x ≡ y) × GoOn ps qs
 sign-one [] by by′ None t x y ps qs m n f g = absurd f
 sign-one [] by by′ (Some s) t x y ps qs m n f g = absurd f
 sign-one (w ∷ words) by by′ None None x y ps qs m n f g = (refl, sym (bound-stands by w x f.0) ∙ bound-stands by′ w y g.0, record { rest = words; left = f.1; right = g.1 })
@@ -92,7 +92,7 @@ sign-one (w ∷ []) by by′ (Some s) (Some t) x y ps qs m n f g = absurd f.1
 sign-one (w ∷ v ∷ words) by by′ (Some s) (Some t) x y ps qs m n f g =
     (ap Some (sign_text-one s t (sym f.0 ∙ g.0)), sym (bound-stands by v x f.1.0) ∙ bound-stands by′ v y g.1.0, record { rest = words; left = f.1.1; right = g.1.1 })
 
-limit-one : (words : List Word) (a b : Option Word) (ps qs : List Place) → IsUnlimited ps → IsUnlimited qs → Fits words (limit_places a ++ ps) → Fits words (limit_places b ++ qs) → (a ≡ b) × GoOn ps qs
+limit-one : (words : List Word) (a b : Option Word) (ps qs : List FormWord) → IsUnlimited ps → IsUnlimited qs → Fits words (limit_places a ++ ps) → Fits words (limit_places b ++ qs) → (a ≡ b) × GoOn ps qs
 limit-one words None None ps qs m n f g = (refl, record { rest = words; left = f; right = g })
 limit-one [] None (Some b) ps qs m n f g = absurd g
 limit-one (w ∷ words) None (Some b) ps qs m n f g = absurd (m.unnamed w words g.0 f)
@@ -103,27 +103,27 @@ limit-one (w ∷ v ∷ words) (Some a) (Some b) ps qs m n f g =
     (ap Some (sym f.1.0 ∙ g.1.0), record { rest = words; left = f.1.1; right = g.1.1 })
 
 -- what follows the name of a trim, and the places after it
-abbrev operands_then : TrimReading → List Place → List Place
+abbrev operands_then : TrimReading → List FormWord → List FormWord
 operands_then t ps = sign_places t.sign ++ (bound_place t.by t.bound ∷ (limit_places t.limit ++ ps))
 
-pub trim-regroup : (t : TrimReading) (ps : List Place) → operand_places (trimming t) ++ ps ≡ operands_then t ps
+pub trim-regroup : (t : TrimReading) (ps : List FormWord) → operand_places (trimming t) ++ ps ≡ operands_then t ps
 trim-regroup t ps = append_assoc (sign_places t.sign) (bound_place t.by t.bound ∷ limit_places t.limit) ps
 
-trim_operands-one : (words : List Word) (a b : TrimReading) (ps qs : List Place) → a.by ≡ b.by → IsTrimFit a → IsTrimFit b → IsUnlimited ps → IsUnlimited qs → Fits words (operand_places (trimming a) ++ ps) → Fits words (operand_places (trimming b) ++ qs) → (a ≡ b) × GoOn ps qs
+trim_operands-one : (words : List Word) (a b : TrimReading) (ps qs : List FormWord) → a.by ≡ b.by → IsTrimFit a → IsTrimFit b → IsUnlimited ps → IsUnlimited qs → Fits words (operand_places (trimming a) ++ ps) → Fits words (operand_places (trimming b) ++ qs) → (a ≡ b) × GoOn ps qs
 trim_operands-one words a b ps qs by u v m n f g =
-    let left : Fits words (operands_then a ps) = subst (λ (rs : List Place). Fits words rs) (trim-regroup a ps) f in
-    let right : Fits words (operands_then b qs) = subst (λ (rs : List Place). Fits words rs) (trim-regroup b qs) g in
+    let left : Fits words (operands_then a ps) = subst (λ (rs : List FormWord). Fits words rs) (trim-regroup a ps) f in
+    let right : Fits words (operands_then b qs) = subst (λ (rs : List FormWord). Fits words rs) (trim-regroup b qs) g in
     let sign = sign-one words a.by b.by a.sign b.sign a.bound b.bound (limit_places a.limit ++ ps) (limit_places b.limit ++ qs) (record { sign_first = u.sign_first }) (record { sign_first = v.sign_first }) left right in
     let limit = limit-one sign.2.rest a.limit b.limit ps qs m n sign.2.left sign.2.right in
     (same_trim a b by sign.0 sign.1 limit.0, limit.1)
 
 -- after its name an option is read in one way
-number-one : (range : Range) (words : List Word) (x y : Word) (ps qs : List Place) → Fits words (numeric range x ∷ ps) → Fits words (numeric range y ∷ qs) → (x ≡ y) × GoOn ps qs
+number-one : (range : Range) (words : List Word) (x y : Word) (ps qs : List FormWord) → Fits words (numeric range x ∷ ps) → Fits words (numeric range y ∷ qs) → (x ≡ y) × GoOn ps qs
 number-one range [] x y ps qs f g = absurd f
 number-one range (w ∷ words) x y ps qs f g = (sym f.0 ∙ g.0, record { rest = words; left = f.1; right = g.1 })
 
 -- so are the words of GROUP
-group-one : (words : List Word) (g h c d : Word) (ps qs : List Place) → Fits words (any g ∷ any c ∷ ps) → Fits words (any h ∷ any d ∷ qs) → (named_group g c ≡ named_group h d) × GoOn ps qs
+group-one : (words : List Word) (g h c d : Word) (ps qs : List FormWord) → Fits words (any g ∷ any c ∷ ps) → Fits words (any h ∷ any d ∷ qs) → (named_group g c ≡ named_group h d) × GoOn ps qs
 group-one [] g h c d ps qs f k = absurd f
 group-one (w ∷ []) g h c d ps qs f k = absurd f.1
 group-one (w ∷ v ∷ words) g h c d ps qs f k =
@@ -140,11 +140,11 @@ place-count : (range : CountRange) (word : Word) → count_place range word ≡ 
 place-count Any word = refl
 place-count FromOne word = refl
 
-count-one : (range other : CountRange) (words : List Word) (x y : Word) (ps qs : List Place) → range ≡ other → Fits words (count_place range x ∷ ps) → Fits words (count_place other y ∷ qs) → (count range x ≡ count other y) × GoOn ps qs
+count-one : (range other : CountRange) (words : List Word) (x y : Word) (ps qs : List FormWord) → range ≡ other → Fits words (count_place range x ∷ ps) → Fits words (count_place other y ∷ qs) → (count range x ≡ count other y) × GoOn ps qs
 count-one range other words x y ps qs e f g =
-    let left : Fits words (numeric (place_range range) x ∷ ps) = subst (λ (p : Place). Fits words (p ∷ ps)) (place-count range x) f in
+    let left : Fits words (numeric (place_range range) x ∷ ps) = subst (λ (p : FormWord). Fits words (p ∷ ps)) (place-count range x) f in
     let same : Fits words (count_place range y ∷ qs) = subst (λ (r : CountRange). Fits words (count_place r y ∷ qs)) (sym e) g in
-    let right : Fits words (numeric (place_range range) y ∷ qs) = subst (λ (p : Place). Fits words (p ∷ qs)) (place-count range y) same in
+    let right : Fits words (numeric (place_range range) y ∷ qs) = subst (λ (p : FormWord). Fits words (p ∷ qs)) (place-count range y) same in
     let one = number-one (place_range range) words x y ps qs left right in
     let word = one.0 in
     (cc, one.1)
@@ -174,7 +174,7 @@ kind-from_name o = refl
 kind-one : (a b : Written) → first_name a ≡ first_name b → kind a ≡ kind b
 kind-one a b e = sym (kind-from_name a) ∙ ap kind_named e ∙ kind-from_name b
 
-operands-one_kind : (set : OptionSet) (words : List Word) (a b : Written) (ps qs : List Place) → kind a ≡ kind b → first_name a ≡ first_name b → IsOptionFit set a → IsOptionFit set b → IsOptionEnd a ps → IsOptionEnd b qs → Fits words (operand_places a ++ ps) → Fits words (operand_places b ++ qs) → (a ≡ b) × GoOn ps qs
+operands-one_kind : (set : OptionSet) (words : List Word) (a b : Written) (ps qs : List FormWord) → kind a ≡ kind b → first_name a ≡ first_name b → IsOptionFit set a → IsOptionFit set b → IsOptionEnd a ps → IsOptionEnd b qs → Fits words (operand_places a ++ ps) → Fits words (operand_places b ++ qs) → (a ≡ b) × GoOn ps qs
 operands-one_kind set words (count r x) (count q y) ps qs k e u v m n f g = count-one r q words x y ps qs (u ∙ sym v) f g
 operands-one_kind set words no_make no_make ps qs k e u v m n f g = (refl, record { rest = words; left = f; right = g })
 operands-one_kind set words make_key make_key ps qs k e u v m n f g = (refl, record { rest = words; left = f; right = g })
@@ -189,7 +189,7 @@ operands-one_kind set words (trimming a) (trimming b) ps qs k e u v m n f g =
     let one = trim_operands-one words a b ps qs (measure_name-one a.by b.by e) u v m n f g in (ap trimming one.0, one.1)
 operands-one_kind set words a b ps qs k e u v m n f g = cc
 
-pub operands-one : (set : OptionSet) (words : List Word) (a b : Written) (ps qs : List Place) → first_name a ≡ first_name b → IsOptionFit set a → IsOptionFit set b → IsOptionEnd a ps → IsOptionEnd b qs → Fits words (operand_places a ++ ps) → Fits words (operand_places b ++ qs) → (a ≡ b) × GoOn ps qs
+pub operands-one : (set : OptionSet) (words : List Word) (a b : Written) (ps qs : List FormWord) → first_name a ≡ first_name b → IsOptionFit set a → IsOptionFit set b → IsOptionEnd a ps → IsOptionEnd b qs → Fits words (operand_places a ++ ps) → Fits words (operand_places b ++ qs) → (a ≡ b) × GoOn ps qs
 operands-one set words a b ps qs e u v m n f g = operands-one_kind set words a b ps qs (kind-one a b e) e u v m n f g
 
 -- LIMIT begins no option
@@ -208,17 +208,17 @@ limit-of_set set measures.MaxLen e = cc
 limit-of_set set measures.MinId e = cc
 
 -- the options of a set and what follows them
-abbrev pub then_places : List Written → List Place → List Place
+abbrev pub then_places : List Written → List FormWord → List FormWord
 then_places os ps = flat_map option_places os ++ ps
 
-pub then-cons : (o : Written) (os : List Written) (ps : List Place) → then_places (o ∷ os) ps ≡ option (first_name o) ∷ (operand_places o ++ then_places os ps)
-then-cons o os ps = ap (λ (rs : List Place). option (first_name o) ∷ rs) (append_assoc (operand_places o) (flat_map option_places os) ps)
+pub then-cons : (o : Written) (os : List Written) (ps : List FormWord) → then_places (o ∷ os) ps ≡ option (first_name o) ∷ (operand_places o ++ then_places os ps)
+then-cons o os ps = ap (λ (rs : List FormWord). option (first_name o) ∷ rs) (append_assoc (operand_places o) (flat_map option_places os) ps)
 
-unlimited-after : (set : OptionSet) (by : Measure) (os : List Written) (ps : List Place) → is_of set (measure_name by) ≡ true → IsPast set ps → IsUnlimited (then_places os ps)
+unlimited-after : (set : OptionSet) (by : Measure) (os : List Written) (ps : List FormWord) → is_of set (measure_name by) ≡ true → IsPast set ps → IsUnlimited (then_places os ps)
 unlimited-after set by [] ps e p = record { unnamed = λ word words same f. p.unnamed word words f Limit (limit-of_set set by e) same }
 unlimited-after set by (o ∷ os) ps e p = record { unnamed = λ word words same f. first_name-no_limit o (name-one word (first_name o) Limit f.0 same) }
 
-pub end-after : (set : OptionSet) (o : Written) (os : List Written) (ps : List Place) → is_of set (first_name o) ≡ true → IsPast set ps → IsOptionEnd o (then_places os ps)
+pub end-after : (set : OptionSet) (o : Written) (os : List Written) (ps : List FormWord) → is_of set (first_name o) ≡ true → IsPast set ps → IsOptionEnd o (then_places os ps)
 end-after set (trimming trim) os ps e p = unlimited-after set trim.by os ps e p
 end-after set o os ps e p = tt
 
@@ -236,15 +236,15 @@ pub head-of_set : (set : OptionSet) (o : Written) (os : List Written) → All (�
 head-of_set set o os e = All-head (λ o. is_of set (first_name o) ≡ true) o os e
 
 -- the words of a command are read as options of a set in one way, and the same words follow
-options-one-each : (set : OptionSet) (words : List Word) (a b : List Written) (ps qs : List Place) → Each set a → Each set b → IsPast set ps → IsPast set qs → Fits words (then_places a ps) → Fits words (then_places b qs) → (a ≡ b) × GoOn ps qs
+options-one-each : (set : OptionSet) (words : List Word) (a b : List Written) (ps qs : List FormWord) → Each set a → Each set b → IsPast set ps → IsPast set qs → Fits words (then_places a ps) → Fits words (then_places b qs) → (a ≡ b) × GoOn ps qs
 options-one-each set words [] [] ps qs u v m n f g = (refl, record { rest = words; left = f; right = g })
 options-one-each set [] [] (o ∷ b) ps qs u v m n f g = absurd g
 options-one-each set (w ∷ words) [] (o ∷ b) ps qs u v m n f g = absurd (m.unnamed w words f (first_name o) (head-of_set set o b v.1) g.0)
 options-one-each set [] (o ∷ a) b ps qs u v m n f g = absurd f
 options-one-each set (w ∷ words) (o ∷ a) [] ps qs u v m n f g = absurd (n.unnamed w words g (first_name o) (head-of_set set o a u.1) f.0)
 options-one-each set (w ∷ words) (o ∷ a) (q ∷ b) ps qs u v m n f g =
-    let left : Fits (w ∷ words) (option (first_name o) ∷ (operand_places o ++ then_places a ps)) = subst (λ (rs : List Place). Fits (w ∷ words) rs) (then-cons o a ps) f in
-    let right : Fits (w ∷ words) (option (first_name q) ∷ (operand_places q ++ then_places b qs)) = subst (λ (rs : List Place). Fits (w ∷ words) rs) (then-cons q b qs) g in
+    let left : Fits (w ∷ words) (option (first_name o) ∷ (operand_places o ++ then_places a ps)) = subst (λ (rs : List FormWord). Fits (w ∷ words) rs) (then-cons o a ps) f in
+    let right : Fits (w ∷ words) (option (first_name q) ∷ (operand_places q ++ then_places b qs)) = subst (λ (rs : List FormWord). Fits (w ∷ words) rs) (then-cons q b qs) g in
     let name = name-one w (first_name o) (first_name q) left.0 right.0 in
     let of_o = head-of_set set o a u.1 in
     let of_q = head-of_set set q b v.1 in
@@ -254,7 +254,7 @@ options-one-each set (w ∷ words) (o ∷ a) (q ∷ b) ps qs u v m n f g =
     let tail = rest.0 in
     (cc, rest.1)
 
-pub options-one : (set : OptionSet) (words : List Word) (a b : List Written) (ps qs : List Place) → AreOptionsFit set a → AreOptionsFit set b → IsPast set ps → IsPast set qs → Fits words (flat_map option_places a ++ ps) → Fits words (flat_map option_places b ++ qs) → (a ≡ b) × GoOn ps qs
+pub options-one : (set : OptionSet) (words : List Word) (a b : List Written) (ps qs : List FormWord) → AreOptionsFit set a → AreOptionsFit set b → IsPast set ps → IsPast set qs → Fits words (flat_map option_places a ++ ps) → Fits words (flat_map option_places b ++ qs) → (a ≡ b) × GoOn ps qs
 options-one set words a b ps qs u v m n f g = options-one-each set words a b ps qs (u.each, u.of_set) (v.each, v.of_set) m n f g
 
 -- the trim of XTRIM is read in one way
@@ -268,7 +268,7 @@ trim-one (w ∷ words) a b u v f g =
     (trim_operands-one words a b [] [] (measure_name-one a.by b.by name) u v end end left right).0
 
 -- the word after the options is no name of one
-pub IsPast-id : (set : OptionSet) (form : IdForm) (word : Word) (places : List Place) → IsUnnamed set word → IsPast set (spelled form word ∷ places)
+pub IsPast-id : (set : OptionSet) (form : IdForm) (word : Word) (places : List FormWord) → IsUnnamed set word → IsPast set (spelled form word ∷ places)
 IsPast-id set form word places differs = record { unnamed = λ other words f name is same. differs name is (rw f.0 at same) }
 
 pub IsPast-end : (set : OptionSet) → IsPast set []
@@ -279,7 +279,7 @@ streams-no_option : (set : OptionSet) → is_of set Streams ≡ true → ⊥
 streams-no_option sets.Range e = cc
 streams-no_option set e = cc
 
-pub IsPast-streams : (set : OptionSet) (places : List Place) → IsPast set (option Streams ∷ places)
+pub IsPast-streams : (set : OptionSet) (places : List FormWord) → IsPast set (option Streams ∷ places)
 IsPast-streams set places = record {
   unnamed = λ word words f name of same. streams-no_option set (subst (λ (n : OptionName). is_of set n ≡ true) (name-one word name Streams same f.0) of);
 }

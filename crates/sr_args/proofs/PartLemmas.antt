@@ -10,27 +10,27 @@ use Rattle.sr_args.specs.declared.name.OptionName.TheVariants.{Count, Idle, Time
 use Rattle.sr_args.specs.declared.options.OptionKind.TheVariants as kinds
 use Rattle.sr_args.specs.declared.options.OptionSet.{OptionSet}
 use Rattle.sr_args.specs.Name.{measure_name}
-use Rattle.sr_args.specs.Place.{Word, Place, Stands, Fits, any}
+use Rattle.sr_args.specs.FormWord.{Word, FormWord, Stands, Fits, any}
 use Rattle.sr_args.specs.Options.{TrimReading, Written, count, idle, since, deliveries, named_group, block, trimming, sign_places, bound_place, limit_places, count_place, first_name, operand_places, kind, IsOptionFit}
 use Rattle.sr_args.specs.steps.Options.{Begins, BeginsNone, IsOptionEnd, IsOptionNamed, IsAny, IsSigned, IsLimitOf, IsUnlimitedAfter, IsTrimBy, IsTrimEnd, signed_places, trim_operands}
 use Rattle.sr_args.proofs.OptionLemmas.{same_trim, trim_with, kind_named, kind-from_name, measure-kind, measure_name-one, operands-one, Fits-texts}
 
 -- a trim is a signed bound and a limit
-parts : (by : Measure) (sign : Option Sign) (bound : Word) (limit : Option Word) (places : List Place) → trim_operands (trim_with by sign bound limit) ++ places ≡ signed_places by (sign, bound) ++ (limit_places limit ++ places)
+parts : (by : Measure) (sign : Option Sign) (bound : Word) (limit : Option Word) (places : List FormWord) → trim_operands (trim_with by sign bound limit) ++ places ≡ signed_places by (sign, bound) ++ (limit_places limit ++ places)
 parts by None bound limit places = refl
 parts by (Some sign) bound limit places = refl
 
-trim-parts : (trim : TrimReading) (places : List Place) → trim_operands trim ++ places ≡ signed_places trim.by (trim.sign, trim.bound) ++ (limit_places trim.limit ++ places)
+trim-parts : (trim : TrimReading) (places : List FormWord) → trim_operands trim ++ places ≡ signed_places trim.by (trim.sign, trim.bound) ++ (limit_places trim.limit ++ places)
 trim-parts trim places = parts trim.by trim.sign trim.bound trim.limit places
 
-fits-parts : (by : Measure) (words : List Word) (trim : TrimReading) (places : List Place) → trim.by ≡ by → Fits words (trim_operands trim ++ places) → Fits words (signed_places by (trim.sign, trim.bound) ++ (limit_places trim.limit ++ places))
+fits-parts : (by : Measure) (words : List Word) (trim : TrimReading) (places : List FormWord) → trim.by ≡ by → Fits words (trim_operands trim ++ places) → Fits words (signed_places by (trim.sign, trim.bound) ++ (limit_places trim.limit ++ places))
 fits-parts by words trim places e f =
-    subst (λ (m : Measure). Fits words (signed_places m (trim.sign, trim.bound) ++ (limit_places trim.limit ++ places))) e (subst (λ (ps : List Place). Fits words ps) (trim-parts trim places) f)
+    subst (λ (m : Measure). Fits words (signed_places m (trim.sign, trim.bound) ++ (limit_places trim.limit ++ places))) e (subst (λ (ps : List FormWord). Fits words ps) (trim-parts trim places) f)
 
 pub Begins-trim : (by : Measure) (sign : Option Sign) (bound : Word) (limit : Option Word) (words behind last : List Word) → Begins (signed_places by) IsSigned IsAny words (sign, bound) behind → Begins limit_places (IsLimitOf sign) IsUnlimitedAfter behind limit last → Begins trim_operands (IsTrimBy by) IsTrimEnd words (trim_with by sign bound limit) last
 Begins-trim by sign bound limit words behind last s l = record {
   right = record { by_is = refl; fit = record { sign_first = s.right.sign_first; limit_nearly = l.right } };
-  fits = λ places f. subst (λ (ps : List Place). Fits words ps) (sym (trim-parts (trim_with by sign bound limit) places)) (s.fits (limit_places limit ++ places) (l.fits places f));
+  fits = λ places f. subst (λ (ps : List FormWord). Fits words ps) (sym (trim-parts (trim_with by sign bound limit) places)) (s.fits (limit_places limit ++ places) (l.fits places f));
   only = λ other places r u f.
       let signed = s.only (other.sign, other.bound) (limit_places other.limit ++ places) (record { sign_first = r.fit.sign_first }) tt (fits-parts by words other places r.by_is f) in
       let same_sign : other.sign ≡ sign = ap (λ (p : Option Sign × Word). p.0) signed.0 in
@@ -52,12 +52,12 @@ BeginsNone-limit by sign bound words behind s none other places r u f =
     none other.limit places nearly u signed.1
 
 -- fewer than two words do not go on with GROUP
-no_group-fits : (words : List Word) (group consumer : Word) (places : List Place) → ((group consumer : Word) (rest : List Word) → words ≡ group ∷ consumer ∷ rest → ⊥) → Fits words (any group ∷ any consumer ∷ places) → ⊥
+no_group-fits : (words : List Word) (group consumer : Word) (places : List FormWord) → ((group consumer : Word) (rest : List Word) → words ≡ group ∷ consumer ∷ rest → ⊥) → Fits words (any group ∷ any consumer ∷ places) → ⊥
 no_group-fits [] group consumer places none f = f
 no_group-fits (w ∷ []) group consumer places none f = f.1
 no_group-fits (w ∷ v ∷ words) group consumer places none f = none w v words refl
 
-no_group-at : (words : List Word) (o : Written) (places : List Place) → kind o ≡ kinds.Group → ((group consumer : Word) (rest : List Word) → words ≡ group ∷ consumer ∷ rest → ⊥) → Fits words (operand_places o ++ places) → ⊥
+no_group-at : (words : List Word) (o : Written) (places : List FormWord) → kind o ≡ kinds.Group → ((group consumer : Word) (rest : List Word) → words ≡ group ∷ consumer ∷ rest → ⊥) → Fits words (operand_places o ++ places) → ⊥
 no_group-at words (named_group group consumer) places e none f = no_group-fits words group consumer places none f
 no_group-at words o places e none f = cc
 
@@ -66,7 +66,7 @@ BeginsNone-group set words none other places r u f =
     no_group-at words other places (sym (kind-from_name other) ∙ ap kind_named r.name_is) none f
 
 -- an option that its operands alone tell: another one that the words go on with is this one
-Begins-operands : (set : OptionSet) (o : Written) (words rest : List Word) → IsOptionFit set o → ((ps : List Place) → IsOptionEnd o ps) → ((ps : List Place) → Fits rest ps → Fits words (operand_places o ++ ps)) → ((ps : List Place) → Fits words (operand_places o ++ ps) → Fits rest ps) → Begins operand_places (IsOptionNamed set (first_name o)) IsOptionEnd words o rest
+Begins-operands : (set : OptionSet) (o : Written) (words rest : List Word) → IsOptionFit set o → ((ps : List FormWord) → IsOptionEnd o ps) → ((ps : List FormWord) → Fits rest ps → Fits words (operand_places o ++ ps)) → ((ps : List FormWord) → Fits words (operand_places o ++ ps) → Fits rest ps) → Begins operand_places (IsOptionNamed set (first_name o)) IsOptionEnd words o rest
 Begins-operands set o words rest fit last forth back = record {
   right = record { name_is = refl; fit = fit };
   fits = forth;
@@ -75,10 +75,10 @@ Begins-operands set o words rest fit last forth back = record {
       (one.0, back places (subst (λ (x : Written). Fits words (operand_places x ++ places)) one.0 f));
 }
 
-pub Begins-bare : (set : OptionSet) (o : Written) (words : List Word) → IsOptionFit set o → ((ps : List Place) → IsOptionEnd o ps) → operand_places o ≡ [] → Begins operand_places (IsOptionNamed set (first_name o)) IsOptionEnd words o words
+pub Begins-bare : (set : OptionSet) (o : Written) (words : List Word) → IsOptionFit set o → ((ps : List FormWord) → IsOptionEnd o ps) → operand_places o ≡ [] → Begins operand_places (IsOptionNamed set (first_name o)) IsOptionEnd words o words
 Begins-bare set o words fit last bare = Begins-operands set o words words fit last (λ ps f. rw bare f) (λ ps f. rw bare at f)
 
-pub Begins-word : (set : OptionSet) (o : Written) (place : Place) (words rest : List Word) (word : Word) → words ≡ word ∷ rest → IsOptionFit set o → ((ps : List Place) → IsOptionEnd o ps) → operand_places o ≡ place ∷ [] → Stands word place → Begins operand_places (IsOptionNamed set (first_name o)) IsOptionEnd words o rest
+pub Begins-word : (set : OptionSet) (o : Written) (place : FormWord) (words rest : List Word) (word : Word) → words ≡ word ∷ rest → IsOptionFit set o → ((ps : List FormWord) → IsOptionEnd o ps) → operand_places o ≡ place ∷ [] → Stands word place → Begins operand_places (IsOptionNamed set (first_name o)) IsOptionEnd words o rest
 Begins-word set o place words rest word e fit last are stands =
     Begins-operands set o words rest fit last (λ ps f. rw (e, are) (stands, f)) (λ ps f. (rw (e, are) at f).1)
 
@@ -94,7 +94,7 @@ count-stands FromOne word = refl
 trimming-name : (set : OptionSet) (by : Measure) (o : Written) → IsOptionNamed set (measure_name by) o → kind o ≡ kinds.Trim
 trimming-name set by o r = sym (kind-from_name o) ∙ ap kind_named r.name_is ∙ measure-kind by
 
-trimming-only : (set : OptionSet) (by : Measure) (words rest : List Word) (trim : TrimReading) → Begins trim_operands (IsTrimBy by) IsTrimEnd words trim rest → (other : Written) (places : List Place) → kind other ≡ kinds.Trim → IsOptionNamed set (measure_name by) other → IsOptionEnd other places → Fits words (operand_places other ++ places) → (other ≡ trimming trim) × Fits rest places
+trimming-only : (set : OptionSet) (by : Measure) (words rest : List Word) (trim : TrimReading) → Begins trim_operands (IsTrimBy by) IsTrimEnd words trim rest → (other : Written) (places : List FormWord) → kind other ≡ kinds.Trim → IsOptionNamed set (measure_name by) other → IsOptionEnd other places → Fits words (operand_places other ++ places) → (other ≡ trimming trim) × Fits rest places
 trimming-only set by words rest trim b (trimming t) places k r u f =
     let one = b.only t places (record { by_is = measure_name-one t.by by r.name_is; fit = r.fit }) u f in (ap trimming one.0, one.1)
 trimming-only set by words rest trim b other places k r u f = cc
@@ -106,7 +106,7 @@ Begins-trimming set by words rest trim b = record {
   only = λ other places r. trimming-only set by words rest trim b other places (trimming-name set by other r) r;
 }
 
-no_trimming : (set : OptionSet) (by : Measure) (words : List Word) → BeginsNone trim_operands (IsTrimBy by) IsTrimEnd words → (other : Written) (places : List Place) → kind other ≡ kinds.Trim → IsOptionNamed set (measure_name by) other → IsOptionEnd other places → Fits words (operand_places other ++ places) → ⊥
+no_trimming : (set : OptionSet) (by : Measure) (words : List Word) → BeginsNone trim_operands (IsTrimBy by) IsTrimEnd words → (other : Written) (places : List FormWord) → kind other ≡ kinds.Trim → IsOptionNamed set (measure_name by) other → IsOptionEnd other places → Fits words (operand_places other ++ places) → ⊥
 no_trimming set by words none (trimming t) places k r u f = none t places (record { by_is = measure_name-one t.by by r.name_is; fit = r.fit }) u f
 no_trimming set by words none other places k r u f = cc
 
@@ -125,11 +125,11 @@ is_bare MaxLen = false
 is_bare MinId = false
 is_bare name = true
 
-no_bound : (sign : Option Sign) (place : Place) (ps qs : List Place) → Fits [] ((sign_places sign ++ (place ∷ ps)) ++ qs) → ⊥
+no_bound : (sign : Option Sign) (place : FormWord) (ps qs : List FormWord) → Fits [] ((sign_places sign ++ (place ∷ ps)) ++ qs) → ⊥
 no_bound None place ps qs f = f
 no_bound (Some sign) place ps qs f = f
 
-no_word : (o : Written) (places : List Place) → is_bare (first_name o) ≡ false → Fits [] (operand_places o ++ places) → ⊥
+no_word : (o : Written) (places : List FormWord) → is_bare (first_name o) ≡ false → Fits [] (operand_places o ++ places) → ⊥
 no_word (count range most) places takes f = f
 no_word (idle word) places takes f = f
 no_word (since word) places takes f = f

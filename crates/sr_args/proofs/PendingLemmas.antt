@@ -2,12 +2,13 @@
 use Rattle.std.proofs.Common.{◌≡◌, ℤ, List, [], ◌∷◌, Option, Some, None, option_copied, Bor, refl, ap, subst, to_z, of_z, w64}
 use Rattle.std.specs.Prelude.{IfSome, IfNone}
 use Rattle.sr_ids.specs.declared.id.Id.{Id}
-use Rattle.sr_ids.specs.Spelling.{IsStart, IsEnd}
+use Rattle.sr_ids.specs.{IsStart}
+use Rattle.sr_ids.specs.Spelling.{IsEnd}
 use Rattle.sr_args.specs.declared.commands.xpending.PendingAsked.{PendingAsked}
 use Rattle.sr_args.specs.declared.name.OptionName.TheVariants as names
 use Rattle.sr_args.specs.Name.{IsSameName, option_text}
 use Rattle.sr_args.specs.Number.{IsInt}
-use Rattle.sr_args.specs.Place.{Word, Place, Fits, HasNumbers, HasIds, int, numeric, spelled, range_start, range_end}
+use Rattle.sr_args.specs.FormWord.{Word, FormWord, Fits, HasNumbers, HasIds, int, numeric, spelled, range_start, range_end}
 use Rattle.sr_args.specs.Form.{Reading, Reads, IsNamedFirst, places, optional_text, named_places}
 use Rattle.sr_args.specs.commands.Xpending.{listing, asked}
 use Rattle.sr_args.specs.steps.Gives.{GivesCall}
@@ -30,7 +31,7 @@ listing-word_left now read words first a b left last least_idle start until most
     no_word_left now read left last some none more reading.1.1.1.1 rest.1
 
 -- the words of a listing, one after the other
-start_unnamed : (least_idle : Option Word) (first a : List Word) (start : Word) (ps : List Place) → first ≡ start ∷ a → IsPastIdle least_idle first → IsNamedFirst names.Idle least_idle (spelled range_start start ∷ ps)
+start_unnamed : (least_idle : Option Word) (first a : List Word) (start : Word) (ps : List FormWord) → first ≡ start ∷ a → IsPastIdle least_idle first → IsNamedFirst names.Idle least_idle (spelled range_start start ∷ ps)
 start_unnamed None first a start ps d past = record { unnamed = λ word words f same. past start a d (subst (λ (w : Word). IsSameName w (option_text names.Idle)) f.0 same) }
 start_unnamed (Some word) first a start ps d past = tt
 
@@ -47,7 +48,7 @@ listing-reads words first a b left last least_idle start until most consumer beg
     }
 
 -- numbers and ids of a listing
-abbrev after_idle : (start until most : Word) → Option Word → List Place
+abbrev after_idle : (start until most : Word) → Option Word → List FormWord
 after_idle start until most consumer = spelled range_start start ∷ spelled range_end until ∷ numeric int most ∷ places optional_text consumer
 
 idle-numbers : (word : Option Word) (z : Option ℤ) → IsMaybeInt word z → HasNumbers (named_places names.Idle int word)

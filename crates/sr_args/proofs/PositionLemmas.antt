@@ -2,7 +2,7 @@
 use Rattle.std.proofs.Common.{◌≡◌, ℕ, List, [], codes, refl, ap, arith}
 use Rattle.sr_ids.proofs.SpellingLemmas.{SpellsId-one, SpellsId-begins_not}
 use Rattle.sr_ids.specs.declared.id.Id.{Id}
-use Rattle.sr_ids.specs.Spelling.{SpellsId}
+use Rattle.sr_ids.specs.{SpellsId}
 use Rattle.sr_args.specs.declared.call.Position.{Position}
 use Rattle.sr_args.specs.declared.call.Position.TheVariants.{Last, At}
 use Rattle.sr_args.specs.declared.reads.ReadAsked.{ReadAsked}

@@ -5,7 +5,7 @@ use Rattle.sr_args.specs.declared.options.Choice.{Choice}
 use Rattle.sr_args.specs.declared.options.OptionSet.TheVariants as sets
 use Rattle.sr_args.specs.declared.options.ValueFault.{ValueFault}
 use Rattle.sr_args.specs.declared.options.ValueFault.TheVariants as faults
-use Rattle.sr_args.specs.Place.{Word, IdForm, HasNumbers}
+use Rattle.sr_args.specs.FormWord.{Word, IdForm, HasNumbers}
 use Rattle.sr_args.specs.Options.{Written, option_places, nothing}
 use Rattle.sr_args.specs.Form.{Reading, Values, places, Reads}
 use Rattle.sr_args.specs.steps.Gives.{Gives}

@@ -6,7 +6,7 @@ use Rattle.sr_args.specs.declared.options.Choice.{Choice}
 use Rattle.sr_args.specs.declared.options.OptionSet.{OptionSet}
 use Rattle.sr_args.specs.declared.options.ValueFault.{ValueFault}
 use Rattle.sr_args.specs.declared.options.ValueFault.TheVariants as faults
-use Rattle.sr_args.specs.Place.{Word, Place, IdForm, any, option, spelled, HasNumbers, HasIds}
+use Rattle.sr_args.specs.FormWord.{Word, FormWord, IdForm, any, option, spelled, HasNumbers, HasIds}
 use Rattle.sr_args.specs.Options.{Written, option_places, nothing, group_in}
 use Rattle.sr_args.specs.Form.{streams, Values, Reads, places}
 use Rattle.sr_args.specs.steps.Gives.{Gives}
@@ -17,7 +17,7 @@ use Rattle.sr_args.proofs.FormLemmas.{ids-numbers}
 use Rattle.sr_args.proofs.OptionLemmas.{IsPast-streams}
 use Rattle.sr_args.proofs.StreamsLemmas.{keys-numbers, ids-from_streams}
 
-abbrev streams_places : IdForm → (keys ids : List Word) → List Place
+abbrev streams_places : IdForm → (keys ids : List Word) → List FormWord
 streams_places spelling keys ids = option Streams ∷ map any keys ++ map (spelled spelling) ids
 
 pub read-reads : (set : OptionSet) (spelling : IdForm) (words left : List Word) (written : List Written) (keys ids : List Word) → EndsOptions set words written left → Reads (streams spelling) left (keys, ids) → Reads (streams_form set spelling) words (streams_reading set spelling written keys ids)

@@ -4,7 +4,7 @@ use Rattle.std.specs.Prelude.{unwrap_or}
 use Rattle.sr_args.specs.declared.commands.recover.Rounds.{Rounds}
 use Rattle.sr_args.specs.declared.name.OptionName.TheVariants.{Tries, Dead}
 use Rattle.sr_args.specs.Name.{IsSameName, option_text}
-use Rattle.sr_args.specs.Place.{Word, HasNumbers, any, option, tries}
+use Rattle.sr_args.specs.FormWord.{Word, HasNumbers, any, option, tries}
 use Rattle.sr_args.specs.Form.{Reading, Reads, places, named_places, IsNamedFirst}
 use Rattle.sr_args.specs.commands.RecoverRun.{usual_tries}
 use Rattle.sr_args.specs.steps.Gives.{GivesCall}

@@ -4,7 +4,7 @@ use Rattle.std.proofs.lemmas.List.{length-take, length-take-le, take-append-drop
 use Rattle.std.proofs.Math.Seq.{take-append_seam, drop-append_seam}
 use Rattle.sr_args.specs.declared.name.OptionName.TheVariants.{Streams}
 use Rattle.sr_args.specs.Name.{IsSameName, option_text}
-use Rattle.sr_args.specs.Place.{Word, Place, Fits, IdForm, IdOf, Spells, any, option, spelled, HasNumbers, HasIds}
+use Rattle.sr_args.specs.FormWord.{Word, FormWord, Fits, IdForm, IdOf, Spells, any, option, spelled, HasNumbers, HasIds}
 use Rattle.sr_args.proofs.IdsLemmas.{take-next, take-none}
 use Rattle.sr_args.specs.Different.{IsAmong, AreDifferent}
 use Rattle.sr_args.specs.Form.{streams, Reading, Reads, AreIds, ArePaired}
@@ -39,15 +39,15 @@ streams-one spelling [] keys ids others more p q f g = absurd f
 streams-one spelling (w ∷ words) keys ids others more p q f g =
     halves-one keys ids others more (sym (halves-from_fits spelling words keys ids f.1) ∙ halves-from_fits spelling words others more g.1) p.paired q.paired
 
-pub keys-numbers : (keys : List Word) (ps : List Place) → HasNumbers ps → HasNumbers (map any keys ++ ps)
+pub keys-numbers : (keys : List Word) (ps : List FormWord) → HasNumbers ps → HasNumbers (map any keys ++ ps)
 keys-numbers [] ps h = h
 keys-numbers (k ∷ keys) ps h = (tt, keys-numbers keys ps h)
 
-pub keys-ids : (keys : List Word) (ps : List Place) → HasIds ps → HasIds (map any keys ++ ps)
+pub keys-ids : (keys : List Word) (ps : List FormWord) → HasIds ps → HasIds (map any keys ++ ps)
 keys-ids [] ps h = h
 keys-ids (k ∷ keys) ps h = (tt, keys-ids keys ps h)
 
-pub ids-from_streams : (keys : List Word) (ps : List Place) → HasIds (map any keys ++ ps) → HasIds ps
+pub ids-from_streams : (keys : List Word) (ps : List FormWord) → HasIds (map any keys ++ ps) → HasIds ps
 ids-from_streams [] ps h = h
 ids-from_streams (k ∷ keys) ps h = ids-from_streams keys ps h.1
 

@@ -2,30 +2,30 @@
 use Rattle.std.proofs.Common.{◌≡◌, ◌≢◌, ℕ, ◌*◌, ◌%◌, ◌/◌, ◌-◌, suc, zero, List, [], ◌∷◌, length, Err, refl, sym, arith, subst}
 use Rattle.std.specs.List.{flat_map}
 use Rattle.sr_ids.specs.declared.spec.Spec.{Spec}
-use Rattle.sr_ids.specs.Spec.{IsSpec}
+use Rattle.sr_ids.specs.{IsSpec}
 use Rattle.sr_args.specs.declared.options.Choice.{Choice}
 use Rattle.sr_args.specs.declared.options.OptionSet.TheVariants as sets
 use Rattle.sr_args.specs.declared.options.ValueFault.{ValueFault}
 use Rattle.sr_args.specs.declared.options.ValueFault.TheVariants as faults
-use Rattle.sr_args.specs.Place.{Word, Fits, HasNumbers, HasIds, spelled, new_id}
+use Rattle.sr_args.specs.FormWord.{Word, Fits, HasNumbers, HasIds, spelled, new_id}
 use Rattle.sr_args.specs.Form.{Reading, Reads, pair_places, places}
 use Rattle.sr_args.specs.Options.{Written, option_places, nothing, Choose}
 use Rattle.sr_args.specs.commands.Xadd.{form, call}
 use Rattle.sr_args.specs.steps.Gives.{Gives, GivesCall}
 use Rattle.sr_args.specs.steps.Options.{AreJudged, EndsOptions, chosen_of, fault_of}
-use Rattle.sr_args.specs.steps.Pairs.{pairs_of}
+use Rattle.sr_bytes.specs.PackedWords.{paired}
 use Rattle.sr_args.proofs.ChoiceLemmas.{HasNumbers-append, HasNumbers-front, HasIds-front, HasIds-back, Choose-numbers}
 use Rattle.sr_args.proofs.FormLemmas.{pairs-numbers}
 use Rattle.sr_args.proofs.OptionLemmas.{IsPast-id}
 
 -- words two by two
-Fits-pairs : (n : ℕ) (words : List Word) → length words ≡ 2 * n → Fits words (flat_map pair_places (pairs_of words))
+Fits-pairs : (n : ℕ) (words : List Word) → length words ≡ 2 * n → Fits words (flat_map pair_places (paired words))
 Fits-pairs n [] e = tt
 Fits-pairs n (w ∷ []) e = absurd (omega arith)
 Fits-pairs zero (w ∷ v ∷ words) e = absurd (omega arith)
 Fits-pairs (suc n) (w ∷ v ∷ words) e = (refl, (refl, Fits-pairs n words (omega arith)))
 
-some-pair : (words : List Word) (n : ℕ) → length words ≡ 2 * suc n → pairs_of words ≢ []
+some-pair : (words : List Word) (n : ℕ) → length words ≡ 2 * suc n → paired words ≢ []
 some-pair [] n e = λ none. omega arith
 some-pair (w ∷ []) n e = λ none. omega arith
 some-pair (w ∷ v ∷ words) n e = λ none. cc
@@ -69,13 +69,13 @@ pub even-some : (words : List Word) (many : ℕ) → (words ≡ [] → ⊥) → 
 even-some [] many some e even = absurd (some refl)
 even-some (word ∷ words) many some e even = omega arith
 
-pub xadd-reads : (words : List Word) (key : Word) (rest : List Word) (written : List Written) (left : List Word) (id : Word) (fields : List Word) (n : ℕ) → words ≡ key ∷ rest → EndsOptions sets.Xadd rest written left → left ≡ id ∷ fields → length fields ≡ 2 * suc n → Reads form words (key, (written, (id, pairs_of fields)))
-xadd-reads words key rest written left id fields n e ends at paired =
-    let here : Fits (id ∷ fields) (spelled new_id id ∷ flat_map pair_places (pairs_of fields)) = (refl, Fits-pairs (suc n) fields paired) in
-    let fits : Fits left (spelled new_id id ∷ flat_map pair_places (pairs_of fields)) = subst (λ (ws : List Word). Fits ws (spelled new_id id ∷ flat_map pair_places (pairs_of fields))) (sym at) here in
+pub xadd-reads : (words : List Word) (key : Word) (rest : List Word) (written : List Written) (left : List Word) (id : Word) (fields : List Word) (n : ℕ) → words ≡ key ∷ rest → EndsOptions sets.Xadd rest written left → left ≡ id ∷ fields → length fields ≡ 2 * suc n → Reads form words (key, (written, (id, paired fields)))
+xadd-reads words key rest written left id fields n e ends at even =
+    let here : Fits (id ∷ fields) (spelled new_id id ∷ flat_map pair_places (paired fields)) = (refl, Fits-pairs (suc n) fields even) in
+    let fits : Fits left (spelled new_id id ∷ flat_map pair_places (paired fields)) = subst (λ (ws : List Word). Fits ws (spelled new_id id ∷ flat_map pair_places (paired fields))) (sym at) here in
     record {
-      fits = subst (λ (ws : List Word). Fits ws (places form (key, (written, (id, pairs_of fields))))) (sym e) (refl, ends.fits (spelled new_id id ∷ flat_map pair_places (pairs_of fields)) fits);
-      fit = (ends.right, IsPast-id sets.Xadd new_id id (flat_map pair_places (pairs_of fields)) (ends.past id fields at), some-pair fields n paired);
+      fits = subst (λ (ws : List Word). Fits ws (places form (key, (written, (id, paired fields))))) (sym e) (refl, ends.fits (spelled new_id id ∷ flat_map pair_places (paired fields)) fits);
+      fit = (ends.right, IsPast-id sets.Xadd new_id id (flat_map pair_places (paired fields)) (ends.past id fields at), some-pair fields n even);
     }
 
 xadd-numbers : (key : Word) (written : List Written) (id : Word) (fields : List (Word × Word)) → HasNumbers (flat_map option_places written) → HasNumbers (places form (key, (written, (id, fields))))

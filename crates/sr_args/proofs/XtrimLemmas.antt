@@ -4,7 +4,7 @@ use Rattle.sr_args.specs.declared.call.Trim.{Trim}
 use Rattle.sr_args.specs.declared.call.Call.TheVariants.{Xtrim}
 use Rattle.sr_args.specs.declared.name.Measure.{Measure}
 use Rattle.sr_args.specs.Name.{IsSameName, measure_name, option_text}
-use Rattle.sr_args.specs.Place.{Word, Place, Fits, option}
+use Rattle.sr_args.specs.FormWord.{Word, FormWord, Fits, option}
 use Rattle.sr_args.specs.Form.{Reading, Reads, places}
 use Rattle.sr_args.specs.Options.{TrimReading, IsTrim}
 use Rattle.sr_args.specs.commands.Xtrim.{form, call}
@@ -32,7 +32,7 @@ trim_left words key rest word left by e f same reading r =
     record {
       trim = reading.1;
       right = record { by_is = measure_name-one reading.1.by by (name-one word (measure_name reading.1.by) (measure_name by) known.1.0 same); fit = r.fit };
-      fits = subst (λ (ps : List Place). Fits left ps) (sym (append-nil (trim_operands reading.1))) known.1.1;
+      fits = subst (λ (ps : List FormWord). Fits left ps) (sym (append-nil (trim_operands reading.1))) known.1.1;
     }
 
 pub xtrim-no_trim : (words : List Word) (key : Word) (rest : List Word) (word : Word) (left : List Word) (by : Measure) → words ≡ key ∷ rest → rest ≡ word ∷ left → IsSameName word (option_text (measure_name by)) → BeginsNone trim_operands (IsTrimBy by) IsTrimEnd left → (reading : Reading form) → Reads form words reading → ⊥
@@ -52,7 +52,7 @@ xtrim-word_left words key rest word left by trim last e f same b some reading r 
 pub xtrim-reads : (words : List Word) (key : Word) (rest : List Word) (word : Word) (left : List Word) (by : Measure) (trim : TrimReading) (last : List Word) → words ≡ key ∷ rest → rest ≡ word ∷ left → IsSameName word (option_text (measure_name by)) → Begins trim_operands (IsTrimBy by) IsTrimEnd left trim last → last ≡ [] → Reads form words (key, trim)
 xtrim-reads words key rest word left by trim last e f same b none =
     let nil : Fits last [] = subst (λ (ws : List Word). Fits ws []) (sym none) tt in
-    let operands : Fits left (trim_operands trim) = subst (λ (ps : List Place). Fits left ps) (append-nil (trim_operands trim)) (b.fits [] nil) in
+    let operands : Fits left (trim_operands trim) = subst (λ (ps : List FormWord). Fits left ps) (append-nil (trim_operands trim)) (b.fits [] nil) in
     let name : IsSameName word (option_text (measure_name trim.by)) = subst (λ (m : Measure). IsSameName word (option_text (measure_name m))) (sym b.right.by_is) same in
     let here : Fits rest (option (measure_name trim.by) ∷ trim_operands trim) = subst (λ (ws : List Word). Fits ws (option (measure_name trim.by) ∷ trim_operands trim)) (sym f) (name, operands) in
     record {

@@ -6,7 +6,7 @@ use Rattle.sr_args.specs.declared.table.CommandName.{CommandName}
 use Rattle.sr_args.specs.declared.call.Command.{Command}
 use Rattle.sr_args.specs.declared.fault.CallFault.{CallFault}
 use Rattle.sr_args.specs.declared.fault.CallFault.TheVariants as faults
-use Rattle.sr_args.specs.Place.{Word, Place, HasNumbers, HasIds}
+use Rattle.sr_args.specs.FormWord.{Word, FormWord, HasNumbers, HasIds}
 use Rattle.sr_args.specs.Table.{IsNamed, IsHalfNamed, IsCounted}
 use Rattle.sr_args.specs.Form.{Reading, Values, places, Reads, Means}
 use Rattle.sr_args.specs.commands.{form_of, command_of}
@@ -25,7 +25,7 @@ pub record IsRead (words : List Word) : Type 0 where
   pub reads : Reads (form_of name) operands reading
 
 -- the words in the places of their form
-abbrev pub places_of : (words : List Word) → IsRead words → List Place
+abbrev pub places_of : (words : List Word) → IsRead words → List FormWord
 places_of words read = places (form_of read.name) read.reading
 
 -- the words are what the request asks for

@@ -12,8 +12,8 @@ use Rattle.sr_args.specs.Different.{AreDifferent}
 use Rattle.sr_args.specs.Name.{IsSameName, option_text}
 use Rattle.sr_args.specs.Options.{Written, TrimReading, Chosen, trimming, option_places, AreOptionsFit}
 use Rattle.sr_args.specs.Options.{IsUnnamed, IsPast, IsTrimFit, nothing, Choose, IsTrim, group_in}
-use Rattle.sr_args.specs.Place.{Word, Range, Number, Writes, IdForm, IdOf, Spells, strict_id}
-use Rattle.sr_args.specs.Place.{Place, option, any, numeric, spelled, Fits}
+use Rattle.sr_args.specs.FormWord.{Word, Range, Number, Writes, IdForm, IdOf, Spells, strict_id}
+use Rattle.sr_args.specs.FormWord.{FormWord, option, any, numeric, spelled, Fits}
 
 pub data Form : Type 0 where
   -- no word is left
@@ -88,16 +88,16 @@ Values (texts_after name) = List Word
 Values (barring names form) = Values form
 
 -- a field and its value
-abbrev pub pair_places : Word × Word → List Place
+abbrev pub pair_places : Word × Word → List FormWord
 pair_places pair = any pair.0 ∷ any pair.1 ∷ []
 
 -- [option number]
-abbrev pub named_places : OptionName → Range → Option Word → List Place
+abbrev pub named_places : OptionName → Range → Option Word → List FormWord
 named_places name range None = []
 named_places name range (Some word) = option name ∷ numeric range word ∷ []
 
 -- the places of a form, with these words in them
-abbrev pub places : (form : Form) → Reading form → List Place
+abbrev pub places : (form : Form) → Reading form → List FormWord
 places end reading = []
 places (text form) reading = any reading.0 ∷ places form reading.1
 places (id spelling form) reading = spelled spelling reading.0 ∷ places form reading.1
@@ -118,11 +118,11 @@ places (texts_after name) words = option name ∷ map any words
 places (barring names form) reading = places form reading
 
 -- a word in the first of these places does not name the option
-pub record IsUnnamedBy (name : OptionName) (places : List Place) : Type 0 where
+pub record IsUnnamedBy (name : OptionName) (places : List FormWord) : Type 0 where
   pub unnamed : (word : Word) (words : List Word) → Fits (word ∷ words) places → IsSameName word (option_text name) → ⊥
 
 -- a first word that names the option is the option
-abbrev pub IsNamedFirst : OptionName → Option Word → List Place → Type 0
+abbrev pub IsNamedFirst : OptionName → Option Word → List FormWord → Type 0
 IsNamedFirst name None places = IsUnnamedBy name places
 IsNamedFirst name (Some word) places = ⊤
 
@@ -148,7 +148,7 @@ pub record ArePaired (keys ids : List Word) : Type 0 where
   pub paired : length ids ≡ length keys
 
 -- no word in these places names one of these options
-pub record AreBarred (names : List OptionName) (places : List Place) : Type 0 where
+pub record AreBarred (names : List OptionName) (places : List FormWord) : Type 0 where
   pub unnamed : (words : List Word) → Fits words places → AreNoneOf names words
 
 -- what the places alone do not say: there is at least one id and at least one field; options are of their set, each

@@ -1,3 +1,5 @@
+-- A command is what a request's words mean by the form of the command that they name.
+
 pub mod Blocking
 pub mod Command
 pub mod Different
@@ -5,11 +7,13 @@ pub mod Form
 pub mod Name
 pub mod Number
 pub mod Options
-pub mod Place
+pub mod FormWord
 pub mod Position
 pub mod Row
 pub mod Table
 pub mod commands
 pub mod steps
-pub use Rattle.sr_args.specs.Blocking.{block_of, without_block}
+-- what the crates above say most
 pub use Rattle.sr_args.specs.Command.{Answers, IsCommand, Refuses}
+pub use Rattle.sr_args.specs.Different.{AreDifferent, IsAmong}
+pub use Rattle.sr_args.specs.Blocking.{block_of, without_block}

@@ -2,7 +2,7 @@
 -- Source: Redis documentation, "Data types" (integers are signed and of 64 bits), and the page of XRANGE, "COUNT".
 
 use Rattle.std.specs.Prelude.{◌≡◌, ℕ, ◌^◌, ◌<◌, ◌≤◌, List, ◌++◌, codes, ℤ, pos, neg_ℤ, ◌≤ℤ◌}
-use Rattle.sr_bytes.specs.Decimal.{IsDecimal}
+use Rattle.sr_bytes.specs.{IsDecimal}
 use Rattle.sr_args.specs.declared.number.CountRange.{CountRange}
 use Rattle.sr_args.specs.declared.number.CountRange.TheVariants.{Any, FromOne}
 

@@ -4,7 +4,7 @@
 use Rattle.std.specs.Prelude.{◌≡◌, ◌≢◌, ◌⊎◌, ℕ, ℤ, List, [], ◌∷◌, ◌++◌, map}
 use Rattle.std.specs.Prelude.{Option, Some, None, Bool, true, false, All, ⊤}
 use Rattle.std.specs.Option.{option_or}
-use Rattle.sr_ids.specs.Spelling.{SpellsId}
+use Rattle.sr_ids.specs.{SpellsId}
 use Rattle.sr_args.specs.declared.commands.xclaim.TimeAsked.{TimeAsked}
 use Rattle.sr_args.specs.declared.commands.xclaim.TimeAsked.TheVariants as times
 use Rattle.sr_args.specs.declared.call.Trim.{Trim}
@@ -24,7 +24,7 @@ use Rattle.sr_args.specs.declared.name.Sign.{Sign}
 use Rattle.sr_args.specs.declared.name.Sign.TheVariants.{Nearly}
 use Rattle.sr_args.specs.Name.{IsSameName, measure_name, option_text, sign_text}
 use Rattle.sr_args.specs.Number.{IsNat, IsCount}
-use Rattle.sr_args.specs.Place.{Word, Place, Fits, option, any, numeric, spelled, int, nat, from_one, strict_id}
+use Rattle.sr_args.specs.FormWord.{Word, FormWord, Fits, option, any, numeric, spelled, int, nat, from_one, strict_id}
 
 -- a trim with the words in its places
 pub record TrimReading : Type 0 where
@@ -48,22 +48,22 @@ pub data Written : Type 0 where
   trimming : (trim : TrimReading) → Written
 
 -- [=|~]
-abbrev pub sign_places : Option Sign → List Place
+abbrev pub sign_places : Option Sign → List FormWord
 sign_places None = []
 sign_places (Some sign) = any (sign_text sign) ∷ []
 
 -- the bound of a trim: a number of entries, or an id
-abbrev pub bound_place : Measure → Word → Place
+abbrev pub bound_place : Measure → Word → FormWord
 bound_place measures.MaxLen word = numeric nat word
 bound_place measures.MinId word = spelled strict_id word
 
 -- [LIMIT number]
-abbrev pub limit_places : Option Word → List Place
+abbrev pub limit_places : Option Word → List FormWord
 limit_places None = []
 limit_places (Some word) = option options.Limit ∷ numeric nat word ∷ []
 
 -- how many entries are wanted
-abbrev pub count_place : CountRange → Word → Place
+abbrev pub count_place : CountRange → Word → FormWord
 count_place Any word = numeric int word
 count_place FromOne word = numeric from_one word
 
@@ -83,7 +83,7 @@ first_name (trimming trim) = measure_name trim.by
 
 -- what follows the name of an option: COUNT number, NOMKSTREAM, MKSTREAM, JUSTID, IDLE number, TIME number,
 -- RETRYCOUNT number, GROUP group consumer, NOACK, BLOCK number, MAXLEN|MINID [=|~] bound [LIMIT number]
-abbrev pub operand_places : Written → List Place
+abbrev pub operand_places : Written → List FormWord
 operand_places (count range most) = count_place range most ∷ []
 operand_places no_make = []
 operand_places make_key = []
@@ -97,7 +97,7 @@ operand_places (block wait) = numeric nat wait ∷ []
 operand_places (trimming trim) = sign_places trim.sign ++ (bound_place trim.by trim.bound ∷ limit_places trim.limit)
 
 -- an option: its name and what follows it
-abbrev pub option_places : Written → List Place
+abbrev pub option_places : Written → List FormWord
 option_places o = option (first_name o) ∷ operand_places o
 
 -- what the places of a trim do not say: a "=" or "~" before the bound is its sign, and LIMIT goes with "~" alone
@@ -192,7 +192,7 @@ abbrev pub IsUnnamed : OptionSet → Word → Type 0
 IsUnnamed set word = (name : OptionName) → is_of set name ≡ true → IsSameName word (option_text name) → ⊥
 
 -- a word in the first of these places names no option of the set
-pub record IsPast (set : OptionSet) (places : List Place) : Type 0 where
+pub record IsPast (set : OptionSet) (places : List FormWord) : Type 0 where
   pub unnamed : (word : Word) (words : List Word) → Fits (word ∷ words) places → IsUnnamed set word
 
 -- what options ask for

@@ -3,7 +3,7 @@
 -- Source: Redis documentation, commands XGROUP CREATE, XGROUP SETID, XREAD and XREADGROUP.
 
 use Rattle.std.specs.Prelude.{◌≡◌, ℕ, List, codes}
-use Rattle.sr_ids.specs.Spelling.{SpellsId}
+use Rattle.sr_ids.specs.{SpellsId}
 use Rattle.sr_args.specs.declared.call.Position.{Position}
 use Rattle.sr_args.specs.declared.call.Position.TheVariants as positions
 use Rattle.sr_args.specs.declared.reads.ReadAsked.{ReadAsked}

@@ -4,7 +4,6 @@ pub mod Named
 pub mod Names
 pub mod Numbers
 pub mod Options
-pub mod Pairs
 pub mod Pending
 pub mod Ranges
 pub mod Rounds

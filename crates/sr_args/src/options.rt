@@ -3,7 +3,7 @@ ghost use Rattle.std.specs.Prelude.{length, Option, IfSome, IfNone, Result, Err,
 ghost use Rattle.std.specs.Option.{option_copied, option_or};
 ghost use Rattle.sr_args.specs.declared.name.OptionName as names;
 ghost use Rattle.sr_args.specs.Name.{IsSameName, option_text};
-ghost use Rattle.sr_args.specs.Place.{Word};
+ghost use Rattle.sr_args.specs.FormWord.{Word};
 ghost use Rattle.sr_args.specs.Options as written;
 ghost use Rattle.sr_args.specs.Options.{Written, operand_places, is_of, IsUnnamed, IsLimit, group_in_one};
 ghost use Rattle.sr_args.specs.steps.Options.{BeginsNoOptions, EndsOptions, AreJudged, IsJudged, GivesTrim};

@@ -2,7 +2,7 @@ ghost use Rattle.std.specs.Prelude.{◌≡◌, ◌↔◌, List, Some, map, take,
 ghost use Rattle.sr_args.specs.Different.{IsAmong, AreDifferent};
 ghost use Rattle.sr_args.specs.Form.{streams, Reading, Reads};
 ghost use Rattle.sr_args.specs.Options.{Written, group_in};
-ghost use Rattle.sr_args.specs.Place.{IdForm};
+ghost use Rattle.sr_args.specs.FormWord.{IdForm};
 ghost use Rattle.sr_args.specs.steps.Options.{AreJudged};
 ghost use Rattle.sr_args.specs.steps.Streams.{streams_form, streams_reading, grouped_form, grouped_reading};
 

@@ -4,7 +4,7 @@ ghost use Rattle.sr_args.specs.Table.{IsCounted};
 ghost use Rattle.sr_args.specs.commands.{row_of, form_of, command_of};
 ghost use Rattle.sr_args.specs.declared.call.Call as calls;
 ghost use Rattle.sr_args.specs.Form.{Form, Values};
-ghost use Rattle.sr_args.specs.Place.{Word};
+ghost use Rattle.sr_args.specs.FormWord.{Word};
 ghost use Rattle.sr_args.specs.steps.Gives.{Gives};
 ghost use Rattle.sr_args.specs.steps.Names.{shown, IsMatch, IsFound, IsFoundAmong};
 

@@ -1,6 +1,6 @@
 ghost use Rattle.std.specs.Prelude.{◌≡◌, ◌↔◌, ◌≤◌, length, map, take, IsTrue, IfOk, IfSome, IfNone};
 ghost use Rattle.std.specs.Option.{option_copied};
-ghost use Rattle.sr_args.specs.Place.{strict_id, spelled, HasIds, Range};
+ghost use Rattle.sr_args.specs.FormWord.{strict_id, spelled, HasIds, Range};
 ghost use Rattle.sr_args.specs.Form.{AreIds, IsNamedFirst, named_places};
 ghost use Rattle.sr_args.specs.Position.{SpellsPosition, SpellsRead};
 ghost use Rattle.sr_args.specs.declared.call.Position as positions;

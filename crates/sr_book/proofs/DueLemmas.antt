@@ -2,9 +2,10 @@
 use Rattle.std.proofs.Common.{◌≡◌, ◌==◌, ℕ, Bool, true, false, cond, not, ◌||◌, List, [], ◌∷◌, ◌++◌, append_assoc, length, slice_get, Option, Some, None, refl, ap, sym, subst, ◌∙◌, arith, true≢false}
 use Rattle.std.proofs.lemmas.Bool.{eq-eqb, ne_eqb}
 use Rattle.std.proofs.lemmas.List.{append-nil, length-map}
-use Rattle.sr_waiters.specs.Waiters.{AreOnce, Waiting, due_at, has_session, is_due, not_due_at, session_of, without_session}
+use Rattle.sr_waiters.specs.{AreOnce, Waiting, due_at, has_session, is_due, not_due_at, session_of, without_session}
 use Rattle.sr_waiters.proofs.ReadLemmas.{without_absent}
-use Rattle.sr_resp.specs.Reply.{Answer, null_array}
+use Rattle.sr_resp.specs.{ReplyParts}
+use Rattle.sr_resp.specs.Reply.{null_array}
 use Rattle.sr_book.specs.declared.event.Out.TheVariants as outs
 use Rattle.sr_book.specs.Server.{Server, Session, expired, with_letter, with_nothing}
 use Rattle.sr_book.specs.Taken.{IsLeftOfDue, TakesDue, nothing_for}
@@ -101,12 +102,12 @@ all_wait moment (x ∷ xs) none = by (all_wait moment xs) (is_due moment x) refl
 
 -- ---- one after another
 
-pub left_of_all : (index moment : ℕ) (sessions : List Session) (list : List Waiting) (sent : List (ℕ × Answer)) → AreOnce list
+pub left_of_all : (index moment : ℕ) (sessions : List Session) (list : List Waiting) (sent : List (ℕ × ReplyParts)) → AreOnce list
     → IsLeftOfDue index moment sessions sessions list list sent sent
 left_of_all index moment sessions list sent once = record { once = once; letters = refl; others = refl; replies = refl }
 
 -- a read is taken, and its session gets the null array
-pub left_of_more : (index moment session : ℕ) (all_sessions sessions : List Session) (all list new : List Waiting) (all_sent sent : List (ℕ × Answer))
+pub left_of_more : (index moment session : ℕ) (all_sessions sessions : List Session) (all list new : List Waiting) (all_sent sent : List (ℕ × ReplyParts))
     → IsLeftOfDue index moment all_sessions sessions all list all_sent sent → TakesDue moment session list new
     → IsLeftOfDue index moment all_sessions (with_letter session (Some (record { index = index; reply = null_array })) sessions) all new all_sent (sent ++ (session, null_array) ∷ [])
 left_of_more index moment session all_sessions sessions all list new all_sent sent left takes = record {
@@ -121,19 +122,19 @@ left_of_more index moment session all_sessions sessions all list new all_sent se
 }
 
 -- the same where the letter and the reply are equal to the null array
-pub left_of_next : (index moment session : ℕ) (all_sessions sessions new_sessions : List Session) (all list new : List Waiting) (all_sent sent new_sent : List (ℕ × Answer)) (letter reply : Answer)
+pub left_of_next : (index moment session : ℕ) (all_sessions sessions new_sessions : List Session) (all list new : List Waiting) (all_sent sent new_sent : List (ℕ × ReplyParts)) (letter reply : ReplyParts)
     → letter ≡ null_array → reply ≡ null_array → new_sessions ≡ with_letter session (Some (record { index = index; reply = letter })) sessions → new_sent ≡ sent ++ (session, reply) ∷ []
     → IsLeftOfDue index moment all_sessions sessions all list all_sent sent → TakesDue moment session list new → IsLeftOfDue index moment all_sessions new_sessions all new all_sent new_sent
 left_of_next index moment session all_sessions sessions new_sessions all list new all_sent sent new_sent letter reply none_kept none_sent hears sends left takes =
     let null_letter : List Session = with_letter session (Some (record { index = index; reply = null_array })) sessions in
-    let is_sessions : new_sessions ≡ null_letter = hears ∙ ap (λ (a : Answer). with_letter session (Some (record { index = index; reply = a })) sessions) none_kept in
-    let is_sent : new_sent ≡ sent ++ (session, null_array) ∷ [] = sends ∙ ap (λ (a : Answer). sent ++ (session, a) ∷ []) none_sent in
+    let is_sessions : new_sessions ≡ null_letter = hears ∙ ap (λ (a : ReplyParts). with_letter session (Some (record { index = index; reply = a })) sessions) none_kept in
+    let is_sent : new_sent ≡ sent ++ (session, null_array) ∷ [] = sends ∙ ap (λ (a : ReplyParts). sent ++ (session, a) ∷ []) none_sent in
     subst (λ (s : List Session). IsLeftOfDue index moment all_sessions s all new all_sent new_sent) (sym is_sessions)
-    (subst (λ (l : List (ℕ × Answer)). IsLeftOfDue index moment all_sessions null_letter all new all_sent l) (sym is_sent)
+    (subst (λ (l : List (ℕ × ReplyParts)). IsLeftOfDue index moment all_sessions null_letter all new all_sent l) (sym is_sent)
     (left_of_more index moment session all_sessions sessions all list new all_sent sent left takes))
 
 -- none is left
-module _ (index moment : ℕ) (all_sessions sessions : List Session) (all list : List Waiting) (all_sent sent : List (ℕ × Answer))
+module _ (index moment : ℕ) (all_sessions sessions : List Session) (all list : List Waiting) (all_sent sent : List (ℕ × ReplyParts))
     (left : IsLeftOfDue index moment all_sessions sessions all list all_sent sent) (none : due_at moment list ≡ []) where
   pub left_of_none-letters : sessions ≡ with_nothing index (due_at moment all) all_sessions
   left_of_none-letters = sym (ap (λ (l : List Waiting). with_nothing index l sessions) none) ∙ left.letters
@@ -155,10 +156,10 @@ module _ (index moment : ℕ) (inside server : Server) (view : inside ≡ server
       ∙ ap (λ (w : List Waiting). made (with_nothing index (due_at moment inside.waiting) inside.sessions) w) wait
       ∙ ap (λ (s : Server). (expired index moment s).server) view
 
-  pub expire_sends : (made sent : List (ℕ × Answer)) → made ≡ [] → sent ≡ made ++ nothing_for (due_at moment inside.waiting) → sent ≡ nothing_for (due_at moment server.waiting)
+  pub expire_sends : (made sent : List (ℕ × ReplyParts)) → made ≡ [] → sent ≡ made ++ nothing_for (due_at moment inside.waiting) → sent ≡ nothing_for (due_at moment server.waiting)
   expire_sends made sent empty sends =
-      sends ∙ ap (λ (l : List (ℕ × Answer)). l ++ nothing_for (due_at moment inside.waiting)) empty ∙ ap (λ (s : Server). nothing_for (due_at moment s.waiting)) view
+      sends ∙ ap (λ (l : List (ℕ × ReplyParts)). l ++ nothing_for (due_at moment inside.waiting)) empty ∙ ap (λ (s : Server). nothing_for (due_at moment s.waiting)) view
 
-  pub expire_counts : (sent : List (ℕ × Answer)) (count : ℕ) → sent ≡ nothing_for (due_at moment server.waiting) → count ≡ length sent → outs.Expired count ≡ outs.Expired (length (due_at moment server.waiting))
+  pub expire_counts : (sent : List (ℕ × ReplyParts)) (count : ℕ) → sent ≡ nothing_for (due_at moment server.waiting) → count ≡ length sent → outs.Expired count ≡ outs.Expired (length (due_at moment server.waiting))
   expire_counts sent count sends counted =
-      ap (λ (n : ℕ). outs.Expired n) (counted ∙ ap (λ (l : List (ℕ × Answer)). length l) sends ∙ length-map (due_at moment server.waiting) (λ (read : Waiting). (read.session, null_array)))
+      ap (λ (n : ℕ). outs.Expired n) (counted ∙ ap (λ (l : List (ℕ × ReplyParts)). length l) sends ∙ length-map (due_at moment server.waiting) (λ (read : Waiting). (read.session, null_array)))

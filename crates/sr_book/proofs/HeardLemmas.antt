@@ -1,16 +1,16 @@
 -- A board, a snapshot or a verdict for a session: what the event leaves, and what it sends.
 use Rattle.std.proofs.Common.{◌≡◌, ℕ, Bool, true, false, cond, List, [], ◌∷◌, Some, Result, Ok, Err, refl, sym, ap, subst}
-use Rattle.sr_resp.specs.Reply.{Answer as ReplyParts, error_reply}
+use Rattle.sr_resp.specs.Reply.{ReplyParts, error_reply}
 use Rattle.sr_resp.specs.declared.code.ErrCode.TheVariants as errors
-use Rattle.sr_check.specs.PlanReply.{verdict_answer}
-use Rattle.sr_plan.specs.Verdict.{Judged}
-use Rattle.sr_policy.specs.Same.{same}
-use Rattle.sr_policy.specs.Snapshot.{Shown}
-use Rattle.sr_space.specs.Keys.{Keys, group_at}
-use Rattle.sr_space.specs.Snap.{IsSnapFault, snapped}
+use Rattle.sr_check.specs.{verdict_answer}
+use Rattle.sr_plan.specs.{Judged}
+use Rattle.sr_policy.specs.{same, SnapshotState}
+use Rattle.sr_space.specs.{group_at, snapped}
+use Rattle.sr_space.specs.Keys.{Keys}
+use Rattle.sr_space.specs.Snap.{IsSnapFault}
 use Rattle.sr_space.specs.declared.snap.SnapFault.{SnapFault}
 use Rattle.sr_space.specs.declared.snap.SnapFault.TheVariants as snap_faults
-use Rattle.sr_waiters.specs.Waiters.{Waiting, has_session}
+use Rattle.sr_waiters.specs.{Waiting, has_session}
 use Rattle.sr_book.specs.declared.event.Event.{Event}
 use Rattle.sr_book.specs.declared.event.Event.TheVariants as events
 use Rattle.sr_book.specs.declared.event.Out.{Out}
@@ -49,15 +49,15 @@ module _ (session moment : ℕ) (server : Server) where
   heard-replied : (keys : Keys) (reply : ReplyParts) → IsHeard session moment server (replied session moment server keys reply)
   heard-replied keys reply = record { keys = keys; leaves = refl; sends = refl }
 
-  heard-snapped : (result : Result Shown SnapFault) → IsHeard session moment server (snapped_for session moment server result)
+  heard-snapped : (result : Result SnapshotState SnapFault) → IsHeard session moment server (snapped_for session moment server result)
   heard-snapped (Ok shown) = record { keys = server.keys; leaves = refl; sends = refl }
   heard-snapped (Err fault) = heard-replied server.keys (error_reply (snap_code fault))
 
-  heard-outdated : (last : Bool) (shown : Shown) → IsHeard session moment server (outdated session moment last server shown)
+  heard-outdated : (last : Bool) (shown : SnapshotState) → IsHeard session moment server (outdated session moment last server shown)
   heard-outdated true shown = heard-replied server.keys (error_reply errors.Stale)
   heard-outdated false shown = record { keys = server.keys; leaves = refl; sends = refl }
 
-  heard-concluded : (apply last : Bool) (judged : Judged) (result : Result Shown SnapFault) → IsHeard session moment server (concluded session moment apply last judged server result)
+  heard-concluded : (apply last : Bool) (judged : Judged) (result : Result SnapshotState SnapFault) → IsHeard session moment server (concluded session moment apply last judged server result)
   heard-concluded apply last judged (Err fault) = heard-replied server.keys (error_reply (snap_code fault))
   heard-concluded apply last judged (Ok shown) = by (same shown judged.snapshot)
     where
@@ -108,6 +108,6 @@ asks-busy session events.Expire waiting asks = absurd asks
 asks-busy session (events.Leave other) waiting asks = absurd asks
 
 -- a fault that is no failed allocation is why there is no snapshot
-pub snap_fault-is : (result : Result Shown SnapFault) (fault : SnapFault) → IsSnapFault result fault → (fault ≡ snap_faults.Memory → ⊥) → result ≡ Err fault
+pub snap_fault-is : (result : Result SnapshotState SnapFault) (fault : SnapFault) → IsSnapFault result fault → (fault ≡ snap_faults.Memory → ⊥) → result ≡ Err fault
 snap_fault-is (Ok shown) fault is other = absurd (other is)
 snap_fault-is (Err reason) fault is other = ap Err (sym is)

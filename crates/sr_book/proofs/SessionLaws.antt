@@ -4,25 +4,23 @@ use Rattle.std.proofs.Math.Seq.{drop-append_seam}
 use Rattle.std.proofs.lemmas.Bool.{eq-eqb, ne_eqb}
 use Rattle.std.proofs.lemmas.List.Folds.{list_any-append}
 use Rattle.std.proofs.lemmas.Map.Views.{any-filter_same}
-use Rattle.sr_args.specs.Blocking.{block_of, without_block}
+use Rattle.sr_args.specs.{block_of, without_block}
 use Rattle.sr_args.specs.declared.call.Call.{Call}
 use Rattle.sr_args.specs.declared.call.Call.TheVariants as calls
-use Rattle.sr_resp.specs.Reply.{Answer as ReplyParts, error_reply}
+use Rattle.sr_resp.specs.Reply.{ReplyParts, error_reply}
 use Rattle.sr_resp.specs.declared.code.ErrCode.TheVariants as errors
-use Rattle.sr_check.specs.PlanReply.{verdict_answer}
-use Rattle.sr_plan.specs.Verdict.{Judged}
-use Rattle.sr_policy.specs.Same.{same}
-use Rattle.sr_policy.specs.Snapshot.{Shown}
-use Rattle.sr_space.specs.Blocking.{answered_or_waits, executed, finds_nothing, outcome_of}
-use Rattle.sr_space.specs.Effect.{at_once}
-use Rattle.sr_space.specs.Keys.{Keys, group_at}
-use Rattle.sr_space.specs.Snap.{snapped}
+use Rattle.sr_check.specs.{verdict_answer}
+use Rattle.sr_plan.specs.{Judged}
+use Rattle.sr_policy.specs.{same, SnapshotState}
+use Rattle.sr_space.specs.{executed, finds_nothing, at_once, group_at, snapped}
+use Rattle.sr_space.specs.Blocking.{answered_or_waits, outcome_of}
+use Rattle.sr_space.specs.Keys.{Keys}
 use Rattle.sr_space.specs.declared.blocking.Outcome.{Outcome}
 use Rattle.sr_space.specs.declared.blocking.Outcome.TheVariants as outcomes
 use Rattle.sr_space.specs.declared.snap.SnapFault.{SnapFault}
 use Rattle.sr_space.specs.declared.outcome.Answered.{Answered}
 use Rattle.sr_space.specs.declared.outcome.Answered.TheVariants as answers
-use Rattle.sr_waiters.specs.Waiters.{Waiting, has_session}
+use Rattle.sr_waiters.specs.{Waiting, has_session}
 use Rattle.sr_book.specs.Records.{AreServings, BookState, IsHistory, IsRefusal, IsStepped, LeadsBy, Legal, Recorded, Steps, addressed, event_record, event_server, is_serving, next_index, next_moment, to_session}
 use Rattle.sr_book.specs.Server.{AreBelow, AreOpen, Server, Serving, Session, acted, board_reply, called, concluded, empty_server, fresh_snapshot, is_busy, is_open, keys_after, outdated, refusal, replied}
 use Rattle.sr_book.specs.Server.{serving, snap_code, snapped_for, speaker, without}
@@ -301,13 +299,13 @@ asked-addressed old told session event answer new reply asks stepped out =
     (ap (to_session session) sent ∙ to_session-own session reply)
 
 -- with a snapshot they address nothing to it
-pub snapped-silent : (old : BookState) (told session : ℕ) (event : Event) (answer : Answer) (new : BookState) (shown : Shown) → Asks session event
+pub snapped-silent : (old : BookState) (told session : ℕ) (event : Event) (answer : Answer) (new : BookState) (shown : SnapshotState) → Asks session event
     → IsStepped old told event answer new → answer.out ≡ outs.Snap shown → addressed session (drop (length old.records) new.records) ≡ []
 snapped-silent old told session event answer new shown asks stepped out =
     let sent = heard-sends old told session event answer new (outs.Snap shown) asks stepped out in
     added-addressed old told session event answer new [] stepped (heard-idle old told session event answer new asks stepped) (ap (to_session session) sent)
 
-pub stale-silent : (old : BookState) (told session : ℕ) (event : Event) (answer : Answer) (new : BookState) (shown : Shown) → Asks session event
+pub stale-silent : (old : BookState) (told session : ℕ) (event : Event) (answer : Answer) (new : BookState) (shown : SnapshotState) → Asks session event
     → IsStepped old told event answer new → answer.out ≡ outs.Stale shown → addressed session (drop (length old.records) new.records) ≡ []
 stale-silent old told session event answer new shown asks stepped out =
     let sent = heard-sends old told session event answer new (outs.Stale shown) asks stepped out in
@@ -322,36 +320,36 @@ board-replies old told session key group answer new stepped =
 -- for a snapshot the answer is a reply, or the snapshot
 pub snapshot-answers : (old : BookState) (told session : ℕ) (key group : List ℕ) (dead : List (List ℕ)) (answer : Answer) (new : BookState)
     → IsStepped old told (events.Snapshot session key group dead) answer new
-    → ((reply : ReplyParts) × (answer.out ≡ outs.Reply reply)) ⊎ ((shown : Shown) × (answer.out ≡ outs.Snap shown))
+    → ((reply : ReplyParts) × (answer.out ≡ outs.Reply reply)) ⊎ ((shown : SnapshotState) × (answer.out ≡ outs.Snap shown))
 snapshot-answers old told session key group dead answer new stepped = by (snapped old.server.rules old.server.keys key group dead) stepped.out
   where
-    by : (result : Result Shown SnapFault) → answer.out ≡ (snapped_for session (next_moment old told) old.server result).out
-        → ((reply : ReplyParts) × (answer.out ≡ outs.Reply reply)) ⊎ ((shown : Shown) × (answer.out ≡ outs.Snap shown))
+    by : (result : Result SnapshotState SnapFault) → answer.out ≡ (snapped_for session (next_moment old told) old.server result).out
+        → ((reply : ReplyParts) × (answer.out ≡ outs.Reply reply)) ⊎ ((shown : SnapshotState) × (answer.out ≡ outs.Snap shown))
     by (Ok shown) out = inr (shown, out)
     by (Err fault) out = inl (error_reply (snap_code fault), out)
 
 -- for a verdict it is a reply, or, but in the last round, a fresh snapshot
 pub conclude-answers : (old : BookState) (told session : ℕ) (judged : Judged) (apply last : Bool) (answer : Answer) (new : BookState)
     → IsStepped old told (events.Conclude session judged apply last) answer new
-    → ((reply : ReplyParts) × (answer.out ≡ outs.Reply reply)) ⊎ ((shown : Shown) × (answer.out ≡ outs.Stale shown) × (last ≡ false))
+    → ((reply : ReplyParts) × (answer.out ≡ outs.Reply reply)) ⊎ ((shown : SnapshotState) × (answer.out ≡ outs.Stale shown) × (last ≡ false))
 conclude-answers old told session judged apply last answer new stepped = by (fresh_snapshot old.server judged.snapshot) stepped.out
   where
     Answers : Type 0
-    Answers = ((reply : ReplyParts) × (answer.out ≡ outs.Reply reply)) ⊎ ((shown : Shown) × (answer.out ≡ outs.Stale shown) × (last ≡ false))
+    Answers = ((reply : ReplyParts) × (answer.out ≡ outs.Reply reply)) ⊎ ((shown : SnapshotState) × (answer.out ≡ outs.Stale shown) × (last ≡ false))
 
     moment : ℕ
     moment = next_moment old told
 
-    outdated_by : (final : Bool) (shown : Shown) → last ≡ final → answer.out ≡ (outdated session moment final old.server shown).out → Answers
+    outdated_by : (final : Bool) (shown : SnapshotState) → last ≡ final → answer.out ≡ (outdated session moment final old.server shown).out → Answers
     outdated_by true shown is out = inl (error_reply errors.Stale, out)
     outdated_by false shown is out = inr (shown, out, is)
 
-    compared : (equal : Bool) (keys : Keys) (reply : ReplyParts) (shown : Shown)
+    compared : (equal : Bool) (keys : Keys) (reply : ReplyParts) (shown : SnapshotState)
         → answer.out ≡ (cond equal (replied session moment old.server keys reply) (outdated session moment last old.server shown)).out → Answers
     compared true keys reply shown out = inl (reply, out)
     compared false keys reply shown out = outdated_by last shown refl out
 
-    by : (result : Result Shown SnapFault) → answer.out ≡ (concluded session moment apply last judged old.server result).out → Answers
+    by : (result : Result SnapshotState SnapFault) → answer.out ≡ (concluded session moment apply last judged old.server result).out → Answers
     by (Ok shown) out = compared (same shown judged.snapshot) (keys_after apply moment judged old.server.keys) (verdict_answer judged.snapshot judged.answer apply) shown out
     by (Err fault) out = inl (error_reply (snap_code fault), out)
 
@@ -360,7 +358,7 @@ pub conclude-last : (old : BookState) (told session : ℕ) (judged : Judged) (ap
     → IsStepped old told (events.Conclude session judged apply last) answer new → last ≡ true → (reply : ReplyParts) × (answer.out ≡ outs.Reply reply)
 conclude-last old told session judged apply last answer new stepped final = by (conclude-answers old told session judged apply last answer new stepped)
   where
-    by : ((reply : ReplyParts) × (answer.out ≡ outs.Reply reply)) ⊎ ((shown : Shown) × (answer.out ≡ outs.Stale shown) × (last ≡ false)) → (reply : ReplyParts) × (answer.out ≡ outs.Reply reply)
+    by : ((reply : ReplyParts) × (answer.out ≡ outs.Reply reply)) ⊎ ((shown : SnapshotState) × (answer.out ≡ outs.Stale shown) × (last ≡ false)) → (reply : ReplyParts) × (answer.out ≡ outs.Reply reply)
     by (inl one) = one
     by (inr stale) = absurd (true≢false (sym final ∙ stale.2))
 

@@ -5,18 +5,16 @@ use Rattle.sr_args.specs.declared.call.Call.TheVariants as calls
 use Rattle.sr_args.specs.declared.commands.xadd.Xadd.{Xadd}
 use Rattle.sr_args.specs.declared.call.Position.{Position}
 use Rattle.sr_args.specs.declared.commands.xclaim.TimeAsked.TheVariants.{Now}
-use Rattle.sr_group.specs.Group.{GroupState}
+use Rattle.sr_group.specs.{GroupState}
 use Rattle.sr_group.specs.declared.claim.Claim.{Claim}
-use Rattle.sr_ids.specs.Id.{least_id}
+use Rattle.sr_ids.specs.{least_id}
 use Rattle.sr_ids.specs.declared.id.Id.{Id}
 use Rattle.sr_stream.specs.declared.fault.GivenFault.{GivenFault}
-use Rattle.sr_stream.specs.Given.{given_id}
-use Rattle.sr_stream.specs.Groups.{group_with, has_group}
-use Rattle.sr_stream.specs.Stream.{StreamState, empty_stream}
+use Rattle.sr_stream.specs.{given_id, group_with, has_group, StreamState, empty_stream}
 use Rattle.sr_space.specs.declared.outcome.Answered.{Answered}
 use Rattle.sr_space.specs.declared.outcome.Answered.TheVariants.{Reply}
 use Rattle.sr_space.specs.Bounds.{in_63_bits}
-use Rattle.sr_space.specs.Effect.{at_once}
+use Rattle.sr_space.specs.{at_once}
 use Rattle.sr_space.specs.Keys.{Keys, stream_at}
 use Rattle.sr_space.specs.Touched.{Touched, counts}
 use Rattle.sr_space.specs.commands.Xack.{xack}

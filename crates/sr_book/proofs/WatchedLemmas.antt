@@ -6,18 +6,13 @@ use Rattle.std.specs.List.{AllByRecursion}
 use Rattle.std.specs.declared.alloc.AllocError.{AllocError}
 use Rattle.sr_args.specs.declared.call.Call.{Call}
 use Rattle.sr_args.specs.declared.call.Call.TheVariants as calls
-use Rattle.sr_check.specs.PlanReply.{verdict_answer}
-use Rattle.sr_plan.specs.Batches.{BatchState, batches_in}
-use Rattle.sr_plan.specs.Calls.{calls_for, claim_call}
-use Rattle.sr_plan.specs.Verdict.{Judged}
-use Rattle.sr_policy.specs.Rules.{Text}
-use Rattle.sr_policy.specs.Same.{same}
-use Rattle.sr_policy.specs.Snapshot.{Shown}
-use Rattle.sr_space.specs.Blocking.{executed, finds_nothing}
+use Rattle.sr_check.specs.{verdict_answer}
+use Rattle.sr_plan.specs.{BatchState, batches_in, calls_for, claim_call, Judged}
+use Rattle.sr_policy.specs.{Text, same, SnapshotState}
+use Rattle.sr_space.specs.{executed, finds_nothing, after_calls, at_once, read_at, snapped}
 use Rattle.sr_space.specs.Keys.{Key, Keys}
-use Rattle.sr_space.specs.Commit.{after_calls}
-use Rattle.sr_space.specs.Effect.{at_once, key_of}
-use Rattle.sr_space.specs.Readers.{is_read, read_at, read_beside}
+use Rattle.sr_space.specs.Effect.{key_of}
+use Rattle.sr_space.specs.Readers.{is_read, read_beside}
 use Rattle.sr_space.specs.declared.blocking.Outcome.{Outcome}
 use Rattle.sr_space.specs.declared.blocking.Outcome.TheVariants as outcomes
 use Rattle.sr_space.specs.declared.snap.SnapFault.{SnapFault}
@@ -25,8 +20,7 @@ use Rattle.sr_space.proofs.ApartLaws.{finds-apart, finds-beside, unasked-nothing
 use Rattle.sr_space.proofs.QuietLaws.{read-finds}
 use Rattle.sr_space.proofs.ReaderLaws.{finds-moment, finds-still}
 use Rattle.sr_space.proofs.WaitingLaws.{waiting-nothing}
-use Rattle.sr_waiters.specs.Waiters.{Waiting, asks, first_that, is_due, session_of}
-use Rattle.sr_space.specs.Snap.{snapped}
+use Rattle.sr_waiters.specs.{Waiting, asks, first_that, is_due, session_of}
 use Rattle.sr_book.specs.declared.effect.Served.{Served}
 use Rattle.sr_book.specs.declared.event.Event.{Event}
 use Rattle.sr_book.specs.declared.event.Event.TheVariants as events
@@ -206,7 +200,7 @@ module _ (old : Server) (moment : ℕ) (settled : IsSettled old) where
   stays : NoneReady old.keys moment old.waiting
   stays = none-later old.keys old.last moment old.waiting settled
 
-  settled-snapped : (session : ℕ) (found : Result Shown SnapFault) → IsSettled (snapped_for session moment old found).server
+  settled-snapped : (session : ℕ) (found : Result SnapshotState SnapFault) → IsSettled (snapped_for session moment old found).server
   settled-snapped session (Ok shown) = stays
   settled-snapped session (Err fault) = stays
 
@@ -229,7 +223,7 @@ module _ (old : Server) (moment : ℕ) (settled : IsSettled old) where
   settled-call session call false is None at quiet = cc
 
   -- a plan that is not to be carried out
-  settled-concluded : (session : ℕ) (judged : Judged) (last : Bool) (found : Result Shown SnapFault)
+  settled-concluded : (session : ℕ) (judged : Judged) (last : Bool) (found : Result SnapshotState SnapFault)
       → IsSettled (concluded session moment false last judged old found).server
   settled-concluded session judged last (Err fault) = stays
   settled-concluded session judged last (Ok shown) = by (same shown judged.snapshot) last
@@ -262,7 +256,7 @@ module _ (old : Server) (moment : ℕ) (settled : IsSettled old) where
       all-append (IsBeside key (done call) moment) old.waiting read (beside-after old.keys moment old.last moment call key old.waiting is settled)
       (one-beside key (done call) moment again (waiting-nothing old.keys moment moment call again deadline e))
 
-  beside-concluded : (session : ℕ) (judged : Judged) (apply last : Bool) (found : Result Shown SnapFault)
+  beside-concluded : (session : ℕ) (judged : Judged) (apply last : Bool) (found : Result SnapshotState SnapFault)
       → AreQuietBeside judged.snapshot.key (concluded session moment apply last judged old found).server
   beside-concluded session judged apply last (Err fault) = beside-still judged.snapshot.key old.keys moment old.waiting stays
   beside-concluded session judged apply last (Ok shown) = by (same shown judged.snapshot) apply last

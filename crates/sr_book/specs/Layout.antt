@@ -2,7 +2,7 @@
 -- clause cites this.
 use Rattle.std.specs.Prelude.{⊤, ◌≡◌, ℕ, ◌^◌, ◌<◌, nat_lt, List, [], ◌∷◌, Some, slice_get}
 use Rattle.std.specs.List.{count_by}
-use Rattle.sr_waiters.specs.Waiters.{Waiting}
+use Rattle.sr_waiters.specs.{Waiting}
 use Rattle.sr_book.specs.Server.{AreOpen, Session}
 
 -- the number lies below that of each session

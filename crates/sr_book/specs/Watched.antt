@@ -2,11 +2,11 @@
 use Rattle.std.specs.Prelude.{⊤, ◌≡◌, ◌↔◌, ◌&&◌, ◌||◌, not, Bool, true, false, IsTrue, Option, Some, None, is_none}
 use Rattle.std.specs.List.{AllByRecursion}
 use Rattle.sr_args.specs.declared.call.Call.{Call}
-use Rattle.sr_space.specs.Blocking.{finds_nothing}
+use Rattle.sr_space.specs.{finds_nothing, read_at}
 use Rattle.sr_space.specs.Keys.{Key}
 use Rattle.sr_space.specs.Effect.{key_of}
-use Rattle.sr_space.specs.Readers.{is_read, read_at, read_beside}
-use Rattle.sr_waiters.specs.Waiters.{asks, first_that}
+use Rattle.sr_space.specs.Readers.{is_read, read_beside}
+use Rattle.sr_waiters.specs.{asks, first_that}
 use Rattle.sr_book.specs.declared.event.Event.{Event}
 use Rattle.sr_book.specs.declared.event.Event.TheVariants as events
 use Rattle.sr_book.specs.declared.watched.Ready.{Ready}

@@ -1,5 +1,5 @@
 ghost use Rattle.std.specs.Prelude.{◌≡◌, ◌<◌, false};
-ghost use Rattle.sr_waiters.specs.Waiters.{has_session};
+ghost use Rattle.sr_waiters.specs.{has_session};
 ghost use Rattle.sr_book.specs.Concluded.{out_of, sent_by, waiting_after};
 
 use crate::{Acted, Out, Sent};

@@ -1,7 +1,7 @@
 ghost use Rattle.std.specs.Prelude.{◌≡◌, ◌+◌, ◌<◌, ◌≤◌, ◌++◌, [], ◌∷◌, IfSome, IfNone, length, map, vec_len};
 ghost use Rattle.std.specs.Prelude.{vec_capacity};
 ghost use Rattle.sr_resp.specs.Reply.{null_array};
-ghost use Rattle.sr_waiters.specs.Waiters.{AreOnce, due_at, not_due_at};
+ghost use Rattle.sr_waiters.specs.{AreOnce, due_at, not_due_at};
 ghost use Rattle.sr_book.specs.Server.{with_nothing};
 ghost use Rattle.sr_book.specs.Taken.{TakesDue};
 

@@ -11,9 +11,9 @@ pub struct Sent {
 
 impl Model for Sent {
     ghost use Rattle.std.specs.Prelude.{ℕ, List};
-    ghost use Rattle.sr_resp.specs.Reply.{Answer};
+    ghost use Rattle.sr_resp.specs.{ReplyParts};
 
-    ghost Value = { List (ℕ × Answer) };
+    ghost Value = { List (ℕ × ReplyParts) };
 
     ghost use Rattle.sr_book.specs.Sent.{replies_in};
 

@@ -55,7 +55,7 @@ impl Model for Watched {
 impl Watched {
     ghost use Rattle.std.specs.Prelude.{◌≡◌, ◌↔◌, ◌^◌, ◌<◌, IsTrue, IfNone, IfSome, None, Some, OnOk, OnErr, IfOk};
     ghost use Rattle.std.specs.List.{list_any};
-    ghost use Rattle.sr_waiters.specs.Waiters.{is_due};
+    ghost use Rattle.sr_waiters.specs.{is_due};
     ghost use Rattle.sr_book.specs.Server.{AreBelow, AreOpen, acted, empty_server, moment_after, refusal, serving};
     ghost use Rattle.sr_book.specs.Records.{IsCertain, IsSettled, letter_for, status_of};
 

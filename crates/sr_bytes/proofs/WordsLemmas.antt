@@ -1,8 +1,8 @@
 -- The words that a run of bytes is known to pack.
-use Rattle.std.proofs.Common.{◌≡◌, ℕ, ◌+◌, ◌-◌, ◌<◌, ◌≤◌, ◌^◌, List, [], ◌∷◌, ◌++◌, length, refl, sym, ap, ◌∙◌, arith, append_assoc, append-nil, length-append}
-use Rattle.sr_bytes.specs.Packed.{packed_string}
-use Rattle.sr_bytes.specs.PackedWords.{packed_words, AreShortWords, IsPackedWords, words_of, one_packing_of_words}
-use Rattle.sr_bytes.proofs.PackedLemmas.{packed_string-some}
+use Rattle.std.proofs.Common.{◌≡◌, ℕ, zero, suc, ◌+◌, ◌-◌, ◌*◌, ◌/◌, ◌%◌, subst, ◌<◌, ◌≤◌, ◌^◌, List, [], ◌∷◌, ◌++◌, length, refl, sym, ap, ◌∙◌, arith, append_assoc, append-nil, length-append}
+use Rattle.sr_bytes.specs.Packed.{AreShort, IsPacked, Packs, packed, packed_pair, packed_string, pairs_of}
+use Rattle.sr_bytes.specs.PackedWords.{packed_words, paired, AreShortWords, IsPackedWords, PacksWords, words_of, one_packing_of_words}
+use Rattle.sr_bytes.proofs.PackedLemmas.{packed_string-some, pairs-known}
 
 AreShortWords-append : (vs ws : List (List ℕ)) → AreShortWords vs → AreShortWords ws → AreShortWords (vs ++ ws)
 AreShortWords-append [] ws short more = more
@@ -115,3 +115,38 @@ packed_words-long (word ∷ words) =
 
 pub words-few : (text : List ℕ) (is : IsPackedWords text) → length (words_of text is) ≤ length text
 words-few text is = omega (arith, packed_words-long (words_of text is), ap length (text-words text is))
+
+-- ---- words two by two
+
+paired-packed : (words : List (List ℕ)) (n : ℕ) → length words ≡ 2 * n → AreShortWords words
+    → (packed_words words ≡ packed (paired words)) × AreShort (paired words)
+paired-packed [] n even short = (refl, tt)
+paired-packed (word ∷ []) n even short = absurd (omega arith)
+paired-packed (field ∷ value ∷ words) zero even short = absurd (omega arith)
+paired-packed (field ∷ value ∷ words) (suc n) even short =
+    let rest = paired-packed words n (omega arith) short.1.1 in (
+      sym (append_assoc (packed_string field) (packed_string value) (packed_words words))
+          ∙ ap (λ (t : List ℕ). packed_pair (field, value) ++ t) rest.0,
+      ((short.0, short.1.0), rest.1),
+    )
+
+-- a text that packs an even number of words packs these two by two
+pub packs-paired : (text : List ℕ) (words : List (List ℕ)) → length words % 2 ≡ 0 → PacksWords text words
+    → Packs text (paired words)
+packs-paired text words even packs =
+    let both = paired-packed words (length words / 2) (omega (arith, even)) packs.short in
+    record { whole = packs.whole ∙ both.0; short = both.1 }
+
+pub pairs-paired : (text shown : List ℕ) (is : IsPacked text) (words : List (List ℕ)) → text ≡ shown
+    → length words % 2 ≡ 0 → PacksWords shown words → pairs_of text is ≡ paired words
+pairs-paired text shown is words same even packs =
+    let both = packs-paired shown words even packs in
+    pairs-known text is (paired words) (same ∙ both.whole) both.short
+
+-- the bytes that pack words pack those that they are shown as
+pub packs-words : (text : List ℕ) (is : IsPackedWords text) (words : List (List ℕ)) → words_of text is ≡ words
+    → PacksWords text words
+packs-words text is words view = record {
+  whole = text-words text is ∙ ap packed_words view;
+  short = subst AreShortWords view (short-words text is);
+}

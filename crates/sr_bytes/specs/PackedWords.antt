@@ -3,7 +3,7 @@
 
 use Rattle.std.proofs.Common.{◌≡◌, ℕ, ◌<◌, ◌^◌, List, [], ◌∷◌, ◌++◌, length, refl, sym, ◌∙◌}
 use Rattle.std.specs.Coded.{Coded-set, coded_list, coded_ℕ, le_prop, Unit-prop, ×_prop}
-use Rattle.sr_bytes.specs.Packed.{packed_string, one_string, some_byte}
+use Rattle.sr_bytes.specs.Packed.{Pair, packed_string, one_string, some_byte}
 use mathlib.Core.HLevel.{Σ_prop_path}
 
 -- words one behind another
@@ -28,6 +28,12 @@ IsPackedWords text = (words : List (List ℕ)) × PacksWords text words
 -- the words that the text packs
 unfoldable pub words_of : (text : List ℕ) → IsPackedWords text → List (List ℕ)
 words_of text is = is.0
+
+-- the words two by two: fields with their values. One that is left over alone is not among them
+abbrev pub paired : List (List ℕ) → List Pair
+paired [] = []
+paired (field ∷ []) = []
+paired (field ∷ value ∷ words) = (field, value) ∷ paired words
 
 -- ---- a text packs one list
 

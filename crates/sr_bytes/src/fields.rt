@@ -1,8 +1,9 @@
-ghost use Rattle.std.specs.Prelude.{◌≡◌, ◌∷◌, ◌++◌, [], ◌<◌, ◌^◌, List, ℕ, length, OnOk, OnErr, IfOk};
+ghost use Rattle.std.specs.Prelude.{◌≡◌, ◌∷◌, ◌++◌, [], ◌<◌, ◌^◌, ◌%◌, List, ℕ, length, OnOk, OnErr, IfOk};
 ghost use Rattle.sr_bytes.specs.Packed.{IsPacked, IsPacked-prop, Packs, packed_pair};
+ghost use Rattle.sr_bytes.specs.PackedWords.{paired};
 
-use crate::Pairs;
 use crate::packed::append_string;
+use crate::{Pairs, Unread};
 use std::alloc::{AllocError, Global};
 use std::marker::Model;
 
@@ -37,12 +38,22 @@ impl Fields {
         }
     }
 
-    /// No fields, with room for this many bytes: those of all strings together, as `room_of` tells them.
+    /// No fields, with room for this many bytes: those of all strings together, as `packed_len` tells them.
     pub fn with_room(alloc: Global, bytes: usize) -> Result<Fields, AllocError>
         ensures { IfOk result (λ fields. fields ≡ []) }
     {
         Ok(Fields {
             text: Vec::with_capacity(alloc, bytes)?,
+        })
+    }
+
+    /// The fields and values that words are, two by two: an even number of words. It copies their bytes in one piece.
+    pub fn of_words(alloc: Global, words: Unread<'_>) -> Result<Fields, AllocError>
+        requires { length words % 2 ≡ 0 }
+        ensures { IfOk result (λ fields. fields ≡ paired words.entry) }
+    {
+        Ok(Fields {
+            text: Vec::from_slice(alloc, words.packed())?,
         })
     }
 

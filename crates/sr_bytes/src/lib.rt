@@ -13,7 +13,7 @@ mod words;
 pub use decimal::read_decimal;
 pub use fields::Fields;
 pub use name::Name;
-pub use packed::room_of;
+pub use packed::packed_len;
 pub use pairs::Pairs;
 pub use unread::Unread;
 pub use words::Words;

@@ -6,7 +6,7 @@ use std::alloc::AllocError;
 
 /// How many bytes a string takes behind its length, as a field, a value or a word; a number beyond `usize` is its
 /// greatest.
-pub fn room_of(string: &[u8]) -> usize
+pub fn packed_len(string: &[u8]) -> usize
     ensures { result ≡ min (length (packed_string string.now)) 0xffff_ffff_ffff_ffff }
 {
     let len = string.len();

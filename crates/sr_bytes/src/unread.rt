@@ -1,5 +1,5 @@
 ghost use Rattle.std.specs.Prelude.{◌≡◌, ℕ, List, ◌+◌, ◌∷◌, [], ◌↔◌, length, IfSome, IfNone, IsTrue};
-ghost use Rattle.sr_bytes.specs.PackedWords.{IsPackedWords, IsPackedWords-prop, words_of};
+ghost use Rattle.sr_bytes.specs.PackedWords.{IsPackedWords, IsPackedWords-prop, PacksWords, words_of};
 
 use crate::packed::first_string;
 use std::marker::Model;
@@ -73,6 +73,13 @@ impl<'a> Unread<'a> {
         }
         let (word, _) = first_string(self.left);
         Some(word)
+    }
+
+    /// The bytes that pack them. It takes no memory.
+    pub(crate) fn packed(&self) -> &'a [u8]
+        ensures { PacksWords result.now self.now }
+    {
+        self.left
     }
 
     /// The same words, to be read a second time.

@@ -41,7 +41,7 @@ impl Words {
         }
     }
 
-    /// No words, with room for this many bytes: those of all words together, as `room_of` tells them.
+    /// No words, with room for this many bytes: those of all words together, as `packed_len` tells them.
     pub fn with_room(alloc: Global, bytes: usize) -> Result<Words, AllocError>
         ensures { IfOk result (λ words. words ≡ []) }
     {

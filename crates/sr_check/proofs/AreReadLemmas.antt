@@ -2,7 +2,7 @@
 use Rattle.std.proofs.Common.{◌≡◌, ℕ, ◌+◌, ◌<◌, ◌≤◌, List, [], ◌∷◌, ◌++◌, length, get_or, take, drop, refl, sym, ap}
 use Rattle.std.proofs.Common.{◌∙◌, subst, arith}
 use Rattle.std.proofs.lemmas.List.{take_more, take_all, take-append-drop, drop_more}
-use Rattle.sr_resp.specs.Reply.{array_header}
+use Rattle.sr_resp.specs.{array_header}
 use Rattle.sr_check.specs.steps.Read.{AreRead, Begins, HasArray}
 use Rattle.sr_check.proofs.BeginsLemmas.{Begins-one}
 

@@ -6,15 +6,14 @@ use Rattle.std.specs.List.Sorted.{IsStrictlyIncreasing}
 use Rattle.std.proofs.lemmas.Bool.{cases_lt}
 use Rattle.std.proofs.lemmas.List.{get_or-map, get_or_default, get_or-drop, length_push, drop-drop, length-drop}
 use Rattle.sr_ids.specs.declared.id.Id.{Id}
-use Rattle.sr_ids.specs.Id.{IsId, IsBelow}
-use Rattle.sr_ids.specs.Spelling.{SpellsId, spelling}
+use Rattle.sr_ids.specs.{IsId, IsBelow, SpellsId, spelling}
 use Rattle.sr_ids.proofs.SpellingLemmas.{SpellsId-one}
 use Rattle.sr_ids.proofs.WritingLemmas.{spelling-reads_back}
 use Rattle.sr_policy.specs.declared.stranded.Stranded.{Stranded}
-use Rattle.sr_policy.specs.Snapshot.{AreInOrder}
-use Rattle.sr_resp.specs.Reply.{Bulk, reply_text}
+use Rattle.sr_policy.specs.{AreInOrder}
+use Rattle.sr_resp.specs.{Bulk, reply_text}
 use Rattle.sr_resp.specs.steps.Decoding.{HasPart}
-use Rattle.sr_check.specs.Answer.{id_at}
+use Rattle.sr_check.specs.PlanAnswer.{id_at}
 use Rattle.sr_check.specs.PlanReply.{id_answer}
 use Rattle.sr_check.specs.steps.Read.{AreRead, Begins, HasChosen, HasFlag, flagged_from, ids_of}
 use Rattle.sr_check.proofs.ReadLemmas.{HasPart-one}

@@ -2,11 +2,11 @@
 use Rattle.std.proofs.Common.{◌≡◌, ℕ, ◌^◌, ◌<◌, List, ◌++◌, length, refl, sym, subst}
 use Rattle.sr_policy.specs.declared.live.Live.{Live}
 use Rattle.sr_policy.specs.declared.stranded.Stranded.{Stranded}
-use Rattle.sr_policy.specs.Rules.{Text}
-use Rattle.sr_policy.specs.Snapshot.{AreInOrder, ComesBefore}
-use Rattle.sr_resp.specs.Reply.{Answer, Bulk, array_header, bulk_string, reply_text}
+use Rattle.sr_policy.specs.{Text, AreInOrder}
+use Rattle.sr_policy.specs.Snapshot.{ComesBefore}
+use Rattle.sr_resp.specs.{ReplyParts, Bulk, array_header, bulk_string, reply_text}
 use Rattle.sr_resp.specs.steps.Decoding.{HasPart}
-use Rattle.sr_check.specs.Answer.{name_at}
+use Rattle.sr_check.specs.PlanAnswer.{name_at}
 use Rattle.sr_check.specs.PlanReply.{id_answer}
 use Rattle.sr_check.specs.steps.Read.{Begins, HasMove}
 use Rattle.sr_check.proofs.ReadLemmas.{HasPart-one}
@@ -16,7 +16,7 @@ use Rattle.sr_check.proofs.AreReadLemmas.{IsOne}
 use Rattle.sr_check.proofs.OrderLemmas.{one_consumer}
 
 -- a last bulk string, after the same parts
-last_bulk : (text x y : List ℕ) (ps : Answer) (a b : Text) → length a < 2 ^ 64 → length b < 2 ^ 64
+last_bulk : (text x y : List ℕ) (ps : ReplyParts) (a b : Text) → length a < 2 ^ 64 → length b < 2 ^ 64
     → Begins text (ps ++ bulk_string a) x → Begins text (ps ++ bulk_string b) y → (a ≡ b) × (x ≡ y)
 last_bulk text x y ps a b small short first second =
     let between = reply_text (bulk_string a) ++ x in

@@ -10,13 +10,13 @@ use Rattle.std.proofs.lemmas.Bool.{cases_order}
 use Rattle.std.proofs.lemmas.Cmp.{nat_list_cmp_total, tied_itself}
 use Rattle.std.proofs.lemmas.List.{get_or-map}
 use Rattle.sr_ids.specs.declared.id.Id.{Id}
-use Rattle.sr_ids.specs.Id.{IsBelow}
+use Rattle.sr_ids.specs.{IsBelow}
 use Rattle.sr_ids.proofs.IdLemmas.{IsBelow-irreflexive}
 use Rattle.sr_policy.specs.declared.live.Live.{Live}
 use Rattle.sr_policy.specs.declared.stranded.Stranded.{Stranded}
-use Rattle.sr_policy.specs.Rules.{Text}
-use Rattle.sr_policy.specs.Snapshot.{AreInOrder, ComesBefore}
-use Rattle.sr_check.specs.Answer.{name_at}
+use Rattle.sr_policy.specs.{Text, AreInOrder}
+use Rattle.sr_policy.specs.Snapshot.{ComesBefore}
+use Rattle.sr_check.specs.PlanAnswer.{name_at}
 
 -- an element comes before each later one
 later : {X : Type 0} (R : X → X → Type 0) → ((a b c : X) → R a b → R b c → R a c) → (xs : List X) → AreInOrder R xs

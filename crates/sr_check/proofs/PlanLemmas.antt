@@ -7,20 +7,19 @@ use Rattle.std.proofs.lemmas.List.Elements.{All-drop, All-from_get_or, All-take}
 use Rattle.std.proofs.lemmas.List.Sums.{sum_by-cons}
 use Rattle.std.proofs.Math.Seq.{take-append_seam, drop-append_seam}
 use Rattle.sr_ids.specs.declared.id.Id.{Id}
-use Rattle.sr_ids.specs.Spelling.{spelling}
+use Rattle.sr_ids.specs.{spelling}
 use Rattle.sr_transport.specs.Assignment.{IsAssignment}
 use Rattle.sr_transport.specs.Certificate.{places_of}
 use Rattle.sr_transport.specs.Solved.{IsBest}
 use Rattle.sr_policy.specs.declared.live.Live.{Live}
 use Rattle.sr_policy.specs.declared.stranded.Stranded.{Stranded}
-use Rattle.sr_policy.specs.Problem.{problem_of, tier_count}
+use Rattle.sr_policy.specs.{problem_of, tier_count, Text, SnapshotState, AreInOrder}
 use Rattle.sr_policy.proofs.ProblemLemmas.{length-tiers_from}
-use Rattle.sr_policy.specs.Rules.{Text}
-use Rattle.sr_policy.specs.Snapshot.{Shown, AreInOrder, ComesBefore}
-use Rattle.sr_resp.specs.Reply.{Answer as Parts, Int, Bulk, Array, array_header, array_of, bulk_string, integer}
-use Rattle.sr_resp.specs.Reply.{reply_text}
+use Rattle.sr_policy.specs.Snapshot.{ComesBefore}
+use Rattle.sr_resp.specs.Reply.{ReplyParts as Parts, Int, Bulk, Array, array_header, array_of, bulk_string, integer}
+use Rattle.sr_resp.specs.{reply_text}
 use Rattle.sr_resp.specs.steps.Decoding.{HasPart}
-use Rattle.sr_check.specs.Answer.{Answer, AreTold, IsShown, best, short, name_at, moves_of, prices_by}
+use Rattle.sr_check.specs.PlanAnswer.{PlanAnswer, AreTold, IsShown, best, short, name_at, moves_of, prices_by}
 use Rattle.sr_check.specs.PlanReply.{move_answer, price_answer, plan_word, verdict_answer}
 use Rattle.sr_check.specs.steps.Read.{AreRead, ArePrices, Begins, HasArray, HasMove, HasPrices, IsPlanText, gone_ids}
 use Rattle.sr_check.specs.steps.Read.{ids_of, rooms_answer}
@@ -186,7 +185,7 @@ prices-read live text prices after same told is =
 
 -- ---- what is read of a plan is there in one way
 
-pub plan-moves : (shown : Shown) (text moves assign prices : List ℕ) (n total : ℕ) → HasPart text (Int (pos n)) moves
+pub plan-moves : (shown : SnapshotState) (text moves assign prices : List ℕ) (n total : ℕ) → HasPart text (Int (pos n)) moves
     → (plan : IsPlanText shown text assign prices total)
     → (n ≡ total) × HasArray (HasMove shown.live) shown.stranded moves assign plan.prices_at
 plan-moves shown text moves assign prices n total cost plan =
@@ -196,7 +195,7 @@ plan-moves shown text moves assign prices n total cost plan =
           (sym same.1) plan.moves,
     )
 
-pub plan-shares : (shown : Shown) → AreInOrder (λ a b. ComesBefore a.name b.name) shown.live
+pub plan-shares : (shown : SnapshotState) → AreInOrder (λ a b. ComesBefore a.name b.name) shown.live
     → (text moves shares read assign prices : List ℕ) (n total : ℕ) → HasPart text (Int (pos n)) moves
     → HasArray (HasMove shown.live) shown.stranded moves read shares
     → (plan : IsPlanText shown text assign prices total)
@@ -207,7 +206,7 @@ plan-shares shown ordered text moves shares read assign prices n total cost has 
     (HasMove-one shown.live ordered) shown.stranded moves read assign shares plan.prices_at has there.1 in
     (same.0, subst (λ t. ArePrices shown.live t prices plan.gone_at) (sym same.1) plan.shares)
 
-pub plan-gone : (shown : Shown) → AreInOrder (λ a b. ComesBefore a.name b.name) shown.live
+pub plan-gone : (shown : SnapshotState) → AreInOrder (λ a b. ComesBefore a.name b.name) shown.live
     → (text moves shares gone read costs assign prices : List ℕ) (n total : ℕ) → HasPart text (Int (pos n)) moves
     → HasArray (HasMove shown.live) shown.stranded moves read shares → ArePrices shown.live shares costs gone
     → (plan : IsPlanText shown text assign prices total) → (costs ≡ prices) × Begins gone (gone_ids shown.gone) []
@@ -216,7 +215,7 @@ plan-gone shown ordered text moves shares gone read costs assign prices n total 
     let same = ArePrices-one shown.live shares costs prices gone plan.gone_at likewise there.1 in
     (same.0, subst (λ t. Begins t (gone_ids shown.gone) []) (sym same.1) plan.gone)
 
-pub one_plan : (shown : Shown) → AreInOrder (λ a b. ComesBefore a.name b.name) shown.live
+pub one_plan : (shown : SnapshotState) → AreInOrder (λ a b. ComesBefore a.name b.name) shown.live
     → (text read costs assign prices : List ℕ) (n total : ℕ) → IsPlanText shown text read costs n
     → IsPlanText shown text assign prices total
     → (read ≡ assign) × (costs ≡ prices) × (n ≡ total)
@@ -246,12 +245,12 @@ gone-as gone other text after e is = subst (λ l. Begins text (gone_ids l) after
 -- ---- and spells a reply
 
 -- what comes after the word
-abbrev pub after_plan_word : Shown → List ℕ → List ℕ → ℕ → Parts
+abbrev pub after_plan_word : SnapshotState → List ℕ → List ℕ → ℕ → Parts
 after_plan_word shown assign prices total =
     integer (pos total) ++ (array_of (map move_answer (moves_of shown assign)) ++ (array_of (map price_answer (prices_by
     shown.live prices)) ++ (gone_ids shown.gone ++ [])))
 
-pub plan-spelled : (shown : Shown) (reply text assign prices : List ℕ) (total : ℕ) (done : Bool)
+pub plan-spelled : (shown : SnapshotState) (reply text assign prices : List ℕ) (total : ℕ) (done : Bool)
     → Begins reply (array_header 5 ++ bulk_string (plan_word done)) text → IsPlanText shown text assign prices total
     → reply ≡ reply_text (verdict_answer shown (best assign prices total) done)
 plan-spelled shown reply text assign prices total done word plan =
@@ -275,13 +274,13 @@ plan-spelled shown reply text assign prices total done word plan =
     whole.whole ∙ append-nil (reply_text (verdict_answer shown (best assign prices total) done))
 
 -- the consumers of an assignment are live
-consumers-live : (shown : Shown) (assign : List ℕ) → IsAssignment (problem_of shown) assign
+consumers-live : (shown : SnapshotState) (assign : List ℕ) → IsAssignment (problem_of shown) assign
     → All (λ c. c < length shown.live) assign
 consumers-live shown assign assignment =
     All-from_get_or (λ c. c < length shown.live) assign 0 (λ i lt. (assignment.placement.allowed i lt).0)
 
 -- and a right answer's reply is read
-best-read : (shown : Shown) (text assign prices : List ℕ) (total : ℕ) → length text < 2 ^ 64
+best-read : (shown : SnapshotState) (text assign prices : List ℕ) (total : ℕ) → length text < 2 ^ 64
     → IsBest (problem_of shown) assign prices total → AreTold prices
     → Begins text (after_plan_word shown assign prices total) [] → IsPlanText shown text assign prices total
 best-read shown text assign prices total small shows told is =
@@ -334,19 +333,19 @@ same_word reply text others m n v w small few fits likewise first second =
     (cc headers.0, cc words.0, words.1)
 
 -- the reply of a right answer, after the word of a plan, is a plan
-pub record IsClaimed (shown : Shown) (text : List ℕ) : Type 0 where
+pub record IsClaimed (shown : SnapshotState) (text : List ℕ) : Type 0 where
   pub assign : List ℕ
   pub prices : List ℕ
   pub total : ℕ
   pub shows : IsBest (problem_of shown) assign prices total
   pub read : IsPlanText shown text assign prices total
 
-abbrev pub after_none : Shown → List ℕ → Parts
+abbrev pub after_none : SnapshotState → List ℕ → Parts
 after_none shown set =
     array_of (ids_of shown.stranded set) ++ (rooms_answer (problem_of shown) set shown.live ++ (integer (pos (places_of
     (problem_of shown) set)) ++ []))
 
-pub plan-claimed : (shown : Shown) (reply text : List ℕ) (done : Bool) (answer : Answer) (applied : Bool)
+pub plan-claimed : (shown : SnapshotState) (reply text : List ℕ) (done : Bool) (answer : PlanAnswer) (applied : Bool)
     → Begins reply (array_header 5 ++ bulk_string (plan_word done)) text → length text < 2 ^ 64
     → IsShown (problem_of shown) answer → reply ≡ reply_text (verdict_answer shown answer applied)
     → IsClaimed shown text

@@ -8,10 +8,11 @@ use Rattle.std.proofs.lemmas.List.{append-nil, length-map}
 use Rattle.std.proofs.lemmas.List.Concat.{flat_map-append}
 use Rattle.std.proofs.lemmas.List.Elements.{All-cons, All-head, All-nil, All-tail}
 use Rattle.sr_policy.specs.declared.live.Live.{Live}
-use Rattle.sr_policy.specs.Problem.{tier_count}
-use Rattle.sr_resp.specs.Reply.{Answer, Int, array_header, bulk_string, integer}
+use Rattle.sr_policy.specs.{tier_count}
+use Rattle.sr_resp.specs.{ReplyParts, array_header, bulk_string, integer}
+use Rattle.sr_resp.specs.Reply.{Int}
 use Rattle.sr_resp.specs.steps.Decoding.{HasPart}
-use Rattle.sr_check.specs.Answer.{AreTold}
+use Rattle.sr_check.specs.PlanAnswer.{AreTold}
 use Rattle.sr_check.specs.steps.Read.{AreRead, ArePrices, Begins, HasPrices}
 use Rattle.sr_check.proofs.ReadLemmas.{HasPart-one}
 use Rattle.sr_check.proofs.BeginsLemmas.{Begins-append, Begins-cut, Begins-rest, Begins-front, none-Begins, Begins-part}
@@ -41,10 +42,10 @@ two_tiers consumer some = count_two consumer.tier some
 
 -- ---- prices one after another
 
-abbrev pub price_part : ℕ → Answer
+abbrev pub price_part : ℕ → ReplyParts
 price_part price = integer (pos price)
 
-abbrev pub listed : List ℕ → Answer
+abbrev pub listed : List ℕ → ReplyParts
 listed prices = flat (map price_part prices)
 
 told_first : (price : ℕ) (prices : List ℕ) → AreTold (price ∷ prices) → price < 2 ^ 63

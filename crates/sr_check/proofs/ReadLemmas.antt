@@ -1,6 +1,7 @@
 -- The parts at the front of a text: what is there is there in one way.
 use Rattle.std.proofs.Common.{◌≡◌, ℕ, ◌^◌, ◌<◌, pos, List, [], ◌∷◌, ◌++◌, decimal, length, refl, sym, ap, ◌∙◌, arith}
-use Rattle.sr_resp.specs.Reply.{Part, Int, Bulk, Array, part_text}
+use Rattle.sr_resp.specs.{Bulk}
+use Rattle.sr_resp.specs.Reply.{Part, Int, Array, part_text}
 use Rattle.sr_resp.specs.steps.Decoding.{IsLine, HasLine, HasPart}
 use Rattle.sr_resp.specs.steps.OneSpelling.{IsAbove, IsAbove-line, part_text-lines, one_part}
 use Rattle.sr_resp.proofs.DecodingLemmas.{HasForm-part}

@@ -4,16 +4,16 @@ use Rattle.std.proofs.Common.{refl, sym, ap, ◌∙◌, subst, arith}
 use Rattle.std.specs.List.{All}
 use Rattle.std.proofs.lemmas.List.{append-nil, length-map, length-append}
 use Rattle.sr_transport.specs.Certificate.{IsShortage, places_of}
-use Rattle.sr_transport.specs.Problem.{Tiered}
+use Rattle.sr_transport.specs.{Tiered}
 use Rattle.sr_policy.specs.declared.live.Live.{Live}
 use Rattle.sr_policy.specs.declared.stranded.Stranded.{Stranded}
-use Rattle.sr_policy.specs.Problem.{problem_of}
-use Rattle.sr_policy.specs.Snapshot.{Shown}
-use Rattle.sr_resp.specs.Reply.{Bulk, Array, array_header, array_of, bulk_string, integer, reply_text}
+use Rattle.sr_policy.specs.{problem_of, SnapshotState}
+use Rattle.sr_resp.specs.{Bulk, array_header, array_of, bulk_string, integer, reply_text}
+use Rattle.sr_resp.specs.Reply.{Array}
 use Rattle.sr_resp.specs.steps.Decoding.{HasPart}
 use Rattle.sr_resp.specs.steps.OneSpelling.{line, tail, part_text-lines}
 use Rattle.sr_resp.proofs.DraftLemmas.{reply_text-long}
-use Rattle.sr_check.specs.Answer.{Answer, IsShown, best, short}
+use Rattle.sr_check.specs.PlanAnswer.{PlanAnswer, IsShown, best, short}
 use Rattle.sr_check.specs.PlanReply.{share_answer, reached_from, plan_word, verdict_answer}
 use Rattle.sr_check.specs.steps.Read.{Begins, HasChosen, IsShortageText, ids_of, rooms_answer}
 use Rattle.sr_check.proofs.ReadLemmas.{HasPart-one}
@@ -46,7 +46,7 @@ rooms-end p set live text after string others is has =
     array-bulk text (length rooms) cut.0 string others cut.1 has
 
 -- a shortage's text has the ids of its set
-pub HasChosen-shortage : (shown : Shown) (p : Tiered) (text set : List ℕ) → p ≡ problem_of shown → IsShortage p set
+pub HasChosen-shortage : (shown : SnapshotState) (p : Tiered) (text set : List ℕ) → p ≡ problem_of shown → IsShortage p set
     → (is : IsShortageText shown text set) → HasChosen shown.stranded is.ids_at set is.rooms_at
 HasChosen-shortage shown p text set posed shows is = record {
   rising = shows.rising;
@@ -69,7 +69,7 @@ places-moved q p set read left e f is =
     (integer (pos (places_of o set))) []) (sym e) is)
 
 -- numbers of stranded entries are numbers of entries of the problem
-pub within-entries : (shown : Shown) (p : Tiered) (stranded : List Stranded) (set : List ℕ) → p ≡ problem_of shown
+pub within-entries : (shown : SnapshotState) (p : Tiered) (stranded : List Stranded) (set : List ℕ) → p ≡ problem_of shown
     → stranded ≡ shown.stranded → All (λ i. i < length stranded) set → All (λ i. i < p.entries) set
 within-entries shown p stranded set posed same all =
     let counted : length stranded ≡ p.entries = ap length same ∙ sym (ap (λ (q : Tiered). q.entries) posed) in
@@ -83,7 +83,7 @@ pub record IsKnown (p : Tiered) (live : List Live) (n : ℕ) (read rooms set : L
   pub rooms_are : Begins rooms (rooms_answer p read live) places_at
   pub places_are : Begins places_at (integer (pos (places_of p read))) []
 
-pub shortage-known : (shown : Shown) (p : Tiered) (text ids read rooms set : List ℕ) (n : ℕ) → p ≡ problem_of shown
+pub shortage-known : (shown : SnapshotState) (p : Tiered) (text ids read rooms set : List ℕ) (n : ℕ) → p ≡ problem_of shown
     → HasPart text (Array n) ids
     → ((other after : List ℕ) → HasChosen shown.stranded ids other after → (read ≡ other) × (rooms ≡ after))
     → IsShortage p set → IsShortageText shown text set → IsKnown p shown.live n read rooms set
@@ -102,7 +102,7 @@ shortage-known shown p text ids read rooms set n posed header chosen shows is =
     }
 
 -- the text is read
-pub IsShortageText-read : (shown : Shown) (p : Tiered) (text ids rooms places set : List ℕ) (n : ℕ)
+pub IsShortageText-read : (shown : SnapshotState) (p : Tiered) (text ids rooms places set : List ℕ) (n : ℕ)
     → p ≡ problem_of shown
     → HasPart text (Array n) ids → length set ≡ n → Begins ids (flat (ids_of shown.stranded set)) rooms
     → Begins rooms (rooms_answer p set shown.live) places → Begins places (integer (pos (places_of p set))) []
@@ -119,7 +119,7 @@ IsShortageText-read shown p text ids rooms places set n posed header counted is 
 
 -- ---- and spells a reply
 
-pub shortage-spelled : (shown : Shown) (reply text set : List ℕ)
+pub shortage-spelled : (shown : SnapshotState) (reply text set : List ℕ)
     → Begins reply (array_header 4 ++ bulk_string (codes "none")) text → IsShortageText shown text set
     → reply ≡ reply_text (verdict_answer shown (short set) false)
 shortage-spelled shown reply text set word is =
@@ -143,7 +143,7 @@ flat-length : (stranded : List Stranded) (set : List ℕ) → length (flat (ids_
 flat-length stranded [] = refl
 flat-length stranded (i ∷ set) = let e = flat-length stranded set in omega arith
 
-short-read : (shown : Shown) (text set : List ℕ) → length text < 2 ^ 64 → Begins text (after_none shown set) []
+short-read : (shown : SnapshotState) (text set : List ℕ) → length text < 2 ^ 64 → Begins text (after_none shown set) []
     → IsShortageText shown text set
 short-read shown text set small is =
     let ids = ids_of shown.stranded set in
@@ -174,12 +174,12 @@ short-read shown text set small is =
     }
 
 -- the reply of a right answer, after the word of a shortage, is a shortage
-pub record IsClaimedShort (shown : Shown) (text : List ℕ) : Type 0 where
+pub record IsClaimedShort (shown : SnapshotState) (text : List ℕ) : Type 0 where
   pub set : List ℕ
   pub shows : IsShortage (problem_of shown) set
   pub read : IsShortageText shown text set
 
-pub shortage-claimed : (shown : Shown) (reply text : List ℕ) (answer : Answer) (applied : Bool)
+pub shortage-claimed : (shown : SnapshotState) (reply text : List ℕ) (answer : PlanAnswer) (applied : Bool)
     → Begins reply (array_header 4 ++ bulk_string (codes "none")) text → length text < 2 ^ 64
     → IsShown (problem_of shown) answer → reply ≡ reply_text (verdict_answer shown answer applied)
     → IsClaimedShort shown text
@@ -203,11 +203,11 @@ shortage-claimed shown reply text (short set) applied word small shows e =
     record { set = set; shows = shows; read = short-read shown text set small rest }
 
 -- a reply with neither word is that of no answer
-pub no_answer : (shown : Shown) (reply : List ℕ) → ((after : List ℕ)
+pub no_answer : (shown : SnapshotState) (reply : List ℕ) → ((after : List ℕ)
     → Begins reply (array_header 5 ++ bulk_string (codes "plan")) after → ⊥) → ((after : List ℕ)
     → Begins reply (array_header 5 ++ bulk_string (codes "done")) after → ⊥)
     → ((after : List ℕ) → Begins reply (array_header 4 ++ bulk_string (codes "none")) after → ⊥)
-    → (answer : Answer) (applied : Bool) → reply ≡ reply_text (verdict_answer shown answer applied) → ⊥
+    → (answer : PlanAnswer) (applied : Bool) → reply ≡ reply_text (verdict_answer shown answer applied) → ⊥
 no_answer shown reply plan done none (best assign prices total) true e =
     let cut = Begins-cut reply [] (array_header 5 ++ bulk_string (codes "done"))
     (after_plan_word shown assign prices total)

@@ -3,15 +3,13 @@
 
 use Rattle.std.specs.Prelude.{ℕ, ◌+◌, pos, List, [], ◌∷◌, ◌++◌, map, codes, Bool, true, false, if◌then◌else◌}
 use Rattle.sr_ids.specs.declared.id.Id.{Id}
-use Rattle.sr_ids.specs.Spelling.{spelling}
+use Rattle.sr_ids.specs.{spelling}
 use Rattle.sr_policy.specs.declared.live.Live.{Live}
-use Rattle.sr_policy.specs.Problem.{problem_of, room_at}
-use Rattle.sr_policy.specs.Rules.{Text}
-use Rattle.sr_policy.specs.Snapshot.{Shown}
-use Rattle.sr_resp.specs.Reply.{Answer as ReplyParts, array_of, bulk_string, integer}
+use Rattle.sr_policy.specs.{problem_of, room_at, Text, SnapshotState}
+use Rattle.sr_resp.specs.Reply.{ReplyParts, array_of, bulk_string, integer}
 use Rattle.sr_transport.specs.Certificate.{is_reached, places_of}
-use Rattle.sr_transport.specs.Problem.{Tiered}
-use Rattle.sr_check.specs.Answer.{Answer, best, short, id_at, moves_of, prices_by}
+use Rattle.sr_transport.specs.{Tiered}
+use Rattle.sr_check.specs.PlanAnswer.{PlanAnswer, best, short, id_at, moves_of, prices_by}
 
 abbrev pub id_answer : Id → ReplyParts
 id_answer id = bulk_string (spelling id)
@@ -41,12 +39,12 @@ reached_from p set c (consumer ∷ live) =
     ++ reached_from p set (c + 1) live
 
 -- the ids of the entries that are gone
-abbrev pub gone_answer : Shown → ReplyParts
+abbrev pub gone_answer : SnapshotState → ReplyParts
 gone_answer shown = array_of (map (λ gone. id_answer gone.0) shown.gone)
 
 -- [plan or done, total, moves, prices, gone]; or [none, the entries without places, the rooms of those that they are
 -- allowed, places]
-abbrev pub verdict_answer : Shown → Answer → Bool → ReplyParts
+abbrev pub verdict_answer : SnapshotState → PlanAnswer → Bool → ReplyParts
 verdict_answer shown (best assign prices total) applied = array_of (
     bulk_string (plan_word applied)
     ∷ integer (pos total)

@@ -1,6 +1,6 @@
 //! Parts of a reply that are known before they are read.
 ghost use Rattle.std.specs.Prelude.{◌^◌, ◌<◌, ℕ, List, pos, IfSome, IfNone};
-ghost use Rattle.sr_ids.specs.Id.{IsId};
+ghost use Rattle.sr_ids.specs.{IsId};
 ghost use Rattle.sr_resp.specs.Reply.{array_header, bulk_string, integer as integer_answer};
 ghost use Rattle.sr_check.specs.PlanReply.{id_answer, share_answer};
 ghost use Rattle.sr_check.specs.steps.Read.{Begins, gone_ids};

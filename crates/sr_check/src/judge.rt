@@ -1,5 +1,5 @@
 ghost use Rattle.std.specs.Prelude.{◌≡◌, ◌++◌, codes, ℕ, List, IfOk, IfSome, IfNone};
-ghost use Rattle.sr_resp.specs.Reply.{array_header, bulk_string};
+ghost use Rattle.sr_resp.specs.{array_header, bulk_string};
 ghost use Rattle.sr_check.specs.PlanReply.{plan_word};
 ghost use Rattle.sr_check.specs.Verified.{IsVerified};
 ghost use Rattle.sr_check.specs.steps.Read.{Begins};

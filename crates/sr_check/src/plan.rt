@@ -1,8 +1,9 @@
 //! A plan, read from a reply.
 ghost use Rattle.std.specs.Prelude.{◌≡◌, ◌≢◌, ◌∷◌, ◌<◌, ◌^◌, ℕ, List, length, IfSome, IfNone, IfOk, IfErr};
 ghost use Rattle.std.specs.Option.{option_to_list};
-ghost use Rattle.sr_policy.specs.Snapshot.{AreInOrder, ComesBefore};
-ghost use Rattle.sr_check.specs.Answer.{name_at};
+ghost use Rattle.sr_policy.specs.{AreInOrder};
+ghost use Rattle.sr_policy.specs.Snapshot.{ComesBefore};
+ghost use Rattle.sr_check.specs.PlanAnswer.{name_at};
 ghost use Rattle.sr_check.specs.steps.Read.{HasMove, HasPrices, ArePrices, HasArray, IsPlanText};
 
 use crate::Reason;

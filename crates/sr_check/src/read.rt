@@ -1,6 +1,7 @@
 //! The parts of a reply, read from the front of its bytes.
 ghost use Rattle.std.specs.Prelude.{◌≡◌, ◌≢◌, ◌^◌, ◌<◌, ◌++◌, ◌∷◌, ℕ, List, decimal, length, pos, IfSome, IfNone};
-ghost use Rattle.sr_resp.specs.Reply.{Int, Bulk, Array};
+ghost use Rattle.sr_resp.specs.{Bulk};
+ghost use Rattle.sr_resp.specs.Reply.{Int, Array};
 ghost use Rattle.sr_resp.specs.steps.Decoding.{HasLine, HasPart};
 ghost use Rattle.sr_check.specs.steps.Read.{HasNumber};
 

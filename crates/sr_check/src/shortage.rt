@@ -1,10 +1,9 @@
 //! A shortage, read from a reply.
 ghost use Rattle.std.specs.Prelude.{◌≡◌, ◌<◌, ℕ, List, All, length, IfSome, IfNone, IfOk, IfErr};
 ghost use Rattle.std.specs.List.{flat_map};
-ghost use Rattle.sr_ids.specs.Id.{IsBelow};
+ghost use Rattle.sr_ids.specs.{IsBelow};
 ghost use Rattle.sr_transport.specs.Certificate.{IsShortage};
-ghost use Rattle.sr_policy.specs.Problem.{problem_of};
-ghost use Rattle.sr_policy.specs.Snapshot.{AreInOrder};
+ghost use Rattle.sr_policy.specs.{problem_of, AreInOrder};
 ghost use Rattle.sr_check.specs.PlanReply.{reached_from};
 ghost use Rattle.sr_check.specs.steps.Read.{Begins, HasChosen, IsShortageText, ids_of, rooms_answer};
 

@@ -7,14 +7,14 @@ use Rattle.std.proofs.lemmas.Bool.{cases_lt}
 use Rattle.std.proofs.lemmas.Grind.{flat_map-append}
 use Rattle.std.specs.List.{flat_map}
 use Rattle.std.specs.List.Sorted.{IsPartitionedBy}
-use Rattle.sr_bytes.specs.Order.{comes_before, ComesBefore, AreInOrder}
+use Rattle.sr_bytes.specs.{comes_before, ComesBefore, AreInOrder}
 use Rattle.sr_group.specs.declared.consumer.Consumer.{Consumer}
 use Rattle.sr_group.specs.Group as group
 use Rattle.sr_group.proofs.ConsumerLemmas.{AreAfter-before}
 use Rattle.sr_group.proofs.NameLemmas.{comes_before-trans, comes_before-itself, comes_before-one_way, comes_before-neither}
 use Rattle.sr_pending.proofs.Splitting.{Splits, drop-Splits}
-use Rattle.sr_policy.specs.Rules.{Text}
-use Rattle.sr_dash.specs.Board.{with_name}
+use Rattle.sr_policy.specs.{Text}
+use Rattle.sr_bytes.specs.{with_name}
 use Rattle.sr_dash.specs.steps.Names.{AreAbove, AreRising, merged}
 
 abbrev before : Text → List Text → List Text

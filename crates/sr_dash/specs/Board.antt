@@ -2,22 +2,19 @@
 -- Source: docs/COMMANDS.md, RECOVER.BOARD.
 
 use Rattle.std.specs.Prelude.{ℕ, ◌-◌, ◌+◌, ◌/◌, ◌%◌, ◌==◌, ◌&&◌, nat_lt, not, List, [], ◌∷◌, ◌++◌, codes, decimal}
-use Rattle.std.specs.Prelude.{filter, length, map, replicate, Bool, true, false, Option, Some, None, if◌then◌else◌}
+use Rattle.std.specs.Prelude.{length, map, replicate, Bool, true, false, Option, Some, None, if◌then◌else◌}
 use mathlib.Core.List.{foldr}
 use Rattle.std.specs.List.{flat_map}
 use Rattle.std.specs.Option.{option_map}
-use Rattle.sr_bytes.specs.Order.{comes_before}
-use Rattle.sr_group.specs.Group.{GroupState, consumer_with, oldest_of}
-use Rattle.sr_pending.specs.Pending.{owned_by}
-use Rattle.sr_policy.specs.Rules.{Rules, Text, consumers_of, has_tiers, limit_of, tier_of}
-use Rattle.sr_policy.specs.Snapshot.{room_of}
+use Rattle.sr_bytes.specs.{with_name}
+use Rattle.sr_group.specs.{GroupState}
+use Rattle.sr_group.specs.Group.{consumer_with, oldest_of}
+use Rattle.sr_pending.specs.{owned_by}
+use Rattle.sr_policy.specs.{Text, consumers_of}
+use Rattle.sr_policy.specs.Rules.{Rules, has_tiers, limit_of, tier_of}
+use Rattle.sr_policy.specs.Snapshot.{places_left}
 
 -- ---- who has a line
-
--- the names with one more, each once in byte order
-abbrev pub with_name : Text → List Text → List Text
-with_name name names =
-    filter (λ other. comes_before other name) names ++ name ∷ filter (λ other. comes_before name other) names
 
 -- the consumers of the group and those of the policy, each once in byte order
 abbrev pub names_on : GroupState → Rules → List Text
@@ -51,7 +48,7 @@ row_of group moment rules name = record {
 
 -- how many more may become pending for it
 abbrev pub room_in : Row → Option ℕ
-room_in row = option_map (λ limit. room_of limit row.pending) row.limit
+room_in row = option_map (λ limit. places_left limit row.pending) row.limit
 
 -- its soft limit
 abbrev pub soft_in : Row → Option ℕ

@@ -1,14 +1,14 @@
 //! The line of one consumer, and the lines of some.
 ghost use Rattle.std.specs.Prelude.{◌≡◌, ◌++◌, OnOk, option_map};
 ghost use Rattle.sr_policy.specs.Rules.{has_tiers};
-ghost use Rattle.sr_policy.specs.Snapshot.{room_of as room};
+ghost use Rattle.sr_policy.specs.Snapshot.{places_left as room};
 ghost use Rattle.sr_dash.specs.Board as boards;
 ghost use Rattle.sr_dash.specs.steps.Names.{lines_of};
 
 use crate::write::{write_name, write_number};
 use sr_bytes::Name;
 use sr_group::Group;
-use sr_policy::{Policy, room_of};
+use sr_policy::{Policy, places_left};
 use std::alloc::AllocError;
 
 /// How many bytes the columns of counts have: pending, limit, room and soft.
@@ -83,7 +83,7 @@ fn room_under(limit: Option<u64>, pending: u64) -> Option<u64>
     ensures { result ≡ option_map (λ limit. room limit pending) limit }
 {
     match limit {
-        Some(limit) => Some(room_of(limit, pending)),
+        Some(limit) => Some(places_left(limit, pending)),
         None => None,
     }
 }

@@ -1,6 +1,6 @@
 //! The names in byte order that come before a name, and those that come after it.
 ghost use Rattle.std.specs.Prelude.{◌≡◌, filter};
-ghost use Rattle.sr_bytes.specs.Order.{comes_before};
+ghost use Rattle.sr_bytes.specs.{comes_before};
 ghost use Rattle.sr_dash.specs.steps.Names.{AreRising};
 
 use sr_bytes::Name;

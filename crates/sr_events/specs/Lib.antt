@@ -1,3 +1,6 @@
+-- The sockets of an event loop: which connections there are, which of them can be read or written, and whose turn
+-- it is.
+
 pub mod Accepting
 pub mod Connections
 pub mod Slot

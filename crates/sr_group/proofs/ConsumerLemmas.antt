@@ -6,8 +6,8 @@ use Rattle.std.specs.List.{All, insert}
 use Rattle.std.specs.List.Sorted.{IsPartitionedBy}
 use Rattle.std.proofs.lemmas.List.Elements.{All-append, All-cons, All-filter}
 use Rattle.std.proofs.lemmas.List.Folds.{list_any-append}
-use Rattle.sr_bytes.specs.Order.{comes_before}
-use Rattle.sr_pending.specs.Pending.{is_same_name}
+use Rattle.sr_bytes.specs.{comes_before}
+use Rattle.sr_pending.specs.{is_same_name}
 use Rattle.sr_pending.proofs.Splitting.{Splits, Splits-counted, drop-Splits}
 use Rattle.sr_group.specs.declared.consumer.Consumer.{Consumer}
 use Rattle.sr_group.specs.Group.{AreAfter, AreInOrder, consumer_with, has_consumer, seen_at, without_consumer}

@@ -5,10 +5,13 @@ use Rattle.std.proofs.lemmas.List.Elements.{All-cons, All-filter, All-head, All-
 use Rattle.sr_ids.specs.declared.id.Id.{Id}
 use Rattle.sr_entries.specs.declared.entry.Entry.{Entry}
 use Rattle.sr_entries.specs.Entries as entries
-use Rattle.sr_entries.specs.Entries.{entries_above, entry_with, last_id_or}
+use Rattle.sr_entries.specs.{entries_above, entry_with, last_id_or}
 use Rattle.sr_pending.specs.declared.nack.Nack.{Nack}
 use Rattle.sr_pending.specs.Pending as pending
-use Rattle.sr_pending.specs.Pending.{AreAbove, AreRising, is_below, is_same_id, is_same_name, nack_with, owned_by, owned_by_named, pending_above, redelivered, touched, with_nack, is_of}
+use Rattle.sr_ids.specs.{is_below, is_same_id}
+use Rattle.sr_pending.specs.{AreRising, is_same_name, nack_with, owned_by, redelivered}
+use Rattle.sr_pending.specs.{with_nack}
+use Rattle.sr_pending.specs.Pending.{AreAbove, owned_by_named, pending_above, touched, is_of}
 use Rattle.sr_pending.proofs.NackLemmas.{AreRising-filter, is_same_id-below, is_same_id-refl, is_same_id-true}
 use Rattle.sr_pending.proofs.ChangeLemmas.{AreRising-changed, changed_at}
 use Rattle.sr_group.specs.declared.shown.Act.{Act}
@@ -28,7 +31,7 @@ last_id_or-end id (y ∷ ys) x = last_id_or-end y.id ys x
 
 pub entry_with-some : (id : Id) (xs : List Entry) (x : Entry) → entry_with id xs ≡ Some x → entries.has_id id xs ≡ true
 entry_with-some id [] x found = absurd (cc found)
-entry_with-some id (y ∷ ys) x found = by (λ rest. entry_with-some id ys x rest) (entries.is_same_id y.id id) found
+entry_with-some id (y ∷ ys) x found = by (λ rest. entry_with-some id ys x rest) (is_same_id y.id id) found
   where
     by : (entry_with id ys ≡ Some x → entries.has_id id ys ≡ true) → (test : Bool) → cond test (Some y) (entry_with id ys) ≡ Some x → (test || entries.has_id id ys) ≡ true
     by rest true here = refl
@@ -36,7 +39,7 @@ entry_with-some id (y ∷ ys) x found = by (λ rest. entry_with-some id ys x res
 
 pub entry_with-none : (id : Id) (xs : List Entry) → entry_with id xs ≡ None → entries.has_id id xs ≡ false
 entry_with-none id [] none = refl
-entry_with-none id (y ∷ ys) none = by (λ rest. entry_with-none id ys rest) (entries.is_same_id y.id id) none
+entry_with-none id (y ∷ ys) none = by (λ rest. entry_with-none id ys rest) (is_same_id y.id id) none
   where
     by : (entry_with id ys ≡ None → entries.has_id id ys ≡ false) → (test : Bool) → cond test (Some y) (entry_with id ys) ≡ None → (test || entries.has_id id ys) ≡ false
     by rest true here = absurd (cc here)

@@ -5,12 +5,14 @@ use Rattle.std.specs.List.{All}
 use Rattle.std.proofs.lemmas.List.Elements.{All-head, All-tail}
 use Rattle.std.proofs.lemmas.Bool.Decides.{nat_tests}
 use Rattle.sr_ids.specs.declared.id.Id.{Id}
-use Rattle.sr_ids.specs.Id.{IsBelow}
+use Rattle.sr_ids.specs.{IsBelow}
 use Rattle.sr_ids.proofs.IdLemmas.{IsBelow-cases}
 use Rattle.sr_entries.specs.declared.entry.Entry.{Entry}
 use Rattle.sr_entries.specs.Entries as entries
 use Rattle.sr_pending.specs.declared.nack.Nack.{Nack}
-use Rattle.sr_pending.specs.Pending.{is_below, is_same_id, nack_with, redelivered, touched, with_nack, without}
+use Rattle.sr_ids.specs.{is_below, is_same_id}
+use Rattle.sr_pending.specs.{nack_with, redelivered, with_nack}
+use Rattle.sr_pending.specs.Pending.{touched, without}
 use Rattle.sr_pending.proofs.NackLemmas.{is_below-from, is_same_id-above, is_same_id-below, is_same_id-refl, is_same_id-true}
 use Rattle.sr_group.specs.declared.claim.Delivery.{Delivery}
 use Rattle.sr_group.specs.declared.shown.Act.{Act}
@@ -24,7 +26,7 @@ use Rattle.sr_group.specs.steps.Judging.{IsUpTo, delivery_after, delivery_of}
 -- where an entry is found, one has the id
 pub has_id-found : (id : Id) (list : List Entry) (entry : Entry) → entries.entry_with id list ≡ Some entry → entries.has_id id list ≡ true
 has_id-found id [] entry found = cc
-has_id-found id (x ∷ xs) entry found = by (has_id-found id xs entry) (entries.is_same_id x.id id) found
+has_id-found id (x ∷ xs) entry found = by (has_id-found id xs entry) (is_same_id x.id id) found
   where
     by : (entries.entry_with id xs ≡ Some entry → entries.has_id id xs ≡ true) → (test : Bool) → cond test (Some x) (entries.entry_with id xs) ≡ Some entry
         → (test || entries.has_id id xs) ≡ true
@@ -33,7 +35,7 @@ has_id-found id (x ∷ xs) entry found = by (has_id-found id xs entry) (entries.
 
 pub has_id-not_found : (id : Id) (list : List Entry) → entries.entry_with id list ≡ None → entries.has_id id list ≡ false
 has_id-not_found id [] none = refl
-has_id-not_found id (x ∷ xs) none = by (has_id-not_found id xs) (entries.is_same_id x.id id) none
+has_id-not_found id (x ∷ xs) none = by (has_id-not_found id xs) (is_same_id x.id id) none
   where
     by : (entries.entry_with id xs ≡ None → entries.has_id id xs ≡ false) → (test : Bool) → cond test (Some x) (entries.entry_with id xs) ≡ None
         → (test || entries.has_id id xs) ≡ false

@@ -7,18 +7,20 @@ use Rattle.std.proofs.lemmas.List.Folds.{list_any-append}
 use Rattle.std.proofs.lemmas.List.Filters.{length-filter_both}
 use Rattle.sr_ids.specs.declared.id.Id.{Id}
 use Rattle.sr_pending.specs.declared.nack.Nack.{Nack}
-use Rattle.sr_pending.specs.Pending.{AreRising, IsCountable, is_same_id, is_same_name, room_of, without, without_owner}
+use Rattle.sr_ids.specs.{is_same_id, is_one_of}
+use Rattle.sr_pending.specs.{AreRising, IsCountable, is_same_name, room_left}
+use Rattle.sr_pending.specs.Pending.{without, without_owner}
 use Rattle.sr_pending.proofs.NackLemmas.{AreRising-filter}
 use Rattle.sr_group.specs.declared.consumer.Consumer.{Consumer}
 use Rattle.sr_group.specs.declared.shown.Act.{Act}
-use Rattle.sr_group.specs.Group.{IsGroup, IsOwned, IsSeen, KeptGroup, has_consumer, is_among, seen_at, with_ids, without_consumer, without_ids}
+use Rattle.sr_group.specs.Group.{IsGroup, IsOwned, IsSeen, KeptGroup, has_consumer, seen_at, with_ids, without_consumer, without_ids}
 use Rattle.sr_group.specs.Shown.{HasRoomFor, ShownState, after_acts}
 use Rattle.sr_group.specs.steps.Showing.{IsActOf, is_gift}
 use Rattle.sr_group.proofs.ShowLemmas.{gifts-filter, owned-after_acts}
 use Rattle.sr_group.proofs.ConsumerLemmas.{AreInOrder-filter, AreInOrder-seen_at, All-seen_at, has_consumer-seen, has_consumer-seen_at, has_consumer-without}
 
 -- the room that a call made
-pub HasRoomFor-made : (shown : ShownState) (group : KeptGroup) (name : List ℕ) (n len cap : ℕ) → shown.consumer ≡ name → n ≡ length (filter is_gift shown.acts) → n ≤ room_of name group.rooms
+pub HasRoomFor-made : (shown : ShownState) (group : KeptGroup) (name : List ℕ) (n len cap : ℕ) → shown.consumer ≡ name → n ≡ length (filter is_gift shown.acts) → n ≤ room_left name group.rooms
     → IsTrue (has_consumer name group.shown.consumers) ⊎ (len < cap) → group.places ≡ cap - len → HasRoomFor shown group
 HasRoomFor-made shown group name n len cap same count room place spare = record {
   entries = rw same (let all = gifts-filter shown.acts in omega (arith, count, room));
@@ -96,12 +98,12 @@ neither false false = refl
 
 pub without_ids-more : (ids : List Id) (id : Id) (nacks : List Nack) → without id (without_ids ids nacks) ≡ without_ids (ids ++ id ∷ []) nacks
 without_ids-more ids id nacks =
-    filter-filter (λ n. not (is_same_id n.id id)) (λ n. not (is_among ids n.id)) nacks
-    ∙ filter_agree (λ n. not (is_among ids n.id) && not (is_same_id n.id id)) (λ n. not (is_among (ids ++ id ∷ []) n.id)) each nacks
+    filter-filter (λ n. not (is_same_id n.id id)) (λ n. not (is_one_of ids n.id)) nacks
+    ∙ filter_agree (λ n. not (is_one_of ids n.id) && not (is_same_id n.id id)) (λ n. not (is_one_of (ids ++ id ∷ []) n.id)) each nacks
   where
-    each : (n : Nack) → (not (is_among ids n.id) && not (is_same_id n.id id)) ≡ not (is_among (ids ++ id ∷ []) n.id)
+    each : (n : Nack) → (not (is_one_of ids n.id) && not (is_same_id n.id id)) ≡ not (is_one_of (ids ++ id ∷ []) n.id)
     each n =
-        neither (is_among ids n.id) (is_same_id n.id id)
+        neither (is_one_of ids n.id) (is_same_id n.id id)
         ∙ ap not (sym (list_any-append (λ other. is_same_id n.id other) ids (id ∷ [])))
 
 pub without_ids-step : (ids : List Id) (i : ℕ) (d : Id) (nacks old new : List Nack) → i < length ids → old ≡ without_ids (take i ids) nacks → new ≡ without (get_or ids i d) old → new ≡ without_ids (take (i + 1) ids) nacks
@@ -117,12 +119,12 @@ without_ids-none (n ∷ ns) = ap (λ (l : List Nack). n ∷ l) (without_ids-none
 
 pub with_ids-count : (ids : List Id) (nacks left : List Nack) → left ≡ without_ids ids nacks → length nacks - length left ≡ length (with_ids ids nacks)
 with_ids-count ids nacks left done =
-    let both = length-filter_both (λ n. is_among ids n.id) (λ n. not (is_among ids n.id)) (λ n. refl) nacks in
+    let both = length-filter_both (λ n. is_one_of ids n.id) (λ n. not (is_one_of ids n.id)) (λ n. refl) nacks in
     let same = ap (λ (l : List Nack). length l) done in
     omega (arith, both, same)
 
 pub without_ids-fewer : (ids : List Id) (nacks left : List Nack) → left ≡ without_ids ids nacks → length left ≤ length nacks
 without_ids-fewer ids nacks left done =
-    let both = length-filter_both (λ n. is_among ids n.id) (λ n. not (is_among ids n.id)) (λ n. refl) nacks in
+    let both = length-filter_both (λ n. is_one_of ids n.id) (λ n. not (is_one_of ids n.id)) (λ n. refl) nacks in
     let same = ap (λ (l : List Nack). length l) done in
     omega (arith, both, same)

@@ -7,9 +7,10 @@ use Rattle.std.proofs.lemmas.Bool.Decides.{nat_tests}
 use Rattle.std.proofs.lemmas.List.Elements.{All-head, All-tail, All-filter, All-push}
 use Rattle.sr_ids.specs.declared.id.Id.{Id}
 use Rattle.sr_entries.specs.declared.entry.Entry.{Entry}
-use Rattle.sr_entries.specs.Entries.{has_id}
+use Rattle.sr_entries.specs.{has_id}
 use Rattle.sr_pending.specs.declared.nack.Nack.{Nack}
-use Rattle.sr_pending.specs.Pending.{IsCountable, is_below, nack_with, redelivered}
+use Rattle.sr_ids.specs.{is_below}
+use Rattle.sr_pending.specs.{IsCountable, nack_with, redelivered}
 use Rattle.sr_pending.proofs.ChangeLemmas.{All-with_nack, All-changed}
 use Rattle.sr_group.specs.declared.claim.Claim.{Claim}
 use Rattle.sr_group.specs.declared.claim.Delivery.{Delivery}

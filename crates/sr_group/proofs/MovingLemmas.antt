@@ -6,10 +6,12 @@ use Rattle.std.proofs.lemmas.List.{take_more}
 use Rattle.std.proofs.lemmas.List.Elements.{All-filter, All-weaker}
 use Rattle.sr_ids.specs.declared.id.Id.{Id}
 use Rattle.sr_entries.specs.declared.entry.Entry.{Entry}
-use Rattle.sr_entries.specs.Entries.{has_id}
+use Rattle.sr_entries.specs.{has_id}
 use Rattle.sr_pending.specs.declared.nack.Nack.{Nack}
 use Rattle.sr_pending.specs.declared.room.Room.{Room}
-use Rattle.sr_pending.specs.Pending.{AreRising, IsCountable, KeepsRooms, Reserves, is_same_id, is_same_name, redelivered, room_of}
+use Rattle.sr_ids.specs.{is_same_id}
+use Rattle.sr_pending.specs.{AreRising, IsCountable, is_same_name, redelivered, room_left}
+use Rattle.sr_pending.specs.Pending.{KeepsRooms, Reserves}
 use Rattle.sr_pending.proofs.ChangeLemmas.{All-with_nack}
 use Rattle.sr_group.specs.declared.claim.Claim.{Claim}
 use Rattle.sr_group.specs.declared.consumer.Consumer.{Consumer}
@@ -37,14 +39,14 @@ pub HaveRooms-kept : (old new : List Room) → HaveRooms [] old new → KeepsRoo
 HaveRooms-kept old new have owner = let all = have owner in omega (arith, all)
 
 -- room for one move was added
-pub HaveRooms-reserved : (move : MoveState) (n : ℕ) (old new : List Room) → n ≡ room_of move.claimer old + length move.ids → n ≤ room_of move.claimer new → Reserves move.claimer n old new → HaveRooms (move ∷ []) old new
+pub HaveRooms-reserved : (move : MoveState) (n : ℕ) (old new : List Room) → n ≡ room_left move.claimer old + length move.ids → n ≤ room_left move.claimer new → Reserves move.claimer n old new → HaveRooms (move ∷ []) old new
 HaveRooms-reserved move n old new is enough reserves owner = by (is_same_name move.claimer owner) refl
   where
-    by : (test : Bool) → is_same_name move.claimer owner ≡ test → room_of owner old + (cond test (length move.ids) 0 + 0) ≤ room_of owner new
+    by : (test : Bool) → is_same_name move.claimer owner ≡ test → room_left owner old + (cond test (length move.ids) 0 + 0) ≤ room_left owner new
     by true e =
         let same : move.claimer ≡ owner = (bytes_decides move.claimer owner).0 e in
-        let all : room_of move.claimer old + length move.ids ≤ room_of move.claimer new = omega (arith, is, enough) in
-        let own : room_of owner old + length move.ids ≤ room_of owner new = rw same at all in
+        let all : room_left move.claimer old + length move.ids ≤ room_left move.claimer new = omega (arith, is, enough) in
+        let own : room_left owner old + length move.ids ≤ room_left owner new = rw same at all in
         omega (arith, own)
     by false e =
         let apart : owner ≢ move.claimer = λ same. let yes : is_same_name move.claimer owner ≡ true = (bytes_decides move.claimer owner).1 (sym same) in let both = sym e ∙ yes in cc in
@@ -58,14 +60,14 @@ HaveRooms-more moves i move base old new within read first second owner =
     let front = take i moves in
     let more : take (i + 1) moves ≡ front ++ move ∷ [] = take_more moves i move within ∙ ap (λ (m : MoveState). front ++ m ∷ []) (sym read) in
     let all : needed owner (take (i + 1) moves) ≡ needed owner front + part owner move = ap (needed owner) more ∙ needed-push owner front move in
-    let before : room_of owner base + needed owner front ≤ room_of owner old = first owner in
-    let here : room_of owner old + (part owner move + 0) ≤ room_of owner new = second owner in
+    let before : room_left owner base + needed owner front ≤ room_left owner old = first owner in
+    let here : room_left owner old + (part owner move + 0) ≤ room_left owner new = second owner in
     omega (arith, all, before, here)
 
 -- the first move has its room
-pub HaveRooms-first : (move : MoveState) (moves : List MoveState) (base old : List Room) → HaveRooms (move ∷ moves) base old → length move.ids ≤ room_of move.claimer old
+pub HaveRooms-first : (move : MoveState) (moves : List MoveState) (base old : List Room) → HaveRooms (move ∷ moves) base old → length move.ids ≤ room_left move.claimer old
 HaveRooms-first move moves base old have =
-    let all : room_of move.claimer base + (part move.claimer move + needed move.claimer moves) ≤ room_of move.claimer old = have move.claimer in
+    let all : room_left move.claimer base + (part move.claimer move + needed move.claimer moves) ≤ room_left move.claimer old = have move.claimer in
     let own : part move.claimer move ≡ length move.ids = rw ((bytes_decides move.claimer move.claimer).1 refl) refl in
     omega (arith, all, own)
 
@@ -73,11 +75,11 @@ HaveRooms-first move moves base old have =
 pub HaveRooms-spent : (move : MoveState) (moves : List MoveState) (base old new : List Room) → HaveRooms (move ∷ moves) base old → Spends move.claimer (length move.ids) old new → HaveRooms moves base new
 HaveRooms-spent move moves base old new have spends owner = by (is_same_name move.claimer owner) refl (have owner)
   where
-    by : (test : Bool) → is_same_name move.claimer owner ≡ test → room_of owner base + (cond test (length move.ids) 0 + needed owner moves) ≤ room_of owner old → room_of owner base + needed owner moves ≤ room_of owner new
+    by : (test : Bool) → is_same_name move.claimer owner ≡ test → room_left owner base + (cond test (length move.ids) 0 + needed owner moves) ≤ room_left owner old → room_left owner base + needed owner moves ≤ room_left owner new
     by true e all =
         let same : move.claimer ≡ owner = (bytes_decides move.claimer owner).0 e in
-        let spent : room_of move.claimer old ≤ room_of move.claimer new + length move.ids = spends.own in
-        let own : room_of owner old ≤ room_of owner new + length move.ids = rw same at spent in
+        let spent : room_left move.claimer old ≤ room_left move.claimer new + length move.ids = spends.own in
+        let own : room_left owner old ≤ room_left owner new + length move.ids = rw same at spent in
         omega (arith, all, own)
     by false e all =
         let apart : owner ≢ move.claimer = λ same. let yes : is_same_name move.claimer owner ≡ true = (bytes_decides move.claimer owner).1 (sym same) in let both = sym e ∙ yes in cc in

@@ -7,8 +7,8 @@ use Rattle.std.specs.Cmp.Lexicographic.{slice_cmp}
 use Rattle.std.proofs.lemmas.Bool.Decides.{nat_tests}
 use Rattle.std.proofs.lemmas.Cmp.{nat_list_cmp_total, nat_list_eq_equiv, tied_itself}
 use Rattle.std.proofs.lemmas.Map.Lookups.{exact_bytes}
-use Rattle.sr_bytes.specs.Order.{comes_before}
-use Rattle.sr_pending.specs.Pending.{is_same_name}
+use Rattle.sr_bytes.specs.{comes_before}
+use Rattle.sr_pending.specs.{is_same_name}
 
 is_lt-true : (o : Ordering) → is_lt o ≡ true → o ≡ Less
 is_lt-true Less e = refl

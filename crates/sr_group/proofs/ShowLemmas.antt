@@ -3,11 +3,13 @@ use Rattle.std.proofs.Common.{◌≡◌, ℕ, suc, ◌+◌, Bool, true, false, c
 use Rattle.std.specs.List.{All}
 use Rattle.std.proofs.lemmas.List.Elements.{All-filter, All-head, All-map, All-tail, All-weaker, All-cons, All-nil}
 use Rattle.sr_ids.specs.declared.id.Id.{Id}
-use Rattle.sr_ids.specs.Id.{IsBelow}
+use Rattle.sr_ids.specs.{IsBelow}
 use Rattle.sr_ids.proofs.IdLemmas.{IsBelow-one_way}
 use Rattle.sr_pending.specs.declared.nack.Nack.{Nack}
 use Rattle.sr_pending.specs.declared.room.Room.{Room}
-use Rattle.sr_pending.specs.Pending.{AreAbove, AreRising, UsesRoom, has_id, is_below, is_same_id, nack_with, redelivered, room_of, touched, moved, with_nack, without}
+use Rattle.sr_ids.specs.{is_below, is_same_id}
+use Rattle.sr_pending.specs.{AreRising, nack_with, redelivered, room_left, with_nack}
+use Rattle.sr_pending.specs.Pending.{AreAbove, UsesRoom, has_id, touched, moved, without}
 use Rattle.sr_pending.proofs.NackLemmas.{is_below-from, is_below-true, is_same_id-refl, is_same_id-true}
 use Rattle.sr_pending.proofs.SearchLemmas.{has_id-above}
 use Rattle.sr_pending.proofs.ChangeLemmas.{All-with_nack, changed_at, map-none}
@@ -131,7 +133,7 @@ HaveRoom-first act acts rooms have = record {
 pub HaveRoom-given : (nack : Nack) (acts : List Act) (old new : List Room) → UsesRoom nack.owner old new → HaveRoom (Give nack ∷ acts) old → HaveRoom acts new
 HaveRoom-given nack acts old new uses have =
     let own : (nack.owner ≡ have.consumer) × _ = All-head (IsActOf have.consumer) (Give nack) acts have.each in
-    let used : room_of have.consumer new + 1 ≡ room_of have.consumer old = rw own.0 at uses.used in
+    let used : room_left have.consumer new + 1 ≡ room_left have.consumer old = rw own.0 at uses.used in
     record {
       consumer = have.consumer;
       each = All-tail (IsActOf have.consumer) (Give nack) acts have.each;

@@ -4,11 +4,13 @@
 use Rattle.std.specs.Prelude.{ℕ, zero, suc, ◌-◌, ◌*◌, ◌^◌, ◌<◌, IfSome, min, List, [], ◌∷◌, ◌++◌, Option, Some, None}
 use Rattle.std.specs.Prelude.{Bool, true, false, not, ◌||◌, nat_lt, if◌then◌else◌, filter, take, slice_get}
 use Rattle.sr_ids.specs.declared.id.Id.{Id}
-use Rattle.sr_ids.specs.Id.{least_id}
+use Rattle.sr_ids.specs.{least_id}
 use Rattle.sr_entries.specs.declared.entry.Entry.{Entry}
-use Rattle.sr_entries.specs.Entries.{has_id}
+use Rattle.sr_entries.specs.{has_id}
 use Rattle.sr_pending.specs.declared.nack.Nack.{Nack}
-use Rattle.sr_pending.specs.Pending.{is_below, nack_with, redelivered, with_nack, without}
+use Rattle.sr_ids.specs.{is_below}
+use Rattle.sr_pending.specs.{nack_with, redelivered, with_nack}
+use Rattle.sr_pending.specs.Pending.{without}
 use Rattle.sr_group.specs.declared.claim.Claim.{Claim}
 use Rattle.sr_group.specs.declared.claim.ClaimTime.{ClaimTime}
 use Rattle.sr_group.specs.declared.claim.ClaimTime.TheVariants.{Now, Idle, At}

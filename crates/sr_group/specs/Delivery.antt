@@ -5,10 +5,11 @@ use Rattle.std.specs.Prelude.{ℕ, true, ◌+◌, ◌-◌, ◌^◌, min, List, O
 use Rattle.sr_ids.specs.declared.id.Id.{Id}
 use Rattle.sr_entries.specs.declared.entry.Entry.{Entry}
 use Rattle.sr_entries.specs.Entries as entries
-use Rattle.sr_entries.specs.Entries.{is_below, has_id, last_id_or}
+use Rattle.sr_ids.specs.{is_below}
+use Rattle.sr_entries.specs.{has_id, last_id_or}
 use Rattle.sr_pending.specs.declared.nack.Nack.{Nack}
 use Rattle.sr_pending.specs.Pending as pending
-use Rattle.sr_pending.specs.Pending.{owned_by, redelivered}
+use Rattle.sr_pending.specs.{owned_by, redelivered}
 use Rattle.sr_group.specs.declared.shown.Listed.{Listed}
 use Rattle.sr_group.specs.Group.{GroupState, seen_at, with_nacks}
 

@@ -4,11 +4,12 @@
 use Rattle.std.specs.Prelude.{⊤, ℕ, ◌-◌, ◌^◌, ◌<◌, IsTrue, List, [], ◌∷◌, ◌++◌, Option, Some, None, Bool, not, nat_lt}
 use Rattle.std.specs.Prelude.{if◌then◌else◌, length, map, filter}
 use Rattle.std.specs.List.{All, list_any}
-use Rattle.sr_bytes.specs.Order.{comes_before}
+use Rattle.sr_bytes.specs.{comes_before}
 use Rattle.sr_ids.specs.declared.id.Id.{Id}
 use Rattle.sr_pending.specs.declared.nack.Nack.{Nack}
 use Rattle.sr_pending.specs.declared.room.Room.{Room}
-use Rattle.sr_pending.specs.Pending.{AreRising, IsCountable, is_same_id, is_same_name, owned_by, with_nack}
+use Rattle.sr_ids.specs.{is_one_of}
+use Rattle.sr_pending.specs.{AreRising, IsCountable, is_same_name, owned_by, with_nack}
 use Rattle.sr_group.specs.declared.consumer.Consumer.{Consumer}
 
 -- what a group shows: the id that was delivered last, the consumers in byte order of their names, and the pending
@@ -84,17 +85,13 @@ pub record IsGroup (group : GroupState) : Type 0 where
 
 -- ---- acknowledging and listing
 
--- the id is one of these
-abbrev pub is_among : List Id → Id → Bool
-is_among ids id = list_any (λ other. is_same_id id other) ids
-
 -- the pending entries without those of these ids
 abbrev pub without_ids : List Id → List Nack → List Nack
-without_ids ids nacks = filter (λ nack. not (is_among ids nack.id)) nacks
+without_ids ids nacks = filter (λ nack. not (is_one_of ids nack.id)) nacks
 
 -- the pending entries of these ids
 abbrev pub with_ids : List Id → List Nack → List Nack
-with_ids ids nacks = filter (λ nack. is_among ids nack.id) nacks
+with_ids ids nacks = filter (λ nack. is_one_of ids nack.id) nacks
 
 -- for how long the entry was not delivered, in milliseconds: 0 if it was delivered after the moment
 abbrev pub idle_at : ℕ → Nack → ℕ

@@ -2,7 +2,8 @@
 
 use Rattle.std.specs.Prelude.{◌⊎◌, ◌+◌, ℕ, ◌<◌, ◌≤◌, IsTrue, List, [], ◌∷◌, true, false}
 use Rattle.sr_ids.specs.declared.id.Id.{Id}
-use Rattle.sr_pending.specs.Pending.{room_of, touched, with_nack, without}
+use Rattle.sr_pending.specs.{room_left, with_nack}
+use Rattle.sr_pending.specs.Pending.{touched, without}
 use Rattle.sr_pending.specs.declared.nack.Nack.{Nack}
 use Rattle.sr_group.specs.declared.shown.Act.{Act}
 use Rattle.sr_group.specs.declared.shown.Act.TheVariants.{Give, Touch, Forget, Only}
@@ -52,5 +53,5 @@ after_showing shown group = record {
 -- the group has room for what is shown: for each entry that becomes the consumer's, and for the consumer if it is not
 -- there
 pub record HasRoomFor (shown : ShownState) (group : KeptGroup) : Type 0 where
-  pub entries : gifts shown.acts ≤ room_of shown.consumer group.rooms
+  pub entries : gifts shown.acts ≤ room_left shown.consumer group.rooms
   pub consumer : IsTrue (has_consumer shown.consumer group.shown.consumers) ⊎ (0 < group.places)

@@ -1,8 +1,9 @@
 ghost use Rattle.std.specs.Prelude.{◌≡◌, ◌^◌, ◌<◌, false, None, Some, [], IfOk, IfSome, OnOk, OnErr, option_map};
 ghost use Rattle.std.specs.List.{All};
-ghost use Rattle.sr_entries.specs.Entries.{has_id};
+ghost use Rattle.sr_entries.specs.{has_id};
 ghost use Rattle.sr_ids.specs.declared.id.Id as ids;
-ghost use Rattle.sr_pending.specs.Pending.{IsCountable, is_below, nack_with};
+ghost use Rattle.sr_ids.specs.{is_below};
+ghost use Rattle.sr_pending.specs.{IsCountable, nack_with};
 ghost use Rattle.sr_group.specs.Claim.{after_claim, count_given, fate_of, listed_claim, time_given};
 ghost use Rattle.sr_group.specs.Shown.{after_acts, listed_of};
 ghost use Rattle.sr_group.specs.steps.Judging.{IsJudged, IsUpTo, Judges, act_judged, act_with, delivered};
@@ -65,7 +66,7 @@ pub(crate) struct Delivery {
 
 /// What becomes of a pending entry that a call names.
 #[derive(Clone, Copy)]
-pub(crate) enum Judgement {
+pub(crate) enum Weighed {
     /// Nothing: it was not idle for long enough.
     Stays,
     /// It is pending no longer, since the stream has it no longer.
@@ -111,7 +112,7 @@ pub(crate) fn is_there(entries: &Entries, id: Id) -> bool
 }
 
 /// What becomes of a pending entry that was delivered so.
-pub(crate) fn weigh(call: &Call<'_>, id: Id, delivery: Delivery) -> Judgement
+pub(crate) fn weigh(call: &Call<'_>, id: Id, delivery: Delivery) -> Weighed
     requires moment { call.now.moment < 2 ^ 63 }
     requires count { IfSome call.now.claim.count (λ count. count < 2 ^ 63) }
     requires old { delivery.count < 2 ^ 63 }
@@ -120,12 +121,12 @@ pub(crate) fn weigh(call: &Call<'_>, id: Id, delivery: Delivery) -> Judgement
     ensures own { IfSome (act_judged call.now.claimer.now id result) (IsActOf call.now.claimer.now) }
 {
     if !is_there(call.entries, id) {
-        return Judgement::Leaves;
+        return Weighed::Leaves;
     }
     if call.moment.saturating_sub(delivery.time) < call.claim.least_idle {
-        return Judgement::Stays;
+        return Weighed::Stays;
     }
-    Judgement::Moves(Delivery {
+    Weighed::Moves(Delivery {
         time: time_given(call.moment, call.claim.time),
         count: count_given(&call.claim, delivery.count),
     })
@@ -147,9 +148,9 @@ fn judge(
     ensures own { IfOk result (λ act. IfSome act (IsActOf call.now.claimer.now)) }
 {
     match weigh(call, id, delivery) {
-        Judgement::Stays => Ok(None),
-        Judgement::Leaves => Ok(Some(Act::Forget(id))),
-        Judgement::Moves(Delivery { time, count }) => {
+        Weighed::Stays => Ok(None),
+        Weighed::Leaves => Ok(Some(Act::Forget(id))),
+        Weighed::Moves(Delivery { time, count }) => {
             let owner = claimer.copy()?;
             Ok(Some(Act::Give(Nack {
                 id,

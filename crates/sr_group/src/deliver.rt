@@ -1,5 +1,5 @@
 ghost use Rattle.std.specs.Prelude.{◌≡◌, ◌+◌, ◌^◌, ◌<◌, ◌≤◌, IfOk, length, map, filter};
-ghost use Rattle.sr_entries.specs.Entries.{last_id_or};
+ghost use Rattle.sr_entries.specs.{last_id_or};
 ghost use Rattle.sr_group.specs.Delivery.{raised};
 ghost use Rattle.sr_group.specs.steps.Showing as steps;
 

@@ -53,7 +53,8 @@ impl Model for Group {
 
 impl Group {
     ghost use Rattle.std.specs.Prelude.{◌≡◌, ◌<◌, ◌^◌, length, not, IfOk, OnOk, OnErr};
-    ghost use Rattle.sr_pending.specs.Pending.{owned_by, without_owner};
+    ghost use Rattle.sr_pending.specs.{owned_by};
+    ghost use Rattle.sr_pending.specs.Pending.{without_owner};
     ghost use Rattle.sr_group.specs.Group.{IsGroup, has_consumer, made_at, new_group, with_ids, without_consumer};
     ghost use Rattle.sr_group.specs.Group.{without_ids};
 

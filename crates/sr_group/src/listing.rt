@@ -150,7 +150,8 @@ fn earlier(time: u64, other: Option<u64>) -> u64
 impl Group {
     ghost use Rattle.std.specs.Prelude.{◌≡◌, IfOk, length, option_map, take};
     ghost use Rattle.std.specs.Option.{option_copied};
-    ghost use Rattle.sr_pending.specs.Pending.{greatest_pending, least_pending, owned_by, owned_by_named};
+    ghost use Rattle.sr_pending.specs.{owned_by};
+    ghost use Rattle.sr_pending.specs.Pending.{greatest_pending, least_pending, owned_by_named};
     ghost use Rattle.sr_pending.specs.Pending.{pending_between};
     ghost use Rattle.sr_group.specs.Group.{consumer_with, counts_of, idle_for, oldest_of};
 

@@ -1,11 +1,11 @@
 ghost use Rattle.std.specs.Prelude.{◌≡◌, ◌^◌, ◌<◌, ◌≤◌, [], ◌∷◌, IfOk, IfSome, OnOk, length, map};
 ghost use Rattle.std.specs.List.{All};
-ghost use Rattle.sr_pending.specs.Pending.{AreRising, IsCountable, room_of};
+ghost use Rattle.sr_pending.specs.{AreRising, IsCountable, room_left};
 ghost use Rattle.sr_group.specs.Claim.{after_claim, after_fate, fate_with};
 ghost use Rattle.sr_group.specs.steps.Moving.{HaveRooms, Spends};
 
 use crate::Group;
-use crate::claim::{Call, Claim, Delivery, Judgement, first_delivery, weigh};
+use crate::claim::{Call, Claim, Delivery, Weighed, first_delivery, weigh};
 use crate::consumers::see;
 use crate::show::give;
 use sr_bytes::Name;
@@ -76,7 +76,8 @@ impl Model for Ready {
 impl Group {
     ghost use Rattle.std.specs.Prelude.{◌≡◌, ◌+◌, ◌^◌, ◌<◌, ◌≤◌, OnOk, OnErr, length};
     ghost use Rattle.std.specs.List.{All};
-    ghost use Rattle.sr_pending.specs.Pending.{KeepsRooms, room_of};
+    ghost use Rattle.sr_pending.specs.{room_left};
+    ghost use Rattle.sr_pending.specs.Pending.{KeepsRooms};
     ghost use Rattle.sr_group.specs.Claim.{HasCount, after_move, after_moves};
     ghost use Rattle.sr_group.specs.steps.Moving.{Spends};
 
@@ -111,7 +112,7 @@ impl Group {
         requires moment { moment < 2 ^ 63 }
         requires count { HasCount ready }
         requires place { 0 < self.old.places }
-        requires room { length ready.ids ≤ room_of ready.claimer self.old.rooms }
+        requires room { length ready.ids ≤ room_left ready.claimer self.old.rooms }
         ensures shown { self.new.shown ≡ after_move moment entries.now.entries self.old.shown ready }
         ensures places { self.old.places ≤ self.new.places + 1 }
         ensures rooms { Spends ready.claimer (length ready.ids) self.old.rooms self.new.rooms }
@@ -137,7 +138,7 @@ fn take_all(pending: &mut Pending, call: &Call<'_>, wanted: Vec<Wanted>)
     requires moment { call.now.moment < 2 ^ 63 }
     requires count { IfSome call.now.claim.count (λ count. count < 2 ^ 63) }
     requires owner { All (λ w. w.owner ≡ call.now.claimer.now) wanted.items }
-    requires room { length wanted.items ≤ room_of call.now.claimer.now pending.old.rooms }
+    requires room { length wanted.items ≤ room_left call.now.claimer.now pending.old.rooms }
     ensures nacks { pending.new.nacks ≡ after_claim
         call.now.claim call.now.claimer.now call.now.moment call.now.entries.now.entries
         (map (λ w. w.id) wanted.items) pending.old.nacks }
@@ -156,7 +157,7 @@ fn take(pending: &mut Pending, call: &Call<'_>, wanted: Wanted)
     requires moment { call.now.moment < 2 ^ 63 }
     requires count { IfSome call.now.claim.count (λ count. count < 2 ^ 63) }
     requires owner { wanted.owner ≡ call.now.claimer.now }
-    requires room { 0 < room_of call.now.claimer.now pending.old.rooms }
+    requires room { 0 < room_left call.now.claimer.now pending.old.rooms }
     ensures nacks { pending.new.nacks ≡ after_fate (fate_with
         call.now.claim call.now.claimer.now call.now.moment call.now.entries.now.entries wanted.id pending.old.nacks)
         wanted.id pending.old.nacks }
@@ -168,11 +169,11 @@ fn take(pending: &mut Pending, call: &Call<'_>, wanted: Wanted)
         return;
     };
     match weigh(call, id, delivery) {
-        Judgement::Stays => {}
-        Judgement::Leaves => {
+        Weighed::Stays => {}
+        Weighed::Leaves => {
             pending.remove(id);
         }
-        Judgement::Moves(Delivery { time, count }) => give(
+        Weighed::Moves(Delivery { time, count }) => give(
             pending,
             Nack {
                 id,

@@ -1,5 +1,5 @@
 ghost use Rattle.std.specs.Prelude.{◌≡◌, ◌-◌, ◌<◌, IfOk, if◌then◌else◌};
-ghost use Rattle.sr_ids.specs.Id.{least_id};
+ghost use Rattle.sr_ids.specs.{least_id};
 ghost use Rattle.sr_group.specs.Claim as claims;
 ghost use Rattle.sr_group.specs.steps.Scanning.{IsScan};
 

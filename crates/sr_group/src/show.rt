@@ -1,6 +1,7 @@
 ghost use Rattle.std.specs.Prelude.{◌≡◌, ◌<◌, List, [], ◌∷◌};
 ghost use Rattle.std.specs.List.{All};
-ghost use Rattle.sr_pending.specs.Pending.{AreRising, IsCountable, UsesRoom, room_of, with_nack};
+ghost use Rattle.sr_pending.specs.{AreRising, IsCountable, room_left, with_nack};
+ghost use Rattle.sr_pending.specs.Pending.{UsesRoom};
 ghost use Rattle.sr_group.specs.declared.shown.Act as declared;
 ghost use Rattle.sr_group.specs.Shown.{after_acts};
 ghost use Rattle.sr_group.specs.steps.Showing.{HaveRoom};
@@ -64,7 +65,7 @@ fn apply(pending: &mut Pending, act: Act)
 /// The entry is pending for its owner, whoever had it before.
 pub(crate) fn give(pending: &mut Pending, nack: Nack)
     requires countable { IsCountable nack }
-    requires room { 0 < room_of nack.owner pending.old.rooms }
+    requires room { 0 < room_left nack.owner pending.old.rooms }
     ensures nacks { pending.new.nacks ≡ with_nack nack pending.old.nacks }
     ensures rooms { UsesRoom nack.owner pending.old.rooms pending.new.rooms }
 {

@@ -2,8 +2,9 @@
 use Rattle.std.proofs.Common.{◌≡◌, ◌≢◌, ◌==◌, ◌⊎◌, inl, inr, ℕ, Bool, true, false, cond, List, [], ◌∷◌, ◌++◌, Option, Some, None, refl, ap, sym, subst, ◌∙◌, true≢false}
 use Rattle.std.proofs.lemmas.Bool.{eq-eqb, eqb-true, ne_eqb}
 use Rattle.sr_resp.specs.Stream.{Stands}
-use Rattle.sr_book.specs.Server.{is_open, speaker}
-use Rattle.sr_book.specs.Records.{BookState, IsCertain, IsHistory, IsStepped, Recorded, event_record, next_index}
+use Rattle.sr_book.specs.{is_open, BookState, IsHistory, IsStepped, Recorded, next_index}
+use Rattle.sr_book.specs.Server.{speaker}
+use Rattle.sr_book.specs.Records.{IsCertain, event_record}
 use Rattle.sr_book.specs.declared.answer.Answer.{Answer}
 use Rattle.sr_book.specs.declared.event.Event.{Event}
 use Rattle.sr_book.specs.declared.event.Event.TheVariants as events

@@ -3,7 +3,8 @@ use Rattle.std.proofs.Common.{◌≡◌, ◌<◌, inl, inr, ℕ, ◌+◌, Bool, 
 use Rattle.std.proofs.Math.Seq.{take-suc}
 use Rattle.std.proofs.lemmas.List.{append-nil}
 use Rattle.std.specs.Global.{Vec}
-use Rattle.sr_book.specs.Records.{Recorded, rebased}
+use Rattle.sr_book.specs.{Recorded}
+use Rattle.sr_book.specs.Records.{rebased}
 use Rattle.sr_book.specs.declared.event.BookFault.{BookFault}
 use Rattle.sr_book.specs.declared.event.Event.TheVariants as events
 use Rattle.sr_hub.specs.declared.deeds.Deed.{Deed}

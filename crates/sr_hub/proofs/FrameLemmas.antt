@@ -2,12 +2,12 @@
 use Rattle.std.proofs.Common.{◌≡◌, ◌==◌, ◌⊎◌, inl, inr, ℕ, ◌+◌, true, false, List, [], ◌∷◌, ◌++◌, append_assoc, length, length-append, Option, Some, refl, ap, sym, subst, ◌∙◌, arith, true≢false}
 use Rattle.std.proofs.lemmas.List.{append-nil}
 use Rattle.std.specs.List.{AllByRecursion}
-use Rattle.sr_resp.specs.Request.{Words}
-use Rattle.sr_resp.specs.Reply.{Answer as ReplyParts}
-use Rattle.sr_resp.specs.Stream.{Progress}
-use Rattle.sr_waiters.specs.Waiters.{has_session}
-use Rattle.sr_book.specs.Server.{Given, Server, is_open, letter_of, speaker}
-use Rattle.sr_book.specs.Records.{AreServings, BookState, IsHistory, Legal, Recorded, addressed, is_serving, next_index, rebased, to_session}
+use Rattle.sr_resp.specs.{Words, Progress}
+use Rattle.sr_resp.specs.Reply.{ReplyParts}
+use Rattle.sr_waiters.specs.{has_session}
+use Rattle.sr_book.specs.{Given, is_open, letter_of, BookState, IsHistory, Recorded, next_index}
+use Rattle.sr_book.specs.Server.{Server, speaker}
+use Rattle.sr_book.specs.Records.{AreServings, Legal, addressed, is_serving, rebased, to_session}
 use Rattle.sr_book.specs.declared.event.Act.{Act}
 use Rattle.sr_book.specs.declared.event.Act.TheVariants as acts
 use Rattle.sr_book.specs.declared.event.Event.{Event}

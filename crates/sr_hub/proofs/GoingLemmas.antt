@@ -1,11 +1,12 @@
 -- What a hub promises of a connection that comes or goes, and of reads that expire.
 use Rattle.std.proofs.Common.{◌≡◌, ◌≢◌, ℕ, Bool, true, false, List, [], Option, Some, None, IfSome, IsSomeAnd, IsTrue, Result, Ok, Err, IfOk, IfErr, OnOk, OnErr, refl, ap, sym, subst, ◌∙◌, true≢false}
 use Rattle.std.specs.List.{list_any}
-use Rattle.sr_waiters.specs.Waiters.{is_due}
+use Rattle.sr_waiters.specs.{is_due}
 use Rattle.slab.specs.Slab.{Slab, Updates, get}
 use Rattle.sr_resp.specs.Stream.{Stands}
-use Rattle.sr_book.specs.Server.{is_open, refusal}
-use Rattle.sr_book.specs.Records.{BookState, IsRefusal, Recorded, Steps, next_index, next_moment, rebased}
+use Rattle.sr_book.specs.{is_open, BookState, Recorded, next_index, next_moment}
+use Rattle.sr_book.specs.Server.{refusal}
+use Rattle.sr_book.specs.Records.{IsRefusal, Steps, rebased}
 use Rattle.sr_book.specs.declared.event.BookFault.{BookFault}
 use Rattle.sr_book.specs.declared.event.Event.TheVariants as events
 use Rattle.sr_book.proofs.SessionLaws.{left-closed}

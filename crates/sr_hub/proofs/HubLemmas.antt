@@ -3,8 +3,9 @@ use Rattle.std.proofs.Common.{◌≡◌, ◌≢◌, ◌==◌, ◌⊎◌, ◌↔�
 use Rattle.std.proofs.lemmas.Bool.{eq-eqb, eqb-true, ne_eqb}
 use Rattle.std.proofs.lemmas.List.{append-nil}
 use Rattle.slab.specs.Slab.{Slab, Updates, get}
-use Rattle.sr_book.specs.Server.{Server, is_open}
-use Rattle.sr_book.specs.Records.{BookState, Recorded, rebased}
+use Rattle.sr_book.specs.{is_open, BookState, Recorded}
+use Rattle.sr_book.specs.Server.{Server}
+use Rattle.sr_book.specs.Records.{rebased}
 use Rattle.sr_hub.specs.declared.hub.TakeFault.{TakeFault}
 use Rattle.sr_hub.specs.declared.hub.TakeFault.TheVariants as take_faults
 use Rattle.sr_hub.specs.declared.stage.Stage.TheVariants as stages

@@ -1,9 +1,10 @@
 -- A session that joins: its connection is a line of which nothing was taken yet.
 use Rattle.std.proofs.Common.{◌≡◌, ℕ, ◌+◌, Bool, true, false, List, [], ◌∷◌, ◌++◌, append_assoc, refl, ap, sym, subst, ◌∙◌, true≢false}
 use Rattle.sr_resp.specs.Stream.{Stands}
-use Rattle.sr_waiters.specs.Waiters.{Waiting, has_session}
-use Rattle.sr_book.specs.Server.{AreBelow, AreOpen, Session, empty_server, is_open}
-use Rattle.sr_book.specs.Records.{BookState, IsStepped, Recorded, event_record, event_server, next_index}
+use Rattle.sr_waiters.specs.{Waiting, has_session}
+use Rattle.sr_book.specs.{is_open, BookState, IsStepped, Recorded, next_index}
+use Rattle.sr_book.specs.Server.{AreBelow, AreOpen, Session, empty_server}
+use Rattle.sr_book.specs.Records.{event_record, event_server}
 use Rattle.sr_book.specs.declared.answer.Answer.{Answer}
 use Rattle.sr_book.specs.declared.event.Event.TheVariants as events
 use Rattle.sr_book.proofs.LegalLemmas.{Legal-below}

@@ -1,14 +1,15 @@
 -- One connection as a line: its request is answered or held, a letter is taken, bytes are taken and sent.
 use Rattle.std.proofs.Common.{◌≡◌, ◌⊎◌, inl, inr, ℕ, true, false, List, [], ◌∷◌, ◌++◌, take, drop, take-append-drop, append_assoc, Some, None, refl, ap, sym, subst, ◌∙◌, true≢false}
 use Rattle.std.proofs.lemmas.List.{append-nil}
-use Rattle.sr_resp.specs.Request.{Words}
-use Rattle.sr_resp.specs.Stream.{Progress, Stands}
-use Rattle.sr_resp.specs.Reply.{Answer as ReplyParts, reply_text}
+use Rattle.sr_resp.specs.{Words, Progress}
+use Rattle.sr_resp.specs.Stream.{Stands}
+use Rattle.sr_resp.specs.Reply.{ReplyParts, reply_text}
 use Rattle.sr_args.specs.declared.call.Command.TheVariants as commands
-use Rattle.sr_waiters.specs.Waiters.{has_session}
-use Rattle.sr_book.specs.Server.{Given, Server, letter_of}
-use Rattle.sr_book.specs.Records.{Recorded, addressed}
-use Rattle.sr_session.specs.Session.{AreAnswered, protocol_text}
+use Rattle.sr_waiters.specs.{has_session}
+use Rattle.sr_book.specs.{Given, letter_of, Recorded}
+use Rattle.sr_book.specs.Server.{Server}
+use Rattle.sr_book.specs.Records.{addressed}
+use Rattle.sr_session.specs.{AreAnswered, protocol_text}
 use Rattle.sr_session.proofs.AnsweredLemmas.{AreAnswered-push}
 use Rattle.sr_session.proofs.LetterLemmas.{HasNone}
 use Rattle.sr_book.specs.declared.event.Event.{Event}

@@ -2,8 +2,8 @@
 use Rattle.std.proofs.Common.{◌≡◌, ◌==◌, ◌⊎◌, inl, inr, ℕ, zero, suc, max, ◌+◌, ◌≤◌, ◌^◌, Bool, true, false, List, [], ◌∷◌, ◌++◌, length, length-append, append_assoc, Option, Some, None, IsSome, IsSomeAnd, refl, ap, sym, subst, ◌∙◌, arith, true≢false}
 use Rattle.std.proofs.lemmas.List.{append-nil}
 use Rattle.std.specs.List.{AllByRecursion}
-use Rattle.sr_resp.specs.Request.{Words}
-use Rattle.sr_resp.specs.Reply.{Answer as ReplyParts, error_reply, reply_text}
+use Rattle.sr_resp.specs.{Words}
+use Rattle.sr_resp.specs.Reply.{ReplyParts, error_reply, reply_text}
 use Rattle.sr_resp.specs.declared.code.ErrCode.{ErrCode}
 use Rattle.sr_resp.specs.declared.code.ErrCode.TheVariants as errors
 use Rattle.sr_args.specs.declared.call.Call.{Call}
@@ -11,17 +11,18 @@ use Rattle.sr_args.specs.declared.call.Command.{Command}
 use Rattle.sr_args.specs.declared.call.Command.TheVariants as commands
 use Rattle.sr_args.specs.declared.fault.CallFault.{CallFault}
 use Rattle.sr_args.specs.declared.fault.CallFault.TheVariants as call_faults
-use Rattle.sr_args.specs.Command.{IsCommand, Refuses}
-use Rattle.sr_policy.specs.Snapshot.{Shown}
-use Rattle.sr_plan.specs.Verdict.{Judged}
-use Rattle.sr_space.specs.Blocking.{executed}
+use Rattle.sr_args.specs.{IsCommand, Refuses}
+use Rattle.sr_policy.specs.{SnapshotState}
+use Rattle.sr_plan.specs.{Judged}
+use Rattle.sr_space.specs.{executed, in_order}
 use Rattle.sr_space.specs.Keys.{Keys}
-use Rattle.sr_space.specs.Snap.{in_order}
 use Rattle.sr_space.specs.declared.blocking.Outcome.{Outcome}
 use Rattle.sr_space.specs.declared.blocking.Outcome.TheVariants as outcomes
-use Rattle.sr_waiters.specs.Waiters.{has_session}
-use Rattle.sr_book.specs.Server.{Given, Server, called, is_busy, is_open, letter_of, speaker}
-use Rattle.sr_book.specs.Records.{BookState, IsHistory, Recorded, addressed, event_record, event_server, letter_for, next_index, next_moment}
+use Rattle.sr_waiters.specs.{has_session}
+use Rattle.sr_book.specs.{Given, is_open, letter_of, BookState, IsHistory, Recorded, letter_for, next_index}
+use Rattle.sr_book.specs.{next_moment}
+use Rattle.sr_book.specs.Server.{Server, called, is_busy, speaker}
+use Rattle.sr_book.specs.Records.{addressed, event_record, event_server}
 use Rattle.sr_book.specs.declared.answer.Letter.{Letter}
 use Rattle.sr_book.specs.declared.event.BookFault.{BookFault}
 use Rattle.sr_book.specs.declared.event.BookFault.TheVariants as faults
@@ -34,7 +35,7 @@ use Rattle.sr_book.proofs.HeardLemmas.{Asks, acted-heard, asks-busy, asks-speake
 use Rattle.sr_book.proofs.LegalLemmas.{Legal-append}
 use Rattle.sr_book.proofs.OpenLemmas.{is_open-with_letter}
 use Rattle.sr_book.proofs.SessionLaws.{servings-open}
-use Rattle.sr_session.specs.Answered.{code_of}
+use Rattle.sr_session.specs.{code_of}
 use Rattle.sr_session.proofs.LetterLemmas.{HasNone, history-none}
 use Rattle.sr_hub.specs.Told.{AreOf, AreRounds, IsBroken, IsSilent, IsTold, IsVerdictOn, broke_off, is_full, lacks_index, lacks_memory, refused, replied, spoken}
 use Rattle.sr_hub.specs.Line.{ConnectionState, IsAtRest, IsFree, IsJudging, IsLine, IsWaitingFor, Stays, is_ended, last_text}
@@ -440,9 +441,9 @@ module _ (old : BookState) (line : ConnectionState) (at : ℕ) (judging : Judgin
           refl,
           round.applied,
           round.final,
-          ap (λ (s : Shown). s.key) round.same ∙ j.of_key,
-          ap (λ (s : Shown). s.group) round.same ∙ j.of_group,
-          ap (λ (s : Shown). s.dead) round.same ∙ j.of_dead,
+          ap (λ (s : SnapshotState). s.key) round.same ∙ j.of_key,
+          ap (λ (s : SnapshotState). s.group) round.same ∙ j.of_group,
+          ap (λ (s : SnapshotState). s.dead) round.same ∙ j.of_dead,
         )
 
     said-more : (server : Server) (more these : List Recorded) (held : List Words) (j : IsJudging line.session server more held judging)
@@ -511,9 +512,9 @@ module _ (old : BookState) (line : ConnectionState) (at : ℕ) (judging : Judgin
                 rounds = subst (λ (a : Bool). AreRounds line.session a j.key j.group j.dead (max j.tries 1) (j.verdicts ++ event ∷ [])) (sym same_apply)
                     (AreRounds-more old.server l.more l.held j);
                 left = counted;
-                of_key = of.key_is ∙ ap (λ (s : Shown). s.key) round.same ∙ j.of_key;
-                of_group = of.group_is ∙ ap (λ (s : Shown). s.group) round.same ∙ j.of_group;
-                of_dead = of.dead_is ∙ ap in_order (ap (λ (s : Shown). s.dead) round.same ∙ j.of_dead) ∙ in_order-twice j.dead;
+                of_key = of.key_is ∙ ap (λ (s : SnapshotState). s.key) round.same ∙ j.of_key;
+                of_group = of.group_is ∙ ap (λ (s : SnapshotState). s.group) round.same ∙ j.of_group;
+                of_dead = of.dead_is ∙ ap in_order (ap (λ (s : SnapshotState). s.dead) round.same ∙ j.of_dead) ∙ in_order-twice j.dead;
                 silent = gets-more old.server l.more these l.held j [] heard.gets;
                 free = heard.free;
               } in
@@ -612,7 +613,7 @@ module _ (old : BookState) (line : ConnectionState) (at : ℕ) (new : BookState)
       → Moves old line new after
   concluded-replied reply comes tells = moves-replied old line at at_round.judging at_round.is judged apply (later == 0) of_round new after reply comes tells
 
-  pub concluded-stale : (shown : Shown) (next : ℕ) → suc next ≡ later → Comes old at (events.Conclude line.session judged apply (later == 0)) (outs.Stale shown) new
+  pub concluded-stale : (shown : SnapshotState) (next : ℕ) → suc next ≡ later → Comes old at (events.Conclude line.session judged apply (later == 0)) (outs.Stale shown) new
       → after ≡ record line { stage = stages.Judges (record { apply = apply; later = next; snapshot = shown }) } → Moves old line new after
   concluded-stale shown next less comes is =
       moves-stale old line at at_round.judging at_round.is judged apply (later == 0) of_round new after (record { apply = apply; later = next; snapshot = shown }) comes

@@ -4,16 +4,17 @@ use Rattle.std.proofs.Math.Seq.{drop-append_seam}
 use Rattle.std.proofs.lemmas.Bool.{eq-eqb, ltb-false}
 use Rattle.std.proofs.lemmas.List.Folds.{list_any-append}
 use Rattle.sr_args.specs.declared.call.Call.{Call}
-use Rattle.sr_resp.specs.Reply.{Answer as ReplyParts}
-use Rattle.sr_policy.specs.Snapshot.{Shown}
-use Rattle.sr_plan.specs.Verdict.{Judged}
-use Rattle.sr_space.specs.Blocking.{executed}
+use Rattle.sr_resp.specs.Reply.{ReplyParts}
+use Rattle.sr_policy.specs.{SnapshotState}
+use Rattle.sr_plan.specs.{Judged}
+use Rattle.sr_space.specs.{executed}
 use Rattle.sr_space.specs.Keys.{Keys}
 use Rattle.sr_space.specs.declared.blocking.Outcome.{Outcome}
 use Rattle.sr_space.specs.declared.blocking.Outcome.TheVariants as outcomes
-use Rattle.sr_waiters.specs.Waiters.{Waiting, has_session}
-use Rattle.sr_book.specs.Server.{Given, Server, called, is_busy, is_closed, is_open, letter_of, moment_after, refusal, speaker}
-use Rattle.sr_book.specs.Records.{AreServings, BookState, IsCertain, IsEvent, IsRefusal, IsStepped, Leads, Legal, Recorded, Steps, addressed, event_record, event_server, next_index, next_moment, to_session}
+use Rattle.sr_waiters.specs.{Waiting, has_session}
+use Rattle.sr_book.specs.{Given, is_open, letter_of, BookState, IsStepped, Recorded, next_index, next_moment}
+use Rattle.sr_book.specs.Server.{Server, called, is_busy, is_closed, moment_after, refusal, speaker}
+use Rattle.sr_book.specs.Records.{AreServings, IsCertain, IsEvent, IsRefusal, Leads, Legal, Steps, addressed, event_record, event_server, to_session}
 use Rattle.sr_book.specs.declared.answer.Answer.{Answer}
 use Rattle.sr_book.specs.declared.event.Act.TheVariants as acts
 use Rattle.sr_book.specs.declared.event.BookFault.{BookFault}
@@ -122,7 +123,7 @@ asked-replied old told session event answer new reply stepped asks out =
     (asked-idle old told session event answer new asks stepped)
 
 -- a snapshot that was taken
-pub asked-taken : (old : BookState) (told session : ℕ) (event : Event) (answer : Answer) (new : BookState) (shown : Shown) (stepped : IsStepped old told event answer new)
+pub asked-taken : (old : BookState) (told session : ℕ) (event : Event) (answer : Answer) (new : BookState) (shown : SnapshotState) (stepped : IsStepped old told event answer new)
     → Asks session event → answer.out ≡ outs.Snap shown → IsHeardOut session event [] (event_record old told event ∷ stepped.servings) new.server
 asked-taken old told session event answer new shown stepped asks out =
     heard_out old told session event answer new [] stepped (asks-speaker session event asks)
@@ -130,7 +131,7 @@ asked-taken old told session event answer new shown stepped asks out =
     (asked-idle old told session event answer new asks stepped)
 
 -- a verdict that came too late
-pub asked-stale : (old : BookState) (told session : ℕ) (event : Event) (answer : Answer) (new : BookState) (shown : Shown) (stepped : IsStepped old told event answer new)
+pub asked-stale : (old : BookState) (told session : ℕ) (event : Event) (answer : Answer) (new : BookState) (shown : SnapshotState) (stepped : IsStepped old told event answer new)
     → Asks session event → answer.out ≡ outs.Stale shown → IsHeardOut session event [] (event_record old told event ∷ stepped.servings) new.server
 asked-stale old told session event answer new shown stepped asks out =
     heard_out old told session event answer new [] stepped (asks-speaker session event asks)
@@ -149,7 +150,7 @@ pub snapshot-replied : (old : BookState) (told session : ℕ) (key group : List 
 snapshot-replied old told session key group dead answer new reply stepped out =
     asked-replied old told session (events.Snapshot session key group dead) answer new reply stepped refl out
 
-pub snapshot-taken : (old : BookState) (told session : ℕ) (key group : List ℕ) (dead : List (List ℕ)) (answer : Answer) (new : BookState) (shown : Shown)
+pub snapshot-taken : (old : BookState) (told session : ℕ) (key group : List ℕ) (dead : List (List ℕ)) (answer : Answer) (new : BookState) (shown : SnapshotState)
     (stepped : IsStepped old told (events.Snapshot session key group dead) answer new) → answer.out ≡ outs.Snap shown
     → IsHeardOut session (events.Snapshot session key group dead) [] (event_record old told (events.Snapshot session key group dead) ∷ stepped.servings) new.server
 snapshot-taken old told session key group dead answer new shown stepped out =
@@ -161,7 +162,7 @@ pub conclude-replied : (old : BookState) (told session : ℕ) (judged : Judged) 
 conclude-replied old told session judged apply last answer new reply stepped out =
     asked-replied old told session (events.Conclude session judged apply last) answer new reply stepped refl out
 
-pub conclude-stale : (old : BookState) (told session : ℕ) (judged : Judged) (apply last : Bool) (answer : Answer) (new : BookState) (shown : Shown)
+pub conclude-stale : (old : BookState) (told session : ℕ) (judged : Judged) (apply last : Bool) (answer : Answer) (new : BookState) (shown : SnapshotState)
     (stepped : IsStepped old told (events.Conclude session judged apply last) answer new) → answer.out ≡ outs.Stale shown
     → IsHeardOut session (events.Conclude session judged apply last) [] (event_record old told (events.Conclude session judged apply last) ∷ stepped.servings) new.server
 conclude-stale old told session judged apply last answer new shown stepped out =

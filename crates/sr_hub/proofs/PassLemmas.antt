@@ -4,14 +4,15 @@ use Rattle.std.proofs.lemmas.Bool.{eq-eqb, eqb-true}
 use Rattle.std.proofs.lemmas.List.Folds.{list_any-append}
 use Rattle.std.proofs.lemmas.Map.Views.{any-filter_same}
 use Rattle.sr_args.specs.declared.call.Call.{Call}
-use Rattle.sr_resp.specs.Reply.{Answer as ReplyParts, null_array}
-use Rattle.sr_space.specs.Blocking.{executed}
+use Rattle.sr_resp.specs.Reply.{ReplyParts, null_array}
+use Rattle.sr_space.specs.{executed}
 use Rattle.sr_space.specs.Keys.{Keys}
 use Rattle.sr_space.specs.declared.blocking.Outcome.{Outcome}
 use Rattle.sr_space.specs.declared.blocking.Outcome.TheVariants as outcomes
-use Rattle.sr_waiters.specs.Waiters.{AreOnce, Waiting, due_at, has_session, is_due, not_due_at, without_session}
+use Rattle.sr_waiters.specs.{AreOnce, Waiting, due_at, has_session, is_due, not_due_at, without_session}
 use Rattle.sr_book.specs.Taken.{nothing_for}
-use Rattle.sr_book.specs.Server.{Given, Server, Serving, Session, acted, called, expired, is_open, joined, left, letter_of, serving, speaker, with_letter, with_nothing, without}
+use Rattle.sr_book.specs.{Given, is_open, letter_of}
+use Rattle.sr_book.specs.Server.{Server, Serving, Session, acted, called, expired, joined, left, serving, speaker, with_letter, with_nothing, without}
 use Rattle.sr_book.specs.Records.{LeadsBy, to_session}
 use Rattle.sr_book.specs.declared.event.Act.{Act}
 use Rattle.sr_book.specs.declared.event.Act.TheVariants as acts

@@ -1,6 +1,6 @@
 -- A hub and the bytes of its sockets go on together, one step after another.
 use Rattle.std.proofs.Common.{◌≡◌, ℕ, List, ◌++◌, append_assoc, Option, Some, None, option_map, IfSome, Result, Ok, Err, OnOk, OnErr, take, sym, subst}
-use Rattle.sr_book.specs.Records.{Recorded}
+use Rattle.sr_book.specs.{Recorded}
 use Rattle.sr_book.specs.declared.event.BookFault.{BookFault}
 use Rattle.sr_hub.specs.Heard.{GoOnAs}
 use Rattle.sr_hub.specs.Line.{ConnectionState}

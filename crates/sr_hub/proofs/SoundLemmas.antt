@@ -3,15 +3,16 @@
 use Rattle.std.proofs.Common.{◌≡◌, ◌==◌, ℕ, ◌+◌, ◌^◌, ◌<◌, Bool, true, false, not, List, [], ◌∷◌, ◌++◌, filter, length, length-append, None, refl, ap, sym, subst, ◌∙◌, arith, true≢false}
 use Rattle.std.proofs.lemmas.Bool.{eq-eqb, ne_eqb}
 use Rattle.std.proofs.lemmas.List.Folds.{list_any-append}
-use Rattle.sr_resp.specs.Reply.{Answer as ReplyParts}
+use Rattle.sr_resp.specs.Reply.{ReplyParts}
 use Rattle.sr_policy.specs.Rules.{Rules}
-use Rattle.sr_space.specs.Blocking.{executed}
+use Rattle.sr_space.specs.{executed}
 use Rattle.sr_space.specs.Keys.{Keys}
 use Rattle.sr_space.specs.declared.blocking.Outcome.{Outcome}
 use Rattle.sr_space.specs.declared.blocking.Outcome.TheVariants as outcomes
-use Rattle.sr_waiters.specs.Waiters.{AreOnce, Waiting, has_session, is_due}
-use Rattle.sr_book.specs.Server.{AreOpen, Server, Serving, acted, called, empty_server, letter_of, refusal}
-use Rattle.sr_book.specs.Records.{BookState, IsHistory, LeadsBy, Legal, Recorded}
+use Rattle.sr_waiters.specs.{AreOnce, Waiting, has_session, is_due}
+use Rattle.sr_book.specs.{letter_of, BookState, IsHistory, Recorded}
+use Rattle.sr_book.specs.Server.{AreOpen, Server, Serving, acted, called, empty_server, refusal}
+use Rattle.sr_book.specs.Records.{LeadsBy, Legal}
 use Rattle.sr_book.specs.declared.event.Act.{Act}
 use Rattle.sr_book.specs.declared.event.Act.TheVariants as acts
 use Rattle.sr_book.specs.declared.event.Event.{Event}

@@ -1,16 +1,16 @@
 -- What can come of each event of a session, and what cannot.
 use Rattle.std.proofs.Common.{◌≡◌, ◌⊎◌, inl, inr, ℕ, Bool, true, false, List, Option, Some, None, IsSome, is_some, refl, ap, sym, subst, ◌∙◌, true≢false}
 use Rattle.std.specs.Option.{option_map}
-use Rattle.sr_resp.specs.Reply.{Answer as ReplyParts}
+use Rattle.sr_resp.specs.Reply.{ReplyParts}
 use Rattle.sr_args.specs.declared.call.Call.{Call}
-use Rattle.sr_policy.specs.Snapshot.{Shown}
-use Rattle.sr_plan.specs.Verdict.{Judged}
-use Rattle.sr_space.specs.Blocking.{executed}
+use Rattle.sr_policy.specs.{SnapshotState}
+use Rattle.sr_plan.specs.{Judged}
+use Rattle.sr_space.specs.{executed}
 use Rattle.sr_space.specs.Keys.{Keys}
 use Rattle.sr_space.specs.declared.blocking.Outcome.{Outcome}
 use Rattle.sr_space.specs.declared.blocking.Outcome.TheVariants as outcomes
-use Rattle.sr_book.specs.Server.{Given, Server, called, letter_of}
-use Rattle.sr_book.specs.Records.{BookState, letter_for, next_moment}
+use Rattle.sr_book.specs.{Given, letter_of, BookState, letter_for, next_moment}
+use Rattle.sr_book.specs.Server.{Server, called}
 use Rattle.sr_book.specs.declared.answer.Letter.{Letter}
 use Rattle.sr_book.specs.declared.event.Event.TheVariants as events
 use Rattle.sr_book.specs.declared.event.Out.{Out}
@@ -41,7 +41,7 @@ pub snapshot-out : (old : BookState) (at session : ℕ) (key group : List ℕ) (
     → IsRecoverOut out
 snapshot-out old at session key group dead out new comes = by (snapshot-answers old at session key group dead comes.answer new comes.stepped)
   where
-    by : ((reply : ReplyParts) × (comes.answer.out ≡ outs.Reply reply)) ⊎ ((shown : Shown) × (comes.answer.out ≡ outs.Snap shown)) → IsRecoverOut out
+    by : ((reply : ReplyParts) × (comes.answer.out ≡ outs.Reply reply)) ⊎ ((shown : SnapshotState) × (comes.answer.out ≡ outs.Snap shown)) → IsRecoverOut out
     by (inl one) = subst IsRecoverOut (sym one.1 ∙ comes.is) tt
     by (inr one) = subst IsRecoverOut (sym one.1 ∙ comes.is) tt
 
@@ -59,12 +59,12 @@ pub conclude-out : (old : BookState) (at session : ℕ) (judged : Judged) (apply
     → IsConcludeOut last out
 conclude-out old at session judged apply last out new comes = by (conclude-answers old at session judged apply last comes.answer new comes.stepped)
   where
-    by : ((reply : ReplyParts) × (comes.answer.out ≡ outs.Reply reply)) ⊎ ((shown : Shown) × (comes.answer.out ≡ outs.Stale shown) × (last ≡ false)) → IsConcludeOut last out
+    by : ((reply : ReplyParts) × (comes.answer.out ≡ outs.Reply reply)) ⊎ ((shown : SnapshotState) × (comes.answer.out ≡ outs.Stale shown) × (last ≡ false)) → IsConcludeOut last out
     by (inl one) = subst (IsConcludeOut last) (sym one.1 ∙ comes.is) tt
     by (inr one) = subst (IsConcludeOut last) (sym one.1 ∙ comes.is) one.2
 
 pub stray-conclude : (last : Bool) (out : Out)
-    → ((number : ℕ) × (out ≡ outs.Joined number)) ⊎ ((out ≡ outs.Blocked) ⊎ (((shown : Shown) × (out ≡ outs.Snap shown)) ⊎ (((count : ℕ) × (out ≡ outs.Expired count)) ⊎ (out ≡ outs.Left))))
+    → ((number : ℕ) × (out ≡ outs.Joined number)) ⊎ ((out ≡ outs.Blocked) ⊎ (((shown : SnapshotState) × (out ≡ outs.Snap shown)) ⊎ (((count : ℕ) × (out ≡ outs.Expired count)) ⊎ (out ≡ outs.Left))))
     → IsConcludeOut last out → ⊥
 stray-conclude last out (inl joined) comes = subst (IsConcludeOut last) joined.1 comes
 stray-conclude last out (inr (inl blocked)) comes = subst (IsConcludeOut last) blocked comes

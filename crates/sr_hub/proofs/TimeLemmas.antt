@@ -2,22 +2,20 @@
 use Rattle.std.proofs.Common.{◌≡◌, ℕ, ◌+◌, max, Bool, true, false, cond, not, List, [], ◌∷◌, ◌++◌, append_assoc, Option, Some, None, Result, Ok, Err, refl, ap, sym, subst, ◌∙◌, arith}
 use Rattle.std.proofs.lemmas.List.{append-nil}
 use Rattle.std.specs.List.{AllByRecursion}
-use Rattle.sr_resp.specs.Reply.{Answer as ReplyParts}
-use Rattle.sr_policy.specs.Same.{same}
-use Rattle.sr_policy.specs.Snapshot.{Shown}
-use Rattle.sr_check.specs.PlanReply.{verdict_answer}
-use Rattle.sr_plan.specs.Verdict.{Judged}
+use Rattle.sr_resp.specs.Reply.{ReplyParts}
+use Rattle.sr_policy.specs.{same, SnapshotState}
+use Rattle.sr_check.specs.{verdict_answer}
+use Rattle.sr_plan.specs.{Judged}
 use Rattle.sr_resp.specs.declared.code.ErrCode.{ErrCode}
-use Rattle.sr_space.specs.Blocking.{executed, finds_nothing}
-use Rattle.sr_space.specs.Effect.{at_once}
+use Rattle.sr_space.specs.{executed, finds_nothing, at_once, snapped}
 use Rattle.sr_space.specs.Keys.{Keys}
-use Rattle.sr_space.specs.Snap.{snapped}
 use Rattle.sr_space.specs.declared.blocking.Outcome.{Outcome}
 use Rattle.sr_space.specs.declared.blocking.Outcome.TheVariants as outcomes
 use Rattle.sr_space.specs.declared.snap.SnapFault.{SnapFault}
-use Rattle.sr_waiters.specs.Waiters.{Waiting, first_that}
+use Rattle.sr_waiters.specs.{Waiting, first_that}
 use Rattle.sr_book.specs.Server.{Server, Serving, acted, called, concluded, fresh_snapshot, keys_after, moment_after, outdated, replied, served, serving, snapped_for}
-use Rattle.sr_book.specs.Records.{AreServings, BookState, IsStepped, LeadsBy, Legal, Recorded, event_record, event_server, is_serving, next_index, next_moment}
+use Rattle.sr_book.specs.{BookState, IsStepped, Recorded, next_index, next_moment}
+use Rattle.sr_book.specs.Records.{AreServings, LeadsBy, Legal, event_record, event_server, is_serving}
 use Rattle.sr_book.specs.declared.answer.Answer.{Answer}
 use Rattle.sr_book.specs.declared.event.Act.{Act}
 use Rattle.sr_book.specs.declared.event.Act.TheVariants as acts
@@ -33,11 +31,11 @@ called-last : (session moment : ℕ) (server : Server) (keys : Keys) (outcome : 
 called-last session moment server keys (outcomes.Reply send keep) = refl
 called-last session moment server keys (outcomes.Blocked call deadline) = refl
 
-snapped-last : (session moment : ℕ) (server : Server) (found : Result Shown SnapFault) → (snapped_for session moment server found).server.last ≡ moment
+snapped-last : (session moment : ℕ) (server : Server) (found : Result SnapshotState SnapFault) → (snapped_for session moment server found).server.last ≡ moment
 snapped-last session moment server (Ok shown) = refl
 snapped-last session moment server (Err fault) = refl
 
-concluded-last : (session moment : ℕ) (apply last : Bool) (judged : Judged) (server : Server) (found : Result Shown SnapFault)
+concluded-last : (session moment : ℕ) (apply last : Bool) (judged : Judged) (server : Server) (found : Result SnapshotState SnapFault)
     → (concluded session moment apply last judged server found).server.last ≡ moment
 concluded-last session moment apply last judged server (Err fault) = refl
 concluded-last session moment apply last judged server (Ok shown) = by (same shown judged.snapshot) last

@@ -2,7 +2,8 @@
 -- given to it, as the outcomes of the calls tell.
 
 use Rattle.std.specs.Prelude.{◌≡◌, ◌⊎◌, ℕ, List, [], ◌∷◌}
-use Rattle.sr_book.specs.Records.{BookState, Recorded, rebased}
+use Rattle.sr_book.specs.{BookState, Recorded}
+use Rattle.sr_book.specs.Records.{rebased}
 use Rattle.sr_book.specs.declared.event.Event.TheVariants as events
 use Rattle.sr_hub.specs.Lines.{AreLines, GoOn, HubState, with_more, with_none}
 use Rattle.sr_hub.specs.Said.{IsTimed, LeavesOf, Occurs, SaysOf}

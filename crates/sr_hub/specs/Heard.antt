@@ -1,7 +1,7 @@
 -- What an event loop hears of its sockets, which bytes were handed out then, and what it makes of a hub.
 
 use Rattle.std.specs.Prelude.{ℕ, List, take}
-use Rattle.sr_book.specs.Records.{Recorded}
+use Rattle.sr_book.specs.{Recorded}
 use Rattle.sr_hub.specs.Lines.{GoOn, HubState, with_more}
 use Rattle.sr_hub.specs.declared.sockets.Heard.{Heard}
 use Rattle.sr_hub.specs.declared.sockets.Heard.TheVariants as heard

@@ -1,3 +1,6 @@
+-- The replies that each connection of an event loop gets are those of the one-thread server to the lines that it
+-- sent.
+
 pub mod Told
 pub mod Line
 pub mod Lines

@@ -3,20 +3,21 @@
 
 use Rattle.std.specs.Prelude.{⊤, ◌≡◌, ◌⊎◌, ◌+◌, ◌≤◌, ℕ, suc, max, Bool, true, false, List, [], ◌∷◌, ◌++◌, length}
 use Rattle.std.specs.Prelude.{Option, Some, None}
-use Rattle.sr_resp.specs.Request.{Words}
-use Rattle.sr_resp.specs.Stream.{Progress, Stands}
+use Rattle.sr_resp.specs.{Words, Progress}
+use Rattle.sr_resp.specs.Stream.{Stands}
 use Rattle.sr_args.specs.declared.call.Call.{Call}
 use Rattle.sr_args.specs.declared.call.Command.TheVariants as commands
-use Rattle.sr_args.specs.Command.{IsCommand}
-use Rattle.sr_policy.specs.Snapshot.{Shown}
-use Rattle.sr_space.specs.Snap.{in_order}
-use Rattle.sr_waiters.specs.Waiters.{has_session}
-use Rattle.sr_book.specs.Server.{Given, Server, is_open, letter_of}
-use Rattle.sr_book.specs.Records.{Recorded, addressed}
+use Rattle.sr_args.specs.{IsCommand}
+use Rattle.sr_policy.specs.{SnapshotState}
+use Rattle.sr_space.specs.{in_order}
+use Rattle.sr_waiters.specs.{has_session}
+use Rattle.sr_book.specs.{Given, is_open, letter_of, Recorded}
+use Rattle.sr_book.specs.Server.{Server}
+use Rattle.sr_book.specs.Records.{addressed}
 use Rattle.sr_book.specs.declared.event.Act.TheVariants as acts
 use Rattle.sr_book.specs.declared.event.Event.{Event}
 use Rattle.sr_book.specs.declared.event.Event.TheVariants as events
-use Rattle.sr_session.specs.Session.{AreAnswered, protocol_text}
+use Rattle.sr_session.specs.{AreAnswered, protocol_text}
 use Rattle.sr_hub.specs.declared.stage.Judging.{Judging}
 use Rattle.sr_hub.specs.declared.stage.Stage.{Stage}
 use Rattle.sr_hub.specs.declared.stage.Stage.TheVariants as stages
@@ -149,7 +150,7 @@ IsAtRest most server line stages.Broken = ⊤
 IsAtRest most server line stages.CutOff = ⊤
 
 -- the snapshot on which a verdict is wanted
-abbrev pub wanted_of : Stage → Option Shown
+abbrev pub wanted_of : Stage → Option SnapshotState
 wanted_of stages.Idle = None
 wanted_of stages.Waiting = None
 wanted_of (stages.Judges judging) = Some judging.snapshot

@@ -4,8 +4,9 @@
 
 use Rattle.std.specs.Prelude.{◌≡◌, ◌==◌, ℕ, List, [], ◌++◌, length, Option, Some, None, if◌then◌else◌}
 use Rattle.std.specs.Prelude.{◌≢◌, IsSomeAnd, slice_index_or}
-use Rattle.sr_book.specs.Server.{empty_server, is_open, letter_of}
-use Rattle.sr_book.specs.Records.{BookState, Legal, Recorded}
+use Rattle.sr_book.specs.{is_open, letter_of, BookState, Recorded}
+use Rattle.sr_book.specs.Server.{empty_server}
+use Rattle.sr_book.specs.Records.{Legal}
 use Rattle.std.specs.Prelude.{true}
 use Rattle.sr_hub.specs.Line.{ConnectionState, IsLine}
 use Rattle.sr_hub.specs.declared.stage.Stage.TheVariants as stages

@@ -3,7 +3,7 @@
 use Rattle.std.specs.Prelude.{⊤, ◌≡◌, ℕ, List, ◌++◌, Option, Some, None}
 use Rattle.std.specs.List.{AllByRecursion}
 use Rattle.sr_book.specs.Server.{speaker}
-use Rattle.sr_book.specs.Records.{BookState, IsStepped, Recorded, next_moment}
+use Rattle.sr_book.specs.{BookState, IsStepped, Recorded, next_moment}
 use Rattle.sr_book.specs.declared.answer.Answer.{Answer}
 use Rattle.sr_book.specs.declared.event.Act.{Act}
 use Rattle.sr_book.specs.declared.event.Act.TheVariants as acts

@@ -3,22 +3,23 @@
 
 use Rattle.std.specs.Prelude.{⊤, ◌≡◌, ◌==◌, ◌^◌, ◌+◌, ◌≤◌, ℕ, zero, suc, max, Bool, false, if◌then◌else◌}
 use Rattle.std.specs.Prelude.{List, [], ◌∷◌, ◌++◌, length, Option, Some, None}
-use Rattle.sr_resp.specs.Request.{Words}
-use Rattle.sr_resp.specs.Reply.{Answer as ReplyParts, error_reply, reply_text}
+use Rattle.sr_resp.specs.{Words}
+use Rattle.sr_resp.specs.Reply.{ReplyParts, error_reply, reply_text}
 use Rattle.sr_resp.specs.declared.code.ErrCode.{ErrCode}
 use Rattle.sr_resp.specs.declared.code.ErrCode.TheVariants as errors
 use Rattle.sr_args.specs.declared.fault.CallFault.{CallFault}
 use Rattle.sr_args.specs.declared.call.Command.{Command}
 use Rattle.sr_args.specs.declared.call.Command.TheVariants as commands
-use Rattle.sr_args.specs.Command.{IsCommand, Refuses}
-use Rattle.sr_space.specs.Snap.{in_order}
+use Rattle.sr_args.specs.{IsCommand, Refuses}
+use Rattle.sr_space.specs.{in_order}
 use Rattle.sr_book.specs.Server.{speaker}
-use Rattle.sr_book.specs.Records.{Recorded, addressed}
+use Rattle.sr_book.specs.{Recorded}
+use Rattle.sr_book.specs.Records.{addressed}
 use Rattle.sr_book.specs.declared.event.Act.{Act}
 use Rattle.sr_book.specs.declared.event.Act.TheVariants as acts
 use Rattle.sr_book.specs.declared.event.Event.{Event}
 use Rattle.sr_book.specs.declared.event.Event.TheVariants as events
-use Rattle.sr_session.specs.Answered.{code_of}
+use Rattle.sr_session.specs.{code_of}
 
 -- ---- the events of a session
 

@@ -2,9 +2,9 @@
 ghost use Rattle.std.specs.Prelude.{◌≡◌, ◌<◌, IsTrue, IfOk, IfErr, false, is_some};
 ghost use Rattle.sr_resp.specs.Request.{Words as RequestWords};
 ghost use Rattle.sr_args.specs.declared.call.Command.TheVariants as commands;
-ghost use Rattle.sr_args.specs.Command.{IsCommand};
+ghost use Rattle.sr_args.specs.{IsCommand};
 ghost use Rattle.sr_book.specs.Records.{IsCertain};
-ghost use Rattle.sr_book.specs.Server.{letter_of};
+ghost use Rattle.sr_book.specs.{letter_of};
 ghost use Rattle.sr_session.specs.steps.Asked.{IsAsked};
 ghost use Rattle.sr_hub.specs.Line.{IsAtRest};
 ghost use Rattle.sr_hub.specs.Said.{IsTimed};

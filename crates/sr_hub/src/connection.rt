@@ -45,7 +45,7 @@ impl Model for Connection {
 
 impl Connection {
     ghost use Rattle.std.specs.Prelude.{◌≡◌, ◌≤◌, [], false, length, drop, OnOk, OnErr};
-    ghost use Rattle.sr_resp.specs.Reply.{error_reply, reply_text};
+    ghost use Rattle.sr_resp.specs.{error_reply, reply_text};
     ghost use Rattle.sr_resp.specs.Stream.{Stands};
     ghost use Rattle.sr_hub.specs.steps.Telling.{Feeds, FeedsNot, Tells, TellsFault};
 

@@ -1,6 +1,6 @@
 //! Whole runs of a hub: one call after another.
 ghost use Rattle.std.specs.Prelude.{◌≡◌, ℕ, List, IfOk, OnErr, length};
-ghost use Rattle.sr_book.specs.Records.{Recorded};
+ghost use Rattle.sr_book.specs.{Recorded};
 ghost use Rattle.sr_hub.specs.Deeds.{Does, DoesAll, given_after, taken_after};
 ghost use Rattle.sr_hub.specs.Lines.{AreLines, GoOn, state_of};
 

@@ -2,7 +2,7 @@
 ghost use Rattle.std.specs.Prelude.{◌≡◌, ◌≤◌, ◌↔◌, None, IfOk, IfErr, IfSome, IsSomeAnd, IsTrue, OnOk, OnErr};
 ghost use Rattle.std.specs.Prelude.{IsSome, false, true, length};
 ghost use Rattle.slab.specs.Slab.{get};
-ghost use Rattle.sr_book.specs.Records.{BookState};
+ghost use Rattle.sr_book.specs.{BookState};
 ghost use Rattle.sr_hub.specs.Said.{IsTimed};
 ghost use Rattle.sr_hub.specs.Line.{IsAtRest, is_ended, wanted_of};
 ghost use Rattle.sr_hub.specs.steps.Calls.{ComesAt, ComesNot, GoesAt, GoesNot, IsRefusedAt, MovesAt, SendsAt, TakesAt};

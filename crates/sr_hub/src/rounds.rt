@@ -2,7 +2,7 @@
 ghost use Rattle.std.specs.Prelude.{◌≡◌, IfSome, IsSome, IsSomeAnd};
 ghost use Rattle.sr_resp.specs.Request.{Words as RequestWords};
 ghost use Rattle.sr_args.specs.declared.call.Command.TheVariants as commands;
-ghost use Rattle.sr_args.specs.Command.{IsCommand};
+ghost use Rattle.sr_args.specs.{IsCommand};
 ghost use Rattle.sr_hub.specs.Line.{wanted_of};
 ghost use Rattle.sr_hub.specs.Said.{IsTimed};
 ghost use Rattle.sr_hub.specs.steps.Moves.{Answers, Moves};

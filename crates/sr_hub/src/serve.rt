@@ -1,6 +1,6 @@
 //! The event loop: what the network does is told to the hub, and what the hub has for a connection is written to it.
 ghost use Rattle.std.specs.Prelude.{◌≡◌, ℕ, List, IfSome};
-ghost use Rattle.sr_book.specs.Records.{Recorded};
+ghost use Rattle.sr_book.specs.{Recorded};
 ghost use Rattle.sr_hub.specs.Heard.{GoOnAs};
 ghost use Rattle.sr_hub.specs.Lines.{AreLines, GoOn, state_of, with_more};
 ghost use Rattle.sr_hub.specs.steps.Serving.{Keeps, Serves};

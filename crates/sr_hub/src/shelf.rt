@@ -42,10 +42,10 @@ impl Drop for KeptSnapshot {
 
 impl Model for KeptSnapshot {
     ghost use Rattle.std.specs.Prelude.{IsSome};
-    ghost use Rattle.sr_policy.specs.Snapshot.{Shown};
+    ghost use Rattle.sr_policy.specs.{SnapshotState};
     ghost use Rattle.sr_hub.specs.steps.Shelf.{shown_in};
 
-    ghost Value = { Shown };
+    ghost Value = { SnapshotState };
 
     ghost view = { λ k. shown_in k.block.value };
 

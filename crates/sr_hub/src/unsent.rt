@@ -1,5 +1,5 @@
 ghost use Rattle.std.specs.Prelude.{◌≡◌, ◌≤◌, ◌++◌, [], length, drop, OnOk, OnErr};
-ghost use Rattle.sr_resp.specs.Reply.{error_reply, reply_text};
+ghost use Rattle.sr_resp.specs.{error_reply, reply_text};
 
 use sr_resp::{ErrCode, Reply, append_reply};
 use std::alloc::{AllocError, Global};
@@ -30,7 +30,7 @@ impl Model for Unsent {
 
 impl Unsent {
     ghost use Rattle.std.specs.Prelude.{◌≡◌, ◌≤◌, ◌++◌, [], length, drop, OnOk, OnErr};
-    ghost use Rattle.sr_resp.specs.Reply.{error_reply, reply_text};
+    ghost use Rattle.sr_resp.specs.{error_reply, reply_text};
 
     /// None. Takes no memory.
     pub(crate) fn new(alloc: Global) -> Unsent

@@ -3,7 +3,7 @@ use Rattle.std.proofs.Common.{◌≡◌, ℕ, ◌+◌, ◌-◌, ◌<◌, ◌≤�
 use Rattle.std.proofs.lemmas.Bool.{cases_lt}
 use Rattle.std.proofs.lemmas.List.{get_or_append_left, length-append, length_push, take-append-drop, take_at, take_more, take_rest, drop_at}
 use Rattle.std.proofs.lemmas.Slice.{first_rest}
-use Rattle.sr_bytes.specs.Decimal.{IsDecimal}
+use Rattle.sr_bytes.specs.{IsDecimal}
 use Rattle.sr_bytes.proofs.DecimalLemmas.{AllDigits-not_at}
 use Rattle.sr_ids.specs.declared.id.Id.{Id}
 use Rattle.sr_ids.specs.Spelling.{SpellsId}

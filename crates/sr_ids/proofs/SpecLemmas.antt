@@ -3,7 +3,7 @@ use Rattle.std.proofs.Common.{◌≡◌, ◌≢◌, ℕ, ◌+◌, ◌-◌, ◌^�
 use Rattle.std.specs.Prelude.{codes}
 use Rattle.std.specs.Char.{digit_value}
 use Rattle.std.proofs.lemmas.List.{append_assoc, append_cancel_right, get_or_push, get_or-append_right, length-append, length_push}
-use Rattle.sr_bytes.specs.Decimal.{IsDecimal}
+use Rattle.sr_bytes.specs.{IsDecimal}
 use Rattle.sr_bytes.proofs.DecimalLemmas.{AllDigits-not_at, IsDecimal-one}
 use Rattle.sr_ids.specs.declared.id.Id.{Id}
 use Rattle.sr_ids.specs.declared.spec.Spec.{Spec}

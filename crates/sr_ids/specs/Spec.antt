@@ -2,7 +2,7 @@
 -- Source: Redis documentation, command XADD, "Specifying a Stream ID as an argument".
 
 use Rattle.std.specs.Prelude.{◌≡◌, ℕ, ◌^◌, ◌<◌, List, ◌++◌, codes}
-use Rattle.sr_bytes.specs.Decimal.{IsDecimal}
+use Rattle.sr_bytes.specs.{IsDecimal}
 use Rattle.sr_ids.specs.declared.id.Id.{Id}
 use Rattle.sr_ids.specs.declared.spec.Spec.{Spec}
 use Rattle.sr_ids.specs.declared.spec.Spec.TheVariants.{Auto, Ms, Written}

@@ -3,7 +3,7 @@
 -- special IDs", "Incomplete IDs" and "Exclusive ranges".
 
 use Rattle.std.specs.Prelude.{◌≡◌, ℕ, ◌⊎◌, List, ◌++◌, codes, decimal}
-use Rattle.sr_bytes.specs.Decimal.{IsDecimal}
+use Rattle.sr_bytes.specs.{IsDecimal}
 use Rattle.sr_ids.specs.declared.id.Id.{Id}
 use Rattle.sr_ids.specs.Id.{IsId, IsNext, least_id, greatest_id}
 

@@ -9,7 +9,8 @@ use Rattle.std.proofs.lemmas.Bool.{cases_lt}
 use Rattle.std.proofs.lemmas.List.{get_or-map, get_or_past, length-map}
 use Rattle.std.proofs.lemmas.List.Sums.{count_by_more_yes, sum_by-cons, sum_by-take-le}
 use Rattle.sr_transport.specs.declared.problem.Tier.{Tier}
-use Rattle.sr_transport.specs.Problem.{Tiered, IsAllowed, first_in, room_of, tier_at}
+use Rattle.sr_transport.specs.{Tiered, first_in, tier_at}
+use Rattle.sr_transport.specs.Problem.{IsAllowed, room_of}
 use Rattle.sr_transport.specs.Assignment.{charge_at, charge_of, load, tier_of, total_of, IsAssignment, IsPlacement}
 use Rattle.sr_transport.specs.Certificate.{IsLeast}
 use Rattle.sr_transport.proofs.SumLemmas.{sum_below-same}

@@ -2,10 +2,10 @@
 use Rattle.std.proofs.Common.{◌≡◌, ◌↔◌, ℕ, ◌+◌, ◌≤◌, List, sym, ◌∙◌, arith}
 use Rattle.sr_transport.specs.Assignment.{total_of, IsAssignment}
 use Rattle.sr_transport.specs.Solved.{IsBest}
-use Rattle.sr_policy.specs.Snapshot.{Shown, IsSnapshot}
-use Rattle.sr_policy.specs.Problem.{problem_of}
+use Rattle.sr_policy.specs.{SnapshotState, problem_of}
+use Rattle.sr_policy.specs.Snapshot.{IsSnapshot}
 use Rattle.sr_policy.proofs.ProblemLemmas.{are_tiers}
-use Rattle.sr_check.specs.Answer.{best, IsShown}
+use Rattle.sr_check.specs.{best, IsShown}
 use Rattle.sr_live.specs.Bounds.{free_loads, gap_of, Fits, HaveRoom, IsSameWork}
 use Rattle.sr_live.proofs.LackLemmas.{at_most_worse_by_lack, filled_lacks_nothing, lacking_nothing_is_filled}
 use Rattle.sr_live.proofs.LackLemmas.{AreLeast}
@@ -15,12 +15,12 @@ use Rattle.sr_live.proofs.WorkLemmas.{problems-alike, room-from_problem, room-in
 
 -- the plan is an assignment of the new snapshot's problem, at the same total, and each entry is in a tier where the sum
 -- of charge and price is least
-record IsKept (now : Shown) (assign prices : List ℕ) (total : ℕ) : Type 0 where
+record IsKept (now : SnapshotState) (assign prices : List ℕ) (total : ℕ) : Type 0 where
   assignment : IsAssignment (problem_of now) assign
   sum : total ≡ total_of (problem_of now) assign
   least : AreLeast (problem_of now) assign prices
 
-kept : (old now : Shown) (assign prices : List ℕ) (total : ℕ) → IsBest (problem_of old) assign prices total
+kept : (old now : SnapshotState) (assign prices : List ℕ) (total : ℕ) → IsBest (problem_of old) assign prices total
     → Fits old now assign → IsKept now assign prices total
 kept old now assign prices total was fits =
     let p = problem_of old in
@@ -34,7 +34,7 @@ kept old now assign prices total was fits =
     }
 
 -- a plan that is kept, and whose tiers with a price are filled, is shown by its prices
-shown-now : (old now : Shown) (assign prices : List ℕ) (total : ℕ) → IsBest (problem_of old) assign prices total
+shown-now : (old now : SnapshotState) (assign prices : List ℕ) (total : ℕ) → IsBest (problem_of old) assign prices total
     → IsSameWork old now → IsKept now assign prices total → gap_of now assign prices ≡ 0
     → IsBest (problem_of now) assign prices total
 shown-now old now assign prices total was work is none =
@@ -53,18 +53,18 @@ shown-now old now assign prices total was work is none =
     }
 
 -- a plan that is shown has room, and no gap
-room-shown : (old now : Shown) (assign prices : List ℕ) (total : ℕ) → IsSnapshot old → IsSameWork old now
+room-shown : (old now : SnapshotState) (assign prices : List ℕ) (total : ℕ) → IsSnapshot old → IsSameWork old now
     → IsBest (problem_of now) assign prices total → HaveRoom assign 0 now.live
 room-shown old now assign prices total snapshot work is =
     room-from_problem now assign (soft-same old now work snapshot.bounds.tiers) is.assignment.placement.in_room
 
-gap-shown : (now : Shown) (assign prices : List ℕ) (total : ℕ) → IsBest (problem_of now) assign prices total
+gap-shown : (now : SnapshotState) (assign prices : List ℕ) (total : ℕ) → IsBest (problem_of now) assign prices total
     → gap_of now assign prices ≡ 0
 gap-shown now assign prices total is =
     gap_of-lack now assign prices is.assignment.placement
     ∙ filled_lacks_nothing (problem_of now) assign prices is.shown.filled
 
-pub shown_while_filled : (old now : Shown) (assign prices : List ℕ) (total : ℕ) → IsSnapshot old → IsSameWork old now
+pub shown_while_filled : (old now : SnapshotState) (assign prices : List ℕ) (total : ℕ) → IsSnapshot old → IsSameWork old now
     → free_loads assign 0 old.live ≡ free_loads assign 0 now.live
     → IsShown (problem_of old) (best assign prices total)
     → (HaveRoom assign 0 now.live × (gap_of now assign prices ≡ 0))
@@ -76,7 +76,7 @@ shown_while_filled old now assign prices total snapshot work same was = (
   λ is. (room-shown old now assign prices total snapshot work is.0, gap-shown now assign prices total is.0),
 )
 
-pub worse_by_gap : (old now : Shown) (assign prices : List ℕ) (total : ℕ)
+pub worse_by_gap : (old now : SnapshotState) (assign prices : List ℕ) (total : ℕ)
     → IsShown (problem_of old) (best assign prices total) → Fits old now assign
     → IsAssignment (problem_of now) assign × (total ≡ total_of (problem_of now) assign)
     × ((other : List ℕ) → IsAssignment (problem_of now) other

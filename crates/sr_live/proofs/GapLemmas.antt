@@ -4,14 +4,13 @@ use Rattle.std.proofs.Common.{take, drop, Option, Some, None, IsSome, refl, sym,
 use Rattle.std.proofs.Common.{get_or-append-add, get_or-drop, length-append, mul-zero}
 use Rattle.std.proofs.lemmas.List.Sums.{sum_by-cons}
 use Rattle.sr_transport.specs.declared.problem.Tier.{Tier}
-use Rattle.sr_transport.specs.Sum.{sum_below}
-use Rattle.sr_transport.specs.Problem.{first_in, tier_at}
+use Rattle.sr_transport.specs.{sum_below, first_in, tier_at}
 use Rattle.sr_transport.specs.Assignment.{load, tiers_of, IsPlacement}
 use Rattle.sr_transport.proofs.SumLemmas.{sum_below-same}
 use Rattle.sr_transport.proofs.TierLemmas.{load-first, load-next, no_tier}
 use Rattle.sr_policy.specs.declared.live.Live.{Live}
-use Rattle.sr_policy.specs.Snapshot.{Shown}
-use Rattle.sr_policy.specs.Problem.{free_room, next_tier, problem_of, room_at, tier_count, tiers_at, tiers_from}
+use Rattle.sr_policy.specs.{SnapshotState, problem_of, room_at, tier_count}
+use Rattle.sr_policy.specs.Problem.{free_room, next_tier, tiers_at, tiers_from}
 use Rattle.sr_policy.proofs.ProblemLemmas.{are_tiers, first_in-live, length-tiers_at}
 use Rattle.sr_live.specs.Bounds.{free_load, gap_at, gap_from, gap_of}
 use Rattle.sr_live.proofs.LackLemmas.{lack_of}
@@ -118,7 +117,7 @@ gap_from-sum assign c prices (x ∷ live) loads are =
 
 -- ---- the gap of a snapshot
 
-loads-live : (s : Shown) (assign : List ℕ) → IsPlacement (problem_of s) assign
+loads-live : (s : SnapshotState) (assign : List ℕ) → IsPlacement (problem_of s) assign
     → AreLoads assign 0 s.live (load (tiers_of (problem_of s) assign))
 loads-live s assign placed =
     let p = problem_of s in
@@ -139,7 +138,7 @@ loads-live s assign placed =
           ∙ ap (λ n. load assign n - free_load (load assign n) (get_or s.live i d)) (sym e);
     }
 
-pub gap_of-lack : (s : Shown) (assign prices : List ℕ) → IsPlacement (problem_of s) assign
+pub gap_of-lack : (s : SnapshotState) (assign prices : List ℕ) → IsPlacement (problem_of s) assign
     → gap_of s assign prices ≡ lack_of (problem_of s) assign prices
 gap_of-lack s assign prices placed =
     gap_from-sum assign 0 prices s.live (load (tiers_of (problem_of s) assign)) (loads-live s assign placed)

@@ -5,8 +5,8 @@ use Rattle.std.proofs.Common.{subst, inl, inr, arith, mul-add, mul-le-mul_left, 
 use Rattle.std.specs.List.{sum_by}
 use Rattle.std.proofs.lemmas.Bool.{cases_lt, cases_eq}
 use Rattle.std.proofs.lemmas.List.Elements.{All-from_get_or}
-use Rattle.sr_transport.specs.Sum.{sum_below}
-use Rattle.sr_transport.specs.Problem.{Tiered, AreTiers, tier_at}
+use Rattle.sr_transport.specs.{sum_below, Tiered, tier_at}
+use Rattle.sr_transport.specs.Problem.{AreTiers}
 use Rattle.sr_transport.specs.Assignment.{charge_of, load, tier_of, tiers_of, total_of, IsAssignment, IsPlacement}
 use Rattle.sr_transport.specs.Certificate.{IsLeast}
 use Rattle.sr_transport.proofs.SumLemmas.{sum_below-le, sum_below-le_pairs, sum_below-plus, sum_below-same}

@@ -9,9 +9,9 @@ use Rattle.std.specs.Io.KnownBytes.{Appends}
 use Rattle.std.specs.List.{flat_map}
 use Rattle.std.specs.Result.{IfOk}
 use Rattle.sr_ids.specs.declared.id.Id.{Id}
-use Rattle.sr_ids.specs.Spelling.{spelling}
-use Rattle.sr_policy.specs.Rules.{Text}
-use Rattle.sr_peer.specs.Reply.{Part, part_text, request_text}
+use Rattle.sr_ids.specs.{spelling}
+use Rattle.sr_policy.specs.{Text}
+use Rattle.sr_peer.specs.{Part, part_text, request_text}
 use Rattle.sr_live.specs.declared.looked.Row.{Row}
 use Rattle.sr_live.specs.Looking.{Exchange, LooksEntries, Talks, answered_of, asked_of, entry_call}
 use Rattle.sr_live.specs.Said.{SayEntries, SaysEntry}

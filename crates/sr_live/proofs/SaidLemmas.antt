@@ -7,9 +7,10 @@ use Rattle.std.specs.List.{flat_map}
 use Rattle.std.specs.Option.{option_or}
 use Rattle.std.specs.Cmp.Lexicographic.{pointwise}
 use Rattle.sr_ids.specs.declared.id.Id.{Id}
-use Rattle.sr_ids.specs.Spelling.{SpellsId}
-use Rattle.sr_policy.specs.Rules.{Text, value_at}
-use Rattle.sr_peer.specs.Reply.{Part, Array, Bulk, Int}
+use Rattle.sr_ids.specs.{SpellsId}
+use Rattle.sr_policy.specs.{Text}
+use Rattle.sr_policy.specs.Rules.{value_at}
+use Rattle.sr_peer.specs.{Part, Array, Bulk, Int}
 use Rattle.sr_live.specs.Said.{ArePendingRows, IsPendingRow, SayConsumers, SaysConsumer, SaysEntry}
 use Rattle.sr_live.specs.Said.{consumer_parts, pairs_parts}
 

@@ -5,15 +5,17 @@ use Rattle.std.specs.List.{All, filter, flat_map}
 use Rattle.std.proofs.lemmas.List.Elements.{All-head, All-tail}
 use Rattle.sr_ids.specs.declared.id.Id.{Id}
 use Rattle.sr_entries.specs.declared.entry.Entry.{Entry}
-use Rattle.sr_entries.specs.Entries.{entry_with, has_id, is_same_id}
+use Rattle.sr_ids.specs.{is_same_id}
+use Rattle.sr_entries.specs.{entry_with, has_id}
 use Rattle.sr_pending.specs.declared.nack.Nack.{Nack}
-use Rattle.sr_pending.specs.Pending.{owned_by}
+use Rattle.sr_pending.specs.{owned_by}
 use Rattle.sr_policy.specs.declared.live.Live.{Live}
 use Rattle.sr_policy.specs.declared.stranded.Stranded.{Stranded}
-use Rattle.sr_policy.specs.Rules.{Rules, Text, consumers_of, live_of}
-use Rattle.sr_policy.specs.Snapshot.{Shown, is_among}
+use Rattle.sr_policy.specs.{Text, consumers_of, live_of, SnapshotState, is_among}
+use Rattle.sr_policy.specs.Rules.{Rules}
 use Rattle.sr_space.specs.Snap as server
-use Rattle.sr_space.specs.Snap.{gone_in, listed, live_in, of_dead, rates_in, shown_with, stranded_in}
+use Rattle.sr_space.specs.{listed, shown_with}
+use Rattle.sr_space.specs.Snap.{gone_in, live_in, of_dead, rates_in, stranded_in}
 use Rattle.sr_live.specs.declared.looked.Row.{Row}
 use Rattle.sr_live.specs.Looked.{gone_as, gone_of, live_by, live_named, number_of, shown_by, stranded_as, stranded_by}
 use Rattle.sr_live.specs.Server.{AreCounted, row_of}
@@ -103,7 +105,7 @@ live-same rules dead nacks numbers (name ∷ names) counted =
 -- ---- the whole
 
 -- the snapshot with these entries and consumers
-abbrev shown_from : Rules → Text → Text → List Text → List Stranded → List (Id × Text) → List Live → Shown
+abbrev shown_from : Rules → Text → Text → List Text → List Stranded → List (Id × Text) → List Live → SnapshotState
 shown_from rules key group dead stranded gone live = record {
   key = key;
   group = group;

@@ -9,9 +9,9 @@ use Rattle.std.specs.Io.KnownBytes.{Appends}
 use Rattle.std.specs.List.{flat_map}
 use Rattle.std.specs.List.Sorted.{IsPermutation}
 use Rattle.sr_ids.specs.declared.id.Id.{Id}
-use Rattle.sr_ids.specs.Spelling.{spelling}
-use Rattle.sr_policy.specs.Rules.{Text}
-use Rattle.sr_peer.specs.Reply.{Part, part_text, request_text}
+use Rattle.sr_ids.specs.{spelling}
+use Rattle.sr_policy.specs.{Text}
+use Rattle.sr_peer.specs.{Part, part_text, request_text}
 use Rattle.sr_live.specs.declared.looked.Row.{Row}
 use Rattle.sr_live.specs.Looking.{Exchange, IsLooked, ListsDead, ListsPages, LooksEntries, Talks, answered_of}
 use Rattle.sr_live.specs.Looking.{asked_of, consumers_call, page, pending_call, start_behind}

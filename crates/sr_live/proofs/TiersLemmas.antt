@@ -6,11 +6,12 @@ use Rattle.std.specs.List.{sum_by}
 use Rattle.std.specs.Option.{option_map_or}
 use Rattle.std.proofs.lemmas.List.Sums.{sum_by-cons}
 use Rattle.sr_transport.specs.declared.problem.Tier.{Tier}
-use Rattle.sr_transport.specs.Problem.{first_in, room_of, tier_at}
+use Rattle.sr_transport.specs.{first_in, tier_at}
+use Rattle.sr_transport.specs.Problem.{room_of}
 use Rattle.sr_transport.proofs.TierLemmas.{no_tier, room_in-own, room_of-tiers}
 use Rattle.sr_policy.specs.declared.live.Live.{Live}
-use Rattle.sr_policy.specs.Snapshot.{Shown}
-use Rattle.sr_policy.specs.Problem.{free_room, next_tier, problem_of, room_at, tier_count, tiers_at, tiers_from}
+use Rattle.sr_policy.specs.{SnapshotState, problem_of, room_at, tier_count}
+use Rattle.sr_policy.specs.Problem.{free_room, next_tier, tiers_at, tiers_from}
 use Rattle.sr_policy.proofs.ProblemLemmas.{are_tiers, first_in-live, length-tiers_at}
 use Rattle.sr_live.proofs.AlikeLemmas.{first_room}
 
@@ -69,13 +70,13 @@ next-from c (suc i) (x ∷ live) d lt some =
     (next-from (c + 1) i live d (omega arith) some))
 
 -- the first tier of a consumer has its free room
-pub first_room-live : (s : Shown) (i : ℕ) (d : Live) → i < length s.live
+pub first_room-live : (s : SnapshotState) (i : ℕ) (d : Live) → i < length s.live
     → first_room (problem_of s) i ≡ free_room (get_or s.live i d)
 first_room-live s i d lt =
     let e : first_in (tiers_from 0 s.live) i ≡ start_of s.live i + 0 = omega (arith, first_in-live s i) in
     ap (λ t. (tier_at (tiers_from 0 s.live) t).room) e ∙ (first-from 0 i s.live d lt).room
 
-next_at : (s : Shown) (i : ℕ) (d : Live) → i < length s.live → IsSome (get_or s.live i d).tier
+next_at : (s : SnapshotState) (i : ℕ) (d : Live) → i < length s.live → IsSome (get_or s.live i d).tier
     → IsNext i (get_or s.live i d) (tier_at (tiers_from 0 s.live) (first_in (tiers_from 0 s.live) i + 1))
 next_at s i d lt some =
     let e : start_of s.live i + 1 ≡ first_in (tiers_from 0 s.live) i + 1 = omega (arith, first_in-live s i) in
@@ -85,7 +86,7 @@ next_at s i d lt some =
     (next-from 0 i s.live d lt some))
 
 -- and the one after it is its own if it has a soft limit
-pub next_is_own : (s : Shown) (i : ℕ) (d : Live) → i < length s.live → IsSome (get_or s.live i d).tier
+pub next_is_own : (s : SnapshotState) (i : ℕ) (d : Live) → i < length s.live → IsSome (get_or s.live i d).tier
     → (tier_at (tiers_from 0 s.live) (first_in (tiers_from 0 s.live) i + 1)).consumer ≡ i
 next_is_own s i d lt some = (next_at s i d lt some).own
 
@@ -101,7 +102,7 @@ cases_some None = inl refl
 cases_some (Some tier) = inr refl
 
 -- the tiers of a consumer have its whole room
-pub room_at-le : (s : Shown) (i : ℕ) (d : Live) → i < length s.live
+pub room_at-le : (s : SnapshotState) (i : ℕ) (d : Live) → i < length s.live
     → room_at (get_or s.live i d) ≤ room_of (problem_of s) i
 room_at-le s i d lt =
     let x = get_or s.live i d in

@@ -9,9 +9,10 @@ use Rattle.sr_transport.specs.Assignment.{load}
 use Rattle.sr_transport.specs.Problem.{room_of}
 use Rattle.sr_policy.specs.declared.stranded.Stranded.{Stranded}
 use Rattle.sr_policy.specs.declared.live.Live.{Live}
-use Rattle.sr_policy.specs.Rules.{Text, value_at}
-use Rattle.sr_policy.specs.Snapshot.{Shown, IsTier}
-use Rattle.sr_policy.specs.Problem.{costs_at, next_tier, problem_of, room_at, tiers_from}
+use Rattle.sr_policy.specs.{Text, SnapshotState, problem_of, room_at}
+use Rattle.sr_policy.specs.Rules.{value_at}
+use Rattle.sr_policy.specs.Snapshot.{IsTier}
+use Rattle.sr_policy.specs.Problem.{costs_at, next_tier, tiers_from}
 use Rattle.sr_policy.proofs.ProblemLemmas.{room_of-live}
 use Rattle.sr_live.specs.Bounds.{free_load, free_loads, terms_of, HaveRoom, IsSameWork}
 use Rattle.sr_live.proofs.AlikeLemmas.{first_room, shape, AreAlike, HaveSameFirst}
@@ -68,7 +69,7 @@ abbrev costs_in : List Stranded → List (Text × List (Option ℕ)) → List (O
 costs_in stranded rates none =
     flat_map (λ entry. costs_at entry.weight (unwrap_or (value_at entry.class rates) none)) stranded
 
-costs-alike : (old now : Shown) → IsSameWork old now → (problem_of old).costs ≡ (problem_of now).costs
+costs-alike : (old now : SnapshotState) → IsSameWork old now → (problem_of old).costs ≡ (problem_of now).costs
 costs-alike old now work =
     let none : List Live → List (Option ℕ) = λ live. map (λ _. None) live in
     let same : none old.live ≡ none now.live =
@@ -78,7 +79,7 @@ costs-alike old now work =
     ∙ ap (costs_in now.stranded now.rates) same
 
 -- the problems of the same work differ in their rooms alone
-pub problems-alike : (old now : Shown) → IsSameWork old now → AreAlike (problem_of old) (problem_of now)
+pub problems-alike : (old now : SnapshotState) → IsSameWork old now → AreAlike (problem_of old) (problem_of now)
 problems-alike old now work = record {
   takers = same_terms (λ live. length live) (λ terms. length terms) length-terms old.live now.live work.live;
   entries = ap (λ stranded. length stranded) work.stranded;
@@ -88,7 +89,7 @@ problems-alike old now work = record {
 }
 
 -- as many consumers are live
-pub live-same : (old now : Shown) → IsSameWork old now → length old.live ≡ length now.live
+pub live-same : (old now : SnapshotState) → IsSameWork old now → length old.live ≡ length now.live
 live-same old now work = (problems-alike old now work).takers
 
 -- ---- the soft limits
@@ -101,14 +102,14 @@ soft-terms : (old now : Live) → terms_of old ≡ terms_of now → IfSome old.t
     → IfSome now.tier (IsTier now.limit)
 soft-terms old now same soft = subst (λ (terms : Terms). IfSome terms.2 (IsTier terms.1)) same soft
 
-terms-at : (old now : Shown) (i : ℕ) (d : Live) → IsSameWork old now → i < length now.live
+terms-at : (old now : SnapshotState) (i : ℕ) (d : Live) → IsSameWork old now → i < length now.live
     → terms_of (get_or old.live i d) ≡ terms_of (get_or now.live i d)
 terms-at old now i d work lt =
     sym (get_or-map terms_of old.live i d (terms_of d) (omega (arith, live-same old now work)))
     ∙ ap (λ (terms : List Terms). get_or terms i (terms_of d)) work.live
     ∙ get_or-map terms_of now.live i d (terms_of d) lt
 
-pub soft-same : (old now : Shown) → IsSameWork old now → AreSoft old.live → AreSoft now.live
+pub soft-same : (old now : SnapshotState) → IsSameWork old now → AreSoft old.live → AreSoft now.live
 soft-same old now work soft i d lt =
     soft-terms (get_or old.live i d) (get_or now.live i d) (terms-at old now i d work lt)
     (soft i d (omega (arith, live-same old now work)))
@@ -125,7 +126,7 @@ free_loads-at assign c (suc i) (x ∷ live) d lt =
     let e : c + 1 + i ≡ c + suc i = omega arith in
     free_loads-at assign (c + 1) i live d (omega arith) ∙ ap (λ n. free_load (load assign n) (get_or live i d)) e
 
-free_load-live : (s : Shown) (assign : List ℕ) (i : ℕ) (d : Live) → i < length s.live
+free_load-live : (s : SnapshotState) (assign : List ℕ) (i : ℕ) (d : Live) → i < length s.live
     → get_or (free_loads assign 0 s.live) i 0 ≡ min (load assign i) (first_room (problem_of s) i)
 free_load-live s assign i d lt =
     let e : 0 + i ≡ i = omega arith in
@@ -133,7 +134,7 @@ free_load-live s assign i d lt =
     ∙ ap (min (load assign i)) (sym (first_room-live s i d lt))
 
 -- if as many entries of each consumer are without a fee, as many are in its first tier
-pub same_first : (old now : Shown) (assign : List ℕ) → IsSameWork old now
+pub same_first : (old now : SnapshotState) (assign : List ℕ) → IsSameWork old now
     → free_loads assign 0 old.live ≡ free_loads assign 0 now.live
     → HaveSameFirst (problem_of old) (problem_of now) assign
 same_first old now assign work same i lt =
@@ -157,7 +158,7 @@ room-at assign c (suc i) (x ∷ live) d lt room =
     subst (λ n. load assign n ≤ room_at (get_or live i d)) e (room-at assign (c + 1) i live d (omega arith) room.1)
 
 -- consumers that have room get no more than their room in the problem
-pub room-in_problem : (s : Shown) (assign : List ℕ) → HaveRoom assign 0 s.live → (c : ℕ) → c < length s.live
+pub room-in_problem : (s : SnapshotState) (assign : List ℕ) → HaveRoom assign 0 s.live → (c : ℕ) → c < length s.live
     → load assign c ≤ room_of (problem_of s) c
 room-in_problem s assign room c lt =
     let e : 0 + c ≡ c = omega arith in
@@ -178,7 +179,7 @@ room-from assign c (x ∷ live) within =
     )
 
 -- and the other way round, if no soft limit is above its limit
-pub room-from_problem : (s : Shown) (assign : List ℕ) → AreSoft s.live
+pub room-from_problem : (s : SnapshotState) (assign : List ℕ) → AreSoft s.live
     → ((c : ℕ) → c < length s.live → load assign c ≤ room_of (problem_of s) c) → HaveRoom assign 0 s.live
 room-from_problem s assign soft within =
     room-from assign 0 s.live (λ c lt.

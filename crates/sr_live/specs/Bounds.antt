@@ -5,9 +5,8 @@
 
 use Rattle.std.specs.Prelude.{⊤, ◌≡◌, ℕ, ◌+◌, ◌-◌, ◌*◌, ◌<◌, ◌≤◌, List, [], ◌∷◌, Option, drop, map, min, slice_index_or}
 use Rattle.sr_policy.specs.declared.live.Live.{Live}
-use Rattle.sr_policy.specs.Problem.{free_room, room_at, tier_count}
-use Rattle.sr_policy.specs.Rules.{Text}
-use Rattle.sr_policy.specs.Snapshot.{Shown}
+use Rattle.sr_policy.specs.{room_at, tier_count, Text, SnapshotState}
+use Rattle.sr_policy.specs.Problem.{free_room}
 use Rattle.sr_transport.specs.Assignment.{load}
 
 -- what the policy says of a live consumer: all but how many entries are pending for it
@@ -16,7 +15,7 @@ terms_of consumer = (consumer.name, consumer.limit, consumer.tier)
 
 -- the same entries are stranded, at the same rates, and the same consumers are live on the same terms. How many entries
 -- are pending for them may differ
-pub record IsSameWork (old now : Shown) : Type 0 where
+pub record IsSameWork (old now : SnapshotState) : Type 0 where
   pub stranded : old.stranded ≡ now.stranded
   pub rates : old.rates ≡ now.rates
   pub live : map terms_of old.live ≡ map terms_of now.live
@@ -51,12 +50,12 @@ gap_from assign c prices (consumer ∷ live) =
     gap_at (load assign c) prices consumer + gap_from assign (c + 1) (drop (tier_count consumer) prices) live
 
 -- how much more than a cheapest plan this one may cost at most
-abbrev pub gap_of : Shown → List ℕ → List ℕ → ℕ
+abbrev pub gap_of : SnapshotState → List ℕ → List ℕ → ℕ
 gap_of shown assign prices = gap_from assign 0 prices shown.live
 
 -- the plan of the old snapshot can be carried out in the new one, and costs what it cost: there is room for it, and as
 -- many entries are without a fee
-pub record Fits (old now : Shown) (assign : List ℕ) : Type 0 where
+pub record Fits (old now : SnapshotState) (assign : List ℕ) : Type 0 where
   pub work : IsSameWork old now
   pub room : HaveRoom assign 0 now.live
   pub free : free_loads assign 0 old.live ≡ free_loads assign 0 now.live

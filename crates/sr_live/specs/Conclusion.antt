@@ -2,8 +2,8 @@
 -- Source: Redis documentation, commands EVALSHA and EVAL.
 
 use Rattle.std.specs.Prelude.{◌≡◌, List, [], ◌∷◌, codes, pos}
-use Rattle.sr_policy.specs.Rules.{Text}
-use Rattle.sr_peer.specs.Reply.{Part, Array, Bulk, Int}
+use Rattle.sr_policy.specs.{Text}
+use Rattle.sr_peer.specs.{Part, Array, Bulk, Int}
 use Rattle.sr_live.specs.declared.conclusion.Concluded.{Concluded}
 use Rattle.sr_live.specs.declared.conclusion.Concluded.TheVariants.{Done, Stale}
 

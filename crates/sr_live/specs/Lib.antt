@@ -1,3 +1,5 @@
+-- What is read of a group of another Redis, and what the rounds of a recovery there conclude.
+
 pub mod Bounds
 pub mod Conclusion
 pub mod First

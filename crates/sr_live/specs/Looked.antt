@@ -8,9 +8,10 @@ use Rattle.std.specs.List.{flat_map}
 use Rattle.sr_ids.specs.declared.id.Id.{Id}
 use Rattle.sr_policy.specs.declared.live.Live.{Live}
 use Rattle.sr_policy.specs.declared.stranded.Stranded.{Stranded}
-use Rattle.sr_policy.specs.Rules.{Rules, Text, class_of, consumers_of, live_of, value_at, weight_of}
-use Rattle.sr_policy.specs.Snapshot.{Shown, is_among}
-use Rattle.sr_space.specs.Snap.{listed, rates_in}
+use Rattle.sr_policy.specs.{Text, consumers_of, live_of, SnapshotState, is_among}
+use Rattle.sr_policy.specs.Rules.{Rules, class_of, value_at, weight_of}
+use Rattle.sr_space.specs.{listed}
+use Rattle.sr_space.specs.Snap.{rates_in}
 use Rattle.sr_live.specs.declared.looked.Row.{Row}
 
 -- how many entries are pending for the consumer; none for one that the group does not have
@@ -43,7 +44,7 @@ abbrev pub live_by : Rules → List Text → List (Text × ℕ) → List Live
 live_by rules dead numbers = flat_map (live_named rules dead numbers) (consumers_of rules)
 
 -- the snapshot of a group with these numbers of pending entries, of whose dead consumers these entries are pending
-abbrev pub shown_by : Rules → Text → Text → List Text → List (Text × ℕ) → List Row → Shown
+abbrev pub shown_by : Rules → Text → Text → List Text → List (Text × ℕ) → List Row → SnapshotState
 shown_by rules key group dead numbers rows =
     let stranded = flat_map (stranded_by rules) rows in
     let live = live_by rules dead numbers in

@@ -2,8 +2,9 @@
 -- Source: docs/LIVE.md.
 
 use Rattle.std.specs.Prelude.{◌≡◌, ℕ, List, [], ◌∷◌, ◌++◌, Option, Some}
-use Rattle.sr_policy.specs.Rules.{Rules, Text}
-use Rattle.sr_peer.specs.Reply.{Part}
+use Rattle.sr_policy.specs.{Text}
+use Rattle.sr_policy.specs.Rules.{Rules}
+use Rattle.sr_peer.specs.{Part}
 use Rattle.sr_live.specs.declared.conclusion.Concluded.TheVariants as concluded
 use Rattle.sr_live.specs.declared.looked.Asked.{Asked}
 use Rattle.sr_live.specs.declared.looked.Row.{Row}

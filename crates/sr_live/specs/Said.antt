@@ -4,9 +4,10 @@
 use Rattle.std.specs.Prelude.{◌≡◌, ⊤, ℕ, ◌*◌, ℤ, pos, List, [], ◌∷◌, ◌++◌, length, codes, Option, Some, None}
 use Rattle.std.specs.List.{flat_map}
 use Rattle.sr_ids.specs.declared.id.Id.{Id}
-use Rattle.sr_ids.specs.Spelling.{SpellsId}
-use Rattle.sr_policy.specs.Rules.{Text, value_at}
-use Rattle.sr_peer.specs.Reply.{Part, Array, Bulk, Int}
+use Rattle.sr_ids.specs.{SpellsId}
+use Rattle.sr_policy.specs.{Text}
+use Rattle.sr_policy.specs.Rules.{value_at}
+use Rattle.sr_peer.specs.{Part, Array, Bulk, Int}
 use Rattle.sr_live.specs.declared.looked.Row.{Row}
 
 -- ---- XINFO CONSUMERS: an array of consumers, each an array of fields with their values

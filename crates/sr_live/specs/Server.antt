@@ -3,11 +3,11 @@
 
 use Rattle.std.specs.Prelude.{◌≡◌, ℕ, List, All, not, filter, length, option_map}
 use Rattle.sr_entries.specs.declared.entry.Entry.{Entry}
-use Rattle.sr_entries.specs.Entries.{entry_with}
+use Rattle.sr_entries.specs.{entry_with}
 use Rattle.sr_pending.specs.declared.nack.Nack.{Nack}
-use Rattle.sr_pending.specs.Pending.{owned_by}
-use Rattle.sr_policy.specs.Rules.{Rules, Text, consumers_of}
-use Rattle.sr_policy.specs.Snapshot.{is_among}
+use Rattle.sr_pending.specs.{owned_by}
+use Rattle.sr_policy.specs.{Text, consumers_of, is_among}
+use Rattle.sr_policy.specs.Rules.{Rules}
 use Rattle.sr_live.specs.declared.looked.Row.{Row}
 use Rattle.sr_live.specs.Looked.{number_of}
 

@@ -7,12 +7,12 @@ use Rattle.std.specs.Prelude.{Option, Some, None, is_some, if◌then◌else◌, 
 use Rattle.std.specs.Cmp.Lexicographic.{pointwise}
 use Rattle.std.specs.List.{flat_map}
 use Rattle.sr_ids.specs.declared.id.Id.{Id}
-use Rattle.sr_ids.specs.Spelling.{spelling}
-use Rattle.sr_check.specs.Answer.{Answer, best, short, moves_of, prices_by}
+use Rattle.sr_ids.specs.{spelling}
+use Rattle.sr_check.specs.{best}
+use Rattle.sr_check.specs.PlanAnswer.{PlanAnswer, short, moves_of, prices_by}
 use Rattle.sr_policy.specs.declared.live.Live.{Live}
 use Rattle.sr_policy.specs.Problem.{free_room}
-use Rattle.sr_policy.specs.Rules.{Text}
-use Rattle.sr_policy.specs.Snapshot.{Shown}
+use Rattle.sr_policy.specs.{Text, SnapshotState}
 use Rattle.sr_live.specs.declared.looked.Row.{Row}
 
 -- an entry that is pending for a dead consumer: its id, and whether it is in the stream
@@ -66,7 +66,7 @@ plan_words group within last dead rows moves live prices =
     ++ lives_words moves live prices
 
 -- the words for a plan; none for a shortage
-abbrev pub words_for : Text → ℕ → Text → List Row → Shown → Answer → Option (List Text)
+abbrev pub words_for : Text → ℕ → Text → List Row → SnapshotState → PlanAnswer → Option (List Text)
 words_for group within last rows shown (best assign prices total) =
     Some (plan_words group within last shown.dead rows (moves_of shown assign) shown.live (prices_by shown.live prices))
 words_for group within last rows shown (short set) = None

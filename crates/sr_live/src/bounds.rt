@@ -1,15 +1,15 @@
 ghost use Rattle.std.specs.Prelude.{◌≡◌, ◌↔◌, ◌+◌, ◌≤◌, ℕ, List};
 ghost use Rattle.sr_transport.specs.Assignment.{IsAssignment, total_of};
-ghost use Rattle.sr_policy.specs.Snapshot.{Shown, IsSnapshot};
-ghost use Rattle.sr_policy.specs.Problem.{problem_of};
-ghost use Rattle.sr_check.specs.Answer.{IsShown, best};
+ghost use Rattle.sr_policy.specs.{SnapshotState, problem_of};
+ghost use Rattle.sr_policy.specs.Snapshot.{IsSnapshot};
+ghost use Rattle.sr_check.specs.{IsShown, best};
 ghost use Rattle.sr_live.specs.Bounds.{Fits, HaveRoom, IsSameWork, free_loads, gap_of};
 
 /// Law: while the work is the same and as many entries of each consumer are without a fee, a plan stays a cheapest one,
 /// shown by the same prices, exactly if each consumer that is given something has room for it and each tier with a
 /// price is still filled. Calling this has no effect.
 pub fn still_cheapest()
-    ensures { (old now : Shown) (assign prices : List ℕ) (total : ℕ) → IsSnapshot old
+    ensures { (old now : SnapshotState) (assign prices : List ℕ) (total : ℕ) → IsSnapshot old
         → IsSameWork old now → free_loads assign 0 old.live ≡ free_loads assign 0 now.live
         → IsShown (problem_of old) (best assign prices total)
         → ((HaveRoom assign 0 now.live × (gap_of now assign prices ≡ 0))
@@ -19,7 +19,7 @@ pub fn still_cheapest()
 /// Law: a cheapest plan that fits a later moment can be carried out then at the same total, and no plan at that moment
 /// is cheaper by more than the gap. Calling this has no effect.
 pub fn at_most_worse()
-    ensures { (old now : Shown) (assign prices : List ℕ) (total : ℕ)
+    ensures { (old now : SnapshotState) (assign prices : List ℕ) (total : ℕ)
         → IsShown (problem_of old) (best assign prices total) → Fits old now assign
         → IsAssignment (problem_of now) assign × (total ≡ total_of (problem_of now) assign)
         × ((other : List ℕ) → IsAssignment (problem_of now) other

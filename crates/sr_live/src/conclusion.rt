@@ -2,7 +2,7 @@
 ghost use Rattle.std.specs.Prelude.{◌≡◌, ◌++◌, ◌∷◌, [], ℕ, List, IfOk, OnOk};
 ghost use Rattle.std.specs.List.{flat_map};
 ghost use Rattle.sr_peer.specs.Reply as wire;
-ghost use Rattle.sr_peer.specs.Reply.{Bulk, part_text, request_text};
+ghost use Rattle.sr_peer.specs.{Bulk, part_text, request_text};
 ghost use Rattle.sr_live.specs.Conclusion.{SaysConcluded, script_call};
 ghost use Rattle.sr_live.specs.Looking.{Exchange, Talks};
 

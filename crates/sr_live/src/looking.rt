@@ -3,7 +3,7 @@ ghost use Rattle.std.specs.Prelude.{◌≡◌, ◌++◌, ◌∷◌, [], ℕ, Lis
 ghost use Rattle.std.specs.List.{flat_map};
 ghost use Rattle.std.specs.List.Sorted.{IsPermutation};
 ghost use Rattle.sr_peer.specs.Reply as wire;
-ghost use Rattle.sr_peer.specs.Reply.{request_text};
+ghost use Rattle.sr_peer.specs.{request_text};
 ghost use Rattle.sr_live.specs.Looking.{Exchange, IsLooked, ListsDead, ListsPages, LooksEntries, Talks};
 ghost use Rattle.sr_live.specs.Looking.{consumers_call, entry_call, pending_call, start_behind};
 ghost use Rattle.sr_live.specs.Said.{SayEntries, SaysNumbers, SaysPending};

@@ -1,10 +1,9 @@
 //! What the replies of Redis say of a group.
 ghost use Rattle.std.specs.Prelude.{◌≡◌, ◌++◌, ◌∷◌, ◌*◌, [], ℕ, List, pos, codes, length, option_map, IfOk, OnOk};
-ghost use Rattle.sr_ids.specs.Spelling.{SpellsId};
+ghost use Rattle.sr_ids.specs.{SpellsId};
 ghost use Rattle.sr_policy.specs.Rules.{value_at};
 ghost use Rattle.sr_peer.specs.Reply as wire;
-ghost use Rattle.sr_peer.specs.Reply.{Array, Bulk, Int};
-ghost use Rattle.sr_peer.specs.Shown.{part_of};
+ghost use Rattle.sr_peer.specs.{Array, Bulk, Int, part_of};
 ghost use Rattle.sr_live.specs.Conclusion.{SaysConcluded};
 ghost use Rattle.sr_live.specs.Said.{IsPendingRow, SaysConsumer, SaysEntry, SaysNumbers, SaysPending};
 ghost use Rattle.sr_live.specs.Said.{consumer_parts, fields_parts, pairs_parts};

@@ -2,8 +2,10 @@
 ghost use Rattle.std.specs.Prelude.{◌≡◌, ℕ, List, map};
 ghost use Rattle.sr_entries.specs.declared.entry.Entry.{Entry};
 ghost use Rattle.sr_pending.specs.declared.nack.Nack.{Nack};
-ghost use Rattle.sr_policy.specs.Rules.{Rules, Text};
-ghost use Rattle.sr_space.specs.Snap.{of_dead, shown_with};
+ghost use Rattle.sr_policy.specs.{Text};
+ghost use Rattle.sr_policy.specs.Rules.{Rules};
+ghost use Rattle.sr_space.specs.{shown_with};
+ghost use Rattle.sr_space.specs.Snap.{of_dead};
 ghost use Rattle.sr_live.specs.declared.looked.Row.{Row};
 ghost use Rattle.sr_live.specs.Looked.{shown_by};
 ghost use Rattle.sr_live.specs.Server.{AreCounted, row_of};

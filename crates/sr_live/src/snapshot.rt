@@ -3,7 +3,7 @@ ghost use Rattle.std.specs.List.{flat_map};
 ghost use Rattle.sr_policy.specs.Bounds.{most_stranded};
 ghost use Rattle.sr_policy.specs.Rules.{class_of, live_of, weight_of as weight};
 ghost use Rattle.sr_policy.specs.Snapshot.{IsSnapshot, is_among as among};
-ghost use Rattle.sr_space.specs.Snap.{listed};
+ghost use Rattle.sr_space.specs.{listed};
 ghost use Rattle.sr_live.specs.Looked.{gone_of, live_by, number_of, shown_by, stranded_by};
 
 use crate::looked::{Asked, Looked, Row};
@@ -83,9 +83,9 @@ struct Gathered {
 }
 
 impl Model for Gathered {
-    ghost use Rattle.sr_policy.specs.Snapshot.{Shown};
+    ghost use Rattle.sr_policy.specs.{SnapshotState};
 
-    ghost Value = { Shown };
+    ghost Value = { SnapshotState };
 
     ghost view = { λ g. record {
       key = g.key;

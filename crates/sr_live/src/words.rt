@@ -1,7 +1,7 @@
 ghost use Rattle.std.specs.Prelude.{◌≡◌, ◌++◌, ◌∷◌, [], IfOk, OnOk, length, decimal, drop};
 ghost use Rattle.std.specs.Prelude.{map, option_map, slice_index_or};
 ghost use Rattle.std.specs.List.{flat_map};
-ghost use Rattle.sr_ids.specs.Spelling.{spelling};
+ghost use Rattle.sr_ids.specs.{spelling};
 ghost use Rattle.sr_live.specs.Words.{dead_words, ids_to, live_words, last_word, lives_words};
 ghost use Rattle.sr_live.specs.Words.{row_words, rows_of, soft_word, words_for};
 

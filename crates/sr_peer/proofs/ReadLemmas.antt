@@ -3,7 +3,7 @@ use Rattle.std.proofs.Common.{◌≡◌, ℕ, ◌+◌, ◌-◌, ◌<◌, ◌≤�
 use Rattle.std.proofs.Common.{◌∙◌, subst, arith, length-append}
 use Rattle.std.specs.Prelude.{Result, Ok, Err}
 use Rattle.std.proofs.lemmas.List.{drop_at, drop-drop}
-use Rattle.sr_peer.specs.declared.answers.Place.{Place}
+use Rattle.sr_peer.specs.declared.answers.ReadSoFar.{ReadSoFar}
 use Rattle.sr_peer.specs.declared.answers.TakeFault.{TakeFault}
 use Rattle.sr_peer.specs.declared.answers.TakeFault.TheVariants as faults
 use Rattle.sr_peer.specs.declared.first.Front.{Front}
@@ -74,7 +74,7 @@ begun-left due left least some begun = record { none = λ none. absurd (omega ar
 pub none-left : (due : ℕ) (left : List ℕ) → due ≡ 0 → left ≡ [] → AreLeft due left
 none-left due left none empty = record { none = λ _. empty; some = λ some. absurd (omega arith) }
 
-pub grows-reads : (text : List ℕ) (at due : ℕ) (r : Result Place TakeFault) → ReadsOn text at due r
+pub grows-reads : (text : List ℕ) (at due : ℕ) (r : Result ReadSoFar TakeFault) → ReadsOn text at due r
     → GrowsOn text at due r
 grows-reads text at due (Ok place) reads = reads
 grows-reads text at due (Err faults.Memory) reads = tt
@@ -83,7 +83,7 @@ grows-reads text at due (Err faults.TooLong) reads = reads
 
 -- ---- a piece more
 
-pub read-on : (count at due : ℕ) (text piece whole : List ℕ) (place : Place) → AreRead count text at due
+pub read-on : (count at due : ℕ) (text piece whole : List ℕ) (place : ReadSoFar) → AreRead count text at due
     → whole ≡ text ++ piece → length whole ≤ most_bytes → GrowsOn (text ++ piece) at due (Ok place)
     → AreRead count whole place.at place.due
 read-on count at due text piece whole place are is short reads =

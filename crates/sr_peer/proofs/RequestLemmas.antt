@@ -4,7 +4,7 @@ use Rattle.std.specs.Prelude.{All, decimal, sum_by}
 use Rattle.std.specs.List.{flat_map}
 use Rattle.std.proofs.lemmas.Fmt.{decimal_is_IsNumeral, decimal_nonempty, length-decimal-le}
 use Rattle.std.proofs.lemmas.List.Elements.{All-head, All-tail}
-use Rattle.sr_bytes.specs.Decimal.{IsDecimal}
+use Rattle.sr_bytes.specs.{IsDecimal}
 use Rattle.sr_resp.specs.Request.{IsRequest, AreWords}
 use Rattle.sr_peer.specs.Reply.{Bulk, part_text, request_text}
 

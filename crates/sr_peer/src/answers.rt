@@ -36,7 +36,7 @@ impl From<AllocError> for TakeFault {
 
 /// How far a text has been read.
 #[derive(Clone, Copy)]
-struct Place {
+struct ReadSoFar {
     /// How many bytes the whole parts have.
     at: usize,
     /// How many replies are to come after them.
@@ -49,7 +49,7 @@ struct Place {
 pub struct Answers {
     count: usize,
     text: Vec<u8>,
-    place: Place,
+    place: ReadSoFar,
 }
 
 // A function of its own, so that a caller that lets go of one is proved without looking at its parts.
@@ -83,7 +83,7 @@ impl Answers {
         Answers {
             count,
             text: Vec::new(alloc),
-            place: Place { at: 0, due: count },
+            place: ReadSoFar { at: 0, due: count },
         }
     }
 
@@ -136,7 +136,7 @@ impl Answers {
 }
 
 /// Appends a piece to a text that was read up to this place, and reads on. An `Err` may leave the piece there.
-fn grow(text: &mut Vec<u8>, piece: &[u8], from: Place) -> Result<Place, TakeFault>
+fn grow(text: &mut Vec<u8>, piece: &[u8], from: ReadSoFar) -> Result<ReadSoFar, TakeFault>
     requires at { from.at ≤ length text.old.items }
     requires short { length text.old.items ≤ most_bytes }
     ensures ok { OnOk result (text.new.items ≡ text.old.items ++ piece.now) }
@@ -152,7 +152,7 @@ fn grow(text: &mut Vec<u8>, piece: &[u8], from: Place) -> Result<Place, TakeFaul
 }
 
 /// Reads on from a place to the last whole part.
-fn read_on(text: &[u8], from: Place) -> Result<Place, TakeFault>
+fn read_on(text: &[u8], from: ReadSoFar) -> Result<ReadSoFar, TakeFault>
     requires at { from.at ≤ length text.now }
     requires short { length text.now ≤ most_bytes }
     ensures { ReadsOn text.now from.at from.due result }
@@ -172,7 +172,7 @@ fn read_on(text: &[u8], from: Place) -> Result<Place, TakeFault>
                 if least > MOST_BYTES - text.len() {
                     return Err(TakeFault::TooLong);
                 }
-                return Ok(Place {
+                return Ok(ReadSoFar {
                     at: text.len() - left.len(),
                     due,
                 });
@@ -181,7 +181,7 @@ fn read_on(text: &[u8], from: Place) -> Result<Place, TakeFault>
         }
     }
     if left.is_empty() {
-        Ok(Place {
+        Ok(ReadSoFar {
             at: text.len(),
             due,
         })

@@ -4,10 +4,11 @@ use Rattle.std.proofs.Math.Seq.{take-nil}
 use Rattle.std.specs.List.{All, insert}
 use Rattle.std.proofs.lemmas.List.Elements.{All-append, All-cons, All-filter, All-head, All-map, All-tail, All-weaker}
 use Rattle.sr_ids.specs.declared.id.Id.{Id}
-use Rattle.sr_ids.specs.Id.{IsBelow}
+use Rattle.sr_ids.specs.{IsBelow}
 use Rattle.sr_ids.proofs.IdLemmas.{IsBelow-cases, IsBelow-one_way}
 use Rattle.sr_pending.specs.declared.nack.Nack.{Nack}
-use Rattle.sr_pending.specs.Pending.{AreAbove, AreRising, has_id, is_below, is_same_id, with_nack, without}
+use Rattle.sr_ids.specs.{is_below, is_same_id}
+use Rattle.sr_pending.specs.Pending.{AreAbove, AreRising, has_id, with_nack, without}
 use Rattle.sr_pending.proofs.NackLemmas.{AreAbove-below, AreAbove-get, AreRising-filter, is_below-from, is_below-true, is_same_id-below, is_same_id-refl}
 use Rattle.sr_pending.proofs.SearchLemmas.{before_place, below_first, has_id-above, has_id-not_first, without-none}
 use Rattle.sr_pending.proofs.Splitting.{Splits, Splits-counted, drop-Splits}

@@ -1,7 +1,7 @@
 -- Lists in the order of the entries that f gives, while those that pass a test go one by one.
 use Rattle.std.proofs.Common.{◌≡◌, Bool, not, List, [], ◌∷◌, map, filter, inl, inr, refl, ap, sym, ◌∙◌}
 use Rattle.std.proofs.lemmas.Bool.{cases_Bool}
-use Rattle.sr_ids.specs.Id.{IsBelow}
+use Rattle.sr_ids.specs.{IsBelow}
 use Rattle.sr_pending.specs.declared.nack.Nack.{Nack}
 use Rattle.sr_pending.specs.Pending.{AreAbove, AreRising}
 use Rattle.sr_pending.proofs.NackLemmas.{is_same_id-below, is_same_id-refl}

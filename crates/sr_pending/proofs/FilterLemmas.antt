@@ -5,7 +5,8 @@ use Rattle.std.proofs.lemmas.List.{take-append-drop}
 use Rattle.std.proofs.lemmas.List.Elements.{All-head, All-tail, filter-append}
 use Rattle.sr_ids.specs.declared.id.Id.{Id}
 use Rattle.sr_pending.specs.declared.nack.Nack.{Nack}
-use Rattle.sr_pending.specs.Pending.{has_id, is_same_id}
+use Rattle.sr_ids.specs.{is_same_id}
+use Rattle.sr_pending.specs.Pending.{has_id}
 use Rattle.sr_pending.proofs.SearchLemmas.{has_id-not_first}
 
 -- what a filter makes of a list with one element more, or one less

@@ -8,9 +8,10 @@ use Rattle.slab.specs.Slab.{Slab}
 use Rattle.sr_ids.specs.declared.id.Id.{Id}
 use Rattle.sr_pending.specs.declared.nack.Nack.{Nack}
 use Rattle.sr_pending.specs.declared.room.Room.{Room}
-use Rattle.sr_pending.specs.Pending.{AreRising, UsesRoom, has_id, is_below, is_same_id, is_same_name, owned_by, room_of}
+use Rattle.sr_ids.specs.{is_below, is_same_id}
+use Rattle.sr_pending.specs.Pending.{AreRising, UsesRoom, has_id, is_same_name, owned_by, room_left}
 use Rattle.sr_pending.specs.steps.Blocks.{Laid, items_of}
-use Rattle.sr_pending.specs.steps.Held.{Gives, HasSpare, IsIndexed, KeepsSlots, PutsSlot, TakesSlot, slots_by, slots_in, spare_by, spare_in}
+use Rattle.sr_pending.specs.steps.OwnedSlots.{Gives, HasSpare, IsIndexed, KeepsSlots, PutsSlot, TakesSlot, slots_by, slots_in, spare_by, spare_in}
 use Rattle.sr_pending.specs.steps.Slots.{nack_at, nacks_at, slots_of, slots_with, slots_without, slots_without_owner}
 use Rattle.sr_pending.proofs.NackLemmas.{AreRising-filter}
 use Rattle.sr_pending.proofs.FilterLemmas.{filter-filter, filter-first_no, filter-first_yes, filter-insert_no, filter-remove_no, has_id-filter}
@@ -38,15 +39,15 @@ module _ {S : Type 0} (held new : HashMap (List ℕ) (Laid ℕ) S) (owner : List
   pub HasSpare-used : (left : List Room) → Gives owner given (spare_by held owner - 1) held new → UsesRoom owner rooms left → HasSpare new left
   HasSpare-used left gives uses other = by (is_same_name owner other) refl
     where
-      by : (test : Bool) → is_same_name owner other ≡ test → room_of other left ≤ spare_by new other
-      by true e = subst (λ (o : List ℕ). room_of o left ≤ spare_by new o) ((bytes_decides owner other).0 e) (omega (arith, gives.spare, uses.used, spared owner))
+      by : (test : Bool) → is_same_name owner other ≡ test → room_left other left ≤ spare_by new other
+      by true e = subst (λ (o : List ℕ). room_left o left ≤ spare_by new o) ((bytes_decides owner other).0 e) (omega (arith, gives.spare, uses.used, spared owner))
       by false e = omega (arith, spared other, ap spare_in (gives.others other e), uses.others other (λ same. absurd (let both = sym e ∙ (bytes_decides owner other).1 (sym same) in cc)))
 
-  pub HasSpare-given : (room : ℕ) → Gives owner given room held new → room_of owner rooms ≤ room → HasSpare new rooms
+  pub HasSpare-given : (room : ℕ) → Gives owner given room held new → room_left owner rooms ≤ room → HasSpare new rooms
   HasSpare-given room gives le other = by (is_same_name owner other) refl
     where
-      by : (test : Bool) → is_same_name owner other ≡ test → room_of other rooms ≤ spare_by new other
-      by true e = subst (λ (o : List ℕ). room_of o rooms ≤ spare_by new o) ((bytes_decides owner other).0 e) (omega (arith, gives.spare, le))
+      by : (test : Bool) → is_same_name owner other ≡ test → room_left other rooms ≤ spare_by new other
+      by true e = subst (λ (o : List ℕ). room_left o rooms ≤ spare_by new o) ((bytes_decides owner other).0 e) (omega (arith, gives.spare, le))
       by false e = omega (arith, spared other, ap spare_in (gives.others other e))
 
 -- the slots that the map has by owner

@@ -2,10 +2,11 @@
 use Rattle.std.proofs.Common.{◌≡◌, ℕ, zero, suc, Bool, true, false, cond, List, [], ◌∷◌, drop, filter, slice_get, Some, arith}
 use Rattle.std.proofs.lemmas.Bool.Decides.{nat_tests}
 use Rattle.sr_ids.specs.declared.id.Id.{Id}
-use Rattle.sr_ids.specs.Id.{IsBelow}
+use Rattle.sr_ids.specs.{IsBelow}
 use Rattle.sr_ids.proofs.IdLemmas.{Id-same}
 use Rattle.sr_pending.specs.declared.nack.Nack.{Nack}
-use Rattle.sr_pending.specs.Pending.{AreAbove, AreRising, is_below, is_same_id}
+use Rattle.sr_ids.specs.{is_below, is_same_id}
+use Rattle.sr_pending.specs.Pending.{AreAbove, AreRising}
 
 pub IsBelow-trans : (a b c : Id) → IsBelow a b → IsBelow b c → IsBelow a c
 IsBelow-trans a b c p q = grind arith

@@ -9,9 +9,10 @@ use Rattle.std.proofs.lemmas.List.Elements.{filter_agree}
 use Rattle.std.proofs.lemmas.List.Sums.{length-filter}
 use Rattle.std.proofs.lemmas.Option.{slice_get-map}
 use Rattle.sr_ids.specs.declared.id.Id.{Id}
-use Rattle.sr_ids.specs.Id.{IsBelow}
+use Rattle.sr_ids.specs.{IsBelow}
 use Rattle.sr_pending.specs.declared.nack.Nack.{Nack}
-use Rattle.sr_pending.specs.Pending.{AreAbove, AreRising, has_id, is_below, is_between, is_same_id}
+use Rattle.sr_ids.specs.{is_below, is_same_id}
+use Rattle.sr_pending.specs.Pending.{AreAbove, AreRising, has_id, is_between}
 use Rattle.sr_pending.specs.steps.Blocks.{ends_in}
 use Rattle.sr_pending.specs.steps.Search.{IsEdge, is_before}
 use Rattle.sr_pending.proofs.NackLemmas.{AreAbove-get, is_below-from, is_below-self, is_same_id-below, is_same_id-refl}

@@ -5,7 +5,7 @@ use Rattle.std.proofs.lemmas.List.Sums.{sum_by-set, sum_by-remove, sum_by_push, 
 use Rattle.std.proofs.lemmas.Option.{slice_get_within, get_or_from_slice_get}
 use Rattle.std.specs.Cmp.Lexicographic.{bytes_decides}
 use Rattle.sr_pending.specs.declared.room.Room.{Room}
-use Rattle.sr_pending.specs.Pending.{UsesRoom, is_same_name, room_of}
+use Rattle.sr_pending.specs.Pending.{UsesRoom, is_same_name, room_left}
 use Rattle.sr_pending.specs.steps.Room.{AddsRoom, rooms_in_all}
 
 -- what a room counts for this owner
@@ -36,9 +36,9 @@ part-other owner other room same apart = by (is_same_name room.owner other) refl
     by false e = refl
 
 -- what one more room adds to this owner's
-pub room_of-more : (owner : List ℕ) (rooms : List Room) (i : ℕ) (room : Room) → i < length rooms → room ≡ get_or rooms i room → (had all : ℕ) (test : Bool) → had ≡ room_of owner (take i rooms) → test ≡ is_same_name room.owner owner → (test ≡ true → all ≡ had + room.left → all ≡ room_of owner (take (i + 1) rooms)) × (test ≡ false → all ≡ had → all ≡ room_of owner (take (i + 1) rooms))
-room_of-more owner rooms i room within read had all test counted tests =
-    let more : room_of owner (take (i + 1) rooms) ≡ room_of owner (take i rooms) + part owner room = sum_by_more (part owner) rooms i room within ∙ ap (λ (r : Room). room_of owner (take i rooms) + part owner r) (sym read) in
+pub room_left-more : (owner : List ℕ) (rooms : List Room) (i : ℕ) (room : Room) → i < length rooms → room ≡ get_or rooms i room → (had all : ℕ) (test : Bool) → had ≡ room_left owner (take i rooms) → test ≡ is_same_name room.owner owner → (test ≡ true → all ≡ had + room.left → all ≡ room_left owner (take (i + 1) rooms)) × (test ≡ false → all ≡ had → all ≡ room_left owner (take (i + 1) rooms))
+room_left-more owner rooms i room within read had all test counted tests =
+    let more : room_left owner (take (i + 1) rooms) ≡ room_left owner (take i rooms) + part owner room = sum_by_more (part owner) rooms i room within ∙ ap (λ (r : Room). room_left owner (take i rooms) + part owner r) (sym read) in
     ((λ yes is. omega (arith, more, part-same owner room (sym tests ∙ yes), counted, is)), (λ no is. omega (arith, more, part-none owner room (sym tests ∙ no), counted, is)))
 
 -- one room changes, goes or comes

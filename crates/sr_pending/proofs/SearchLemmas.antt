@@ -5,10 +5,11 @@ use Rattle.std.specs.List.{remove, slice_range}
 use Rattle.std.proofs.lemmas.List.{take_rest}
 use Rattle.std.specs.List.Sorted.{IsPartitionedBy}
 use Rattle.sr_ids.specs.declared.id.Id.{Id}
-use Rattle.sr_ids.specs.Id.{IsBelow}
+use Rattle.sr_ids.specs.{IsBelow}
 use Rattle.sr_ids.proofs.IdLemmas.{IsBelow-cases}
 use Rattle.sr_pending.specs.declared.nack.Nack.{Nack}
-use Rattle.sr_pending.specs.Pending.{AreAbove, AreRising, is_below, is_same_id, has_id, nack_with, pending_between, without}
+use Rattle.sr_ids.specs.{is_below, is_same_id}
+use Rattle.sr_pending.specs.Pending.{AreAbove, AreRising, has_id, nack_with, pending_between, without}
 use Rattle.sr_pending.proofs.NackLemmas.{IsBelow-trans, is_below-true, is_below-from, is_same_id-true, is_same_id-refl, is_same_id-below, is_same_id-above, AreAbove-below, AreAbove-get}
 use Rattle.sr_pending.proofs.Splitting.{Splits, Splits-counted, drop-Splits, filter-Splits}
 

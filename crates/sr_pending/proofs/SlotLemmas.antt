@@ -10,10 +10,11 @@ use Rattle.std.proofs.lemmas.List.Elements.{All-append, All-cons, All-filter, Al
 use Rattle.std.proofs.lemmas.Option.{slice_get-map}
 use Rattle.slab.specs.Slab.{Slab, ContainsKey, Updates, get}
 use Rattle.sr_ids.specs.declared.id.Id.{Id}
-use Rattle.sr_ids.specs.Id.{IsBelow}
+use Rattle.sr_ids.specs.{IsBelow}
 use Rattle.sr_ids.proofs.IdLemmas.{IsBelow-one_way}
 use Rattle.sr_pending.specs.declared.nack.Nack.{Nack}
-use Rattle.sr_pending.specs.Pending.{AreAbove, AreRising, has_id, is_below, is_same_id, is_same_name, owned_by, with_nack, without, without_owner}
+use Rattle.sr_ids.specs.{is_below, is_same_id}
+use Rattle.sr_pending.specs.Pending.{AreAbove, AreRising, has_id, is_same_name, owned_by, with_nack, without, without_owner}
 use Rattle.sr_pending.specs.steps.Slots.{AreDistinct, AreTaken, nack_at, nack_or, nacks_at, slots_of, slots_with, slots_without, slots_without_owner}
 use Rattle.sr_pending.proofs.NackLemmas.{is_same_id-refl}
 use Rattle.sr_pending.proofs.SearchLemmas.{before_place, has_id-above}

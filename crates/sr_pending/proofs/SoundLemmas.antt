@@ -12,9 +12,10 @@ use Rattle.slab.specs.Slab.{Slab, ContainsKey, Updates, get, slab_len}
 use Rattle.sr_ids.specs.declared.id.Id.{Id}
 use Rattle.sr_pending.specs.declared.nack.Nack.{Nack}
 use Rattle.sr_pending.specs.declared.room.Room.{Room}
-use Rattle.sr_pending.specs.Pending.{AreRising, IsCountable, has_id, is_below, is_same_id, is_same_name, room_of, with_nack, without, without_owner}
+use Rattle.sr_ids.specs.{is_below, is_same_id}
+use Rattle.sr_pending.specs.Pending.{AreRising, IsCountable, has_id, is_same_name, room_left, with_nack, without, without_owner}
 use Rattle.sr_pending.specs.steps.Blocks.{Laid}
-use Rattle.sr_pending.specs.steps.Held.{Gives, HasSpare, IsIndexed, KeepsSlots, PutsSlot, TakesSlot, slots_by, spare_by}
+use Rattle.sr_pending.specs.steps.OwnedSlots.{Gives, HasSpare, IsIndexed, KeepsSlots, PutsSlot, TakesSlot, slots_by, spare_by}
 use Rattle.sr_pending.specs.steps.Room.{AddsRoom, rooms_in_all}
 use Rattle.sr_pending.specs.steps.Slots.{AreTaken, Frees, Writes, nack_at, nack_or, nacks_at, slots_of, slots_with, slots_without, slots_without_owner}
 use Rattle.sr_pending.specs.steps.Sound.{IsSound}
@@ -39,7 +40,7 @@ module _ {S : Type 0} (slab : Slab Nack) (slots after : List ℕ) (rooms left : 
     spared = λ owner. rw rest (omega (arith, sound.spared owner, keeps.spare owner));
   }
 
-  pub IsSound-reserved : (owner : List ℕ) (n had more count all : ℕ) → had ≡ room_of owner rooms → more ≡ n - had → count ≡ rooms_in_all rooms → all ≡ min (count + more) (2 ^ 64 - 1) → slab_len slab + all ≤ places → less ≡ max all spare → less < 2 ^ 63 → AddsRoom owner more rooms left → KeepsSlots held now → n ≤ spare_by now owner → IsSound (record slab { capacity = places }) after left now less
+  pub IsSound-reserved : (owner : List ℕ) (n had more count all : ℕ) → had ≡ room_left owner rooms → more ≡ n - had → count ≡ rooms_in_all rooms → all ≡ min (count + more) (2 ^ 64 - 1) → slab_len slab + all ≤ places → less ≡ max all spare → less < 2 ^ 63 → AddsRoom owner more rooms left → KeepsSlots held now → n ≤ spare_by now owner → IsSound (record slab { capacity = places }) after left now less
   IsSound-reserved owner n had more count all has is counts sums finds wide small adds keeps enough = record {
     rising = rw same sound.rising;
     countable = rw same sound.countable;
@@ -52,8 +53,8 @@ module _ {S : Type 0} (slab : Slab Nack) (slots after : List ℕ) (rooms left : 
     spared = λ other. by other (is_same_name owner other) refl;
   }
     where
-      by : (other : List ℕ) (test : Bool) → is_same_name owner other ≡ test → room_of other left ≤ spare_by now other
-      by other true e = subst (λ (o : List ℕ). room_of o left ≤ spare_by now o) ((bytes_decides owner other).0 e) (omega (arith, adds.added, has, is, enough, sound.spared owner, keeps.spare owner))
+      by : (other : List ℕ) (test : Bool) → is_same_name owner other ≡ test → room_left other left ≤ spare_by now other
+      by other true e = subst (λ (o : List ℕ). room_left o left ≤ spare_by now o) ((bytes_decides owner other).0 e) (omega (arith, adds.added, has, is, enough, sound.spared owner, keeps.spare owner))
       by other false e = omega (arith, sound.spared other, keeps.spare other, adds.others other (λ equal. absurd (let both = sym e ∙ (bytes_decides owner other).1 (sym equal) in cc)))
 
 -- an entry comes into an empty slot

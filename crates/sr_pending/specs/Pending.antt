@@ -2,13 +2,13 @@
 -- Source: Redis documentation, "Streams", section "Consumer groups", and the pages of XPENDING, XACK and XCLAIM.
 
 use Rattle.std.specs.Prelude.{◌≡◌, ℕ, ◌+◌, ◌-◌, ◌^◌, ◌<◌, ◌≤◌, ◌≢◌, max, ⊤, List, [], ◌∷◌, ◌++◌, Option, Some, None}
-use Rattle.std.specs.Prelude.{Bool, true, ◌&&◌, ◌||◌, not, ◌==◌, nat_eq, nat_lt, if◌then◌else◌}
+use Rattle.std.specs.Prelude.{Bool, true, ◌&&◌, not, nat_eq, if◌then◌else◌}
 use Rattle.std.specs.Prelude.{length, map, filter, take, slice_get}
 use Rattle.std.specs.List.{list_any, sum_by}
 use Rattle.std.specs.Option.{option_map}
 use Rattle.std.specs.Cmp.Lexicographic.{pointwise}
 use Rattle.sr_ids.specs.declared.id.Id.{Id}
-use Rattle.sr_ids.specs.Id.{IsBelow}
+use Rattle.sr_ids.specs.{IsBelow, is_below, is_same_id}
 use Rattle.sr_pending.specs.declared.nack.Nack.{Nack}
 use Rattle.sr_pending.specs.declared.room.Room.{Room}
 
@@ -21,31 +21,23 @@ pub record PendingState : Type 0 where
 abbrev pub is_same_name : List ℕ → List ℕ → Bool
 is_same_name a b = pointwise nat_eq a b
 
--- a and b are one id, as a test
-abbrev pub is_same_id : Id → Id → Bool
-is_same_id a b = (a.ms == b.ms) && (a.seq == b.seq)
-
--- a comes before b, as a test
-abbrev pub is_below : Id → Id → Bool
-is_below a b = nat_lt a.ms b.ms || ((a.ms == b.ms) && nat_lt a.seq b.seq)
-
 -- for how many more entries of this owner there is room
-abbrev pub room_of : List ℕ → List Room → ℕ
-room_of owner rooms = sum_by (λ room. if is_same_name room.owner owner then room.left else 0) rooms
+abbrev pub room_left : List ℕ → List Room → ℕ
+room_left owner rooms = sum_by (λ room. if is_same_name room.owner owner then room.left else 0) rooms
 
 -- one place of this owner's room is used, and none of another owner's
 pub record UsesRoom (owner : List ℕ) (old new : List Room) : Type 0 where
-  pub used : room_of owner new + 1 ≡ room_of owner old
-  pub others : (other : List ℕ) → other ≢ owner → room_of other new ≡ room_of other old
+  pub used : room_left owner new + 1 ≡ room_left owner old
+  pub others : (other : List ℕ) → other ≢ owner → room_left other new ≡ room_left other old
 
 -- no owner has less room than before
 abbrev pub KeepsRooms : List Room → List Room → Type 0
-KeepsRooms old new = (owner : List ℕ) → room_of owner old ≤ room_of owner new
+KeepsRooms old new = (owner : List ℕ) → room_left owner old ≤ room_left owner new
 
 -- this owner has room for n more, or what it had if that was more, and no other owner's room changes
 pub record Reserves (owner : List ℕ) (n : ℕ) (old new : List Room) : Type 0 where
-  pub owners : room_of owner new ≡ max n (room_of owner old)
-  pub others : (other : List ℕ) → other ≢ owner → room_of other new ≡ room_of other old
+  pub owners : room_left owner new ≡ max n (room_left owner old)
+  pub others : (other : List ℕ) → other ≢ owner → room_left other new ≡ room_left other old
 
 -- the id lies below all entries
 abbrev pub AreAbove : Id → List Nack → Type 0

@@ -1,5 +1,5 @@
 pub mod Blocks
-pub mod Held
+pub mod OwnedSlots
 pub mod Room
 pub mod Search
 pub mod Slots

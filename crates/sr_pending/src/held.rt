@@ -1,7 +1,7 @@
 ghost use Rattle.std.specs.Prelude.{◌≡◌, ◌^◌, ◌<◌, ◌≤◌, [], false, length, OnOk};
 ghost use Rattle.slab.specs.Slab.{ContainsKey};
 ghost use Rattle.sr_pending.specs.Pending.{AreRising, has_id};
-ghost use Rattle.sr_pending.specs.steps.Held.{Gives, HasKey, KeepsSlots, PutsSlot, TakesSlot, slots_by, spare_by};
+ghost use Rattle.sr_pending.specs.steps.OwnedSlots.{Gives, HasKey, KeepsSlots, PutsSlot, TakesSlot, slots_by, spare_by};
 ghost use Rattle.sr_pending.specs.steps.Slots.{nack_at, nacks_at};
 
 use crate::Nack;
@@ -14,10 +14,10 @@ use std::alloc::{AllocError, Global};
 use std::collections::HashMap;
 
 /// The slots of the entries that each owner has, by rising id.
-pub(crate) type Held = HashMap<Name, Blocks<usize>>;
+pub(crate) type OwnedSlots = HashMap<Name, Blocks<usize>>;
 
 /// How many entries this owner has.
-pub(crate) fn held_for(held: &Held, owner: &Name) -> usize
+pub(crate) fn held_for(held: &OwnedSlots, owner: &Name) -> usize
     ensures value { result ≡ length (slots_by held.now owner.now) }
     ensures bound { result < 2 ^ 63 }
 {
@@ -28,7 +28,7 @@ pub(crate) fn held_for(held: &Held, owner: &Name) -> usize
 }
 
 /// Makes a key for this owner.
-fn add_key(held: &mut Held, alloc: Global, owner: &Name) -> Result<(), AllocError>
+fn add_key(held: &mut OwnedSlots, alloc: Global, owner: &Name) -> Result<(), AllocError>
     ensures keeps { KeepsSlots held.old held.new }
     ensures key { OnOk result (HasKey held.new owner.now) }
 {
@@ -40,7 +40,7 @@ fn add_key(held: &mut Held, alloc: Global, owner: &Name) -> Result<(), AllocErro
 
 /// Makes a key for this owner, and memory for `room` more of its slots.
 pub(crate) fn add_spare(
-    held: &mut Held,
+    held: &mut OwnedSlots,
     alloc: Global,
     owner: &Name,
     room: usize,
@@ -53,7 +53,7 @@ pub(crate) fn add_spare(
 }
 
 /// Makes memory for `room` more slots of this owner, which has a key.
-fn grow(held: &mut Held, alloc: Global, owner: &Name, room: usize) -> Result<(), AllocError>
+fn grow(held: &mut OwnedSlots, alloc: Global, owner: &Name, room: usize) -> Result<(), AllocError>
     requires { HasKey held.old owner.now }
     ensures keeps { KeepsSlots held.old held.new }
     ensures spare { OnOk result (room ≤ spare_by held.new owner.now) }
@@ -65,7 +65,7 @@ fn grow(held: &mut Held, alloc: Global, owner: &Name, room: usize) -> Result<(),
 }
 
 /// Gives this slot to the owner of its entry, without memory.
-pub(crate) fn put_slot(held: &mut Held, slab: &Slab<Nack>, slot: usize)
+pub(crate) fn put_slot(held: &mut OwnedSlots, slab: &Slab<Nack>, slot: usize)
     requires taken { ContainsKey slab.now slot }
     requires rising { AreRising (nacks_at slab.now (slots_by held.old (nack_at slab.now slot).owner)) }
     requires fresh { has_id (nack_at slab.now slot).id
@@ -79,7 +79,7 @@ pub(crate) fn put_slot(held: &mut Held, slab: &Slab<Nack>, slot: usize)
 }
 
 /// Takes this slot from the owner of its entry.
-pub(crate) fn take_slot(held: &mut Held, slab: &Slab<Nack>, slot: usize)
+pub(crate) fn take_slot(held: &mut OwnedSlots, slab: &Slab<Nack>, slot: usize)
     requires taken { ContainsKey slab.now slot }
     requires rising { AreRising (nacks_at slab.now (slots_by held.old (nack_at slab.now slot).owner)) }
     ensures { TakesSlot slot slab.now held.old held.new }
@@ -91,7 +91,7 @@ pub(crate) fn take_slot(held: &mut Held, slab: &Slab<Nack>, slot: usize)
 }
 
 /// Takes all slots from this owner, and drops its key if it has no room.
-pub(crate) fn clear(held: &mut Held, owner: &Name, room: usize)
+pub(crate) fn clear(held: &mut OwnedSlots, owner: &Name, room: usize)
     requires { room ≤ spare_by held.old owner.now }
     ensures { Gives owner.now [] room held.old held.new }
 {

@@ -2,12 +2,12 @@
 ghost use Rattle.std.specs.Prelude.{◌≡◌};
 ghost use Rattle.sr_pending.specs.Pending.{AreRising};
 ghost use Rattle.sr_pending.specs.steps.Blocks.{items_of};
-ghost use Rattle.sr_pending.specs.steps.Held.{slots_by};
+ghost use Rattle.sr_pending.specs.steps.OwnedSlots.{slots_by};
 ghost use Rattle.sr_pending.specs.steps.Slots.{nacks_at, slots_of, slots_without_owner};
 
 use crate::Nack;
 use crate::blocks::Blocks;
-use crate::held::{Held, held_for};
+use crate::held::{OwnedSlots, held_for};
 use crate::search::remove_slot;
 use crate::slots::id_in;
 use slab::Slab;
@@ -18,7 +18,7 @@ use sr_bytes::Name;
 const FEW: usize = 64;
 
 /// Removes the slots of the entries of this owner one by one, as the map lists them.
-fn remove_each(slots: &mut Blocks<usize>, slab: &Slab<Nack>, held: &Held, owner: &Name)
+fn remove_each(slots: &mut Blocks<usize>, slab: &Slab<Nack>, held: &OwnedSlots, owner: &Name)
     requires rising { AreRising (nacks_at slab.now (items_of slots.old)) }
     requires indexed { slots_by held.now owner.now ≡ slots_of owner.now slab.now (items_of slots.old) }
     ensures items { items_of slots.new ≡ slots_without_owner owner.now slab.now (items_of slots.old) }
@@ -33,7 +33,12 @@ fn remove_each(slots: &mut Blocks<usize>, slab: &Slab<Nack>, held: &Held, owner:
 }
 
 /// Removes the slots of the entries of this owner, which the map lists.
-pub(crate) fn remove_owned(slots: &mut Blocks<usize>, slab: &Slab<Nack>, held: &Held, owner: &Name)
+pub(crate) fn remove_owned(
+    slots: &mut Blocks<usize>,
+    slab: &Slab<Nack>,
+    held: &OwnedSlots,
+    owner: &Name,
+)
     requires rising { AreRising (nacks_at slab.now (items_of slots.old)) }
     requires indexed { slots_by held.now owner.now ≡ slots_of owner.now slab.now (items_of slots.old) }
     ensures items { items_of slots.new ≡ slots_without_owner owner.now slab.now (items_of slots.old) }

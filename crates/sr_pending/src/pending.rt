@@ -1,5 +1,5 @@
 use crate::blocks::Blocks;
-use crate::held::{Held, add_spare, clear, held_for, put_slot, take_slot};
+use crate::held::{OwnedSlots, add_spare, clear, held_for, put_slot, take_slot};
 use crate::nacks::Nacks;
 use crate::owned::remove_owned;
 use crate::room::{Room, add_room, in_all, room_for, use_room};
@@ -27,7 +27,7 @@ pub struct Pending {
     /// Their slots, by rising id.
     slots: Blocks<usize>,
     /// The slots of each owner's, by rising id.
-    held: Held,
+    held: OwnedSlots,
     rooms: Vec<Room>,
 }
 
@@ -62,9 +62,10 @@ impl Pending {
     ghost use Rattle.std.specs.Option.{option_copied};
     ghost use Rattle.std.specs.List.{All};
     ghost use Rattle.sr_pending.specs.Pending.{AreRising, IsCountable, KeepsRooms, Reserves, UsesRoom};
-    ghost use Rattle.sr_pending.specs.Pending.{greatest_pending, has_id, is_below, least_pending, moved, nack_with};
+    ghost use Rattle.sr_ids.specs.{is_below};
+    ghost use Rattle.sr_pending.specs.Pending.{greatest_pending, has_id, least_pending, moved, nack_with};
     ghost use Rattle.sr_pending.specs.Pending.{owned_by, owned_by_named, pending_above, pending_between, first_of};
-    ghost use Rattle.sr_pending.specs.Pending.{room_of, touched, with_nack, without, without_owner};
+    ghost use Rattle.sr_pending.specs.Pending.{room_left, touched, with_nack, without, without_owner};
 
     /// No pending entries, and no room. It takes no memory.
     pub fn new(alloc: Global) -> Pending
@@ -89,7 +90,7 @@ impl Pending {
 
     /// For how many more entries of this owner there is room.
     pub fn room(&self, owner: &Name) -> usize
-        ensures { result ≡ room_of owner.now self.now.rooms }
+        ensures { result ≡ room_left owner.now self.now.rooms }
     {
         room_for(self.rooms.as_slice(), owner)
     }
@@ -99,11 +100,11 @@ impl Pending {
     /// The rooms of several owners hold side by side, each until it is used.
     pub fn reserve(&mut self, alloc: Global, owner: &Name, n: usize) -> Result<(), AllocError>
         ensures nacks { self.new.nacks ≡ self.old.nacks }
-        ensures room { OnOk result (n ≤ room_of owner.now self.new.rooms) }
+        ensures room { OnOk result (n ≤ room_left owner.now self.new.rooms) }
         ensures keeps { OnOk result (KeepsRooms self.old.rooms self.new.rooms) }
         ensures exact { OnOk result (Reserves owner.now n self.old.rooms self.new.rooms) }
         ensures err { OnErr result (self.new ≡ self.old) }
-        ensures full { OnErr result (room_of owner.now self.old.rooms < n) }
+        ensures full { OnErr result (room_left owner.now self.old.rooms < n) }
     {
         let more = n.saturating_sub(room_for(self.rooms.as_slice(), owner));
         if more == 0 {
@@ -121,7 +122,7 @@ impl Pending {
     pub fn put(&mut self, nack: Nack)
         requires fresh { has_id nack.id self.old.nacks ≡ false }
         requires countable { IsCountable nack }
-        requires room { 0 < room_of nack.owner self.old.rooms }
+        requires room { 0 < room_left nack.owner self.old.rooms }
         ensures nacks { self.new.nacks ≡ with_nack nack self.old.nacks }
         ensures room { UsesRoom nack.owner self.old.rooms self.new.rooms }
     {
@@ -138,7 +139,7 @@ impl Pending {
         requires pending { has_id id self.old.nacks ≡ true }
         requires time { time < 2 ^ 63 }
         requires count { count < 2 ^ 63 }
-        requires room { 0 < room_of owner self.old.rooms }
+        requires room { 0 < room_left owner self.old.rooms }
         ensures nacks { self.new.nacks ≡ moved id owner time count self.old.nacks }
         ensures room { UsesRoom owner self.old.rooms self.new.rooms }
     {

@@ -1,6 +1,6 @@
 ghost use Rattle.std.specs.Prelude.{◌≡◌, ◌+◌, ◌^◌, ◌<◌, OnOk, OnErr, IfSome, IfNone};
 ghost use Rattle.std.specs.Vec.{vec_len};
-ghost use Rattle.sr_pending.specs.Pending.{UsesRoom, room_of};
+ghost use Rattle.sr_pending.specs.Pending.{UsesRoom, room_left};
 ghost use Rattle.sr_pending.specs.steps.Room.{AddsRoom, IsRoomAt, rooms_in_all};
 
 use sr_bytes::Name;
@@ -16,7 +16,7 @@ pub(crate) struct Room {
 /// For how many more entries of this owner there is room.
 pub(crate) fn room_for(rooms: &[Room], owner: &Name) -> usize
     requires { rooms_in_all rooms.now < 2 ^ 63 }
-    ensures { result ≡ room_of owner.now rooms.now }
+    ensures { result ≡ room_left owner.now rooms.now }
 {
     let mut all = 0usize;
     for room in rooms {
@@ -42,7 +42,7 @@ pub(crate) fn in_all(rooms: &[Room]) -> usize
 /// The place of a room of this owner's that is not used up.
 fn place_of_room(rooms: &[Room], owner: &Name) -> Option<usize>
     ensures found { IfSome result (IsRoomAt owner.now rooms.now) }
-    ensures none { IfNone result (room_of owner.now rooms.now ≡ 0) }
+    ensures none { IfNone result (room_left owner.now rooms.now ≡ 0) }
 {
     for (place, room) in rooms.iter().enumerate() {
         if room.left > 0 && room.owner == *owner {
@@ -54,7 +54,7 @@ fn place_of_room(rooms: &[Room], owner: &Name) -> Option<usize>
 
 /// Uses one place of this owner's room.
 pub(crate) fn use_room(rooms: &mut Vec<Room>, owner: &Name)
-    requires { 0 < room_of owner.now rooms.old.items }
+    requires { 0 < room_left owner.now rooms.old.items }
     ensures used { UsesRoom owner.now rooms.old.items rooms.new.items }
     ensures in_all { rooms_in_all rooms.new.items + 1 ≡ rooms_in_all rooms.old.items }
 {

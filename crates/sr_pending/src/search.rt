@@ -1,7 +1,8 @@
 //! Lists of slots by the ids of their entries, which rise: found by binary search, and changed there.
 ghost use Rattle.std.specs.Prelude.{◌≡◌, ◌+◌, ◌<◌, ◌≤◌, IsTrue, IfSome, IfNone, false, true, not, filter, map, length};
 ghost use Rattle.std.specs.VecDeque.{deque_items};
-ghost use Rattle.sr_pending.specs.Pending.{AreRising, has_id, is_below, is_between};
+ghost use Rattle.sr_ids.specs.{is_below};
+ghost use Rattle.sr_pending.specs.Pending.{AreRising, has_id, is_between};
 ghost use Rattle.sr_pending.specs.steps.Blocks.{IsIn, at_of, ends_in, items_of};
 ghost use Rattle.sr_pending.specs.steps.Search.{EndsBelow, IsAt, IsBegin, IsEdge, IsSlotOf, Splits};
 ghost use Rattle.sr_pending.specs.steps.Search.{is_before, number_before};

@@ -2,10 +2,10 @@
 ghost use Rattle.std.specs.Prelude.{◌≡◌};
 ghost use Rattle.slab.specs.Slab.{ContainsKey};
 ghost use Rattle.sr_pending.specs.Pending.{is_same_name, redelivered};
-ghost use Rattle.sr_pending.specs.steps.Held.{slots_by};
+ghost use Rattle.sr_pending.specs.steps.OwnedSlots.{slots_by};
 ghost use Rattle.sr_pending.specs.steps.Slots.{AreDistinct, AreTaken, Frees, Writes, nack_at};
 
-use crate::held::Held;
+use crate::held::OwnedSlots;
 use crate::{Nack, Owner};
 use slab::Slab;
 use sr_bytes::Name;
@@ -71,7 +71,7 @@ pub(crate) fn give_in(slab: &mut Slab<Nack>, slot: usize, owner: Owner, time: u6
 }
 
 /// Removes the entries of this owner, whose slots the map has.
-pub(crate) fn free_all(slab: &mut Slab<Nack>, held: &Held, owner: &Name)
+pub(crate) fn free_all(slab: &mut Slab<Nack>, held: &OwnedSlots, owner: &Name)
     requires taken { AreTaken slab.old (slots_by held.now owner.now) }
     requires distinct { AreDistinct (slots_by held.now owner.now) }
     ensures { Frees (slots_by held.now owner.now) slab.old slab.new }

@@ -4,8 +4,7 @@ use Rattle.std.proofs.lemmas.List.{get_or_default}
 use Rattle.sr_transport.specs.Solved.{IsBest}
 use Rattle.sr_policy.specs.declared.live.Live.{Live}
 use Rattle.sr_policy.specs.declared.stranded.Stranded.{Stranded}
-use Rattle.sr_policy.specs.Problem.{problem_of}
-use Rattle.sr_policy.specs.Snapshot.{Shown}
+use Rattle.sr_policy.specs.{problem_of, SnapshotState}
 use Rattle.sr_policy.proofs.ProblemLemmas.{length-tiers_from}
 use Rattle.sr_plan.specs.steps.Moves.{AreMoves, ArePrices}
 
@@ -13,7 +12,7 @@ within_live : (live found : List Live) (c : ℕ) → found ≡ live → c < leng
 within_live live found c same below = rw same below
 
 -- it has a live consumer for each stranded entry
-pub AreMoves-best : (shown : Shown) (assign found prices : List ℕ) (total : ℕ) (stranded : List Stranded)
+pub AreMoves-best : (shown : SnapshotState) (assign found prices : List ℕ) (total : ℕ) (stranded : List Stranded)
     (live : List Live)
     → IsBest (problem_of shown) assign prices total → found ≡ assign → stranded ≡ shown.stranded → live ≡ shown.live
     → AreMoves stranded found live
@@ -24,7 +23,7 @@ AreMoves-best shown assign found prices total stranded live best is entries cons
 })
 
 -- and a price for each of their tiers
-pub ArePrices-best : (shown : Shown) (assign prices found : List ℕ) (total : ℕ) (live : List Live)
+pub ArePrices-best : (shown : SnapshotState) (assign prices found : List ℕ) (total : ℕ) (live : List Live)
     → IsBest (problem_of shown) assign prices total → found ≡ prices → live ≡ shown.live → ArePrices live found
 ArePrices-best shown assign prices found total live best is consumers =
     rw (is, consumers) (best.shown.one_each ∙ length-tiers_from 0 shown.live)

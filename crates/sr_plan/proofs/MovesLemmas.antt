@@ -9,9 +9,8 @@ use Rattle.std.proofs.lemmas.Slice.Zip.{length-zip}
 use Rattle.sr_ids.specs.declared.id.Id.{Id}
 use Rattle.sr_policy.specs.declared.live.Live.{Live}
 use Rattle.sr_policy.specs.declared.stranded.Stranded.{Stranded}
-use Rattle.sr_policy.specs.Rules.{Text}
-use Rattle.sr_policy.specs.Problem.{tier_count}
-use Rattle.sr_check.specs.Answer.{AreTold}
+use Rattle.sr_policy.specs.{Text, tier_count}
+use Rattle.sr_check.specs.{AreTold}
 use Rattle.sr_plan.specs.Verdict.{name_at, id_at, prices_by}
 use Rattle.sr_plan.specs.steps.Moves.{AreMoves, ArePrices}
 

@@ -6,17 +6,16 @@ use Rattle.std.proofs.lemmas.List.{drop_all, length-map}
 use Rattle.std.proofs.lemmas.Simd.{map-map}
 use Rattle.std.proofs.Math.Seq.{drop-cons}
 use Rattle.sr_ids.specs.declared.id.Id.{Id}
-use Rattle.sr_resp.specs.Reply.{Answer, Part, IsReply, array_header, array_of, bulk_string, integer}
+use Rattle.sr_resp.specs.{ReplyParts, array_header, array_of, bulk_string, integer}
+use Rattle.sr_resp.specs.Reply.{Part, IsReply}
 use Rattle.sr_resp.proofs.CallerLemmas.{IsReply-array_of, IsReply-array_of_map}
-use Rattle.sr_transport.specs.Problem.{Tiered}
+use Rattle.sr_transport.specs.{Tiered}
 use Rattle.sr_transport.specs.Certificate.{is_reached, places_of}
 use Rattle.sr_policy.specs.declared.live.Live.{Live}
-use Rattle.sr_policy.specs.Problem.{problem_of, room_at}
-use Rattle.sr_policy.specs.Rules.{Text}
-use Rattle.sr_policy.specs.Snapshot.{Shown}
+use Rattle.sr_policy.specs.{problem_of, room_at, Text, SnapshotState}
 use Rattle.sr_plan.specs.Verdict.{best, id_at, moves_of, prices_by, short}
-use Rattle.sr_check.specs.PlanReply.{id_answer, move_answer, price_answer, share_answer, plan_word, reached_from}
-use Rattle.sr_check.specs.PlanReply.{verdict_answer}
+use Rattle.sr_check.specs.{id_answer, move_answer, price_answer, share_answer, plan_word, reached_from}
+use Rattle.sr_check.specs.{verdict_answer}
 use Rattle.sr_plan.proofs.ArrayLemmas.{map-written, HasLeft, left-after, left-none}
 
 -- each item of a verdict's arrays is a reply
@@ -41,7 +40,7 @@ IsReply-prices prices =
     IsReply-array_of (bulk_string own.0 ∷ map (λ (n : ℕ). integer (pos n)) own.1) (refl, integers_are_replies own.1))
 
 -- past the last of a list, the draft is the array of all of it
-pub list-written : {X : Type 0} (f : X → Answer) (xs : List X) (i : ℕ) (draft : List Part) → length xs ≤ i
+pub list-written : {X : Type 0} (f : X → ReplyParts) (xs : List X) (i : ℕ) (draft : List Part) → length xs ≤ i
     → draft ++ flat_map f (drop i xs) ≡ array_header (length xs) ++ flat_map f xs → draft ≡ array_of (map f xs)
 list-written f xs i draft past e = map-written f xs (drop i xs) draft (drop_all i xs past) e
 
@@ -50,7 +49,7 @@ pub price-written : (name : Text) (own : List ℕ)
     → array_header (length own + 1) ++ bulk_string name ++ flat_map (λ (n : ℕ). integer (pos n)) own
     ≡ price_answer (name, own)
 price-written name own =
-    let items : List Answer = map (λ (n : ℕ). integer (pos n)) own in
+    let items : List ReplyParts = map (λ (n : ℕ). integer (pos n)) own in
     let count : length own + 1 ≡ length (bulk_string name ∷ items) =
     omega (arith, length-map own (λ (n : ℕ). integer (pos n))) in
     ap (λ (n : ℕ). array_header n ++ bulk_string name ++ flat_map (λ (n : ℕ). integer (pos n)) own) count
@@ -58,7 +57,7 @@ price-written name own =
     (flattened own)
   where
     flattened : (ns : List ℕ) → flat_map (λ (n : ℕ). integer (pos n)) ns
-        ≡ flat_map (λ (item : Answer). item) (map (λ (n : ℕ). integer (pos n)) ns)
+        ≡ flat_map (λ (item : ReplyParts). item) (map (λ (n : ℕ). integer (pos n)) ns)
     flattened [] = refl
     flattened (n ∷ ns) = ap (λ (parts : List Part). integer (pos n) ++ parts) (flattened ns)
 
@@ -104,24 +103,24 @@ unreached_first p set n consumer rest unreached =
     ap (λ (is : Bool). map share_answer (more is)) unreached
 
 -- a reached consumer is added with its room, and another is passed over
-pub room_added : (p : Tiered) (set : List ℕ) (n room : ℕ) (live : List Live) (consumer : Live) (reply now item : Answer)
-    (all : List Answer)
+pub room_added : (p : Tiered) (set : List ℕ) (n room : ℕ) (live : List Live) (consumer : Live) (reply now item : ReplyParts)
+    (all : List ReplyParts)
     → n < length live → consumer ≡ get_or live n consumer → is_reached p set n ≡ true → room ≡ room_at consumer
     → item ≡ share_answer (consumer.name, room)
     → HasLeft reply (map share_answer (reached_from p set n (drop n live))) all
-    → ((items : List Answer) → reply ≡ array_of items → now ≡ array_of (items ++ item ∷ []))
+    → ((items : List ReplyParts) → reply ≡ array_of items → now ≡ array_of (items ++ item ∷ []))
     → HasLeft now (map share_answer (reached_from p set (n + 1) (drop (n + 1) live))) all
 room_added p set n room live consumer reply now item all lt is reached roomy itemized has added =
-    let left : List Answer = map share_answer (reached_from p set (n + 1) (drop (n + 1) live)) in
+    let left : List ReplyParts = map share_answer (reached_from p set (n + 1) (drop (n + 1) live)) in
     let one : item ≡ share_answer (consumer.name, room_at consumer) =
     itemized ∙ ap (λ (k : ℕ). share_answer (consumer.name, k)) roomy in
     let split : map share_answer (reached_from p set n (drop n live)) ≡ (item ∷ []) ++ left =
     ap (λ (l : List Live). map share_answer (reached_from p set n l)) (next_consumer live n consumer lt is)
-    ∙ reached_first p set n consumer (drop (n + 1) live) reached ∙ ap (λ (first : Answer). first ∷ left) (sym one) in
-    left-after reply now (item ∷ []) left all (subst (λ (l : List Answer). HasLeft reply l all) split has) added
+    ∙ reached_first p set n consumer (drop (n + 1) live) reached ∙ ap (λ (first : ReplyParts). first ∷ left) (sym one) in
+    left-after reply now (item ∷ []) left all (subst (λ (l : List ReplyParts). HasLeft reply l all) split has) added
 
-pub room_passed : (p : Tiered) (set : List ℕ) (n : ℕ) (live : List Live) (consumer : Live) (reply : Answer)
-    (all : List Answer)
+pub room_passed : (p : Tiered) (set : List ℕ) (n : ℕ) (live : List Live) (consumer : Live) (reply : ReplyParts)
+    (all : List ReplyParts)
     → n < length live → consumer ≡ get_or live n consumer → is_reached p set n ≡ false
     → HasLeft reply (map share_answer (reached_from p set n (drop n live))) all
     → HasLeft reply (map share_answer (reached_from p set (n + 1) (drop (n + 1) live))) all
@@ -129,10 +128,10 @@ room_passed p set n live consumer reply all lt is unreached has =
     let split : map share_answer (reached_from p set n (drop n live)) ≡ map share_answer (reached_from p set (n + 1)
     (drop (n + 1) live)) = ap (λ (l : List Live). map share_answer (reached_from p set n l))
     (next_consumer live n consumer lt is) ∙ unreached_first p set n consumer (drop (n + 1) live) unreached in
-    subst (λ (l : List Answer). HasLeft reply l all) split has
+    subst (λ (l : List ReplyParts). HasLeft reply l all) split has
 
 -- and past the last, all are there
-pub rooms-written : (p : Tiered) (set : List ℕ) (i : ℕ) (live : List Live) (reply : Answer) → length live ≤ i
+pub rooms-written : (p : Tiered) (set : List ℕ) (i : ℕ) (live : List Live) (reply : ReplyParts) → length live ≤ i
     → HasLeft reply (map share_answer (reached_from p set i (drop i live)))
     (map share_answer (reached_from p set 0 live))
     → reply ≡ array_of (map share_answer (reached_from p set 0 live))
@@ -142,44 +141,44 @@ rooms-written p set i live reply past has =
     (ap (λ (l : List Live). map share_answer (reached_from p set i l)) (drop_all i live past))
 
 -- the parts of a plan's reply
-pub plan-written : (shown : Shown) (assign prices : List ℕ) (total : ℕ)
-    (word cost moves priced gone : Answer) (applied : Bool)
+pub plan-written : (shown : SnapshotState) (assign prices : List ℕ) (total : ℕ)
+    (word cost moves priced gone : ReplyParts) (applied : Bool)
     → word ≡ bulk_string (plan_word applied) → cost ≡ integer (pos total)
     → moves ≡ array_of (map move_answer (moves_of shown assign))
     → priced ≡ array_of (map price_answer (prices_by shown.live prices))
     → gone ≡ array_of (map (λ (pair : Id × Text). id_answer pair.0) shown.gone)
     → array_of (word ∷ cost ∷ moves ∷ priced ∷ gone ∷ []) ≡ verdict_answer shown (best assign prices total) applied
 plan-written shown assign prices total word cost moves priced gone applied a b d e f =
-    let whole : Answer → Answer → Answer → Answer → Answer → Answer =
+    let whole : ReplyParts → ReplyParts → ReplyParts → ReplyParts → ReplyParts → ReplyParts =
     λ first second third fourth fifth. array_of (first ∷ second ∷ third ∷ fourth ∷ fifth ∷ []) in
-    let said : Answer = bulk_string (plan_word applied) in
-    let moved : Answer = array_of (map move_answer (moves_of shown assign)) in
-    let shares : Answer = array_of (map price_answer (prices_by shown.live prices)) in
-    ap (λ (first : Answer). whole first cost moves priced gone) a
-    ∙ ap (λ (second : Answer). whole said second moves priced gone) b
-    ∙ ap (λ (third : Answer). whole said (integer (pos total)) third priced gone) d
-    ∙ ap (λ (fourth : Answer). whole said (integer (pos total)) moved fourth gone) e
+    let said : ReplyParts = bulk_string (plan_word applied) in
+    let moved : ReplyParts = array_of (map move_answer (moves_of shown assign)) in
+    let shares : ReplyParts = array_of (map price_answer (prices_by shown.live prices)) in
+    ap (λ (first : ReplyParts). whole first cost moves priced gone) a
+    ∙ ap (λ (second : ReplyParts). whole said second moves priced gone) b
+    ∙ ap (λ (third : ReplyParts). whole said (integer (pos total)) third priced gone) d
+    ∙ ap (λ (fourth : ReplyParts). whole said (integer (pos total)) moved fourth gone) e
     ∙ ap (whole said (integer (pos total)) moved shares) f
 
 -- the parts of a shortage's reply
-pub shortage-written : (shown : Shown) (set : List ℕ) (p : Tiered) (n : ℕ)
-    (word ids rooms places : Answer) (applied : Bool)
+pub shortage-written : (shown : SnapshotState) (set : List ℕ) (p : Tiered) (n : ℕ)
+    (word ids rooms places : ReplyParts) (applied : Bool)
     → p ≡ problem_of shown → word ≡ bulk_string (codes "none")
     → ids ≡ array_of (map id_answer (map (id_at shown.stranded) set))
     → rooms ≡ array_of (map share_answer (reached_from p set 0 shown.live)) → places ≡ integer (pos n)
     → n ≡ places_of p set
     → array_of (word ∷ ids ∷ rooms ∷ places ∷ []) ≡ verdict_answer shown (short set) applied
 shortage-written shown set p n word ids rooms places applied posed a b d e f =
-    let whole : Answer → Answer → Answer → Answer → Answer =
+    let whole : ReplyParts → ReplyParts → ReplyParts → ReplyParts → ReplyParts =
     λ first second third fourth. array_of (first ∷ second ∷ third ∷ fourth ∷ []) in
-    let none : Answer = bulk_string (codes "none") in
-    let listed : Answer = array_of (map (λ (i : ℕ). id_answer (id_at shown.stranded i)) set) in
-    let roomy : Tiered → Answer = λ q. array_of (map share_answer (reached_from q set 0 shown.live)) in
+    let none : ReplyParts = bulk_string (codes "none") in
+    let listed : ReplyParts = array_of (map (λ (i : ℕ). id_answer (id_at shown.stranded i)) set) in
+    let roomy : Tiered → ReplyParts = λ q. array_of (map share_answer (reached_from q set 0 shown.live)) in
     let same_ids : ids ≡ listed = b ∙ ap array_of (map-map id_answer (id_at shown.stranded) set) in
     let same_rooms : rooms ≡ roomy (problem_of shown) = d ∙ ap roomy posed in
     let same_places : places ≡ integer (pos (places_of (problem_of shown) set)) =
     e ∙ ap (λ (k : ℕ). integer (pos k)) (f ∙ ap (λ (q : Tiered). places_of q set) posed) in
-    ap (λ (first : Answer). whole first ids rooms places) a
-    ∙ ap (λ (second : Answer). whole none second rooms places) same_ids
-    ∙ ap (λ (third : Answer). whole none listed third places) same_rooms
+    ap (λ (first : ReplyParts). whole first ids rooms places) a
+    ∙ ap (λ (second : ReplyParts). whole none second rooms places) same_ids
+    ∙ ap (λ (third : ReplyParts). whole none listed third places) same_rooms
     ∙ ap (whole none listed (roomy (problem_of shown))) same_places

@@ -1,21 +1,20 @@
 -- What a verdict is worth.
 use Rattle.std.proofs.Common.{◌≡◌, ◌≤◌, ℕ, List, subst, arith}
 use Rattle.std.specs.List.{All}
-use Rattle.sr_transport.specs.Problem.{Tiered}
-use Rattle.sr_transport.specs.Limits.{greatest_price}
+use Rattle.sr_transport.specs.{Tiered, greatest_price}
 use Rattle.sr_transport.specs.Solved.{IsSolution, HasSmallPrices as AreSmall}
 use Rattle.sr_transport.specs.declared.solved.Solved.{Solved}
 use Rattle.sr_transport.specs.declared.solved.Solved.TheVariants.{Best, Short}
 use Rattle.sr_transport.proofs.CallerLemmas.{prices_show_cheapest, shortage_excludes}
-use Rattle.sr_policy.specs.Problem.{problem_of}
-use Rattle.sr_policy.specs.Snapshot.{Shown, IsSnapshot}
+use Rattle.sr_policy.specs.{problem_of, SnapshotState}
+use Rattle.sr_policy.specs.Snapshot.{IsSnapshot}
 use Rattle.sr_policy.proofs.ProblemLemmas.{are_tiers}
-use Rattle.sr_check.specs.Answer.{AreTold}
-use Rattle.sr_plan.specs.Verdict.{Answer, best, short, HasSmallPrices, IsShown, IsWorth, IsVerdict}
+use Rattle.sr_check.specs.{AreTold}
+use Rattle.sr_plan.specs.Verdict.{PlanAnswer, best, short, HasSmallPrices, IsShown, IsWorth, IsVerdict}
 use Rattle.sr_plan.specs.steps.Judged.{answer_of}
 
 -- an answer to a snapshot's problem that shows that it is right is worth what it says
-pub shown_is_worth : (shown : Shown) (answer : Answer) → IsShown (problem_of shown) answer
+pub shown_is_worth : (shown : SnapshotState) (answer : PlanAnswer) → IsShown (problem_of shown) answer
     → IsWorth (problem_of shown) answer
 shown_is_worth shown (best assign prices total) right =
     let p = problem_of shown in (
@@ -38,7 +37,7 @@ solution_is_small : (solved : Solved) → AreSmall solved → HasSmallPrices (an
 solution_is_small (Best assign prices total) small = small
 solution_is_small (Short set) small = small
 
-pub solved_is_verdict : (shown : Shown) (p : Tiered) (solved : Solved) → IsSnapshot shown → p ≡ problem_of shown
+pub solved_is_verdict : (shown : SnapshotState) (p : Tiered) (solved : Solved) → IsSnapshot shown → p ≡ problem_of shown
     → IsSolution p solved
     → AreSmall solved → IsVerdict (record { snapshot = shown; answer = answer_of solved })
 solved_is_verdict shown p solved sound posed solution small =

@@ -5,9 +5,8 @@ use Rattle.std.specs.Prelude.{ℕ, ◌+◌, ◌==◌, List, [], ◌∷◌, ◌++
 use Rattle.std.specs.List.{zip}
 use Rattle.sr_ids.specs.declared.id.Id.{Id}
 use Rattle.sr_policy.specs.declared.live.Live.{Live}
-use Rattle.sr_policy.specs.Rules.{Text}
-use Rattle.sr_policy.specs.Snapshot.{Shown}
-use Rattle.sr_plan.specs.Verdict.{Answer, best, short}
+use Rattle.sr_policy.specs.{Text, SnapshotState}
+use Rattle.sr_plan.specs.Verdict.{PlanAnswer, best, short}
 
 -- a consumer, and the ids of the entries that it gets
 pub record BatchState : Type 0 where
@@ -30,7 +29,7 @@ batches_from ids assign c (consumer ∷ live) =
     batch_of consumer.name (ids_for ids assign c) ++ batches_from ids assign (c + 1) live
 
 -- the batches of a verdict: none for a shortage
-abbrev pub batches_in : Shown → Answer → List BatchState
+abbrev pub batches_in : SnapshotState → PlanAnswer → List BatchState
 batches_in shown (best assign prices total) =
     batches_from (map (λ entry. entry.id) shown.stranded) assign 0 shown.live
 batches_in shown (short set) = []

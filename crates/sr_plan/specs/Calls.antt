@@ -5,10 +5,9 @@ use Rattle.std.specs.Prelude.{pos, List, map, None, true}
 use Rattle.sr_args.specs.declared.call.Call.{Call}
 use Rattle.sr_args.specs.declared.call.Call.TheVariants.{Xclaim}
 use Rattle.sr_args.specs.declared.commands.xclaim.TimeAsked.TheVariants.{Now}
-use Rattle.sr_policy.specs.Rules.{Text}
-use Rattle.sr_policy.specs.Snapshot.{Shown}
+use Rattle.sr_policy.specs.{Text, SnapshotState}
 use Rattle.sr_plan.specs.Batches.{BatchState, batches_in}
-use Rattle.sr_plan.specs.Verdict.{Answer}
+use Rattle.sr_plan.specs.Verdict.{PlanAnswer}
 
 -- XCLAIM key group consumer 0 id .. JUSTID
 abbrev pub claim_call : Text → Text → BatchState → Call
@@ -28,5 +27,5 @@ abbrev pub calls_for : Text → Text → List BatchState → List Call
 calls_for key group batches = map (claim_call key group) batches
 
 -- the calls of a verdict: none for a shortage
-abbrev pub claim_calls : Shown → Answer → List Call
+abbrev pub claim_calls : SnapshotState → PlanAnswer → List Call
 claim_calls shown answer = calls_for shown.key shown.group (batches_in shown answer)

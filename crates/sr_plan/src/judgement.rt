@@ -1,8 +1,8 @@
 ghost use Rattle.std.specs.Prelude.{◌≡◌, IfOk};
-ghost use Rattle.sr_policy.specs.Problem.{problem_of};
+ghost use Rattle.sr_policy.specs.{problem_of};
 ghost use Rattle.sr_plan.specs.Batches.{batches_in};
 ghost use Rattle.sr_plan.specs.Calls.{claim_calls};
-ghost use Rattle.sr_check.specs.PlanReply.{verdict_answer};
+ghost use Rattle.sr_check.specs.{verdict_answer};
 ghost use Rattle.sr_plan.specs.Verdict.{IsVerdict, IsWorth, total_in, prices_in, moves_in, shortage_in};
 
 use crate::batch::Batch;

@@ -1,5 +1,5 @@
 ghost use Rattle.std.specs.Prelude.{◌≡◌, ◌∷◌, [], ◌+◌, length, IfSome, IfNone};
-ghost use Rattle.sr_check.specs.Answer.{prices_by};
+ghost use Rattle.sr_check.specs.PlanAnswer.{prices_by};
 ghost use Rattle.sr_plan.specs.steps.Moves.{ArePrices};
 
 use sr_bytes::Name;
@@ -15,7 +15,7 @@ pub struct Prices<'a> {
 
 impl<'a> Model for Prices<'a> {
     ghost use Rattle.std.specs.Prelude.{List, ℕ};
-    ghost use Rattle.sr_check.specs.Answer.{prices_by};
+    ghost use Rattle.sr_check.specs.PlanAnswer.{prices_by};
     ghost use Rattle.sr_plan.specs.steps.Moves.{ArePrices};
 
     ghost Value = { List (List ℕ × List ℕ) };

@@ -2,12 +2,11 @@ ghost use Rattle.std.specs.Prelude.{◌≡◌, ◌++◌, ◌<◌, ◌^◌, Bool,
 ghost use Rattle.std.specs.List.{flat_map};
 ghost use Rattle.sr_transport.specs.Certificate.{IsShortage};
 ghost use Rattle.sr_transport.specs.Solved.{IsBest};
-ghost use Rattle.sr_policy.specs.Problem.{problem_of};
-ghost use Rattle.sr_resp.specs.Reply.{array_of, integer};
-ghost use Rattle.sr_check.specs.Answer.{AreTold};
+ghost use Rattle.sr_policy.specs.{problem_of};
+ghost use Rattle.sr_resp.specs.{array_of, integer};
+ghost use Rattle.sr_check.specs.{AreTold, id_answer, move_answer, price_answer, share_answer, plan_word};
+ghost use Rattle.sr_check.specs.{reached_from, verdict_answer};
 ghost use Rattle.sr_plan.specs.Verdict.{best, short};
-ghost use Rattle.sr_check.specs.PlanReply.{id_answer, move_answer, price_answer, share_answer};
-ghost use Rattle.sr_check.specs.PlanReply.{plan_word, reached_from, verdict_answer};
 
 use crate::moves::{Moves, Shortage};
 use crate::prices::Prices;

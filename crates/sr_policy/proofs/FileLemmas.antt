@@ -13,7 +13,7 @@ use Rattle.toml.specs.declared.value.Value.{Value}
 use Rattle.toml.proofs.Views.{Entry}
 use Rattle.sr_policy.specs.File.{natural_of, numbers_of, pairs_of, rates_of}
 use Rattle.sr_policy.specs.Rules.{Text}
-use Rattle.sr_bytes.specs.Order.{AreInOrder, ComesBefore}
+use Rattle.sr_bytes.specs.{AreInOrder, ComesBefore}
 
 -- a table has as many pairs as its map has entries
 pub length_pairs : (es : List Entry) → length (pairs_of (members_view es)) ≡ length es

@@ -9,7 +9,7 @@ use Rattle.std.specs.declared.cmp.Ordering.{Ordering}
 use Rattle.std.specs.declared.cmp.Ordering.TheVariants.{Less, Equal, Greater}
 use Rattle.std.proofs.lemmas.Cmp.{nat_list_cmp_total, nat_list_eq_equiv}
 use Rattle.std.proofs.lemmas.List.{get_or-map, get_or_default, length-map}
-use Rattle.sr_bytes.specs.Order.{AreInOrder, ComesBefore, comes_before}
+use Rattle.sr_bytes.specs.{AreInOrder, ComesBefore, comes_before}
 use Rattle.sr_policy.specs.Rules.{Text, value_at}
 use Rattle.sr_policy.specs.Snapshot.{is_among}
 use Rattle.sr_policy.specs.steps.Search.{IsPlace}

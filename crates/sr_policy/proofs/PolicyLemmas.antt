@@ -12,7 +12,7 @@ use Rattle.std.proofs.lemmas.List.Sums.{AllPass-from_list_all}
 use Rattle.std.specs.List.{list_all}
 use Rattle.std.specs.Option.{option_map_or}
 use Rattle.toml.specs.Data.{Data, Members, no_members, member, get_member, as_table}
-use Rattle.sr_bytes.specs.Order.{AreInOrder, ComesBefore}
+use Rattle.sr_bytes.specs.{AreInOrder, ComesBefore}
 use Rattle.sr_policy.specs.Bounds.{most_fee, most_limit, most_rate}
 use Rattle.sr_policy.specs.File.{are_all_up_to, are_soft, are_up_to, fees_in, is_between, is_in_range, limit_in}
 use Rattle.sr_policy.specs.File.{limits_in, natural_of, numbers_of, pairs_of, rates_in, rates_of, rules_of, soft_in}

@@ -15,12 +15,13 @@ use Rattle.std.specs.List.{flat_map, sum_by}
 use Rattle.std.specs.Option.{option_map_or}
 use Rattle.std.specs.Cmp.Lexicographic.{pointwise}
 use Rattle.sr_transport.specs.declared.problem.Tier.{Tier}
-use Rattle.sr_transport.specs.Problem.{AreTiers, HasFirst, IsOneOfTwo, IsSmallTier, IsWithinLimits, first_in}
+use Rattle.sr_transport.specs.{first_in}
+use Rattle.sr_transport.specs.Problem.{AreTiers, HasFirst, IsOneOfTwo, IsSmallTier, IsWithinLimits}
 use Rattle.sr_transport.specs.Problem.{room_of as room_in_problem, tier_at}
 use Rattle.sr_policy.specs.declared.stranded.Stranded.{Stranded}
 use Rattle.sr_policy.specs.declared.live.Live.{Live}
 use Rattle.sr_policy.specs.Rules.{Text, value_at}
-use Rattle.sr_policy.specs.Snapshot.{Shown, AreRates, IsTier, IsWeight, IsSnapshot, room_of}
+use Rattle.sr_policy.specs.Snapshot.{SnapshotState, AreRates, IsTier, IsWeight, IsSnapshot, places_left}
 use Rattle.sr_policy.specs.Problem.{free_room, next_tier, room_at, rates_for, costs_at, costs_of, problem_of}
 use Rattle.sr_policy.specs.Problem.{tier_count, tiers_at, tiers_from}
 
@@ -46,7 +47,7 @@ rates_or_none : (live : List Live) (found : Option (List (Option ℕ))) → IfSo
 rates_or_none live None h = record { places = length-map live (λ _. None); small = no_rates_small live }
 rates_or_none live (Some rates) h = h
 
-pub rates_for_are_rates : (s : Shown) (class : Text) → IsSnapshot s → AreRates (length s.live) (rates_for s class)
+pub rates_for_are_rates : (s : SnapshotState) (class : Text) → IsSnapshot s → AreRates (length s.live) (rates_for s class)
 rates_for_are_rates s class ok =
     rates_or_none s.live (value_at class s.rates) (value_at_are_rates (length s.live) class s.rates ok.bounds.rates)
 
@@ -84,7 +85,7 @@ rows_all P f Q (x ∷ xs) each all =
 
 -- a soft limit is at most the limit, so that no more is free than there is room
 free_within : (limit pending : ℕ) (tier : Option (ℕ × ℕ)) → IfSome tier (IsTier limit)
-    → option_map_or (λ t. t.0 - pending) tier (room_of limit pending) ≤ room_of limit pending
+    → option_map_or (λ t. t.0 - pending) tier (places_left limit pending) ≤ places_left limit pending
 free_within limit pending None ok = omega arith
 free_within limit pending (Some tier) ok = omega arith
 
@@ -359,7 +360,7 @@ first_in-from c (suc i) (x ∷ live) =
       sum_by-cons tier_count x (take i live),
     )
 
-pub first_in-live : (s : Shown) (i : ℕ) → first_in (problem_of s).tiers i ≡ sum_by tier_count (take i s.live)
+pub first_in-live : (s : SnapshotState) (i : ℕ) → first_in (problem_of s).tiers i ≡ sum_by tier_count (take i s.live)
 first_in-live s i =
     let e : 0 + i ≡ i = omega arith in
     subst (λ c. first_in (tiers_from 0 s.live) c ≡ sum_by tier_count (take i s.live)) e (first_in-from 0 i s.live)
@@ -371,9 +372,9 @@ next_room c x None = refl
 next_room c x (Some tier) = omega (arith, room_own c c (room_at x - free_room x) refl)
 
 together : (limit pending : ℕ) (tier : Option (ℕ × ℕ)) → IfSome tier (IsTier limit)
-    → option_map_or (λ t. t.0 - pending) tier (room_of limit pending)
-    + cond (is_some tier) (room_of limit pending - option_map_or (λ t. t.0 - pending) tier (room_of limit pending)) 0
-    ≡ room_of limit pending
+    → option_map_or (λ t. t.0 - pending) tier (places_left limit pending)
+    + cond (is_some tier) (places_left limit pending - option_map_or (λ t. t.0 - pending) tier (places_left limit pending)) 0
+    ≡ places_left limit pending
 together limit pending None ok = omega arith
 together limit pending (Some tier) ok = omega arith
 
@@ -414,13 +415,13 @@ room-from c (suc i) (x ∷ live) d lt tiers =
       more,
     )
 
-pub room_of-live : (s : Shown) (i : ℕ) (d : Live) → i < length s.live → All (λ x. IfSome x.tier (IsTier x.limit)) s.live
+pub room_of-live : (s : SnapshotState) (i : ℕ) (d : Live) → i < length s.live → All (λ x. IfSome x.tier (IsTier x.limit)) s.live
     → room_in_problem (problem_of s) i ≡ room_at (get_or s.live i d)
 room_of-live s i d lt tiers =
     let e : 0 + i ≡ i = omega arith in
     subst (λ c. room_in (tiers_from 0 s.live) c ≡ room_at (get_or s.live i d)) e (room-from 0 i s.live d lt tiers)
 
-pub problem_within : (s : Shown) → IsSnapshot s
+pub problem_within : (s : SnapshotState) → IsSnapshot s
     → IsWithinLimits (tiers_from 0 s.live) (length s.live) (length s.stranded) (flat_map (costs_of s) s.stranded)
 problem_within s ok = record {
   consumers = ok.bounds.few_live;
@@ -457,7 +458,7 @@ costs_without : (weight : ℕ) (live : List Live) (found : Option (List (Option 
 costs_without weight live found missing = rw missing (no_rates_cost_nothing weight live)
 
 -- an entry of a class without rates may go nowhere
-pub no_costs : (s : Shown) (e : Stranded) (listed : List (Text × List (Option ℕ))) (live : List Live) → listed ≡ s.rates
+pub no_costs : (s : SnapshotState) (e : Stranded) (listed : List (Text × List (Option ℕ))) (live : List Live) → listed ≡ s.rates
     → None ≡ value_at e.class listed → live ≡ s.live → no_rates live ≡ costs_of s e
 no_costs s e listed live same missing same_live =
     ap no_rates same_live

@@ -3,7 +3,7 @@
 -- Source: docs/POLICY.md.
 
 use Rattle.std.specs.Prelude.{◌≤◌, All, IfSome, length, map}
-use Rattle.sr_bytes.specs.Order.{AreInOrder, ComesBefore}
+use Rattle.sr_bytes.specs.{AreInOrder, ComesBefore}
 use Rattle.sr_policy.specs.Bounds.{most_classes, most_consumers, most_fee, most_limit, most_rate}
 use Rattle.sr_policy.specs.Rules.{Rules, Text, limit_of, value_at}
 

@@ -8,15 +8,15 @@ use Rattle.std.specs.Prelude.{Option, None, Some, is_some, option_map, unwrap_or
 use Rattle.std.specs.List.{flat_map}
 use Rattle.std.specs.Option.{option_map_or}
 use Rattle.sr_transport.specs.declared.problem.Tier.{Tier}
-use Rattle.sr_transport.specs.Problem.{Tiered}
+use Rattle.sr_transport.specs.{Tiered}
 use Rattle.sr_policy.specs.declared.stranded.Stranded.{Stranded}
 use Rattle.sr_policy.specs.declared.live.Live.{Live}
 use Rattle.sr_policy.specs.Rules.{Text, value_at}
-use Rattle.sr_policy.specs.Snapshot.{Shown, room_of}
+use Rattle.sr_policy.specs.Snapshot.{SnapshotState, places_left}
 
 -- how many more entries the consumer may get
 abbrev pub room_at : Live → ℕ
-room_at consumer = room_of consumer.limit consumer.pending
+room_at consumer = places_left consumer.limit consumer.pending
 
 -- how many of them without a fee: all, or those up to its soft limit
 abbrev pub free_room : Live → ℕ
@@ -43,7 +43,7 @@ abbrev pub tier_count : Live → ℕ
 tier_count consumer = if is_some consumer.tier then 2 else 1
 
 -- the rate of each consumer for the class; no consumer may take a class that the snapshot has no rates for
-abbrev pub rates_for : Shown → Text → List (Option ℕ)
+abbrev pub rates_for : SnapshotState → Text → List (Option ℕ)
 rates_for shown class = unwrap_or (value_at class shown.rates) (map (λ _. None) shown.live)
 
 -- what an entry of this weight costs at each consumer: rate times weight, and None at a consumer without a rate, which
@@ -52,12 +52,12 @@ abbrev pub costs_at : ℕ → List (Option ℕ) → List (Option ℕ)
 costs_at weight rates = map (option_map (λ rate. rate * weight)) rates
 
 -- what the entry costs at each consumer
-abbrev pub costs_of : Shown → Stranded → List (Option ℕ)
+abbrev pub costs_of : SnapshotState → Stranded → List (Option ℕ)
 costs_of shown entry = costs_at entry.weight (rates_for shown entry.class)
 
 -- the problem of a snapshot: the tiers of the live consumers, and a row of costs for each stranded entry, with a place
 -- for each of them
-abbrev pub problem_of : Shown → Tiered
+abbrev pub problem_of : SnapshotState → Tiered
 problem_of shown = record {
   tiers = tiers_from 0 shown.live;
   takers = length shown.live;

@@ -12,7 +12,7 @@ use Rattle.sr_ids.specs.declared.id.Id.{Id}
 use Rattle.sr_policy.specs.declared.live.Live.{Live}
 use Rattle.sr_policy.specs.declared.stranded.Stranded.{Stranded}
 use Rattle.sr_policy.specs.Rules.{Text}
-use Rattle.sr_policy.specs.Snapshot.{Shown}
+use Rattle.sr_policy.specs.Snapshot.{SnapshotState}
 
 abbrev pub same_text : Text → Text → Bool
 same_text a b = pointwise nat_eq a b
@@ -41,7 +41,7 @@ same_rates a b = pointwise (option_eq nat_eq) a b
 abbrev pub same_class : Text × List (Option ℕ) → Text × List (Option ℕ) → Bool
 same_class a b = same_text a.0 b.0 && same_rates a.1 b.1
 
-abbrev pub same : Shown → Shown → Bool
+abbrev pub same : SnapshotState → SnapshotState → Bool
 same a b =
     same_text a.key b.key
     && (same_text a.group b.group
@@ -108,7 +108,7 @@ class_decides a b =
     (λ e. (ap (λ (x : Text × List (Option ℕ)). x.0) e, ap (λ (x : Text × List (Option ℕ)). x.1) e))
     (Decides-and _ _ (bytes_eq-Decides a.0 b.0) (rates_decide a.1 b.1))
 
-pub same_decides : (a b : Shown) → Decides (same a b) (a ≡ b)
+pub same_decides : (a b : SnapshotState) → Decides (same a b) (a ≡ b)
 same_decides a b =
     Decides-like _
     (λ p i. record {
@@ -121,14 +121,17 @@ same_decides a b =
       rates = p.1.1.1.1.1.1 i;
     })
     (λ e. (
-      ap (λ (x : Shown). x.key) e,
+      ap (λ (x : SnapshotState). x.key) e,
       (
-        ap (λ (x : Shown). x.group) e,
+        ap (λ (x : SnapshotState). x.group) e,
         (
-          ap (λ (x : Shown). x.dead) e,
+          ap (λ (x : SnapshotState). x.dead) e,
           (
-            ap (λ (x : Shown). x.stranded) e,
-            (ap (λ (x : Shown). x.gone) e, (ap (λ (x : Shown). x.live) e, ap (λ (x : Shown). x.rates) e)),
+            ap (λ (x : SnapshotState). x.stranded) e,
+            (
+              ap (λ (x : SnapshotState). x.gone) e,
+              (ap (λ (x : SnapshotState). x.live) e, ap (λ (x : SnapshotState). x.rates) e),
+            ),
           ),
         ),
       ),

@@ -1,6 +1,6 @@
 ghost use Rattle.std.specs.Prelude.{◌≡◌, Ok, Err, IfOk, IfErr, map, true};
 ghost use Rattle.toml.specs.View.{table_view};
-ghost use Rattle.sr_bytes.specs.Order.{AreInOrder, ComesBefore};
+ghost use Rattle.sr_bytes.specs.{AreInOrder, ComesBefore};
 ghost use Rattle.sr_policy.specs.File.{is_in_range as is_file_in_range, meaning_of_file};
 ghost use Rattle.sr_policy.specs.File.{numbers_of as numbers_in, rates_of as rates_in_table, rules_of as rules_of_file};
 ghost use Rattle.sr_policy.specs.File.{table_at as table_in};

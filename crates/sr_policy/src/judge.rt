@@ -1,6 +1,6 @@
 //! Whether parts make a snapshot.
 ghost use Rattle.std.specs.Prelude.{◌≡◌, ◌↔◌, ◌≤◌, length, IsTrue, IfSome, All};
-ghost use Rattle.sr_ids.specs.Id.{IsBelow};
+ghost use Rattle.sr_ids.specs.{IsBelow};
 ghost use Rattle.sr_policy.specs.Bounds.{most_limit};
 ghost use Rattle.sr_policy.specs.Snapshot as spec;
 ghost use Rattle.sr_policy.specs.steps.Search.{IsPlace};

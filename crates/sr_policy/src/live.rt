@@ -1,4 +1,4 @@
-use crate::room::room_of;
+use crate::room::places_left;
 use sr_bytes::Name;
 
 /// A consumer that may get entries: the policy names it, and it is not dead.
@@ -22,7 +22,7 @@ impl Live {
     pub fn room(&self) -> u64
         ensures { result ≡ room_at self.now }
     {
-        room_of(self.limit, self.pending)
+        places_left(self.limit, self.pending)
     }
 
     /// How many tiers its room has: two with a soft limit, and else one.

@@ -1,7 +1,6 @@
-ghost use Rattle.std.specs.Prelude.{◌≡◌, ◌≤◌, IfOk, IsTrue, false, length, option_map, map, true};
-ghost use Rattle.std.specs.List.{AllWithin};
+ghost use Rattle.std.specs.Prelude.{◌≡◌, ◌≤◌, ◌<◌, IfOk, IfSome, length, option_and_then, option_map, map, slice_get};
 ghost use Rattle.toml.specs.View.{table_view};
-ghost use Rattle.sr_bytes.specs.Order.{AreInOrder, ComesBefore, comes_before};
+ghost use Rattle.sr_bytes.specs.{AreInOrder, ComesBefore};
 ghost use Rattle.sr_policy.specs.Rules.{value_at};
 ghost use Rattle.sr_policy.specs.File.{numbers_of as numbers_in};
 ghost use Rattle.sr_policy.specs.steps.Search.{IsPlace};
@@ -20,7 +19,7 @@ pub(crate) struct Numbers {
 
 impl Model for Numbers {
     ghost use Rattle.std.specs.Prelude.{List, ℕ, map};
-    ghost use Rattle.sr_bytes.specs.Order.{AreInOrder, ComesBefore};
+    ghost use Rattle.sr_bytes.specs.{AreInOrder, ComesBefore};
 
     ghost Value = { List (List ℕ × ℕ) };
 
@@ -55,22 +54,6 @@ impl Numbers {
     {
         found(self.pairs.as_slice(), name).copied()
     }
-
-    /// The same, for one name after another: `place` is where the next name is looked for first. So if the names come
-    /// in byte order each takes one comparison or three, and is searched for only where there are others between.
-    pub(crate) fn next(&self, place: &mut usize, name: &Name) -> Option<u64>
-        ensures { result ≡ value_at name.now self.now }
-    {
-        let pairs = self.pairs.as_slice();
-        let at = place_near(pairs, *place, name);
-        let number = held_at(pairs, at, name).copied();
-        *place = if number.is_some() {
-            at.saturating_add(1)
-        } else {
-            at
-        };
-        number
-    }
 }
 
 /// What the first of the pairs with this name holds, found by binary search.
@@ -78,18 +61,20 @@ pub(crate) fn found<'a, V>(pairs: &'a [(Name, V)], name: &Name) -> Option<&'a V>
     requires { AreInOrder ComesBefore (map (λ pair. pair.0) pairs.now) }
     ensures { option_map (λ value. value.now) result ≡ value_at name.now pairs.now }
 {
-    held_at(pairs, place_for(pairs, name), name)
+    let place = place_of(pairs, name)?;
+    Some(&pairs[place].1)
 }
 
-/// What the pair at this place holds, if it has this name.
-fn held_at<'a, V>(pairs: &'a [(Name, V)], place: usize, name: &Name) -> Option<&'a V>
-    requires order { AreInOrder ComesBefore (map (λ pair. pair.0) pairs.now) }
-    requires bound { place ≤ length pairs.now }
-    requires place { IsPlace (λ pair. pair.0) name.now pairs.now place }
-    ensures { option_map (λ value. value.now) result ≡ value_at name.now pairs.now }
+/// Where the pair with this name stands, if there is one, found by binary search.
+pub(crate) fn place_of<V>(pairs: &[(Name, V)], name: &Name) -> Option<usize>
+    requires { AreInOrder ComesBefore (map (λ pair. pair.0) pairs.now) }
+    ensures bound { IfSome result (λ place. place < length pairs.now) }
+    ensures value { value_at name.now pairs.now
+        ≡ option_and_then (λ place. option_map (λ pair. pair.1) (slice_get pairs.now place)) result }
 {
-    let (other, value) = pairs.get(place)?;
-    if name == other { Some(value) } else { None }
+    let place = place_for(pairs, name);
+    let (other, _) = pairs.get(place)?;
+    if name == other { Some(place) } else { None }
 }
 
 /// How many of the pairs have names that come before this one, found by binary search.
@@ -99,62 +84,6 @@ fn place_for<V>(pairs: &[(Name, V)], name: &Name) -> usize
     ensures place { IsPlace (λ pair. pair.0) name.now pairs.now result }
 {
     pairs.partition_point(|pair| pair.0.comes_before(name))
-}
-
-/// The same, looked for at `near` first.
-fn place_near<V>(pairs: &[(Name, V)], near: usize, name: &Name) -> usize
-    requires { AreInOrder ComesBefore (map (λ pair. pair.0) pairs.now) }
-    ensures bound { result ≤ length pairs.now }
-    ensures place { IsPlace (λ pair. pair.0) name.now pairs.now result }
-{
-    if has_name(pairs, near, name) || is_place(pairs, near, name) {
-        near
-    } else {
-        place_for(pairs, name)
-    }
-}
-
-/// Whether the pair at this place has the name. If so, that many of the pairs have names that come before it.
-fn has_name<V>(pairs: &[(Name, V)], place: usize, name: &Name) -> bool
-    requires { AreInOrder ComesBefore (map (λ pair. pair.0) pairs.now) }
-    ensures bound { IsTrue result → place ≤ length pairs.now }
-    ensures place { IsTrue result → IsPlace (λ pair. pair.0) name.now pairs.now place }
-{
-    if place >= pairs.len() {
-        return false;
-    }
-    pairs[place].0 == *name
-}
-
-/// Whether that many of the pairs have names that come before this one, and no others do.
-fn is_place<V>(pairs: &[(Name, V)], place: usize, name: &Name) -> bool
-    requires { AreInOrder ComesBefore (map (λ pair. pair.0) pairs.now) }
-    ensures bound { IsTrue result → place ≤ length pairs.now }
-    ensures place { IsTrue result → IsPlace (λ pair. pair.0) name.now pairs.now place }
-{
-    if place > pairs.len() {
-        return false;
-    }
-    are_before(pairs, place, name) && are_behind(pairs, place, name)
-}
-
-/// Whether the names below this place come before this one: the last of them does.
-fn are_before<V>(pairs: &[(Name, V)], place: usize, name: &Name) -> bool
-    requires order { AreInOrder ComesBefore (map (λ pair. pair.0) pairs.now) }
-    requires bound { place ≤ length pairs.now }
-    ensures { IsTrue result → AllWithin (λ pair. comes_before pair.0 name.now ≡ true) pairs.now 0 place }
-{
-    place == 0 || pairs[place - 1].0.comes_before(name)
-}
-
-/// Whether no other names do: the next one does not.
-fn are_behind<V>(pairs: &[(Name, V)], place: usize, name: &Name) -> bool
-    requires order { AreInOrder ComesBefore (map (λ pair. pair.0) pairs.now) }
-    requires bound { place ≤ length pairs.now }
-    ensures { IsTrue result
-        → AllWithin (λ pair. comes_before pair.0 name.now ≡ false) pairs.now place (length pairs.now) }
-{
-    place == pairs.len() || !pairs[place].0.comes_before(name)
 }
 
 /// The numbers of a table of a file, by key.

@@ -2,8 +2,9 @@ ghost use Rattle.std.specs.Prelude.{◌≡◌, IfOk, map, option_and_then, optio
 ghost use Rattle.sr_policy.specs.Rules.{other_class as all_others, value_at};
 
 use crate::live::Live;
-use crate::numbers::{Numbers, found, names_of};
+use crate::numbers::{Numbers, found, names_of, place_of};
 use crate::rates::Rates;
+use crate::rows::{Row, rows_of};
 use sr_bytes::{Name, Pairs};
 use std::alloc::{AllocError, Global};
 use std::marker::Model;
@@ -18,6 +19,8 @@ pub struct Policy {
     consumers: Vec<Name>,
     limits: Numbers,
     rates: Vec<(Name, Numbers)>,
+    // The same rates, those of each class in the order of the consumers, so that a snapshot finds them by place.
+    rows: Vec<Rates>,
     soft: Numbers,
     fees: Numbers,
 }
@@ -30,6 +33,7 @@ impl Drop for Policy {
             consumers: _,
             limits: _,
             rates: _,
+            rows: _,
             soft: _,
             fees: _,
         } = self;
@@ -40,6 +44,7 @@ impl Model for Policy {
     ghost use Rattle.std.specs.Prelude.{◌≡◌, map};
     ghost use Rattle.sr_policy.specs.Policy.{IsPolicy};
     ghost use Rattle.sr_policy.specs.Rules.{Rules};
+    ghost use Rattle.sr_policy.specs.steps.Rows.{rows_by};
 
     ghost Value = { Rules };
 
@@ -52,6 +57,7 @@ impl Model for Policy {
     } };
 
     ghost invariant = { λ p. (p.consumers.items ≡ map (λ limit. limit.0) p.limits)
+        × (p.rows.items ≡ rows_by p.consumers.items p.rates.items)
         × IsPolicy (record {
           class_field = p.class_field;
           limits = p.limits;
@@ -87,7 +93,7 @@ impl Model for Parts {
 
 impl Policy {
     ghost use Rattle.std.specs.Prelude.{◌≡◌, IfOk, map, option_map};
-    ghost use Rattle.sr_bytes.specs.Order.{AreInOrder, ComesBefore};
+    ghost use Rattle.sr_bytes.specs.{AreInOrder, ComesBefore};
     ghost use Rattle.sr_policy.specs.Policy.{IsPolicy};
     ghost use Rattle.sr_policy.specs.Rules.{no_rules, value_at, consumers_of, limit_of, live_of, rate_of};
     ghost use Rattle.sr_policy.specs.Rules.{has_tiers, tier_of};
@@ -102,6 +108,7 @@ impl Policy {
             consumers: Vec::new(alloc),
             limits: Numbers::none(alloc),
             rates: Vec::new(alloc),
+            rows: Vec::new(alloc),
             soft: Numbers::none(alloc),
             fees: Numbers::none(alloc),
         }
@@ -120,11 +127,13 @@ impl Policy {
             fees,
         } = parts;
         let consumers = names_of(alloc, limits.as_slice())?;
+        let rows = rows_of(alloc, consumers.as_slice(), rates.as_slice())?;
         Ok(Policy {
             class_field,
             consumers,
             limits,
             rates,
+            rows,
             soft,
             fees,
         })
@@ -205,7 +214,7 @@ impl Policy {
     pub fn rates_of(&self, alloc: Global, class: &Name, live: &[Live]) -> Result<Rates, AllocError>
         ensures { IfOk result (λ rates. rates ≡ map (λ consumer. rate_of self.now class.now consumer.name) live.now) }
     {
-        rates_in(alloc, self.rates_for(class), live)
+        rates_in(alloc, self.row_for(class), live)
     }
 
     /// The class of an entry with these fields.
@@ -230,6 +239,16 @@ impl Policy {
         found(self.rates.as_slice(), class)
     }
 
+    /// The rates of a class, by consumer, where its row lies.
+    fn row_for(&self, class: &Name) -> Option<Row<'_>>
+        ensures { result ≡ value_at class.now self.now.rates }
+    {
+        let place = place_of(self.rates.as_slice(), class)?;
+        let rates = &self.rates[place].1;
+        let row = self.rows[place].as_slice();
+        Some(Row::new(self.consumers.as_slice(), row, rates))
+    }
+
     /// The value of the first field with the name of the class field.
     fn classed_by<'a>(&self, fields: Pairs<'a>) -> Option<&'a [u8]>
         ensures { option_map (λ value. value.now) result ≡ classed_in self.now fields.entry }
@@ -252,24 +271,24 @@ fn rate_in(row: Option<&Numbers>, consumer: &Name) -> Option<u64>
 }
 
 /// The rate of each of the consumers among those of a class, if the class has rates.
-fn rates_in(alloc: Global, row: Option<&Numbers>, live: &[Live]) -> Result<Rates, AllocError>
+fn rates_in(alloc: Global, row: Option<Row<'_>>, live: &[Live]) -> Result<Rates, AllocError>
     ensures { IfOk result (λ rates. rates
-        ≡ map (λ consumer. option_and_then (value_at consumer.name) (option_map (λ r. r.now) row.entry)) live.now) }
+        ≡ map (λ consumer. option_and_then (value_at consumer.name) row.entry) live.now) }
 {
     let mut rates = Vec::with_capacity(alloc, live.len())?;
-    let mut place = 0;
+    let mut near = 0;
     for consumer in live {
-        rates.push(next_rate(row, &mut place, &consumer.name))?;
+        rates.push(next_rate(&row, &mut near, &consumer.name))?;
     }
     Ok(Rates::new(rates))
 }
 
-/// The rate of one consumer after another in the same way, `place` being where the next one is looked for first.
-fn next_rate(row: Option<&Numbers>, place: &mut usize, consumer: &Name) -> Option<u64>
-    ensures { result ≡ option_and_then (value_at consumer.now) (option_map (λ rates. rates.now) row.entry) }
+/// The rate of one consumer after another in the same way, `near` being where the next one is looked for first.
+fn next_rate(row: &Option<Row<'_>>, near: &mut usize, consumer: &Name) -> Option<u64>
+    ensures { result ≡ option_and_then (value_at consumer.now) row.now }
 {
     match row {
-        Some(rates) => rates.next(place, consumer),
+        Some(row) => row.next(near, consumer),
         None => None,
     }
 }

@@ -19,9 +19,9 @@ pub(crate) struct Parts {
 }
 
 impl Model for Parts {
-    ghost use Rattle.sr_policy.specs.Snapshot.{Shown};
+    ghost use Rattle.sr_policy.specs.Snapshot.{SnapshotState};
 
-    ghost Value = { Shown };
+    ghost Value = { SnapshotState };
 
     ghost view = { λ p. record {
       key = p.key;
@@ -49,9 +49,9 @@ impl Drop for Snapshot {
 }
 
 impl Model for Snapshot {
-    ghost use Rattle.sr_policy.specs.Snapshot.{Shown, IsSnapshot};
+    ghost use Rattle.sr_policy.specs.Snapshot.{SnapshotState, IsSnapshot};
 
-    ghost Value = { Shown };
+    ghost Value = { SnapshotState };
 
     ghost view = { λ s. s.parts };
 

@@ -6,7 +6,7 @@ use Rattle.std.proofs.lemmas.Fmt.{decimal_injective}
 use Rattle.std.proofs.lemmas.Bool.{eq-eqb, ne_eqb}
 use Rattle.std.proofs.lemmas.List.{take-append-drop}
 use lib.Signed.{mag}
-use Rattle.sr_bytes.specs.Decimal.{IsDecimal}
+use Rattle.sr_bytes.specs.{IsDecimal}
 use Rattle.sr_bytes.proofs.DecimalLemmas.{IsDecimal-decimal, IsDecimal-one}
 use Rattle.sr_resp.specs.declared.code.ErrCode.{ErrCode}
 use Rattle.sr_resp.specs.declared.code.ErrCode.TheVariants as errors

@@ -3,7 +3,7 @@ use Rattle.std.proofs.Common.{◌≡◌, ℕ, ◌+◌, ◌≤◌, suc, zero, Lis
 use Rattle.std.specs.List.{flat_map, AllByRecursion}
 use Rattle.sr_resp.specs.Reply.{Part}
 use Rattle.sr_resp.specs.Reply.{Array}
-use Rattle.sr_resp.specs.Reply.{Answer, AreReplies, IsReply, items_of, array_of}
+use Rattle.sr_resp.specs.Reply.{ReplyParts, AreReplies, IsReply, items_of, array_of}
 
 -- m replies and then n replies are m + n replies
 pub AreReplies-append : (m n : ℕ) (xs ys : List Part) → AreReplies m xs → AreReplies n ys → AreReplies (m + n) (xs ++ ys)
@@ -39,7 +39,7 @@ IsReply-push header parts item items is whole one =
     subst (λ (k : ℕ). AreReplies k (parts ++ item)) counted more
 
 -- replies, one after another
-AreReplies-flat_map : (items : List Answer) → AllByRecursion IsReply items → AreReplies (length items) (flat_map (λ item. item) items)
+AreReplies-flat_map : (items : List ReplyParts) → AllByRecursion IsReply items → AreReplies (length items) (flat_map (λ item. item) items)
 AreReplies-flat_map [] each = refl
 AreReplies-flat_map (item ∷ items) each =
     let all : AreReplies (1 + length items) (item ++ flat_map (λ item. item) items) = AreReplies-append 1 (length items) item (flat_map (λ item. item) items) each.0 (AreReplies-flat_map items each.1) in
@@ -47,15 +47,15 @@ AreReplies-flat_map (item ∷ items) each =
     subst (λ (k : ℕ). AreReplies k (item ++ flat_map (λ item. item) items)) counted all
 
 -- an array of replies is a reply
-pub IsReply-array_of : (items : List Answer) → AllByRecursion IsReply items → IsReply (array_of items)
+pub IsReply-array_of : (items : List ReplyParts) → AllByRecursion IsReply items → IsReply (array_of items)
 IsReply-array_of items each =
     let counted : length items ≡ length items + 0 = omega arith in
     subst (λ (k : ℕ). AreReplies k (flat_map (λ item. item) items)) counted (AreReplies-flat_map items each)
 
 -- and so is an array of what makes replies of values
-IsReply-each : {X : Type 0} (f : X → Answer) (xs : List X) → ((x : X) → IsReply (f x)) → AllByRecursion IsReply (map f xs)
+IsReply-each : {X : Type 0} (f : X → ReplyParts) (xs : List X) → ((x : X) → IsReply (f x)) → AllByRecursion IsReply (map f xs)
 IsReply-each f [] is = tt
 IsReply-each f (x ∷ xs) is = (is x, IsReply-each f xs is)
 
-pub IsReply-array_of_map : {X : Type 0} (f : X → Answer) (xs : List X) → ((x : X) → IsReply (f x)) → IsReply (array_of (map f xs))
+pub IsReply-array_of_map : {X : Type 0} (f : X → ReplyParts) (xs : List X) → ((x : X) → IsReply (f x)) → IsReply (array_of (map f xs))
 IsReply-array_of_map f xs is = IsReply-array_of (map f xs) (IsReply-each f xs is)

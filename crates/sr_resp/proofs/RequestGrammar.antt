@@ -4,7 +4,7 @@ use Rattle.std.proofs.lemmas.Bool.{cases_eq, eq-eqb, ne_eqb}
 use Rattle.std.proofs.lemmas.List.{append_assoc, append-nil}
 use Rattle.std.specs.Char.{digit_value}
 use Rattle.std.specs.Str.Parse.{AllDigits}
-use Rattle.sr_bytes.specs.Decimal.{IsDecimal}
+use Rattle.sr_bytes.specs.{IsDecimal}
 use Rattle.sr_resp.specs.Reply.{line_end}
 use Rattle.sr_resp.specs.Request.{Words, Spells}
 use Rattle.sr_resp.specs.Reading.{Halt, literal_at, digits_at, words_at, counted_at, numbered_at, array_at, item_at}

@@ -6,7 +6,7 @@ use Rattle.std.proofs.lemmas.List.{append_assoc, append-nil, map-append, drop_al
 use Rattle.std.proofs.lemmas.List.Elements.{All-append}
 use Rattle.std.proofs.lemmas.List.Folds.{drop_split}
 use Rattle.std.proofs.Math.Seq.{take-append_seam}
-use Rattle.sr_resp.specs.declared.stage.Place.{Place}
+use Rattle.sr_resp.specs.declared.stage.WordBounds.{WordBounds}
 use Rattle.sr_resp.specs.declared.stage.Stage.{Stage}
 use Rattle.sr_resp.specs.declared.stage.Step.{Step}
 use Rattle.sr_resp.specs.declared.stage.Step.TheVariants as steps
@@ -37,15 +37,15 @@ behind-append a b (Err e) = refl
 
 -- ---- places
 
-pub before_more : (at next : ℕ) (places : List Place) → at ≤ next → All (IsBefore at) places → All (IsBefore next) places
+pub before_more : (at next : ℕ) (places : List WordBounds) → at ≤ next → All (IsBefore at) places → All (IsBefore next) places
 before_more at next places le all = λ k d lt. let b = all k d lt in record { order = b.order; within = omega (arith, b.within, le) }
 
-before_one : (at : ℕ) (place : Place) → IsBefore at place → All (IsBefore at) (place ∷ [])
+before_one : (at : ℕ) (place : WordBounds) → IsBefore at place → All (IsBefore at) (place ∷ [])
 before_one at place b = λ k d lt. let first : k ≡ 0 = omega (arith, lt) in rw first b
 
 -- ---- one step
 
-pub Scanning-nothing : (item : List ℕ) (from : ℕ) (entered : Stage) (old : List Place) → from ≤ length item → IsStageAt from entered → Scanning item from entered old old from entered
+pub Scanning-nothing : (item : List ℕ) (from : ℕ) (entered : Stage) (old : List WordBounds) → from ≤ length item → IsStageAt from entered → Scanning item from entered old old from entered
 Scanning-nothing item from entered old within sound = record {
   added = [];
   whole = sym (append-nil old);
@@ -64,7 +64,7 @@ onwards item at next stage step more s =
     ap (λ (t : List ℕ). t ++ more) (drop_split item at next le) ∙ append_assoc (slice_range item at next) (drop next item) more in
     ap (goes_on item at stage) split ∙ s.reads (drop next item ++ more)
 
-pub Scanning-on : (item : List ℕ) (from : ℕ) (entered : Stage) (old new : List Place) (at next : ℕ) (stage following : Stage) (step : Step) → Scanning item from entered old new at stage
+pub Scanning-on : (item : List ℕ) (from : ℕ) (entered : Stage) (old new : List WordBounds) (at next : ℕ) (stage following : Stage) (step : Step) → Scanning item from entered old new at stage
     → StepsTo item at stage next step → step ≡ steps.On following → Scanning item from entered old new next following
 unfolding leads_to
 Scanning-on item from entered old new at next stage following step s one is =
@@ -78,7 +78,7 @@ Scanning-on item from entered old new at next stage following step s one is =
       reads = λ more. s.reads more ∙ ap (behind (words_in item s.added)) (onwards item at next stage (steps.On following) more go);
     }
 
-pub Scanning-word : (item : List ℕ) (from : ℕ) (entered : Stage) (old new newer : List Place) (at next : ℕ) (stage following : Stage) (place : Place) (step : Step) → Scanning item from entered old new at stage
+pub Scanning-word : (item : List ℕ) (from : ℕ) (entered : Stage) (old new newer : List WordBounds) (at next : ℕ) (stage following : Stage) (place : WordBounds) (step : Step) → Scanning item from entered old new at stage
     → StepsTo item at stage next step → step ≡ steps.Word place following → newer ≡ new ++ place ∷ [] → Scanning item from entered old newer next following
 unfolding leads_to
 Scanning-word item from entered old new newer at next stage following place step s one is pushed =
@@ -86,7 +86,7 @@ Scanning-word item from entered old new newer at next stage following place step
     let sound : IsBefore next place × IsStageAt next following = go.sound in
     record {
       added = s.added ++ place ∷ [];
-      whole = pushed ∙ ap (λ (ps : List Place). ps ++ place ∷ []) s.whole ∙ append_assoc old s.added (place ∷ []);
+      whole = pushed ∙ ap (λ (ps : List WordBounds). ps ++ place ∷ []) s.whole ∙ append_assoc old s.added (place ∷ []);
       before = All-append (IsBefore next) s.added (place ∷ []) (before_more at next s.added (omega (arith, go.forward)) s.before) (before_one next place sound.0);
       within = go.within;
       sound = sound.1;
@@ -99,7 +99,7 @@ Scanning-word item from entered old new newer at next stage following place step
 
 -- ---- the end
 
-ends : (item : List ℕ) (from : ℕ) (entered : Stage) (old new : List Place) (at next : ℕ) (stage : Stage) (step : Step) (found : Found) → Scanning item from entered old new at stage
+ends : (item : List ℕ) (from : ℕ) (entered : Stage) (old new : List WordBounds) (at next : ℕ) (stage : Stage) (step : Step) (found : Found) → Scanning item from entered old new at stage
     → StepsTo item at stage next step → ((more : List ℕ) → leads_to item next step (drop next item ++ more) ≡ found_at item found more) → IsFoundIn item found
     → Scans item from entered old new found
 ends item from entered old new at next stage step found s one same sound = record {
@@ -110,28 +110,28 @@ ends item from entered old new at next stage step found s one same sound = recor
   reads = λ more. s.reads more ∙ ap (behind (words_in item s.added)) (onwards item at next stage step more one ∙ same more);
 }
 
-pub Scans-request : (item : List ℕ) (from : ℕ) (entered : Stage) (old new : List Place) (at next : ℕ) (stage : Stage) (step : Step) → Scanning item from entered old new at stage
+pub Scans-request : (item : List ℕ) (from : ℕ) (entered : Stage) (old new : List WordBounds) (at next : ℕ) (stage : Stage) (step : Step) → Scanning item from entered old new at stage
     → StepsTo item at stage next step → step ≡ steps.Whole → Scans item from entered old new (founds.Request next)
 unfolding leads_to
 Scans-request item from entered old new at next stage step s one is =
     let go : StepsTo item at stage next steps.Whole = subst (λ (st : Step). StepsTo item at stage next st) is one in
     ends item from entered old new at next stage steps.Whole (founds.Request next) s go (λ more. refl) (omega (arith, go.forward), go.within)
 
-pub Scans-empty : (item : List ℕ) (from : ℕ) (entered : Stage) (old new : List Place) (at next : ℕ) (stage : Stage) (step : Step) → Scanning item from entered old new at stage
+pub Scans-empty : (item : List ℕ) (from : ℕ) (entered : Stage) (old new : List WordBounds) (at next : ℕ) (stage : Stage) (step : Step) → Scanning item from entered old new at stage
     → StepsTo item at stage next step → step ≡ steps.Empty → Scans item from entered old new (founds.Empty next)
 unfolding leads_to
 Scans-empty item from entered old new at next stage step s one is =
     let go : StepsTo item at stage next steps.Empty = subst (λ (st : Step). StepsTo item at stage next st) is one in
     ends item from entered old new at next stage steps.Empty (founds.Empty next) s go (λ more. refl) (omega (arith, go.forward), go.within)
 
-pub Scans-fault : (item : List ℕ) (from : ℕ) (entered : Stage) (old new : List Place) (at next : ℕ) (stage : Stage) (step : Step) → Scanning item from entered old new at stage
+pub Scans-fault : (item : List ℕ) (from : ℕ) (entered : Stage) (old new : List WordBounds) (at next : ℕ) (stage : Stage) (step : Step) → Scanning item from entered old new at stage
     → StepsTo item at stage next step → step ≡ steps.Bad → Scans item from entered old new founds.Fault
 unfolding leads_to
 Scans-fault item from entered old new at next stage step s one is =
     let go : StepsTo item at stage next steps.Bad = subst (λ (st : Step). StepsTo item at stage next st) is one in
     ends item from entered old new at next stage steps.Bad founds.Fault s go (λ more. refl) tt
 
-pub Scans-part : (item : List ℕ) (from : ℕ) (entered : Stage) (old new : List Place) (at : ℕ) (stage : Stage) → Scanning item from entered old new at stage
+pub Scans-part : (item : List ℕ) (from : ℕ) (entered : Stage) (old new : List WordBounds) (at : ℕ) (stage : Stage) → Scanning item from entered old new at stage
     → length item ≤ at → Scans item from entered old new (founds.Part stage)
 Scans-part item from entered old new at stage s over =
     let same : at ≡ length item = omega (arith, s.within, over) in
@@ -146,5 +146,5 @@ Scans-part item from entered old new at stage s over =
     }
 
 -- old places stay
-pub kept : (old new added : List Place) → new ≡ old ++ added → take (length old) new ≡ old
+pub kept : (old new added : List WordBounds) → new ≡ old ++ added → take (length old) new ≡ old
 kept old new added whole = ap (take (length old)) whole ∙ take-append_seam old added

@@ -5,7 +5,7 @@ use Rattle.std.proofs.lemmas.List.{append_assoc, append-nil, map-append, length-
 use Rattle.std.proofs.Math.Seq.{take-append_seam}
 use Rattle.std.proofs.lemmas.Grind.{common_steps}
 use Rattle.std.proofs.lemmas.List.Elements.{All-append}
-use Rattle.sr_resp.specs.declared.stage.Place.{Place}
+use Rattle.sr_resp.specs.declared.stage.WordBounds.{WordBounds}
 use Rattle.sr_resp.specs.declared.stage.Stage.{Stage}
 use Rattle.sr_resp.specs.declared.stage.Stage.TheVariants as stages
 use Rattle.sr_resp.specs.declared.scan.Found.{Found}
@@ -21,10 +21,10 @@ use Rattle.sr_resp.proofs.StreamLemmas.{Splits-request, Splits-empty, Splits-not
 
 -- ---- one item
 
-pub Examined-from : (item : List ℕ) (first at : ℕ) (stage : Stage) (old new : List Place) (found : Found) → first ≤ length old → Standing item (drop first old) at stage → Scans item at stage old new found
+pub Examined-from : (item : List ℕ) (first at : ℕ) (stage : Stage) (old new : List WordBounds) (found : Found) → first ≤ length old → Standing item (drop first old) at stage → Scans item at stage old new found
     → Examined item (drop first new) found
 Examined-from item first at stage old new found in_old st s =
-    let P : List Place = drop first old in
+    let P : List WordBounds = drop first old in
     let places : drop first new ≡ P ++ s.added = ap (drop first) s.whole ∙ drop-append-le first old s.added in_old in
     let before : All (IsBefore (length item)) (P ++ s.added) = All-append (IsBefore (length item)) P s.added (before_more at (length item) P st.within st.before) s.before in
     let whole : (more : List ℕ) → item ++ more ≡ take at item ++ (drop at item ++ more) = λ more. ap (λ (t : List ℕ). t ++ more) (sym (take-append-drop at item)) ∙ append_assoc (take at item) (drop at item) more in
@@ -38,32 +38,32 @@ Examined-from item first at stage old new found in_old st s =
           ∙ behind-append (words_in item P) (words_in item s.added) (found_at item found more)
           ∙ ap (λ (ws : Words). behind ws (found_at item found more)) (sym (map-append (word_in item) P s.added));
     } in
-    subst (λ (ps : List Place). Examined item ps found) (sym places) joined
+    subst (λ (ps : List WordBounds). Examined item ps found) (sym places) joined
 
 -- what is read of the bytes that are there
-alone : (item : List ℕ) (places : List Place) (found : Found) → Examined item places found → item_at item ≡ behind (words_in item places) (found_at item found [])
+alone : (item : List ℕ) (places : List WordBounds) (found : Found) → Examined item places found → item_at item ≡ behind (words_in item places) (found_at item found [])
 alone item places found e = ap item_at (sym (append-nil item)) ∙ e.reads []
 
-pub request_read : (item : List ℕ) (places : List Place) (end : ℕ) → Examined item places (founds.Request end) → item_at item ≡ Ok (Some (words_in item places), drop end item)
+pub request_read : (item : List ℕ) (places : List WordBounds) (end : ℕ) → Examined item places (founds.Request end) → item_at item ≡ Ok (Some (words_in item places), drop end item)
 request_read item places end e =
     let tail : behind (words_in item places) (Ok (Some [], drop end item ++ [])) ≡ Ok (Some (words_in item places), drop end item) =
     ap (λ (t : List ℕ). behind (words_in item places) (Ok (Some [], t))) (append-nil (drop end item)) ∙ ap (λ (ws : Words). Ok (Some ws, drop end item)) (append-nil (words_in item places)) in
     alone item places (founds.Request end) e ∙ tail
 
-pub empty_read : (item : List ℕ) (places : List Place) (end : ℕ) → Examined item places (founds.Empty end) → item_at item ≡ Ok (None, drop end item)
+pub empty_read : (item : List ℕ) (places : List WordBounds) (end : ℕ) → Examined item places (founds.Empty end) → item_at item ≡ Ok (None, drop end item)
 empty_read item places end e = alone item places (founds.Empty end) e ∙ ap (λ (t : List ℕ). Ok (None, t)) (append-nil (drop end item))
 
 -- a request has a word
-pub some_place : (item : List ℕ) (places : List Place) (end : ℕ) → Examined item places (founds.Request end) → 0 < length places
+pub some_place : (item : List ℕ) (places : List WordBounds) (end : ℕ) → Examined item places (founds.Request end) → 0 < length places
 some_place item places end e =
     let f = item_exact.reads item (Some (words_in item places)) (drop end item) (request_read item places end e) in
     let count : length (words_in item places) ≡ length places = grind (arith, common_steps) in
     omega (arith, f.is.some, count)
 
-pub part_waits : (item : List ℕ) (places : List Place) (stage : Stage) → Examined item places (founds.Part stage) → item_at item ≡ Err More
+pub part_waits : (item : List ℕ) (places : List WordBounds) (stage : Stage) → Examined item places (founds.Part stage) → item_at item ≡ Err More
 part_waits item places stage e = alone item places (founds.Part stage) e ∙ ap (behind (words_in item places)) (waits item (length item) stage e.sound)
 
-pub part_stands : (item : List ℕ) (places : List Place) (stage : Stage) → Examined item places (founds.Part stage) → Standing item places (length item) stage
+pub part_stands : (item : List ℕ) (places : List WordBounds) (stage : Stage) → Examined item places (founds.Part stage) → Standing item places (length item) stage
 part_stands item places stage e = record {
   before = e.before;
   within = omega arith;
@@ -72,31 +72,31 @@ part_stands item places stage e = record {
 }
 
 -- the places from the first one on, as a slice
-pub tail_examined : (item : List ℕ) (first : ℕ) (all new : List Place) (found end : Found) → Examined item (drop first new) found → all ≡ new → found ≡ end
+pub tail_examined : (item : List ℕ) (first : ℕ) (all new : List WordBounds) (found end : Found) → Examined item (drop first new) found → all ≡ new → found ≡ end
     → Examined item (take (length all - first) (drop first all)) end
 tail_examined item first all new found end e same is =
     let tail : take (length all - first) (drop first all) ≡ drop first new = take_rest all first ∙ ap (drop first) same in
-    subst (λ (ps : List Place). Examined item ps end) (sym tail) (subst (λ (f : Found). Examined item (drop first new) f) is e)
+    subst (λ (ps : List WordBounds). Examined item ps end) (sym tail) (subst (λ (f : Found). Examined item (drop first new) f) is e)
 
 -- old places stay
-pub kept_more : (a b new added : List Place) → take (length a) b ≡ a → new ≡ b ++ added → take (length a) new ≡ a
+pub kept_more : (a b new added : List WordBounds) → take (length a) b ≡ a → new ≡ b ++ added → take (length a) new ≡ a
 kept_more a b new added old whole =
     let long : length (take (length a) b) ≡ length a = ap length old in
     let le : length a ≤ length b = omega (arith, long, length-take (length a) b) in
     ap (take (length a)) whole ∙ take-append-le (length a) b added le ∙ old
 
-pub kept_on : (a b new : List Place) → take (length a) b ≡ a → take (length b) new ≡ b → take (length a) new ≡ a
+pub kept_on : (a b new : List WordBounds) → take (length a) b ≡ a → take (length b) new ≡ b → take (length a) new ≡ a
 kept_on a b new old more = grind (arith, common_steps)
 
 pub waiting_kept : (before after requests : List Words) → after ≡ before ++ requests → take (length before) after ≡ before
 waiting_kept before after requests is = ap (take (length before)) is ∙ take-append_seam before requests
 
-pub in_more : (first : ℕ) (b new added : List Place) → first ≤ length b → new ≡ b ++ added → first ≤ length new
+pub in_more : (first : ℕ) (b new added : List WordBounds) → first ≤ length b → new ≡ b ++ added → first ≤ length new
 in_more first b new added le whole =
     let len : length new ≡ length (b ++ added) = ap length whole in
     omega (arith, len, length-append b added)
 
-pub found_is : (item : List ℕ) (places : List Place) (found end : Found) → Examined item places found → found ≡ end → Examined item places end
+pub found_is : (item : List ℕ) (places : List WordBounds) (found end : Found) → Examined item places found → found ≡ end → Examined item places end
 found_is item places found end e is = subst (λ (f : Found). Examined item places f) is e
 
 -- no byte is looked at twice
@@ -112,7 +112,7 @@ shorter item rest end some within tail = omega (arith, ap length tail, length-dr
 -- ---- one item after another
 
 -- an item that has not begun
-pub Standing-start : (item : List ℕ) (places : List Place) → places ≡ [] → Standing item places 0 stages.Start
+pub Standing-start : (item : List ℕ) (places : List WordBounds) → places ≡ [] → Standing item places 0 stages.Start
 unfolding goes_on
 Standing-start item places none =
     let st : Standing item [] 0 stages.Start = record {
@@ -121,9 +121,9 @@ Standing-start item places none =
       sound = tt;
       reads = λ more. sym (behind-nil (item_at more));
     } in
-    subst (λ (ps : List Place). Standing item ps 0 stages.Start) (sym none) st
+    subst (λ (ps : List WordBounds). Standing item ps 0 stages.Start) (sym none) st
 
-pub Sorting-nothing : (bytes : List ℕ) (from : ℕ) (entered : Stage) (places : List Place) (before : List Words) → Standing bytes places from entered
+pub Sorting-nothing : (bytes : List ℕ) (from : ℕ) (entered : Stage) (places : List WordBounds) (before : List Words) → Standing bytes places from entered
     → Sorting bytes bytes 0 from entered places before before
 Sorting-nothing bytes from entered places before st = record {
   requests = [];
@@ -143,7 +143,7 @@ next_rest bytes item end shorter rest within =
     let place : (length bytes - length item) + end ≡ length bytes - length (drop end item) = omega (arith, len) in
     ap (drop end) rest ∙ drop-drop end (length bytes - length item) bytes ∙ ap (λ (n : ℕ). drop n bytes) place
 
-pub Sorting-request : (bytes item rest : List ℕ) (first at end next : ℕ) (stage : Stage) (old places new : List Place) (before after later : List Words) (words : Words)
+pub Sorting-request : (bytes item rest : List ℕ) (first at end next : ℕ) (stage : Stage) (old places new : List WordBounds) (before after later : List Words) (words : Words)
     → Sorting bytes item first at stage old before after → Examined item places (founds.Request end) → words ≡ words_in item places
     → rest ≡ drop end item → next ≡ length new → later ≡ after ++ words ∷ [] → Sorting bytes rest next 0 stages.Start new before later
 Sorting-request bytes item rest first at end next stage old places new before after later words s e is tail count pushed =
@@ -159,7 +159,7 @@ Sorting-request bytes item rest first at end next stage old places new before af
     } in
     subst (λ (t : List ℕ). Sorting bytes t next 0 stages.Start new before later) (sym tail) found
 
-pub Sorting-empty : (bytes item rest : List ℕ) (first at end next : ℕ) (stage : Stage) (old places new : List Place) (before after : List Words)
+pub Sorting-empty : (bytes item rest : List ℕ) (first at end next : ℕ) (stage : Stage) (old places new : List WordBounds) (before after : List Words)
     → Sorting bytes item first at stage old before after → Examined item places (founds.Empty end)
     → rest ≡ drop end item → next ≡ length new → Sorting bytes rest next 0 stages.Start new before after
 Sorting-empty bytes item rest first at end next stage old places new before after s e tail count =
@@ -176,7 +176,7 @@ Sorting-empty bytes item rest first at end next stage old places new before afte
 
 -- ---- the end of the bytes
 
-pub SortsOut-part : (bytes item : List ℕ) (first at : ℕ) (stage ended : Stage) (old new : List Place) (before after : List Words) → Sorting bytes item first at stage old before after
+pub SortsOut-part : (bytes item : List ℕ) (first at : ℕ) (stage ended : Stage) (old new : List WordBounds) (before after : List Words) → Sorting bytes item first at stage old before after
     → first ≤ length new → Examined item (drop first new) (founds.Part ended)
     → SortsOut bytes new before after (record { start = length bytes - length item; first = first; stage = ended; fault = false })
 SortsOut-part bytes item first at stage ended old new before after s in_new e =
@@ -190,7 +190,7 @@ SortsOut-part bytes item first at stage ended old new before after s in_new e =
       stands = subst (λ (t : List ℕ). IsReaderAt false t (drop first new) ended) s.rest (part_stands item (drop first new) ended e);
     }
 
-pub SortsOut-fault : (bytes item : List ℕ) (first at : ℕ) (stage ended : Stage) (old new : List Place) (before after : List Words) → Sorting bytes item first at stage old before after
+pub SortsOut-fault : (bytes item : List ℕ) (first at : ℕ) (stage ended : Stage) (old new : List WordBounds) (before after : List Words) → Sorting bytes item first at stage old before after
     → first ≤ length new → Examined item (drop first new) founds.Fault
     → SortsOut bytes new before after (record { start = length bytes - length item; first = first; stage = ended; fault = true })
 SortsOut-fault bytes item first at stage ended old new before after s in_new e =

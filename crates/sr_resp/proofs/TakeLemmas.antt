@@ -1,11 +1,12 @@
 -- A piece more: what is known of the bytes before it stays.
-use Rattle.std.proofs.Common.{◌≡◌, ℕ, suc, ◌+◌, ◌-◌, ◌≤◌, Bool, false, List, [], ◌∷◌, ◌++◌, length, take, drop, refl, sym, ap, subst, ◌∙◌, arith}
-use Rattle.std.specs.Prelude.{All}
+use Rattle.std.proofs.Common.{◌≡◌, ℕ, suc, ◌+◌, ◌-◌, ◌≤◌, Bool, false, List, [], ◌∷◌, ◌++◌, length, take, drop, refl, sym, ap, subst, ◌∙◌, arith, Result, Ok, Err}
+use Rattle.std.specs.Prelude.{All, IfOk}
+use Rattle.std.specs.declared.alloc.AllocError.{AllocError}
 use Rattle.std.specs.List.{slice_range}
 use Rattle.std.proofs.lemmas.Bool.{MatchBool-at_false}
 use Rattle.std.proofs.lemmas.List.{append-nil, length-append, length-drop, take-append-le, drop-append-le}
 use Rattle.std.proofs.Math.Seq.{take-append_seam}
-use Rattle.sr_resp.specs.declared.stage.Place.{Place}
+use Rattle.sr_resp.specs.declared.stage.WordBounds.{WordBounds}
 use Rattle.sr_resp.specs.declared.stage.Stage.{Stage}
 use Rattle.sr_resp.specs.declared.stage.Stage.TheVariants as stages
 use Rattle.sr_resp.specs.declared.scan.Reached.{Reached}
@@ -16,12 +17,18 @@ use Rattle.sr_resp.specs.Stages.{word_in, words_in, behind, body_at, goes_on, Is
 use Rattle.sr_resp.specs.Scanning.{Standing, IsReaderAt, SortsOut}
 use Rattle.sr_resp.proofs.SortLemmas.{Standing-start}
 
+-- what follows the complete requests begins within the bytes
+pub start_within : (bytes : List ℕ) (places : List WordBounds) (before after : List Words) (sorted : Result Reached AllocError)
+    → IfOk sorted (λ reached. SortsOut bytes places before after reached) → IfOk sorted (λ reached. reached.start ≤ length bytes)
+start_within bytes places before after (Ok reached) sorts = sorts.start
+start_within bytes places before after (Err fault) sorts = tt
+
 range_stays : (bytes piece : List ℕ) (start end : ℕ) → start ≤ end → end ≤ length bytes → slice_range (bytes ++ piece) start end ≡ slice_range bytes start end
 range_stays bytes piece start end order within =
     ap (take (end - start)) (drop-append-le start bytes piece (omega arith))
     ∙ take-append-le (end - start) (drop start bytes) piece (omega (arith, length-drop start bytes))
 
-words_stay : (bytes piece : List ℕ) (places : List Place) → All (IsBefore (length bytes)) places → words_in (bytes ++ piece) places ≡ words_in bytes places
+words_stay : (bytes piece : List ℕ) (places : List WordBounds) → All (IsBefore (length bytes)) places → words_in (bytes ++ piece) places ≡ words_in bytes places
 words_stay bytes piece [] all = refl
 words_stay bytes piece (p ∷ ps) all =
     let b : IsBefore (length bytes) p = all 0 p (omega arith) in
@@ -43,7 +50,7 @@ stage_stays bytes piece (stages.Body others room start missing) more h =
     ap (λ (part : List ℕ). body_at others room part missing more) (range_stays bytes piece start (length bytes) h.1 (omega arith))
 stage_stays bytes piece (stages.BodyEnd others room) more h = refl
 
-pub Standing-piece : (rest piece : List ℕ) (places : List Place) (stage : Stage) → Standing rest places (length rest) stage → Standing (rest ++ piece) places (length rest) stage
+pub Standing-piece : (rest piece : List ℕ) (places : List WordBounds) (stage : Stage) → Standing rest places (length rest) stage → Standing (rest ++ piece) places (length rest) stage
 Standing-piece rest piece places stage st = record {
   before = st.before;
   within = omega (arith, length-append rest piece);
@@ -57,13 +64,13 @@ Standing-piece rest piece places stage st = record {
 }
 
 -- told of the reader's fields
-pub reader_stands : (failed : Bool) (rest piece bytes : List ℕ) (places : List Place) (stage : Stage) (from : ℕ) → IsReaderAt failed rest places stage → failed ≡ false
+pub reader_stands : (failed : Bool) (rest piece bytes : List ℕ) (places : List WordBounds) (stage : Stage) (from : ℕ) → IsReaderAt failed rest places stage → failed ≡ false
     → bytes ≡ rest ++ piece → from ≡ length rest → Standing bytes places from stage
 reader_stands failed rest piece bytes places stage from at working whole count =
     let st : Standing rest places (length rest) stage = MatchBool-at_false (Unit {0}) (Standing rest places (length rest) stage) working at in
     subst (λ (b : List ℕ). Standing b places from stage) (sym whole) (subst (λ (n : ℕ). Standing (rest ++ piece) places n stage) (sym count) (Standing-piece rest piece places stage st))
 
-pub sorts_out : (old : Progress) (before after : List Words) (rest piece bytes left : List ℕ) (places : List Place) (failed : Bool) (seen looked : ℕ) (reached : Reached)
+pub sorts_out : (old : Progress) (before after : List Words) (rest piece bytes left : List ℕ) (places : List WordBounds) (failed : Bool) (seen looked : ℕ) (reached : Reached)
     → record { waiting = before; rest = rest; failed = failed; looked = seen } ≡ old → bytes ≡ rest ++ piece → SortsOut bytes places before after reached → left ≡ drop reached.start bytes
     → Sorts (record old { rest = old.rest ++ piece }) (record { waiting = after; rest = left; failed = reached.fault; looked = looked })
 sorts_out old before after rest piece bytes left places failed seen looked reached is whole s tail =
@@ -77,9 +84,9 @@ pub reader_new : IsReaderAt false [] [] stages.Start
 reader_new = Standing-start [] [] refl
 
 -- told of the reader's fields, as they are again
-pub reader_still : (failed : Bool) (rest kept : List ℕ) (places left : List Place) (stage : Stage) → kept ≡ rest → left ≡ places → IsReaderAt failed rest places stage → IsReaderAt failed kept left stage
+pub reader_still : (failed : Bool) (rest kept : List ℕ) (places left : List WordBounds) (stage : Stage) → kept ≡ rest → left ≡ places → IsReaderAt failed rest places stage → IsReaderAt failed kept left stage
 reader_still failed rest kept places left stage same words at =
-    subst (λ (ps : List Place). IsReaderAt failed kept ps stage) (sym words) (subst (λ (b : List ℕ). IsReaderAt failed b places stage) (sym same) at)
+    subst (λ (ps : List WordBounds). IsReaderAt failed kept ps stage) (sym words) (subst (λ (b : List ℕ). IsReaderAt failed b places stage) (sym same) at)
 
 pub view_still : (now : Progress) (waiting requests : List Words) (rest kept : List ℕ) (failed : Bool) (seen looked : ℕ) → requests ≡ waiting → kept ≡ rest
     → record { waiting = waiting; rest = rest; failed = failed; looked = seen } ≡ now → record { waiting = requests; rest = kept; failed = failed; looked = looked } ≡ record now { looked = looked }

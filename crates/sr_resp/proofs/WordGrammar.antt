@@ -2,7 +2,7 @@
 use Rattle.std.proofs.Common.{◌≡◌, ℕ, zero, suc, ◌+◌, ◌-◌, ◌≤◌, min, List, [], ◌∷◌, ◌++◌, length, codes, sum_by, refl, sym, ap, subst, ◌∙◌, arith}
 use Rattle.std.proofs.lemmas.List.{append_assoc, append-nil}
 use Rattle.std.proofs.lemmas.List.Sums.{sum_by-cons}
-use Rattle.sr_bytes.specs.Decimal.{IsDecimal}
+use Rattle.sr_bytes.specs.{IsDecimal}
 use Rattle.sr_resp.specs.Reply.{line_end}
 use Rattle.sr_resp.specs.Request.{Words, IsWord, AreWords}
 use Rattle.sr_resp.specs.Reading.{literal_at, digits_at, bytes_at, word_at, words_at}

@@ -7,7 +7,7 @@ use Rattle.std.specs.Cmp.{IsPartialEquivalence, IsEquivalence, partial_equiv_fro
 use Rattle.std.specs.Cmp.Lexicographic.{pointwise, pointwise_decides, bytes_decides}
 use Rattle.std.proofs.lemmas.Bool.Decides.{Decides-eqb, Decides-int_eq}
 use Rattle.sr_resp.specs.Code.{word_text, error_text}
-use Rattle.sr_resp.specs.Reply.{Part, Answer, Simple, Error, Int, Bulk, NullBulk, NullArray, Array}
+use Rattle.sr_resp.specs.Reply.{Part, ReplyParts, Simple, Error, Int, Bulk, NullBulk, NullArray, Array}
 use Rattle.sr_resp.specs.steps.OneSpelling.{word_text-injective, error_text-injective}
 
 -- two parts are of one kind, and say the same
@@ -21,7 +21,7 @@ same_part NullArray NullArray = true
 same_part (Array m) (Array n) = nat_eq m n
 same_part _ _ = false
 
-abbrev pub same_reply : Answer → Answer → Bool
+abbrev pub same_reply : ReplyParts → ReplyParts → Bool
 same_reply a b = pointwise same_part a b
 
 same_part-Decides : (p q : Part) → Decides (same_part p q) (p ≡ q)
@@ -38,7 +38,7 @@ same_part-Decides NullBulk NullBulk = (λ e. refl, λ e. refl)
 same_part-Decides NullArray NullArray = (λ e. refl, λ e. refl)
 same_part-Decides p q = (λ e. absurd (cc e), λ e. absurd (cc e))
 
-pub same_reply-Decides : (a b : Answer) → Decides (same_reply a b) (a ≡ b)
+pub same_reply-Decides : (a b : ReplyParts) → Decides (same_reply a b) (a ≡ b)
 same_reply-Decides = pointwise_decides same_part-Decides
 
 module _ {K : Type 0} {E : K → K → Bool} (decides : (x y : K) → Decides (E x y) (x ≡ y)) where

@@ -19,8 +19,8 @@ pub data Part : Type 0 where
   Array : ℕ → Part
 
 -- what a reply says: its parts in the order in which they are sent
-abbrev pub Answer : Type 0
-Answer = List Part
+abbrev pub ReplyParts : Type 0
+ReplyParts = List Part
 
 -- how many replies have to follow a part: the items of an array, and none after any other part
 abbrev pub items_of : Part → ℕ
@@ -34,25 +34,25 @@ AreReplies zero (part ∷ parts) = ⊥
 AreReplies (suc n) (part ∷ parts) = AreReplies (items_of part + n) parts
 
 -- the parts are one reply
-abbrev pub IsReply : Answer → Type 0
+abbrev pub IsReply : ReplyParts → Type 0
 IsReply parts = AreReplies 1 parts
 
-abbrev pub simple_string : Word → Answer
+abbrev pub simple_string : Word → ReplyParts
 simple_string word = Simple word ∷ []
 
-abbrev pub error_reply : ErrCode → Answer
+abbrev pub error_reply : ErrCode → ReplyParts
 error_reply code = Error code ∷ []
 
-abbrev pub integer : ℤ → Answer
+abbrev pub integer : ℤ → ReplyParts
 integer n = Int n ∷ []
 
-abbrev pub bulk_string : List ℕ → Answer
+abbrev pub bulk_string : List ℕ → ReplyParts
 bulk_string bytes = Bulk bytes ∷ []
 
-abbrev pub null_string : Answer
+abbrev pub null_string : ReplyParts
 null_string = NullBulk ∷ []
 
-abbrev pub null_array : Answer
+abbrev pub null_array : ReplyParts
 null_array = NullArray ∷ []
 
 -- the header of an array with this many items
@@ -60,12 +60,12 @@ abbrev pub array_header : ℕ → List Part
 array_header items = Array items ∷ []
 
 -- the array of these replies
-abbrev pub array_of : List Answer → Answer
+abbrev pub array_of : List ReplyParts → ReplyParts
 array_of items = Array (length items) ∷ flat_map (λ item. item) items
 
 -- the reply is an array
-abbrev pub IsArray : Answer → Type 0
-IsArray reply = (items : List Answer) × (reply ≡ array_of items)
+abbrev pub IsArray : ReplyParts → Type 0
+IsArray reply = (items : List ReplyParts) × (reply ≡ array_of items)
 
 abbrev pub line_end : List ℕ
 line_end = codes "\r\n"
@@ -81,5 +81,5 @@ part_text NullArray = codes "*-1\r\n"
 part_text (Array items) = codes "*" ++ decimal items ++ line_end
 
 -- how a reply is spelled: part by part
-abbrev pub reply_text : Answer → List ℕ
+abbrev pub reply_text : ReplyParts → List ℕ
 reply_text parts = flat_map part_text parts

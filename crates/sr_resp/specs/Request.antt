@@ -2,7 +2,7 @@
 -- Source: RESP2 protocol specification, "Sending commands to a Redis server", "Arrays" and "Bulk strings".
 
 use Rattle.std.specs.Prelude.{◌≡◌, ℕ, ◌<◌, ◌≤◌, ◌⊎◌, List, [], ◌∷◌, ◌++◌, Option, Some, None, length, codes, sum_by}
-use Rattle.sr_bytes.specs.Decimal.{IsDecimal}
+use Rattle.sr_bytes.specs.{IsDecimal}
 use Rattle.sr_resp.specs.Reply.{line_end}
 
 -- what a request says: its words

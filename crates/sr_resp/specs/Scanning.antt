@@ -3,7 +3,7 @@
 
 use Rattle.std.specs.Prelude.{◌≡◌, ℕ, ◌-◌, ◌<◌, ◌≤◌, List, [], ◌++◌, length, take, drop, Option, Some, None, Result}
 use Rattle.std.specs.Prelude.{Ok, Err, All, Bool, MatchBool}
-use Rattle.sr_resp.specs.declared.stage.Place.{Place}
+use Rattle.sr_resp.specs.declared.stage.WordBounds.{WordBounds}
 use Rattle.sr_resp.specs.declared.stage.Stage.{Stage}
 use Rattle.sr_resp.specs.declared.scan.Found.{Found}
 use Rattle.sr_resp.specs.declared.scan.Reached.{Reached}
@@ -35,9 +35,9 @@ unseen_in item founds.Fault = 0
 unseen_in item (founds.Part stage) = 0
 
 -- from a place and a stage on, the bytes up to another place have these words, and lead to another stage
-pub record Scanning (item : List ℕ) (from : ℕ) (entered : Stage) (old new : List Place) (at : ℕ) (stage : Stage) : Type
-    0 where
-  pub added : List Place
+pub record Scanning (item : List ℕ) (from : ℕ) (entered : Stage) (old new : List WordBounds) (at : ℕ)
+    (stage : Stage) : Type 0 where
+  pub added : List WordBounds
   pub whole : new ≡ old ++ added
   pub before : All (IsBefore at) added
   pub within : at ≤ length item
@@ -47,8 +47,8 @@ pub record Scanning (item : List ℕ) (from : ℕ) (entered : Stage) (old new : 
       ≡ behind (words_in item added) (goes_on item at stage (drop at item ++ more))
 
 -- all bytes were examined, or the item has ended
-pub record Scans (item : List ℕ) (from : ℕ) (entered : Stage) (old new : List Place) (found : Found) : Type 0 where
-  pub added : List Place
+pub record Scans (item : List ℕ) (from : ℕ) (entered : Stage) (old new : List WordBounds) (found : Found) : Type 0 where
+  pub added : List WordBounds
   pub whole : new ≡ old ++ added
   pub before : All (IsBefore (length item)) added
   pub sound : IsFoundIn item found
@@ -56,7 +56,7 @@ pub record Scans (item : List ℕ) (from : ℕ) (entered : Stage) (old new : Lis
       ≡ behind (words_in item added) (found_at item found more)
 
 -- the bytes of an item up to a place have the words at these places, and lead to a stage
-pub record Standing (item : List ℕ) (places : List Place) (at : ℕ) (stage : Stage) : Type 0 where
+pub record Standing (item : List ℕ) (places : List WordBounds) (at : ℕ) (stage : Stage) : Type 0 where
   pub before : All (IsBefore at) places
   pub within : at ≤ length item
   pub sound : IsStageAt at stage
@@ -64,11 +64,11 @@ pub record Standing (item : List ℕ) (places : List Place) (at : ℕ) (stage : 
       ≡ behind (words_in item places) (goes_on item at stage more)
 
 -- a reader that works stands at the end of its bytes
-abbrev pub IsReaderAt : Bool → List ℕ → List Place → Stage → Type 0
+abbrev pub IsReaderAt : Bool → List ℕ → List WordBounds → Stage → Type 0
 IsReaderAt failed rest places stage = MatchBool failed (Unit {0}) (Standing rest places (length rest) stage)
 
 -- the requests at the front of some bytes wait now after the others, and the reader stands at the end of the rest
-pub record SortsOut (bytes : List ℕ) (places : List Place) (before after : List Words) (reached : Reached) : Type 0
+pub record SortsOut (bytes : List ℕ) (places : List WordBounds) (before after : List Words) (reached : Reached) : Type 0
   where
     pub requests : List Words
     pub waiting : after ≡ before ++ requests
@@ -78,7 +78,7 @@ pub record SortsOut (bytes : List ℕ) (places : List Place) (before after : Lis
     pub stands : IsReaderAt reached.fault (drop reached.start bytes) (drop reached.first places) reached.stage
 
 -- some items were whole, and the next one is under way
-pub record Sorting (bytes item : List ℕ) (first at : ℕ) (stage : Stage) (places : List Place)
+pub record Sorting (bytes item : List ℕ) (first at : ℕ) (stage : Stage) (places : List WordBounds)
     (before after : List Words) : Type 0 where
   pub requests : List Words
   pub waiting : after ≡ before ++ requests
@@ -89,7 +89,7 @@ pub record Sorting (bytes item : List ℕ) (first at : ℕ) (stage : Stage) (pla
   pub stands : Standing item (drop first places) at stage
 
 -- all bytes of an item that are there were examined
-pub record Examined (item : List ℕ) (places : List Place) (found : Found) : Type 0 where
+pub record Examined (item : List ℕ) (places : List WordBounds) (found : Found) : Type 0 where
   pub before : All (IsBefore (length item)) places
   pub sound : IsFoundIn item found
   pub reads : (more : List ℕ) → item_at (item ++ more) ≡ behind (words_in item places) (found_at item found more)

@@ -5,7 +5,7 @@ use Rattle.std.specs.Prelude.{◌≡◌, ℕ, suc, ◌+◌, ◌-◌, ◌<◌, �
 use Rattle.std.specs.Prelude.{None, Result, Ok, Err, codes, min, slice_index}
 use Rattle.std.specs.Char.{digit_value}
 use Rattle.std.specs.List.{slice_range}
-use Rattle.sr_resp.specs.declared.stage.Place.{Place}
+use Rattle.sr_resp.specs.declared.stage.WordBounds.{WordBounds}
 use Rattle.sr_resp.specs.declared.stage.Stage.{Stage}
 use Rattle.sr_resp.specs.declared.stage.Stage.TheVariants as stages
 use Rattle.sr_resp.specs.declared.stage.Step.{Step}
@@ -16,10 +16,10 @@ use Rattle.sr_resp.specs.Reading.{Halt, Bad, ◌>>=◌, literal_at, digits_at, b
 use Rattle.sr_resp.specs.Reading.{item_at}
 
 -- the word at a place of an item, and the words at some places
-abbrev pub word_in : List ℕ → Place → List ℕ
+abbrev pub word_in : List ℕ → WordBounds → List ℕ
 word_in item place = slice_range item place.start place.end
 
-abbrev pub words_in : List ℕ → List Place → Words
+abbrev pub words_in : List ℕ → List WordBounds → Words
 words_in item places = map (word_in item) places
 
 -- a line feed, and then what follows it
@@ -82,7 +82,7 @@ IsStageAt at (stages.Body others room start missing) = (room ≤ 16777216) × (s
 IsStageAt at (stages.BodyEnd others room) = room ≤ 16777216
 
 -- a place before this one
-pub record IsBefore (at : ℕ) (place : Place) : Type 0 where
+pub record IsBefore (at : ℕ) (place : WordBounds) : Type 0 where
   pub order : place.start ≤ place.end
   pub within : place.end ≤ at
 

@@ -4,7 +4,7 @@ ghost use Rattle.std.specs.Prelude.{IfNone, IfOk, Some};
 ghost use Rattle.std.specs.Fmt.{signed_decimal};
 ghost use lib.Signed.{mag};
 ghost use Rattle.sr_resp.specs.Code.{error_text, word_text};
-ghost use Rattle.sr_resp.specs.Reply.{Answer, Part, IsReply, items_of, reply_text};
+ghost use Rattle.sr_resp.specs.Reply.{ReplyParts, Part, IsReply, items_of, reply_text};
 ghost use Rattle.sr_resp.specs.Spelled.{AreSpellable};
 ghost use Rattle.sr_resp.specs.steps.Decoding.{HasLine, HasForm, HasPart, AreSpelledReplies};
 ghost use Rattle.sr_resp.specs.steps.Pieces.{part_of};
@@ -43,11 +43,11 @@ const EACH_ERROR: [ErrCode; 16] = [
 pub fn decode(alloc: Global, bytes: &[u8]) -> Result<Option<Reply>, AllocError>
     ensures found { IfOk result (λ found. IfSome found (λ reply. reply_text reply ≡ bytes.now)) }
     // a spellable reply is read back from its text
-    ensures back { (reply : Answer) → IsReply reply → AreSpellable reply → reply_text reply ≡ bytes.now
+    ensures back { (reply : ReplyParts) → IsReply reply → AreSpellable reply → reply_text reply ≡ bytes.now
         → IfOk result (λ found. found ≡ Some reply) }
     // nothing else is read
     ensures none { IfOk result (λ found. IfNone found
-        ((reply : Answer) → IsReply reply → AreSpellable reply → reply_text reply ≢ bytes.now)) }
+        ((reply : ReplyParts) → IsReply reply → AreSpellable reply → reply_text reply ≢ bytes.now)) }
 {
     let Some((piece, others)) = first_piece(bytes) else {
         return Ok(None);

@@ -6,8 +6,8 @@ ghost use Rattle.sr_resp.specs.Stream.{Stands, Advances, LooksOnce, Splits, IsPa
 ghost use Rattle.sr_resp.specs.declared.reader.ReadFault.TheVariants.{Memory};
 
 use crate::request::Request;
-use crate::scan::sort_out;
-use crate::stage::{Place, Stage};
+use crate::scan::{Reached, sort_out};
+use crate::stage::{Stage, WordBounds};
 use sr_bytes::Words;
 use std::alloc::{AllocError, Global};
 use std::collections::VecDeque;
@@ -42,7 +42,7 @@ pub struct Reader {
     /// How far that item has come.
     stage: Stage,
     /// Where its whole words stand in its bytes.
-    places: Vec<Place>,
+    places: Vec<WordBounds>,
     /// Whether the stream went wrong.
     failed: bool,
     /// How many bytes were looked at.
@@ -115,8 +115,55 @@ impl Reader {
         }
     }
 
-    /// Appends the piece to the rest, and moves the complete requests to the waiting ones.
+    /// Moves the requests that are complete with the piece to the waiting ones, and keeps the bytes after them.
     fn take_in(&mut self, alloc: Global, piece: &[u8]) -> Result<(), AllocError>
+        requires { self.old.failed ≡ false }
+        ensures ok { OnOk result (Sorts (record self.old { rest = self.old.rest ++ piece.now }) self.new) }
+        ensures err { OnErr result (self.new ≡ record self.old { looked = self.new.looked }) }
+        ensures looked { LooksOnce self.old self.new piece.now }
+    {
+        if self.rest.is_empty() {
+            self.take_fresh(alloc, piece)
+        } else {
+            self.take_on(alloc, piece)
+        }
+    }
+
+    /// The same where no bytes are left of the pieces before: those of a complete request are read where they lie.
+    fn take_fresh(&mut self, alloc: Global, piece: &[u8]) -> Result<(), AllocError>
+        requires open { self.old.failed ≡ false }
+        requires fresh { self.old.rest ≡ [] }
+        ensures ok { OnOk result (Sorts (record self.old { rest = self.old.rest ++ piece.now }) self.new) }
+        ensures err { OnErr result (self.new ≡ record self.old { looked = self.new.looked }) }
+        ensures looked { LooksOnce self.old self.new piece.now }
+    {
+        let (words, requests) = (self.places.len(), self.waiting.len());
+        let sorted = sort_out(
+            alloc,
+            piece,
+            0,
+            self.stage,
+            &mut self.places,
+            &mut self.waiting,
+            &mut self.looked,
+        );
+        match keep_rest(&mut self.rest, piece, sorted) {
+            Ok(reached) => {
+                drop_front(&mut self.places, reached.first);
+                self.stage = reached.stage;
+                self.failed = reached.fault;
+                Ok(())
+            }
+            Err(AllocError) => {
+                self.places.truncate(words);
+                self.waiting.truncate(requests);
+                Err(AllocError)
+            }
+        }
+    }
+
+    /// Appends the piece to the rest, and moves the complete requests to the waiting ones.
+    fn take_on(&mut self, alloc: Global, piece: &[u8]) -> Result<(), AllocError>
         requires { self.old.failed ≡ false }
         ensures ok { OnOk result (Sorts (record self.old { rest = self.old.rest ++ piece.now }) self.new) }
         ensures err { OnErr result (self.new ≡ record self.old { looked = self.new.looked }) }
@@ -169,6 +216,23 @@ impl Reader {
         let request = self.waiting.pop_front()?;
         Some(request.into_words())
     }
+}
+
+/// Keeps what follows the complete requests of a piece, if there was memory for these. Where memory is refused, `rest`
+/// is as it was.
+fn keep_rest(
+    rest: &mut Vec<u8>,
+    piece: &[u8],
+    sorted: Result<Reached, AllocError>,
+) -> Result<Reached, AllocError>
+    requires { IfOk sorted (λ reached. reached.start ≤ length piece.now) }
+    ensures ok { IfOk result (λ reached. (sorted ≡ Ok reached)
+        × (rest.new.items ≡ rest.old.items ++ drop reached.start piece.now)) }
+    ensures err { OnErr result (rest.new.items ≡ rest.old.items) }
+{
+    let reached = sorted?;
+    rest.extend_from_slice(&piece[reached.start..])?;
+    Ok(reached)
 }
 
 /// The greatest capacity that a buffer keeps once a request is whole.

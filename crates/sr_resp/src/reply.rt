@@ -38,7 +38,8 @@ impl Model for Reply {
 
 impl Reply {
     ghost use Rattle.std.specs.Prelude.{◌≡◌, ◌≤◌, ◌∷◌, [], ◌++◌, List, decimal, length, IfOk, OnOk, OnErr};
-    ghost use Rattle.sr_resp.specs.Reply.{Answer, IsReply, IsArray, simple_string, error_reply, integer, bulk_string};
+    ghost use Rattle.sr_resp.specs.Reply.{ReplyParts, IsReply, IsArray, simple_string, error_reply, integer};
+    ghost use Rattle.sr_resp.specs.Reply.{bulk_string};
     ghost use Rattle.sr_resp.specs.Reply.{null_string, null_array, array_of};
     ghost use Rattle.sr_resp.specs.steps.Pieces.{first_part};
 
@@ -138,7 +139,7 @@ impl Reply {
     /// Adds an item at the end of an array. An `Err` drops the item and leaves the array as it was.
     pub fn push(&mut self, item: Reply) -> Result<(), AllocError>
         requires array { IsArray self.old }
-        ensures ok { OnOk result ((items : List Answer) → self.old ≡ array_of items
+        ensures ok { OnOk result ((items : List ReplyParts) → self.old ≡ array_of items
             → self.new ≡ array_of (items ++ item ∷ [])) }
         ensures err { OnErr result (self.new ≡ self.old) }
     {

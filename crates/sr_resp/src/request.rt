@@ -1,8 +1,8 @@
 ghost use Rattle.std.specs.Prelude.{◌≡◌, ◌<◌, length, All, IfOk};
 ghost use Rattle.sr_resp.specs.Stages.{words_in, IsBefore};
 
-use crate::stage::Place;
-use sr_bytes::{Words, room_of};
+use crate::stage::WordBounds;
+use sr_bytes::{Words, packed_len};
 use std::alloc::{AllocError, Global};
 use std::marker::Model;
 
@@ -24,7 +24,7 @@ impl Model for Request {
 
 impl Request {
     /// The request of the words at these places of its bytes.
-    pub fn gather(alloc: Global, bytes: &[u8], places: &[Place]) -> Result<Request, AllocError>
+    pub fn gather(alloc: Global, bytes: &[u8], places: &[WordBounds]) -> Result<Request, AllocError>
         requires some { 0 < length places.now }
         requires within { All (IsBefore (length bytes.now)) places.now }
         ensures { IfOk result (λ request. request ≡ words_in bytes.now places.now) }
@@ -47,12 +47,12 @@ impl Request {
 }
 
 /// How many bytes the words at these places take. More or fewer would only cost memory.
-fn room_for(bytes: &[u8], places: &[Place]) -> usize
+fn room_for(bytes: &[u8], places: &[WordBounds]) -> usize
     requires { All (IsBefore (length bytes.now)) places.now }
 {
     let mut room = 0_usize;
     for place in places {
-        room = room.saturating_add(room_of(&bytes[place.start..place.end]));
+        room = room.saturating_add(packed_len(&bytes[place.start..place.end]));
     }
     room
 }

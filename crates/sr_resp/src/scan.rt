@@ -4,7 +4,7 @@ ghost use Rattle.sr_resp.specs.Scanning.{Scans, Standing, SortsOut, unseen_in};
 ghost use Rattle.sr_resp.specs.Stages.{IsStageAt};
 
 use crate::request::Request;
-use crate::stage::{Place, Stage, Step};
+use crate::stage::{Stage, Step, WordBounds};
 use std::alloc::{AllocError, Global};
 use std::collections::VecDeque;
 
@@ -27,7 +27,7 @@ pub fn scan(
     item: &[u8],
     from: usize,
     entered: Stage,
-    places: &mut Vec<Place>,
+    places: &mut Vec<WordBounds>,
     looked: &mut u64,
 ) -> Result<Found, AllocError>
     requires within { from ≤ length item.now }
@@ -78,7 +78,7 @@ pub fn sort_out(
     bytes: &[u8],
     from: usize,
     entered: Stage,
-    places: &mut Vec<Place>,
+    places: &mut Vec<WordBounds>,
     waiting: &mut VecDeque<Request>,
     looked: &mut u64,
 ) -> Result<Reached, AllocError>

@@ -20,7 +20,7 @@ const NULL_ARRAY: [u8; 4] = *b"-1\r\n";
 
 /// Where a word stands in the bytes of its request: its first byte, and the byte after its last one.
 #[derive(Clone, Copy)]
-pub struct Place {
+pub struct WordBounds {
     pub start: usize,
     pub end: usize,
 }
@@ -83,7 +83,7 @@ pub enum Step {
     /// This stage.
     On(Stage),
     /// The end of a word's bytes, which stand at the place, and this stage.
-    Word(Place, Stage),
+    Word(WordBounds, Stage),
     /// The end of a request.
     Whole,
     /// The end of an empty command.
@@ -249,7 +249,7 @@ fn in_body(
             others: others - 1,
             room,
         };
-        (Step::Word(Place { start, end }, following), end + 2)
+        (Step::Word(WordBounds { start, end }, following), end + 2)
     } else if missing > 0 {
         let run = missing.min(item.len() - at);
         let step = Step::On(Stage::Body {
@@ -260,7 +260,7 @@ fn in_body(
         });
         (step, at + run)
     } else {
-        let word = Place { start, end: at };
+        let word = WordBounds { start, end: at };
         let step = Step::Word(word, Stage::BodyEnd { others, room });
         (expect(b'\r', item[at], step), at + 1)
     }

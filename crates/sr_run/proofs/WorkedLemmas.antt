@@ -10,10 +10,10 @@ use Rattle.std.proofs.lemmas.List.Folds.{flat_map-map}
 use Rattle.std.proofs.lemmas.List.Sums.{sum-map, sum_by-append, sum_by-cons}
 use Rattle.std.proofs.Math.Seq.{take-append_seam, drop-append_seam}
 use Rattle.sr_args.specs.declared.call.Call.{Call}
-use Rattle.sr_book.specs.Records.{BookState}
+use Rattle.sr_book.specs.{BookState}
 use Rattle.sr_run.specs.Closed.{IsClosed}
 use Rattle.sr_run.specs.Crews.{AreHalves, AreTogether, CrewState, HasNotWorked, HasWorked, IsCrew, IsStopped, first_of, joined, seats_from}
-use Rattle.sr_seats.specs.Held.{SeatState, count_before, count_made, new_seat, new_seats}
+use Rattle.sr_seats.specs.{SeatState, count_before, count_made, new_seat, new_seats}
 use Rattle.sr_run.specs.Shared.{HasMade, RefusesEvent}
 use Rattle.sr_run.specs.Worked.{AreWorked, HasNotRun, HasRun, IsWorked, count_calls, joined_up}
 use Rattle.sr_run.specs.declared.fault.RunFault.{RunFault}

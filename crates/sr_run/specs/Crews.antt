@@ -2,7 +2,7 @@
 use Rattle.std.specs.Prelude.{⊤, ◌≡◌, ◌<◌, ◌≤◌, ◌+◌, ◌*◌, ℕ, zero, suc, List, [], ◌∷◌, ◌++◌, length, take, Result, Ok}
 use Rattle.std.specs.Prelude.{Err}
 use Rattle.sr_args.specs.declared.call.Call.{Call}
-use Rattle.sr_seats.specs.Held.{SeatState, count_before, count_made, new_seat}
+use Rattle.sr_seats.specs.{SeatState, count_before, count_made, new_seat}
 use Rattle.sr_run.specs.Shared.{RefusesEvent}
 use Rattle.sr_run.specs.Worked.{AreWorked, count_calls, joined_up}
 use Rattle.sr_run.specs.declared.fault.RunFault.{RunFault}

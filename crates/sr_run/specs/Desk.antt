@@ -2,7 +2,7 @@
 -- Source: docs/DEFINITIONS.md, "The one-thread server".
 
 use Rattle.std.specs.Prelude.{◌≡◌}
-use Rattle.sr_seats.specs.Held.{SeatState}
+use Rattle.sr_seats.specs.{SeatState}
 use Rattle.sr_run.specs.Shared.{HasNotMade}
 use Rattle.sr_seats.specs.declared.fault.SeatFault.{SeatFault}
 use Rattle.sr_seats.specs.declared.fault.SeatFault.TheVariants as faults

@@ -4,7 +4,8 @@
 use Rattle.std.specs.Prelude.{⊤, ◌≡◌, ◌+◌, ◌<◌, ◌≤◌, ℕ, Bool, true, false, Option, Some, None}
 use Rattle.sr_args.specs.declared.call.Call.{Call}
 use Rattle.sr_book.specs.declared.answer.Letter.{Letter}
-use Rattle.sr_seats.specs.Held.{SeatState, seen_by}
+use Rattle.sr_seats.specs.{SeatState}
+use Rattle.sr_seats.specs.Held.{seen_by}
 use Rattle.sr_seats.specs.declared.fault.SeatFault.{SeatFault}
 use Rattle.sr_seats.specs.declared.fault.SeatFault.TheVariants as faults
 use Rattle.sr_seats.specs.declared.receipt.Receipt.{Receipt}

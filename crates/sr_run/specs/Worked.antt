@@ -4,7 +4,7 @@
 use Rattle.std.specs.Prelude.{⊤, ◌≡◌, ◌≢◌, ◌<◌, ◌+◌, ◌*◌, ℕ, List, [], ◌∷◌, All, length, map, sum_by}
 use Rattle.std.specs.List.{flat_map}
 use Rattle.sr_args.specs.declared.call.Call.{Call}
-use Rattle.sr_book.specs.Records.{BookState}
+use Rattle.sr_book.specs.{BookState}
 use Rattle.sr_run.specs.Closed.{IsClosed}
 use Rattle.sr_run.specs.Shared.{RefusesEvent}
 use Rattle.sr_seats.specs.declared.fault.CloseFault.TheVariants as closing

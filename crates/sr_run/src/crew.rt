@@ -1,7 +1,7 @@
 ghost use Rattle.std.specs.Prelude.{◌≡◌, ◌+◌, ◌++◌, ◌<◌, ◌≤◌, IfOk, MatchResult, length, map, vec_len};
 ghost use Rattle.std.specs.Thread.{IsSend, IsSync};
 ghost use Rattle.sr_run.specs.Crews.{AreHalves, AreTogether, HasNotWorked, HasWorked, first_of, joined};
-ghost use Rattle.sr_seats.specs.Held.{new_seats};
+ghost use Rattle.sr_seats.specs.{new_seats};
 
 use crate::worker::work;
 use crate::{RunFault, Shared};

@@ -22,7 +22,7 @@
 #![tactic(auto)]
 
 ghost use Rattle.std.specs.Prelude.{◌≤◌};
-ghost use Rattle.sr_options.specs.Ways.{threads_of};
+ghost use Rattle.sr_options.specs.{threads_of};
 
 mod command_line;
 mod files;

@@ -1,7 +1,7 @@
 //! The system's network: TCP, at an IP address and a port. Any reason why an address cannot be bound is one fault; a
 //! failed allocation is another.
 ghost use Rattle.std.specs.Prelude.{◌≡◌, ◌≤◌, IfOk, IfErr, IsTrue};
-ghost use Rattle.sr_options.specs.Ways.{threads_of};
+ghost use Rattle.sr_options.specs.{threads_of};
 ghost use Rattle.sr_options.specs.declared.way.Way.{Way};
 ghost use Rattle.sr_start.specs.Listening.{any_end, any_files, any_refusal};
 

@@ -1,7 +1,7 @@
 -- Requests answered one after another: one more at the end.
 use Rattle.std.proofs.Common.{ℕ, List, [], ◌∷◌, ◌++◌, refl, sym, ap, ◌∙◌, subst, append_assoc}
 use Rattle.std.proofs.lemmas.List.{append-nil}
-use Rattle.sr_resp.specs.Request.{Words}
+use Rattle.sr_resp.specs.{Words}
 use Rattle.sr_session.specs.Session.{AreAnswered}
 
 module _ {S : Type 0} (Answers : S → Words → List ℕ → S → Type 0) where

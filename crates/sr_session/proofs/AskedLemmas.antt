@@ -1,11 +1,11 @@
 -- The requests of one read: each is read in its turn, and then each is handed out to be carried out.
 use Rattle.std.proofs.Common.{◌≡◌, ℕ, List, [], ◌∷◌, ◌++◌, length, refl, sym, ap, ◌∙◌, subst, append_assoc, arith}
 use Rattle.std.specs.Prelude.{Result, Ok, Err, IfOk, IfErr}
-use Rattle.sr_resp.specs.Request.{Words}
-use Rattle.sr_resp.specs.Stream.{Progress, Stands, Splits}
+use Rattle.sr_resp.specs.{Words, Progress}
+use Rattle.sr_resp.specs.Stream.{Stands, Splits}
 use Rattle.sr_args.specs.declared.fault.CallFault.{CallFault}
 use Rattle.sr_args.specs.declared.call.Command.{Command}
-use Rattle.sr_args.specs.Command.{IsCommand, Refuses}
+use Rattle.sr_args.specs.{IsCommand, Refuses}
 use Rattle.sr_session.specs.steps.Asked.{IsAsked, AreAsked}
 use Rattle.sr_session.specs.steps.Underway.{IsAnswering}
 

@@ -2,22 +2,24 @@
 use Rattle.std.proofs.Common.{◌≡◌, ◌≤◌, ℕ, zero, suc, max, not-suc-le-zero, ◌⊎◌, inl, inr, List, Bool, true, false, cond, not, true≢false, IsTrue, Option, Some, None, IsSome, Result, Ok, Err, IfOk, IfErr, OnOk, refl, sym, subst, ◌∙◌}
 use Rattle.std.proofs.Math.Nat.{le-max_right}
 use Rattle.std.specs.Option.{option_map}
-use Rattle.sr_resp.specs.Request.{Words}
-use Rattle.sr_resp.specs.Reply.{Answer as ReplyParts, error_reply, reply_text}
+use Rattle.sr_resp.specs.{Words}
+use Rattle.sr_resp.specs.Reply.{ReplyParts, error_reply, reply_text}
 use Rattle.sr_resp.specs.declared.code.ErrCode.TheVariants as errors
-use Rattle.sr_args.specs.Command.{IsCommand}
+use Rattle.sr_args.specs.{IsCommand}
 use Rattle.sr_args.specs.declared.call.Call.{Call}
 use Rattle.sr_args.specs.declared.call.Command.{Command}
 use Rattle.sr_args.specs.declared.call.Command.TheVariants as commands
 use Rattle.sr_args.specs.declared.fault.CallFault.TheVariants as call_faults
-use Rattle.sr_policy.specs.Snapshot.{Shown}
-use Rattle.sr_space.specs.Blocking.{executed}
+use Rattle.sr_policy.specs.{SnapshotState}
+use Rattle.sr_space.specs.{executed}
 use Rattle.sr_space.specs.Keys.{Keys}
 use Rattle.sr_space.specs.declared.blocking.Outcome.{Outcome}
 use Rattle.sr_space.specs.declared.blocking.Outcome.TheVariants as outcomes
-use Rattle.sr_waiters.specs.Waiters.{has_session}
-use Rattle.sr_book.specs.Server.{Given, Server, called, is_open, letter_of}
-use Rattle.sr_book.specs.Records.{BookState, IsHistory, IsStepped, Steps, letter_for, next_index, next_moment, status_by, status_of}
+use Rattle.sr_waiters.specs.{has_session}
+use Rattle.sr_book.specs.{Given, is_open, letter_of, BookState, IsHistory, IsStepped, letter_for, next_index}
+use Rattle.sr_book.specs.{next_moment}
+use Rattle.sr_book.specs.Server.{Server, called}
+use Rattle.sr_book.specs.Records.{Steps, status_by, status_of}
 use Rattle.sr_book.specs.declared.answer.Answer.{Answer}
 use Rattle.sr_book.specs.declared.answer.Letter.{Letter}
 use Rattle.sr_book.specs.declared.answer.Status.{Status}
@@ -157,7 +159,7 @@ IsRecoverOut outs.Left = ⊥
 
 -- the other answers are none
 pub stray-call : (out : Out)
-    → ((number : ℕ) × (out ≡ outs.Joined number)) ⊎ (((shown : Shown) × (out ≡ outs.Snap shown)) ⊎ (((shown : Shown) × (out ≡ outs.Stale shown)) ⊎ (((count : ℕ) × (out ≡ outs.Expired count)) ⊎ (out ≡ outs.Left))))
+    → ((number : ℕ) × (out ≡ outs.Joined number)) ⊎ (((shown : SnapshotState) × (out ≡ outs.Snap shown)) ⊎ (((shown : SnapshotState) × (out ≡ outs.Stale shown)) ⊎ (((count : ℕ) × (out ≡ outs.Expired count)) ⊎ (out ≡ outs.Left))))
     → IsCallOut out → ⊥
 stray-call out (inl joined) comes = subst IsCallOut joined.1 comes
 stray-call out (inr (inl snap)) comes = subst IsCallOut snap.1 comes
@@ -166,7 +168,7 @@ stray-call out (inr (inr (inr (inl expired)))) comes = subst IsCallOut expired.1
 stray-call out (inr (inr (inr (inr left)))) comes = subst IsCallOut left comes
 
 pub stray-board : (out : Out)
-    → ((number : ℕ) × (out ≡ outs.Joined number)) ⊎ ((out ≡ outs.Blocked) ⊎ (((shown : Shown) × (out ≡ outs.Snap shown)) ⊎ (((shown : Shown) × (out ≡ outs.Stale shown)) ⊎ (((count : ℕ) × (out ≡ outs.Expired count)) ⊎ (out ≡ outs.Left)))))
+    → ((number : ℕ) × (out ≡ outs.Joined number)) ⊎ ((out ≡ outs.Blocked) ⊎ (((shown : SnapshotState) × (out ≡ outs.Snap shown)) ⊎ (((shown : SnapshotState) × (out ≡ outs.Stale shown)) ⊎ (((count : ℕ) × (out ≡ outs.Expired count)) ⊎ (out ≡ outs.Left)))))
     → IsBoardOut out → ⊥
 stray-board out (inl joined) comes = subst IsBoardOut joined.1 comes
 stray-board out (inr (inl blocked)) comes = subst IsBoardOut blocked comes
@@ -176,7 +178,7 @@ stray-board out (inr (inr (inr (inr (inl expired))))) comes = subst IsBoardOut e
 stray-board out (inr (inr (inr (inr (inr left))))) comes = subst IsBoardOut left comes
 
 pub stray-recovery : (out : Out)
-    → ((number : ℕ) × (out ≡ outs.Joined number)) ⊎ ((out ≡ outs.Blocked) ⊎ (((shown : Shown) × (out ≡ outs.Stale shown)) ⊎ (((count : ℕ) × (out ≡ outs.Expired count)) ⊎ (out ≡ outs.Left))))
+    → ((number : ℕ) × (out ≡ outs.Joined number)) ⊎ ((out ≡ outs.Blocked) ⊎ (((shown : SnapshotState) × (out ≡ outs.Stale shown)) ⊎ (((count : ℕ) × (out ≡ outs.Expired count)) ⊎ (out ≡ outs.Left))))
     → IsRecoverOut out → ⊥
 stray-recovery out (inl joined) comes = subst IsRecoverOut joined.1 comes
 stray-recovery out (inr (inl blocked)) comes = subst IsRecoverOut blocked comes
@@ -199,7 +201,7 @@ comes-first session (commands.Board key group) told answer old new stepped =
 comes-first session (commands.Recover apply tries key group dead) told answer old new stepped =
     by (snapshot-answers old told session key group dead answer new stepped)
   where
-    by : ((reply : ReplyParts) × (answer.out ≡ outs.Reply reply)) ⊎ ((shown : Shown) × (answer.out ≡ outs.Snap shown)) → IsRecoverOut answer.out
+    by : ((reply : ReplyParts) × (answer.out ≡ outs.Reply reply)) ⊎ ((shown : SnapshotState) × (answer.out ≡ outs.Snap shown)) → IsRecoverOut answer.out
     by (inl one) = subst IsRecoverOut (sym one.1) tt
     by (inr one) = subst IsRecoverOut (sym one.1) tt
 

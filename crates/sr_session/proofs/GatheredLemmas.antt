@@ -1,6 +1,6 @@
 -- One request more is answered, or the session ends at it.
 use Rattle.std.proofs.Common.{◌≡◌, ℕ, List, ◌++◌, Bool, Err, sym, subst}
-use Rattle.sr_resp.specs.Request.{Words}
+use Rattle.sr_resp.specs.{Words}
 use Rattle.sr_session.specs.declared.run.End.{End}
 use Rattle.sr_session.specs.declared.run.End.TheVariants as ends
 use Rattle.sr_session.specs.steps.Calling.{Fails, IsDeskEnd, held, unread}

@@ -2,9 +2,10 @@
 use Rattle.std.proofs.Common.{◌≡◌, ℕ, List, [], ◌∷◌, ◌++◌, length, drop, Option, Some, None, Result, Ok, Err, IfOk, IfErr, refl, sym, ap, subst, ◌∙◌, append_assoc}
 use Rattle.std.proofs.Math.Seq.{drop-append_seam}
 use Rattle.std.proofs.lemmas.List.{append-nil}
-use Rattle.sr_resp.specs.Reply.{Answer as ReplyParts}
-use Rattle.sr_policy.specs.Snapshot.{Shown}
-use Rattle.sr_book.specs.Records.{BookState, IsStepped, Recorded, addressed, event_record, to_session}
+use Rattle.sr_resp.specs.Reply.{ReplyParts}
+use Rattle.sr_policy.specs.{SnapshotState}
+use Rattle.sr_book.specs.{BookState, IsStepped, Recorded}
+use Rattle.sr_book.specs.Records.{addressed, event_record, to_session}
 use Rattle.sr_book.specs.declared.answer.Answer.{Answer}
 use Rattle.sr_book.specs.declared.event.Event.{Event}
 use Rattle.sr_book.specs.declared.event.Out.TheVariants as outs
@@ -64,13 +65,13 @@ module _ (session told : ℕ) (event : Event) (answer : Answer) (asks : Asks ses
       Adds-stepped session old told event answer new (reply ∷ []) step (asked-addressed old told session event answer new reply asks step out)
 
   -- with a snapshot there is none
-  pub Adds-snapped : (old new : Option BookState) (shown : Shown) → StepsAt old told event (Ok answer) new → answer.out ≡ outs.Snap shown → Adds session old [] new
+  pub Adds-snapped : (old new : Option BookState) (shown : SnapshotState) → StepsAt old told event (Ok answer) new → answer.out ≡ outs.Snap shown → Adds session old [] new
   Adds-snapped None new shown step out = step
   Adds-snapped (Some old) None shown step out = absurd step
   Adds-snapped (Some old) (Some new) shown step out =
       Adds-stepped session old told event answer new [] step (snapped-silent old told session event answer new shown asks step out)
 
-  pub Adds-stale : (old new : Option BookState) (shown : Shown) → StepsAt old told event (Ok answer) new → answer.out ≡ outs.Stale shown → Adds session old [] new
+  pub Adds-stale : (old new : Option BookState) (shown : SnapshotState) → StepsAt old told event (Ok answer) new → answer.out ≡ outs.Stale shown → Adds session old [] new
   Adds-stale None new shown step out = step
   Adds-stale (Some old) None shown step out = absurd step
   Adds-stale (Some old) (Some new) shown step out =

@@ -5,14 +5,15 @@ use Rattle.std.proofs.lemmas.Bool.{eq-eqb, eqb-true, ne_eqb}
 use Rattle.std.proofs.lemmas.Map.Views.{any-filter_same}
 use Rattle.std.specs.Option.{option_map}
 use Rattle.sr_args.specs.declared.call.Call.{Call}
-use Rattle.sr_resp.specs.Reply.{Answer as ReplyParts}
-use Rattle.sr_space.specs.Blocking.{executed}
+use Rattle.sr_resp.specs.Reply.{ReplyParts}
+use Rattle.sr_space.specs.{executed}
 use Rattle.sr_space.specs.Keys.{Keys}
 use Rattle.sr_space.specs.declared.blocking.Outcome.{Outcome}
 use Rattle.sr_space.specs.declared.blocking.Outcome.TheVariants as outcomes
-use Rattle.sr_waiters.specs.Waiters.{Waiting, has_session, without_session}
-use Rattle.sr_book.specs.Server.{Given, Server, Serving, Session, called, letter_of, serving, with_letter}
-use Rattle.sr_book.specs.Records.{AreServings, BookState, IsStepped, LeadsBy, Legal, Recorded, addressed, event_record, event_server, is_serving, letter_for, next_index, next_moment, to_session}
+use Rattle.sr_waiters.specs.{Waiting, has_session, without_session}
+use Rattle.sr_book.specs.{Given, letter_of, BookState, IsStepped, Recorded, letter_for, next_index, next_moment}
+use Rattle.sr_book.specs.Server.{Server, Serving, Session, called, serving, with_letter}
+use Rattle.sr_book.specs.Records.{AreServings, LeadsBy, Legal, addressed, event_record, event_server, is_serving, to_session}
 use Rattle.sr_book.specs.declared.answer.Answer.{Answer}
 use Rattle.sr_book.specs.declared.answer.Letter.{Letter}
 use Rattle.sr_book.specs.declared.event.Act.{Act}

@@ -5,16 +5,16 @@ use Rattle.std.proofs.lemmas.List.Folds.{list_any-append}
 use Rattle.std.proofs.lemmas.Map.Views.{any-filter_same}
 use Rattle.std.specs.Option.{option_map}
 use Rattle.sr_args.specs.declared.call.Call.{Call}
-use Rattle.sr_resp.specs.Reply.{Answer as ReplyParts, null_array}
-use Rattle.sr_space.specs.Blocking.{executed, finds_nothing}
-use Rattle.sr_space.specs.Effect.{at_once}
+use Rattle.sr_resp.specs.Reply.{ReplyParts, null_array}
+use Rattle.sr_space.specs.{executed, finds_nothing, at_once}
 use Rattle.sr_space.specs.Keys.{Keys}
 use Rattle.sr_space.specs.declared.blocking.Outcome.{Outcome}
 use Rattle.sr_space.specs.declared.blocking.Outcome.TheVariants as outcomes
-use Rattle.sr_waiters.specs.Waiters.{AreOnce, Waiting, due_at, first_that, has_session, is_due, not_due_at, without_session}
+use Rattle.sr_waiters.specs.{AreOnce, Waiting, due_at, first_that, has_session, is_due, not_due_at, without_session}
 use Rattle.sr_book.proofs.BaseLemmas.{all-legal, all_records}
 use Rattle.sr_book.specs.Server.{Given, Server, Serving, Session, acted, called, empty_server, is_open, letter_of, refusal, served as served_as, serving, with_letter, with_nothing, without}
-use Rattle.sr_book.specs.Records.{AreServings, BookState, IsHistory, IsStepped, LeadsBy, Legal, Recorded, event_server, is_serving, letter_for, next_index, next_moment}
+use Rattle.sr_book.specs.{BookState, IsHistory, IsStepped, Recorded, letter_for, next_index, next_moment}
+use Rattle.sr_book.specs.Records.{AreServings, LeadsBy, Legal, event_server, is_serving}
 use Rattle.sr_book.specs.declared.answer.Answer.{Answer}
 use Rattle.sr_book.specs.declared.answer.Letter.{Letter}
 use Rattle.sr_book.specs.declared.event.Act.{Act}

@@ -3,11 +3,11 @@ use Rattle.std.proofs.Common.{◌≡◌, ◌==◌, ◌-◌, ◌<◌, ℕ, zero, 
 use Rattle.std.specs.Prelude.{IsTrue}
 use Rattle.std.proofs.lemmas.Bool.{ne_eqb}
 use Rattle.std.proofs.lemmas.Result.{IfErr-weaker, IfOk-weaker}
-use Rattle.sr_resp.specs.Reply.{Answer as ReplyParts}
-use Rattle.sr_policy.specs.Snapshot.{Shown}
-use Rattle.sr_plan.specs.Verdict.{Judged}
+use Rattle.sr_resp.specs.Reply.{ReplyParts}
+use Rattle.sr_policy.specs.{SnapshotState}
+use Rattle.sr_plan.specs.{Judged}
 use Rattle.sr_args.specs.declared.call.Command.TheVariants as commands
-use Rattle.sr_book.specs.Records.{BookState, IsStepped}
+use Rattle.sr_book.specs.{BookState, IsStepped}
 use Rattle.sr_book.specs.declared.answer.Answer.{Answer}
 use Rattle.sr_book.specs.declared.event.BookFault.TheVariants as book
 use Rattle.sr_book.specs.declared.event.Event.{Event}
@@ -76,7 +76,7 @@ concluded-out : (old : BookState) (told session : ℕ) (judged : Judged) (apply 
     → IsStepped old told (events.Conclude session judged apply last) answer new → IsConcludeOut answer.out
 concluded-out old told session judged apply last answer new stepped = by (conclude-answers old told session judged apply last answer new stepped)
   where
-    by : ((reply : ReplyParts) × (answer.out ≡ outs.Reply reply)) ⊎ ((shown : Shown) × (answer.out ≡ outs.Stale shown) × (last ≡ false)) → IsConcludeOut answer.out
+    by : ((reply : ReplyParts) × (answer.out ≡ outs.Reply reply)) ⊎ ((shown : SnapshotState) × (answer.out ≡ outs.Stale shown) × (last ≡ false)) → IsConcludeOut answer.out
     by (inl one) = subst IsConcludeOut (sym one.1) tt
     by (inr stale) = subst IsConcludeOut (sym stale.1) tt
 
@@ -88,7 +88,7 @@ stray-conclude old new told session judged apply last answer step stray =
 
 -- the other answers are none
 pub stray-verdict : (out : Out)
-    → ((number : ℕ) × (out ≡ outs.Joined number)) ⊎ ((out ≡ outs.Blocked) ⊎ (((shown : Shown) × (out ≡ outs.Snap shown)) ⊎ (((count : ℕ) × (out ≡ outs.Expired count)) ⊎ (out ≡ outs.Left))))
+    → ((number : ℕ) × (out ≡ outs.Joined number)) ⊎ ((out ≡ outs.Blocked) ⊎ (((shown : SnapshotState) × (out ≡ outs.Snap shown)) ⊎ (((count : ℕ) × (out ≡ outs.Expired count)) ⊎ (out ≡ outs.Left))))
     → IsConcludeOut out → ⊥
 stray-verdict out (inl joined) comes = subst IsConcludeOut joined.1 comes
 stray-verdict out (inr (inl blocked)) comes = subst IsConcludeOut blocked comes
@@ -112,7 +112,7 @@ fewer_left zero most some all = absurd (some refl)
 fewer_left (suc rounds) most some all = omega (arith, all)
 
 -- the last round is not stale
-last-hidden : (told session : ℕ) (judged : Judged) (apply : Bool) (answer : Answer) (shown : Shown) (old new : Option BookState)
+last-hidden : (told session : ℕ) (judged : Judged) (apply : Bool) (answer : Answer) (shown : SnapshotState) (old new : Option BookState)
     → StepsAt old told (events.Conclude session judged apply true) (Ok answer) new → answer.out ≡ outs.Stale shown → old ≡ None
 last-hidden told session judged apply answer shown None new step out = refl
 last-hidden told session judged apply answer shown (Some old) None step out = absurd step
@@ -122,7 +122,7 @@ last-hidden told session judged apply answer shown (Some old) (Some new) step ou
     absurd (cc)
 
 -- so none is left after one that is stale, but at a desk that shows nothing
-pub stale-left : (told session : ℕ) (judged : Judged) (apply : Bool) (rounds : ℕ) (answer : Answer) (shown : Shown) (old middle : Option BookState) → (rounds ≡ 0 → ⊥)
+pub stale-left : (told session : ℕ) (judged : Judged) (apply : Bool) (rounds : ℕ) (answer : Answer) (shown : SnapshotState) (old middle : Option BookState) → (rounds ≡ 0 → ⊥)
     → StepsAt old told (events.Conclude session judged apply (rounds == 1)) (Ok answer) middle → answer.out ≡ outs.Stale shown → rounds - 1 ≡ 0 → middle ≡ None
 stale-left told session judged apply zero answer shown old middle some step out none_left = absurd (some refl)
 stale-left told session judged apply (suc zero) answer shown old middle some step out none_left =
@@ -133,12 +133,12 @@ stale-left told session judged apply (suc (suc rounds)) answer shown old middle 
     absurd (cc)
 
 -- where no round may be made, nothing is shown
-pub none-breaks : (may_tell : ℕ → Bool) (session : ℕ) (apply : Bool) (rounds : ℕ) (shown : Shown) (old : Option BookState) (fault : DeskFault) → rounds ≡ 0 → (rounds ≡ 0 → old ≡ None)
+pub none-breaks : (may_tell : ℕ → Bool) (session : ℕ) (apply : Bool) (rounds : ℕ) (shown : SnapshotState) (old : Option BookState) (fault : DeskFault) → rounds ≡ 0 → (rounds ≡ 0 → old ≡ None)
     → BreaksIn may_tell session apply rounds shown old fault old
 none-breaks may_tell session apply zero shown old fault none hidden = (hidden refl, hidden refl)
 none-breaks may_tell session apply (suc rounds) shown old fault none hidden = inl (hidden none, hidden none)
 
-module _ (may_tell : ℕ → Bool) (session : ℕ) (apply : Bool) (shown : Shown) (old : Option BookState) where
+module _ (may_tell : ℕ → Bool) (session : ℕ) (apply : Bool) (shown : SnapshotState) (old : Option BookState) where
   pub round-replies : (rounds : ℕ) (reply : ReplyParts) (new : Option BookState) → (rounds ≡ 0 → ⊥)
       → IsRound may_tell session apply (rounds == 1) shown old (outs.Reply reply) new → RepliesIn may_tell session apply rounds shown old reply new
   round-replies zero reply new some round = absurd (some refl)
@@ -146,7 +146,7 @@ module _ (may_tell : ℕ → Bool) (session : ℕ) (apply : Bool) (shown : Shown
       let P : Bool → Type 0 = λ last. IsRound may_tell session apply last shown old (outs.Reply reply) new in
       inl (subst P (is_last rounds) round)
 
-  pub stale-replies : (rounds : ℕ) (fresh : Shown) (middle : Option BookState) (reply : ReplyParts) (new : Option BookState) → (rounds ≡ 0 → ⊥)
+  pub stale-replies : (rounds : ℕ) (fresh : SnapshotState) (middle : Option BookState) (reply : ReplyParts) (new : Option BookState) → (rounds ≡ 0 → ⊥)
       → IsRound may_tell session apply (rounds == 1) shown old (outs.Stale fresh) middle → RepliesIn may_tell session apply (rounds - 1) fresh middle reply new
       → RepliesIn may_tell session apply rounds shown old reply new
   stale-replies zero fresh middle reply new some round others = absurd (some refl)
@@ -155,7 +155,7 @@ module _ (may_tell : ℕ → Bool) (session : ℕ) (apply : Bool) (shown : Shown
       let Q : ℕ → Type 0 = λ left. RepliesIn may_tell session apply left fresh middle reply new in
       inr (record { fresh = fresh; middle = middle; round = subst P (is_last rounds) round; others = subst Q (one_less rounds) others })
 
-  pub stale-breaks : (rounds : ℕ) (fresh : Shown) (middle : Option BookState) (fault : DeskFault) (new : Option BookState) → (rounds ≡ 0 → ⊥)
+  pub stale-breaks : (rounds : ℕ) (fresh : SnapshotState) (middle : Option BookState) (fault : DeskFault) (new : Option BookState) → (rounds ≡ 0 → ⊥)
       → IsRound may_tell session apply (rounds == 1) shown old (outs.Stale fresh) middle → BreaksIn may_tell session apply (rounds - 1) fresh middle fault new
       → BreaksIn may_tell session apply rounds shown old fault new
   stale-breaks zero fresh middle fault new some round others = absurd (some refl)
@@ -183,7 +183,7 @@ module _ (may_tell : ℕ → Bool) (session : ℕ) (apply : Bool) (shown : Shown
 -- ---- one round, by its steps
 
 -- of a desk that shows after a pause what it showed before
-pub made-round : (may_tell : ℕ → Bool) (session : ℕ) (apply last : Bool) (shown : Shown) (old paused : Option BookState) (told : ℕ) (judged : Judged) (answer : Answer) (out : Out) (new : Option BookState)
+pub made-round : (may_tell : ℕ → Bool) (session : ℕ) (apply last : Bool) (shown : SnapshotState) (old paused : Option BookState) (told : ℕ) (judged : Judged) (answer : Answer) (out : Out) (new : Option BookState)
     → paused ≡ old → IsTrue (may_tell told) → judged.snapshot ≡ shown → StepsAt paused told (events.Conclude session judged apply last) (Ok answer) new → answer.out ≡ out
     → IsRound may_tell session apply last shown old out new
 made-round may_tell session apply last shown old paused told judged answer out new same by_clock of_snapshot step comes =
@@ -191,7 +191,7 @@ made-round may_tell session apply last shown old paused told judged answer out n
     record { told = told; judged = judged; answer = answer; by_clock = by_clock; of_snapshot = of_snapshot; step = subst P same step; comes = comes }
 
 -- a round that is replied
-module _ (may_tell : ℕ → Bool) (session : ℕ) (apply : Bool) (shown : Shown) (old : Option BookState) (rounds : ℕ) (passed reply : ReplyParts) (new : Option BookState) where
+module _ (may_tell : ℕ → Bool) (session : ℕ) (apply : Bool) (shown : SnapshotState) (old : Option BookState) (rounds : ℕ) (passed reply : ReplyParts) (new : Option BookState) where
   pub reply-ok : (rounds ≡ 0 → ⊥) → passed ≡ reply → IsRound may_tell session apply (rounds == 1) shown old (outs.Reply reply) new → RepliesIn may_tell session apply rounds shown old passed new
   reply-ok some same round =
       let P : ReplyParts → Type 0 = λ it. RepliesIn may_tell session apply rounds shown old it new in
@@ -204,18 +204,18 @@ module _ (may_tell : ℕ → Bool) (session : ℕ) (apply : Bool) (shown : Shown
       subst P (sym same) (Adds-replied session round.told event round.answer refl old new reply round.step round.comes)
 
 -- what comes of the rounds after one that is stale comes of all of them
-module _ (may_tell : ℕ → Bool) (session : ℕ) (apply : Bool) (shown : Shown) (old : Option BookState) (rounds : ℕ) (fresh : Shown) (middle new : Option BookState) (r : Result ReplyParts DeskFault)
+module _ (may_tell : ℕ → Bool) (session : ℕ) (apply : Bool) (shown : SnapshotState) (old : Option BookState) (rounds : ℕ) (fresh : SnapshotState) (middle new : Option BookState) (r : Result ReplyParts DeskFault)
     (round : IsRound may_tell session apply (rounds == 1) shown old (outs.Stale fresh) middle) where
-  pub stale-ok : (passed : Shown) → (rounds ≡ 0 → ⊥) → passed ≡ fresh → IfOk r (λ reply. RepliesIn may_tell session apply (rounds - 1) passed middle reply new)
+  pub stale-ok : (passed : SnapshotState) → (rounds ≡ 0 → ⊥) → passed ≡ fresh → IfOk r (λ reply. RepliesIn may_tell session apply (rounds - 1) passed middle reply new)
       → IfOk r (λ reply. RepliesIn may_tell session apply rounds shown old reply new)
   stale-ok passed some same others =
-      let P : Shown → Type 0 = λ s. IfOk r (λ reply. RepliesIn may_tell session apply (rounds - 1) s middle reply new) in
+      let P : SnapshotState → Type 0 = λ s. IfOk r (λ reply. RepliesIn may_tell session apply (rounds - 1) s middle reply new) in
       IfOk-weaker r _ _ (λ reply later. stale-replies may_tell session apply shown old rounds fresh middle reply new some round later) (subst P same others)
 
-  pub stale-err : (passed : Shown) → (rounds ≡ 0 → ⊥) → passed ≡ fresh → IfErr r (λ fault. BreaksIn may_tell session apply (rounds - 1) passed middle fault new)
+  pub stale-err : (passed : SnapshotState) → (rounds ≡ 0 → ⊥) → passed ≡ fresh → IfErr r (λ fault. BreaksIn may_tell session apply (rounds - 1) passed middle fault new)
       → IfErr r (λ fault. BreaksIn may_tell session apply rounds shown old fault new)
   stale-err passed some same others =
-      let P : Shown → Type 0 = λ s. IfErr r (λ fault. BreaksIn may_tell session apply (rounds - 1) s middle fault new) in
+      let P : SnapshotState → Type 0 = λ s. IfErr r (λ fault. BreaksIn may_tell session apply (rounds - 1) s middle fault new) in
       IfErr-weaker r _ _ (λ fault later. stale-breaks may_tell session apply shown old rounds fresh middle fault new some round later) (subst P same others)
 
   pub stale-recorded : IfOk r (λ reply. Adds session middle (reply ∷ []) new) → IfOk r (λ reply. Adds session old (reply ∷ []) new)
@@ -229,9 +229,9 @@ module _ (may_tell : ℕ → Bool) (session : ℕ) (apply : Bool) (shown : Shown
       IfErr-weaker r _ _ (λ fault more. Adds-then session old [] middle [] new (Adds-stale session round.told event round.answer refl old middle fresh round.step round.comes) more) later
 
 -- the rounds after a snapshot are those of its recovery
-module _ (may_tell : ℕ → Bool) (session : ℕ) (apply : Bool) (tries : ℕ) (key group : List ℕ) (dead : List (List ℕ)) (told : ℕ) (answer : Answer) (shown : Shown) (old middle new : Option BookState)
+module _ (may_tell : ℕ → Bool) (session : ℕ) (apply : Bool) (tries : ℕ) (key group : List ℕ) (dead : List (List ℕ)) (told : ℕ) (answer : Answer) (shown : SnapshotState) (old middle new : Option BookState)
     (r : Result ReplyParts DeskFault) (by_clock : IsTrue (may_tell told)) (step : StepsAt old told (events.Snapshot session key group dead) (Ok answer) middle) (out : answer.out ≡ outs.Snap shown)
-    (rounds : ℕ) (all : rounds ≡ max tries 1) (passed : Shown) (same : passed ≡ shown) where
+    (rounds : ℕ) (all : rounds ≡ max tries 1) (passed : SnapshotState) (same : passed ≡ shown) where
   pub rounds-ok : IfOk r (λ reply. RepliesIn may_tell session apply rounds passed middle reply new) → IfOk r (λ reply. Adds session middle (reply ∷ []) new)
       → IfOk r (λ reply. Replies may_tell session (commands.Recover apply tries key group dead) old reply new)
   rounds-ok replied recorded =
@@ -277,7 +277,7 @@ module _ (may_tell : ℕ → Bool) (session : ℕ) (apply : Bool) (tries : ℕ) 
 -- ---- a recovery that broke off
 
 -- leaves its session as it was
-pub BreaksIn-idle : (may_tell : ℕ → Bool) (session : ℕ) (apply : Bool) (rounds : ℕ) (shown : Shown) (old : Option BookState) (fault : DeskFault) (new : Option BookState)
+pub BreaksIn-idle : (may_tell : ℕ → Bool) (session : ℕ) (apply : Bool) (rounds : ℕ) (shown : SnapshotState) (old : Option BookState) (fault : DeskFault) (new : Option BookState)
     → BreaksIn may_tell session apply rounds shown old fault new → IsIdle session old → IsIdle session new
 BreaksIn-idle may_tell session apply zero shown old fault new hidden idle = subst (IsIdle session) (sym hidden.1) tt
 BreaksIn-idle may_tell session apply (suc rounds) shown old fault new (inl hidden) idle = subst (IsIdle session) (sym hidden.1) tt
@@ -314,7 +314,7 @@ refused-hidden session told event (faults.Regress index) (Some old) (Some new) a
 refused-hidden session told event faults.Idle (Some old) (Some new) asks outside idle step = absurd step
 refused-hidden session told event faults.Unread (Some old) (Some new) asks outside idle step = absurd step
 
-pub BreaksIn-hidden : (may_tell : ℕ → Bool) (session : ℕ) (apply : Bool) (rounds : ℕ) (shown : Shown) (old : Option BookState) (fault : DeskFault) (new : Option BookState)
+pub BreaksIn-hidden : (may_tell : ℕ → Bool) (session : ℕ) (apply : Bool) (rounds : ℕ) (shown : SnapshotState) (old : Option BookState) (fault : DeskFault) (new : Option BookState)
     → IsOutside fault → BreaksIn may_tell session apply (suc rounds) shown old fault new → IsIdle session old → (old ≡ None) × (new ≡ None)
 BreaksIn-hidden may_tell session apply rounds shown old fault new outside (inl hidden) idle = hidden
 BreaksIn-hidden may_tell session apply rounds shown old fault new outside (inr (inl lacks)) idle = absurd (subst IsOutside lacks.0 outside)

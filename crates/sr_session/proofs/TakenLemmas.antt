@@ -1,6 +1,6 @@
 -- A command as a session takes it.
 use Rattle.std.proofs.Common.{◌≡◌, Bool, false, sym, ap, subst}
-use Rattle.sr_args.specs.Blocking.{without_block}
+use Rattle.sr_args.specs.{without_block}
 use Rattle.sr_args.specs.declared.call.Call.{Call}
 use Rattle.sr_args.specs.declared.call.Command.{Command}
 use Rattle.sr_args.specs.declared.call.Command.TheVariants as commands

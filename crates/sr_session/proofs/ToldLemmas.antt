@@ -1,12 +1,12 @@
 -- What answers requests is what they are told, and the replies among it are those that the records address to the session.
 use Rattle.std.proofs.Common.{◌≡◌, ◌==◌, inl, inr, ℕ, zero, suc, max, Bool, List, [], ◌∷◌, ◌++◌, length, Option, Some, None, Ok, refl, ap, sym, subst, ◌∙◌}
 use Rattle.std.specs.List.{flat_map}
-use Rattle.sr_resp.specs.Request.{Words}
-use Rattle.sr_resp.specs.Reply.{Answer as ReplyParts}
+use Rattle.sr_resp.specs.{Words}
+use Rattle.sr_resp.specs.Reply.{ReplyParts}
 use Rattle.sr_resp.specs.declared.code.ErrCode.TheVariants as errors
 use Rattle.sr_args.specs.declared.call.Command.{Command}
-use Rattle.sr_policy.specs.Snapshot.{Shown}
-use Rattle.sr_book.specs.Records.{BookState}
+use Rattle.sr_policy.specs.{SnapshotState}
+use Rattle.sr_book.specs.{BookState}
 use Rattle.sr_book.specs.declared.answer.Answer.{Answer}
 use Rattle.sr_book.specs.declared.answer.Letter.{Letter}
 use Rattle.sr_book.specs.declared.event.Event.{Event}
@@ -29,7 +29,7 @@ use Rattle.sr_session.proofs.RoundLemmas.{StepsAt-refused}
 hidden-adds : (session : ℕ) (old new : Option BookState) → (old ≡ None) × (new ≡ None) → Adds session old [] new
 hidden-adds session old new hidden = Adds-same session old new (hidden.1 ∙ sym hidden.0)
 
-RepliesIn-adds : (may_tell : ℕ → Bool) (session : ℕ) (apply : Bool) (rounds : ℕ) (shown : Shown) (old : Option BookState) (reply : ReplyParts) (new : Option BookState)
+RepliesIn-adds : (may_tell : ℕ → Bool) (session : ℕ) (apply : Bool) (rounds : ℕ) (shown : SnapshotState) (old : Option BookState) (reply : ReplyParts) (new : Option BookState)
     → RepliesIn may_tell session apply rounds shown old reply new → Adds session old (reply ∷ []) new
 RepliesIn-adds may_tell session apply zero shown old reply new comes = absurd comes
 RepliesIn-adds may_tell session apply (suc rounds) shown old reply new (inl round) =
@@ -41,7 +41,7 @@ RepliesIn-adds may_tell session apply (suc rounds) shown old reply new (inr stal
     (Adds-stale session round.told event round.answer refl old stale.middle stale.fresh round.step round.comes)
     (RepliesIn-adds may_tell session apply rounds stale.fresh stale.middle reply new stale.others)
 
-BreaksIn-adds : (may_tell : ℕ → Bool) (session : ℕ) (apply : Bool) (rounds : ℕ) (shown : Shown) (old : Option BookState) (fault : DeskFault) (new : Option BookState)
+BreaksIn-adds : (may_tell : ℕ → Bool) (session : ℕ) (apply : Bool) (rounds : ℕ) (shown : SnapshotState) (old : Option BookState) (fault : DeskFault) (new : Option BookState)
     → BreaksIn may_tell session apply rounds shown old fault new → Adds session old [] new
 BreaksIn-adds may_tell session apply zero shown old fault new hidden = hidden-adds session old new hidden
 BreaksIn-adds may_tell session apply (suc rounds) shown old fault new (inl hidden) = hidden-adds session old new hidden

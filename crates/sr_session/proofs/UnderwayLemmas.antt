@@ -1,8 +1,8 @@
 -- A session goes on: one request more answered, one piece more taken, and each way to end on the way.
 use Rattle.std.proofs.Common.{◌≡◌, ℕ, ◌⊎◌, inl, inr, List, [], ◌∷◌, ◌++◌, length, take, drop, min, Bool, true, false, MatchBool, refl, sym, ap, ◌∙◌, subst, append_assoc, arith}
 use Rattle.std.proofs.lemmas.List.{append-nil, take-append-drop, length-append, length-take, length-drop}
-use Rattle.sr_resp.specs.Request.{Words}
-use Rattle.sr_resp.specs.Stream.{Progress, Stands, Advances, Splits, IsPartial, IsFault}
+use Rattle.sr_resp.specs.{Words, Progress}
+use Rattle.sr_resp.specs.Stream.{Stands, Advances, Splits, IsPartial, IsFault}
 use Rattle.sr_session.specs.declared.run.End.{End}
 use Rattle.sr_session.specs.Session.{AreAnswered, IsAnswered, IsBroken, IsStopped, IsCutOff, IsFront, IsHeld, EndsAs, protocol_text}
 use Rattle.sr_session.specs.steps.Gathered.{Moves, stay, go, BreaksOff, Gathers, Stops, silent, breaks, waits, counted}

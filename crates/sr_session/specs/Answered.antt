@@ -3,8 +3,8 @@
 -- commands; docs/RECOVERY.md.
 
 use Rattle.std.specs.Prelude.{◌≡◌, ℕ, max, List, Bool, true, false, IsTrue, Option, Some, None, Ok, Err}
-use Rattle.sr_resp.specs.Request.{Words}
-use Rattle.sr_resp.specs.Reply.{Answer as ReplyParts, error_reply, reply_text}
+use Rattle.sr_resp.specs.{Words}
+use Rattle.sr_resp.specs.Reply.{ReplyParts, error_reply, reply_text}
 use Rattle.sr_resp.specs.declared.code.ErrCode.{ErrCode}
 use Rattle.sr_resp.specs.declared.code.ErrCode.TheVariants as errors
 use Rattle.sr_args.specs.declared.fault.CallFault.{CallFault}
@@ -12,10 +12,9 @@ use Rattle.sr_args.specs.declared.fault.CallFault.TheVariants as faults
 use Rattle.sr_args.specs.declared.call.Call.{Call}
 use Rattle.sr_args.specs.declared.call.Command.{Command}
 use Rattle.sr_args.specs.declared.call.Command.TheVariants as commands
-use Rattle.sr_args.specs.Blocking.{without_block}
-use Rattle.sr_args.specs.Command.{IsCommand, Refuses}
-use Rattle.sr_policy.specs.Snapshot.{Shown}
-use Rattle.sr_book.specs.Records.{BookState}
+use Rattle.sr_args.specs.{without_block, IsCommand, Refuses}
+use Rattle.sr_policy.specs.{SnapshotState}
+use Rattle.sr_book.specs.{BookState}
 use Rattle.sr_book.specs.declared.answer.Answer.{Answer}
 use Rattle.sr_book.specs.declared.answer.Letter.{Letter}
 use Rattle.sr_book.specs.declared.event.Event.{Event}
@@ -51,7 +50,7 @@ first_event session (commands.Recover apply tries key group dead) = events.Snaps
 -- a recovery got its first snapshot, and goes on from there to what is said of its rounds: how many it may make, which
 -- is at least one, and what they begin with
 pub record GoesOnToRounds (may_tell : ℕ → Bool) (session : ℕ) (asked : Command) (old : Option BookState)
-    (Then : Bool → ℕ → Shown → Option BookState → Type 0) : Type 0 where
+    (Then : Bool → ℕ → SnapshotState → Option BookState → Type 0) : Type 0 where
   pub apply : Bool
   pub tries : ℕ
   pub key : List ℕ
@@ -59,7 +58,7 @@ pub record GoesOnToRounds (may_tell : ℕ → Bool) (session : ℕ) (asked : Com
   pub dead : List (List ℕ)
   pub told : ℕ
   pub answer : Answer
-  pub shown : Shown
+  pub shown : SnapshotState
   pub middle : Option BookState
   pub is : asked ≡ commands.Recover apply tries key group dead
   pub by_clock : IsTrue (may_tell told)

@@ -3,10 +3,10 @@
 
 use Rattle.std.specs.Prelude.{⊤, ◌≡◌, ℕ, true, false, List, [], ◌∷◌, drop, length, Option, Some, None, IsSome, Result}
 use Rattle.std.specs.Prelude.{Ok, Err}
-use Rattle.sr_resp.specs.Reply.{Answer as ReplyParts}
-use Rattle.sr_waiters.specs.Waiters.{has_session}
-use Rattle.sr_book.specs.Server.{is_open}
-use Rattle.sr_book.specs.Records.{BookState, Steps, addressed, letter_for}
+use Rattle.sr_resp.specs.Reply.{ReplyParts}
+use Rattle.sr_waiters.specs.{has_session}
+use Rattle.sr_book.specs.{is_open, BookState, letter_for}
+use Rattle.sr_book.specs.Records.{Steps, addressed}
 use Rattle.sr_book.specs.declared.answer.Answer.{Answer}
 use Rattle.sr_book.specs.declared.answer.Letter.{Letter}
 use Rattle.sr_book.specs.declared.event.BookFault.TheVariants as book

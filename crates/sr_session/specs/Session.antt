@@ -5,9 +5,8 @@
 -- Source: RESP2 protocol specification, "Sending commands to a Redis server" and "Multiple commands and pipelining".
 
 use Rattle.std.specs.Prelude.{◌≡◌, ◌≢◌, ℕ, ◌⊎◌, List, [], ◌∷◌, ◌++◌, length, min}
-use Rattle.sr_resp.specs.Request.{Words}
+use Rattle.sr_resp.specs.{Words, error_reply, reply_text}
 use Rattle.sr_resp.specs.Stream.{Splits, IsPartial, IsFault}
-use Rattle.sr_resp.specs.Reply.{error_reply, reply_text}
 use Rattle.sr_resp.specs.declared.code.ErrCode.TheVariants as errors
 use Rattle.sr_session.specs.declared.run.End.{End}
 use Rattle.sr_session.specs.declared.run.End.TheVariants.{Closed, Protocol, ReadFault, SendFault, Turns, Memory, Desk}

@@ -4,10 +4,11 @@
 
 use Rattle.std.specs.Prelude.{◌≡◌, ℕ, List, [], ◌∷◌, drop, length}
 use Rattle.std.specs.List.{flat_map}
-use Rattle.sr_resp.specs.Request.{Words}
-use Rattle.sr_resp.specs.Reply.{Answer as ReplyParts, error_reply, reply_text}
+use Rattle.sr_resp.specs.{Words}
+use Rattle.sr_resp.specs.Reply.{ReplyParts, error_reply, reply_text}
 use Rattle.sr_resp.specs.declared.code.ErrCode.{ErrCode}
-use Rattle.sr_book.specs.Records.{BookState, addressed}
+use Rattle.sr_book.specs.{BookState}
+use Rattle.sr_book.specs.Records.{addressed}
 
 -- what a request is told: a reply that is in the records, or an error that is in none
 pub data Told : Type 0 where

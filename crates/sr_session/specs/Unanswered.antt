@@ -2,9 +2,9 @@
 -- Source: docs/DEFINITIONS.md, "The one-thread server".
 
 use Rattle.std.specs.Prelude.{◌≡◌, ℕ, Bool, IsTrue, Option, None, Ok, Err}
-use Rattle.sr_resp.specs.Reply.{Answer as ReplyParts}
+use Rattle.sr_resp.specs.Reply.{ReplyParts}
 use Rattle.sr_args.specs.declared.call.Command.{Command}
-use Rattle.sr_book.specs.Records.{BookState}
+use Rattle.sr_book.specs.{BookState}
 use Rattle.sr_book.specs.declared.answer.Answer.{Answer}
 use Rattle.sr_book.specs.declared.event.Out.TheVariants as outs
 use Rattle.sr_session.specs.Answered.{GoesOnToRounds, Replies, first_event}

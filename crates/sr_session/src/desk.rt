@@ -1,5 +1,5 @@
 ghost use Rattle.std.specs.Prelude.{◌≡◌, ℕ, Option, Some, IsSome, IfOk};
-ghost use Rattle.sr_book.specs.Records.{BookState, letter_for};
+ghost use Rattle.sr_book.specs.{BookState, letter_for};
 ghost use Rattle.sr_session.specs.Desk.{AwaitsAt, AwaitsTo, IsIdle, StepsAt, StepsTo};
 ghost use Rattle.sr_session.specs.steps.Calling.{fault_of};
 

@@ -1,6 +1,6 @@
 ghost use Rattle.std.specs.Prelude.{ℕ, Bool, List, Some};
-ghost use Rattle.sr_resp.specs.Request.{Words};
-ghost use Rattle.sr_book.specs.Records.{BookState};
+ghost use Rattle.sr_resp.specs.{Words};
+ghost use Rattle.sr_book.specs.{BookState};
 ghost use Rattle.sr_session.specs.Answered.{Answers};
 ghost use Rattle.sr_session.specs.Session.{AreAnswered};
 ghost use Rattle.sr_session.specs.Told.{AreTold};

@@ -1,6 +1,6 @@
 ghost use Rattle.std.specs.Prelude.{◌≡◌, ℕ, List, [], ◌++◌, false, length, OnOk, OnErr, IfErr};
 ghost use Rattle.std.specs.Io.KnownBytes.{Appends};
-ghost use Rattle.sr_resp.specs.Reply.{error_reply, reply_text};
+ghost use Rattle.sr_resp.specs.{error_reply, reply_text};
 ghost use Rattle.sr_session.specs.steps.Gathered.{BreaksOff, IsNoted, counted};
 
 use crate::End;

@@ -1,8 +1,7 @@
 ghost use Rattle.std.specs.Prelude.{◌≡◌, ℕ, ◌<◌, List, length, false, OnOk, IfOk, IfErr};
 ghost use Rattle.std.specs.Io.KnownBytes.{Appends};
-ghost use Rattle.sr_resp.specs.Request.{Words};
-ghost use Rattle.sr_resp.specs.Reply.{reply_text};
-ghost use Rattle.sr_args.specs.Command.{IsCommand};
+ghost use Rattle.sr_resp.specs.{Words, reply_text};
+ghost use Rattle.sr_args.specs.{IsCommand};
 ghost use Rattle.sr_session.specs.Answered.{Answers, Holds, code_of, taken_as};
 ghost use Rattle.sr_session.specs.Desk.{IsIdle};
 ghost use Rattle.sr_session.specs.steps.Asked.{IsAsked};

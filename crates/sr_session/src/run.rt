@@ -1,8 +1,9 @@
 ghost use Rattle.std.specs.Prelude.{◌≡◌, ◌≢◌, ◌+◌, ◌≤◌, ℕ, List, [], ◌++◌, Option, true, false, IfOk, IfErr, OnOk};
 ghost use Rattle.std.specs.Prelude.{OnErr};
 ghost use Rattle.std.specs.Io.KnownBytes.{Appends, Consumes};
-ghost use Rattle.sr_resp.specs.Stream.{Advances, Progress};
-ghost use Rattle.sr_book.specs.Records.{BookState};
+ghost use Rattle.sr_resp.specs.{Progress};
+ghost use Rattle.sr_resp.specs.Stream.{Advances};
+ghost use Rattle.sr_book.specs.{BookState};
 ghost use Rattle.sr_book.specs.declared.answer.Answer.{Answer};
 ghost use Rattle.sr_session.specs.Answered.{Answers, Holds};
 ghost use Rattle.sr_session.specs.Desk.{IsIdle, StepsAt};

@@ -10,7 +10,8 @@ use Rattle.std.proofs.lemmas.List.{flat_map_more}
 use Rattle.std.proofs.lemmas.List.FromFn.{map-range_with_len_more}
 use Rattle.std.proofs.lemmas.List.Sums.{sum_by-cons, count_by-le-length}
 use Rattle.sr_transport.specs.declared.problem.Tier.{Tier}
-use Rattle.sr_transport.specs.Problem.{Tiered, AreTiers, IsWithinLimits, tier_at, first_in, cost_at}
+use Rattle.sr_transport.specs.{Tiered, tier_at, first_in}
+use Rattle.sr_transport.specs.Problem.{AreTiers, IsWithinLimits, cost_at}
 use Rattle.sr_transport.specs.Assignment.{charge_at}
 use Rattle.sr_transport.specs.ByTier.{by_tier, charges_of, charges}
 use Rattle.sr_transport.proofs.TierLemmas.{no_tier}

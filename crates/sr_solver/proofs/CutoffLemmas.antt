@@ -4,7 +4,7 @@ use Rattle.std.proofs.Common.{inr, arith}
 use Rattle.std.specs.Prelude.{IfSome}
 use Rattle.std.proofs.Math.ListN.{set}
 use Rattle.std.proofs.lemmas.List.{get_or-set_same, get_or-set_other}
-use Rattle.sr_transport.specs.plain.Problem.{Transport, consumers}
+use Rattle.sr_transport.specs.{Transport, consumers}
 use Rattle.sr_solver.specs.Limits.{greatest_way}
 use Rattle.sr_solver.specs.declared.label.Label.{Label}
 use Rattle.sr_solver.specs.Labels.{no_label, label_at}

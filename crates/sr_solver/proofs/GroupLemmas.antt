@@ -7,8 +7,8 @@ use Rattle.std.proofs.Math.Nat.{mul-le-mul_left, div-mul-le_self, lt-div-mul-add
 use Rattle.std.proofs.lemmas.Nat.{mul-add-lt}
 use Rattle.std.proofs.lemmas.Bool.{cases_eq, cases_lt}
 use Rattle.std.proofs.lemmas.List.{get_or_past, get_or-set_same, get_or-set_other, get_or-replicate, length-replicate}
-use Rattle.sr_transport.specs.Limits.{greatest_charge}
-use Rattle.sr_transport.specs.plain.Problem.{Transport, IsWithinLimits, consumers, room_of, cost_at, cost_of, IsAllowed}
+use Rattle.sr_transport.specs.{greatest_charge, Transport, consumers}
+use Rattle.sr_transport.specs.plain.Problem.{IsWithinLimits, room_of, cost_at, cost_of, IsAllowed}
 use Rattle.sr_solver.specs.Limits.{group_size, narrow_room, greatest_bound}
 use Rattle.sr_solver.specs.declared.table.Bound.{Bound}
 use Rattle.sr_solver.specs.Groups.{IsAt, IsInGroup, IsBetween, IsAtIn, AreGroups, AreLowsOf, AreLowered}

@@ -6,7 +6,8 @@ use Rattle.std.proofs.lemmas.Bool.{cases_eq, cases_lt}
 use Rattle.std.proofs.Math.Nat.{mul-le-mul_left}
 use Rattle.std.proofs.lemmas.List.{get_or-set_same, get_or-set_other, take_at}
 use Rattle.std.proofs.lemmas.List.Sums.{count_by-le-length}
-use Rattle.sr_transport.specs.plain.Problem.{Transport, IsWithinLimits, consumers, room_of, cost_at, cost_of}
+use Rattle.sr_transport.specs.{Transport, consumers}
+use Rattle.sr_transport.specs.plain.Problem.{IsWithinLimits, room_of, cost_at, cost_of}
 use Rattle.sr_transport.specs.plain.Assignment.{load}
 use Rattle.sr_solver.specs.declared.table.Bound.{Bound}
 use Rattle.sr_solver.specs.Table.{IsAt, IsApart, IsKnown, IsLowered}

@@ -1,7 +1,7 @@
 -- An answer of a problem whose entries stand in another order is one of the problem.
 use Rattle.std.proofs.Common.{◌≡◌, ℕ, zero, suc, ◌+◌, ◌*◌, ◌<◌, ◌≤◌, ◌==◌, ◌≢◌, cond, List, [], ◌∷◌, ◌++◌, length}
 use Rattle.std.proofs.Common.{length-append, get_or, Bool, refl, sym, ap, ◌∙◌, inl, inr, arith, eq-eqb, Option, None}
-use Rattle.sr_transport.specs.Limits.{greatest_charge}
+use Rattle.sr_transport.specs.{greatest_charge, sum_below, Transport, consumers}
 use Rattle.std.specs.Prelude.{unwrap_or, IfSome}
 use Rattle.std.specs.List.{All, sum_by}
 use Rattle.std.proofs.lemmas.List.{get_or_append_left, get_or_at, get_or-append-add, get_or-set_same, get_or-set_other}
@@ -12,8 +12,7 @@ use Rattle.std.proofs.lemmas.Map.Keys.{apart_from_distinct, IsDistinct-from_apar
 use Rattle.std.proofs.lemmas.Nat.{mul-add-lt}
 use Rattle.std.proofs.Math.Nat.{mul_comm}
 use Rattle.std.proofs.Math.ListN.{set}
-use Rattle.sr_transport.specs.Sum.{sum_below}
-use Rattle.sr_transport.specs.plain.Problem.{Transport, IsWithinLimits, consumers, cost_at, cost_of, IsAllowed}
+use Rattle.sr_transport.specs.plain.Problem.{IsWithinLimits, cost_at, cost_of, IsAllowed}
 use Rattle.sr_transport.specs.plain.Assignment.{load, IsAssignment, total_of}
 use Rattle.sr_transport.specs.plain.Certificate.{IsLeast, ShowsCheapest}
 use Rattle.sr_transport.specs.plain.Solved.{IsBest}

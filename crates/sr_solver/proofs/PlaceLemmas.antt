@@ -1,13 +1,14 @@
 -- At the start no entry stands anywhere. Then one more is placed: the prices rise, and the entries move along the path.
 use Rattle.std.proofs.Common.{◌≡◌, ℕ, ◌+◌, ◌*◌, ◌<◌, ◌≤◌, ◌⊎◌, Bool, true, false, List, length, get_or, Option, Some}
 use Rattle.std.proofs.Common.{refl, sym, ap, ◌∙◌, subst, inl, inr, arith}
-use Rattle.sr_transport.specs.Limits.{greatest_rise, most_tiers}
+use Rattle.sr_transport.specs.{most_tiers, Transport, consumers}
+use Rattle.sr_transport.specs.Limits.{greatest_rise}
 use Rattle.std.proofs.lemmas.Bool.{cases_eq, cases_lt, false≢true}
 use Rattle.std.proofs.Math.ListN.{set, length-set, replicate}
 use Rattle.std.proofs.lemmas.List.{get_or_past, get_or-set_same, get_or-set_other, get_or-replicate, length-replicate}
 use Rattle.std.proofs.lemmas.List.Folds.{sum_by-replicate}
 use Rattle.std.proofs.lemmas.Nat.{mul-add-lt}
-use Rattle.sr_transport.specs.plain.Problem.{Transport, IsWithinLimits, consumers, room_of, IsAllowed}
+use Rattle.sr_transport.specs.plain.Problem.{IsWithinLimits, room_of, IsAllowed}
 use Rattle.sr_transport.specs.plain.Assignment.{load}
 use Rattle.sr_transport.specs.plain.Certificate.{IsLeast}
 use Rattle.sr_solver.specs.declared.label.Label.{Label}

@@ -11,8 +11,8 @@ use Rattle.std.proofs.lemmas.List.Folds.{list_any_at, Any-from_list_any}
 use Rattle.std.proofs.lemmas.List.Kept.{AllPairs-from_increasing}
 use Rattle.std.proofs.lemmas.List.Sorted.{length_permutation, All-permutation}
 use Rattle.std.proofs.lemmas.Map.Keys.{apart_from_distinct, IsDistinct-from_apart, IsDistinct-IsPermutation}
-use Rattle.sr_transport.specs.Sum.{sum_below}
-use Rattle.sr_transport.specs.plain.Problem.{Transport, consumers, room_of, cost_at}
+use Rattle.sr_transport.specs.{sum_below, Transport, consumers}
+use Rattle.sr_transport.specs.plain.Problem.{room_of, cost_at}
 use Rattle.sr_transport.specs.plain.Certificate.{is_reached, places_of, IsShortage}
 use Rattle.sr_transport.proofs.SumLemmas.{sum_below-le}
 use Rattle.sr_solver.specs.Order.{IsOrder, IsReordered, AreEntriesAt}

@@ -8,9 +8,9 @@ use Rattle.std.proofs.lemmas.Bool.{cases_eq, cases_lt}
 use Rattle.std.proofs.lemmas.List.{get_or_past, get_or_append_left, get_or_push}
 use Rattle.std.proofs.lemmas.List.Elements.{All-nil, All-append, All-push, All-weaker, All-get_or, All-from_get_or}
 use Rattle.std.proofs.lemmas.List.Folds.{Any-from_list_any}
-use Rattle.sr_transport.specs.Sum.{sum_below}
+use Rattle.sr_transport.specs.{sum_below, Transport, consumers}
 use Rattle.sr_transport.specs.Limits.{greatest_room}
-use Rattle.sr_transport.specs.plain.Problem.{Transport, IsWithinLimits, consumers, room_of, cost_at, IsAllowed}
+use Rattle.sr_transport.specs.plain.Problem.{IsWithinLimits, room_of, cost_at, IsAllowed}
 use Rattle.sr_transport.specs.plain.Assignment.{load}
 use Rattle.sr_transport.specs.plain.Certificate.{is_reached, places_of, IsShortage}
 use Rattle.sr_transport.proofs.SumLemmas.{sum_below-le, sum_below-le_most, sum_by_below, sum_by-loads}

@@ -1,9 +1,9 @@
 -- Where every entry is placed, the problem is solved.
 use Rattle.std.proofs.Common.{◌≡◌, ℕ, ◌≤◌, List, arith}
-use Rattle.sr_transport.specs.Limits.{greatest_price, greatest_total}
+use Rattle.sr_transport.specs.{greatest_price, Transport}
+use Rattle.sr_transport.specs.Limits.{greatest_total}
 use Rattle.std.specs.List.{All}
 use Rattle.std.proofs.lemmas.List.Elements.{All-from_get_or}
-use Rattle.sr_transport.specs.plain.Problem.{Transport}
 use Rattle.sr_transport.specs.plain.Assignment.{IsAssignment, total_of}
 use Rattle.sr_transport.specs.plain.Certificate.{ShowsCheapest}
 use Rattle.sr_transport.specs.plain.Solved.{IsBest}

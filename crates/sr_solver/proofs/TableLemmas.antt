@@ -1,7 +1,7 @@
 -- The table of bounds: what an entry that leaves or comes makes of it, and what a bound tells.
 use Rattle.std.proofs.Common.{◌≡◌, ℕ, ◌+◌, ◌*◌, ◌<◌, ◌≤◌, ◌⊎◌, List, length, get_or, Option, Some, None, refl, sym, ap}
 use Rattle.std.proofs.Common.{◌∙◌, inl, inr, arith, false}
-use Rattle.sr_transport.specs.Limits.{greatest_charge}
+use Rattle.sr_transport.specs.{greatest_charge, Transport, consumers}
 use Rattle.std.specs.Prelude.{IsSome, IsSomeAnd, IfSome, unwrap_or}
 use Rattle.std.specs.Option.{is_some}
 use Rattle.std.proofs.Math.ListN.{set, length-set}
@@ -9,7 +9,7 @@ use Rattle.std.proofs.Math.Nat.{mul-le-mul_left}
 use Rattle.std.proofs.lemmas.Nat.{mul-add-lt}
 use Rattle.std.proofs.lemmas.Bool.{cases_eq, cases_lt, false≢true}
 use Rattle.std.proofs.lemmas.List.{get_or-set_same, get_or-set_other}
-use Rattle.sr_transport.specs.plain.Problem.{Transport, IsWithinLimits, consumers, cost_at, cost_of, IsAllowed}
+use Rattle.sr_transport.specs.plain.Problem.{IsWithinLimits, cost_at, cost_of, IsAllowed}
 use Rattle.sr_solver.specs.declared.table.Bound.{Bound}
 use Rattle.sr_solver.specs.Table.{unknown, IsUnknown, IsAt, IsTight, IsKnown, ArePairsOf, ArePairs, IsWithout, IsBest}
 use Rattle.sr_solver.specs.Table.{IsLowered, IsRowChanged, IsApart, IsLeastMore, IsMover}

@@ -5,7 +5,8 @@ use Rattle.std.specs.Prelude.{IfSome, IfNone, IsSome, ◌-◌}
 use Rattle.std.proofs.Math.ListN.{set, length-set}
 use Rattle.std.proofs.lemmas.Bool.{cases_eq, false≢true}
 use Rattle.std.proofs.lemmas.List.{get_or-set_same, get_or-set_other}
-use Rattle.sr_transport.specs.plain.Problem.{Transport, consumers, room_of, cost_at, cost_of, IsAllowed}
+use Rattle.sr_transport.specs.{Transport, consumers}
+use Rattle.sr_transport.specs.plain.Problem.{room_of, cost_at, cost_of, IsAllowed}
 use Rattle.sr_transport.specs.plain.Assignment.{load}
 use Rattle.sr_solver.specs.declared.taker.Cheapest.{Cheapest}
 use Rattle.sr_solver.specs.Labels.{priced}

@@ -8,7 +8,8 @@ use Rattle.std.proofs.lemmas.List.{length-map, get_or-map}
 use Rattle.std.proofs.lemmas.List.Elements.{All-head, All-tail, All-from_get_or}
 use Rattle.std.proofs.lemmas.List.Sums.{sum_by-cons, sum_by-take-le}
 use Rattle.sr_transport.specs.declared.problem.Tier.{Tier}
-use Rattle.sr_transport.specs.Problem.{Tiered, AreTiers, tier_at, first_in, room_of, cost_at, cost_of, IsAllowed}
+use Rattle.sr_transport.specs.{Tiered, tier_at, first_in}
+use Rattle.sr_transport.specs.Problem.{AreTiers, room_of, cost_at, cost_of, IsAllowed}
 use Rattle.sr_transport.specs.Assignment.{load, tier_for, tier_of, tiers_of, total_of, IsAssignment}
 use Rattle.sr_transport.specs.Certificate.{ShowsCheapest, IsShortage}
 use Rattle.sr_transport.specs.ByTier.{by_tier}

@@ -2,7 +2,8 @@
 -- shorter is of no use.
 
 use Rattle.std.specs.Prelude.{◌≡◌, ℕ, ◌+◌, ◌<◌, ◌≤◌, List, slice_index, ◌⊎◌, Option, Some, None}
-use Rattle.sr_transport.specs.plain.Problem.{Transport, room_of}
+use Rattle.sr_transport.specs.{Transport}
+use Rattle.sr_transport.specs.plain.Problem.{room_of}
 use Rattle.sr_transport.specs.plain.Assignment.{load}
 use Rattle.sr_solver.specs.declared.label.Label.{Label}
 use Rattle.sr_solver.specs.Limits.{greatest_way}

@@ -2,9 +2,9 @@
 -- those of the group that stand at the one cost more at the other, with the greatest charge added.
 
 use Rattle.std.specs.Prelude.{◌≡◌, ℕ, ◌+◌, ◌*◌, ◌<◌, ◌≤◌, List, length, slice_index}
-use Rattle.sr_transport.specs.Limits.{most_entries, greatest_charge}
+use Rattle.sr_transport.specs.{most_entries, greatest_charge, Transport, consumers}
 use Rattle.sr_solver.specs.Limits.{group_size, narrow_room}
-use Rattle.sr_transport.specs.plain.Problem.{Transport, consumers, room_of, cost_of, IsAllowed}
+use Rattle.sr_transport.specs.plain.Problem.{room_of, cost_of, IsAllowed}
 
 -- of the first n entries, entry i stands at consumer a
 abbrev pub IsAt : List ℕ → ℕ → ℕ → ℕ → Type 0

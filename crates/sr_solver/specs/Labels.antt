@@ -1,7 +1,8 @@
 -- The labels of consumers in a search, as lists.
 
 use Rattle.std.specs.Prelude.{ℕ, ◌+◌, List, false, slice_index, slice_index_or, not, count_by}
-use Rattle.sr_transport.specs.plain.Problem.{Transport, cost_of}
+use Rattle.sr_transport.specs.{Transport}
+use Rattle.sr_transport.specs.plain.Problem.{cost_of}
 use Rattle.sr_solver.specs.declared.label.Label.{Label}
 
 -- the label of a consumer that is not reached

@@ -1,3 +1,6 @@
+-- What the solver's steps keep: offers, groups, searches and paths of the transportation problem that it has solved
+-- so far. Nothing here stands in a public clause, which is of `sr_transport`.
+
 pub mod Limits
 pub mod Labels
 pub mod Cutoff

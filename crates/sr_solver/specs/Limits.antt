@@ -1,7 +1,7 @@
 -- The limits of what a search adds up. Those of a problem and of its answers are in sr_transport.
 
 use Rattle.std.specs.Prelude.{ℕ, ◌*◌}
-use Rattle.sr_transport.specs.Limits.{greatest_charge, greatest_price}
+use Rattle.sr_transport.specs.{greatest_charge, greatest_price}
 
 -- prices, and lengths of paths, while entries are placed: so small that any four of them can be added up
 abbrev pub greatest_way : ℕ

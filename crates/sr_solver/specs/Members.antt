@@ -2,7 +2,8 @@
 -- width. A row begins with how many members follow.
 
 use Rattle.std.specs.Prelude.{◌≡◌, ℕ, ◌+◌, ◌*◌, ◌<◌, ◌≤◌, List, length, slice_index, ◌⊎◌}
-use Rattle.sr_transport.specs.plain.Problem.{Transport, consumers, room_of}
+use Rattle.sr_transport.specs.{Transport, consumers}
+use Rattle.sr_transport.specs.plain.Problem.{room_of}
 use Rattle.sr_transport.specs.plain.Assignment.{load}
 use Rattle.sr_solver.specs.Table.{IsAt}
 

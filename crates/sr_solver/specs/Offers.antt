@@ -1,7 +1,8 @@
 -- What an offer of an entry does to the labels.
 
 use Rattle.std.specs.Prelude.{◌≡◌, ℕ, ◌+◌, ◌<◌, ◌≤◌, List, length, slice_index, ◌⊎◌, Option, Some, None, true, false}
-use Rattle.sr_transport.specs.plain.Problem.{Transport, cost_at}
+use Rattle.sr_transport.specs.{Transport}
+use Rattle.sr_transport.specs.plain.Problem.{cost_at}
 use Rattle.sr_solver.specs.declared.label.Label.{Label}
 use Rattle.sr_solver.specs.declared.label.Offer.{Offer}
 use Rattle.sr_solver.specs.Labels.{label_at, priced}

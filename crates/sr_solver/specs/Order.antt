@@ -2,7 +2,8 @@
 
 use Rattle.std.specs.Prelude.{◌≡◌, ℕ, zero, suc, ◌<◌, List, [], ◌∷◌, ◌++◌, slice_index, Option, map}
 use Rattle.std.specs.List.Sorted.{IsPermutation, IsNonDecreasing}
-use Rattle.sr_transport.specs.plain.Problem.{Transport, consumers, cost_at}
+use Rattle.sr_transport.specs.{Transport, consumers}
+use Rattle.sr_transport.specs.plain.Problem.{cost_at}
 
 -- the numbers below n, rising
 abbrev pub numbers_below : ℕ → List ℕ

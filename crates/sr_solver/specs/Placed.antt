@@ -2,7 +2,8 @@
 
 use Rattle.std.specs.Prelude.{◌≡◌, ℕ, ◌*◌, ◌<◌, ◌≤◌, List, length, slice_index}
 use Rattle.sr_transport.specs.Limits.{greatest_rise}
-use Rattle.sr_transport.specs.plain.Problem.{Transport, IsWithinLimits, consumers, room_of, IsAllowed}
+use Rattle.sr_transport.specs.{Transport, consumers}
+use Rattle.sr_transport.specs.plain.Problem.{IsWithinLimits, room_of, IsAllowed}
 use Rattle.sr_transport.specs.plain.Assignment.{load}
 use Rattle.sr_transport.specs.plain.Certificate.{IsLeast}
 use Rattle.sr_solver.specs.declared.placement.Placement.{Placement}

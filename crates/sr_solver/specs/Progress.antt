@@ -1,7 +1,7 @@
 -- How the placement of all entries, one after another, ends.
 
 use Rattle.std.specs.Prelude.{◌≡◌, Bool, false, List}
-use Rattle.sr_transport.specs.plain.Problem.{Transport}
+use Rattle.sr_transport.specs.{Transport}
 use Rattle.sr_solver.specs.declared.label.Label.{Label}
 use Rattle.sr_solver.specs.declared.placement.Placement.{Placement}
 use Rattle.sr_solver.specs.declared.placing.Progress.{Progress}

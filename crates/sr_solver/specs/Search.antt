@@ -3,8 +3,8 @@
 
 use Rattle.std.specs.Prelude.{◌≡◌, ℕ, ◌+◌, ◌*◌, ◌<◌, ◌≤◌, List, length, slice_index, ◌⊎◌, Bool, true, false, Option}
 use Rattle.std.specs.Prelude.{Some, None}
-use Rattle.sr_transport.specs.Limits.{greatest_charge}
-use Rattle.sr_transport.specs.plain.Problem.{Transport, consumers, room_of, cost_at, cost_of, IsAllowed}
+use Rattle.sr_transport.specs.{greatest_charge, Transport, consumers}
+use Rattle.sr_transport.specs.plain.Problem.{room_of, cost_at, cost_of, IsAllowed}
 use Rattle.sr_transport.specs.plain.Assignment.{load}
 use Rattle.sr_solver.specs.declared.label.Label.{Label}
 use Rattle.sr_solver.specs.declared.label.Offer.{Offer}

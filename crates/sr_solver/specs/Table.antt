@@ -4,9 +4,9 @@
 
 use Rattle.std.specs.Prelude.{◌≡◌, ℕ, ◌+◌, ◌*◌, ◌<◌, ◌≤◌, List, length, slice_index_or, ◌⊎◌, Option, Some}
 use Rattle.std.specs.Prelude.{None, IsSomeAnd, IfSome, true}
-use Rattle.sr_transport.specs.Limits.{greatest_charge}
+use Rattle.sr_transport.specs.{greatest_charge, Transport, consumers}
 use Rattle.sr_solver.specs.Limits.{greatest_bound}
-use Rattle.sr_transport.specs.plain.Problem.{Transport, consumers, cost_of, IsAllowed}
+use Rattle.sr_transport.specs.plain.Problem.{cost_of, IsAllowed}
 use Rattle.sr_solver.specs.declared.label.Label.{Label}
 use Rattle.sr_solver.specs.declared.table.Bound.{Bound}
 use Rattle.sr_solver.specs.declared.table.Table.{Table}

@@ -2,7 +2,8 @@
 
 use Rattle.std.specs.Prelude.{◌≡◌, ℕ, ◌+◌, ◌-◌, ◌^◌, ◌<◌, ◌≤◌, List, slice_index, ◌⊎◌, Bool, true, false}
 use Rattle.std.specs.Prelude.{Option, Some, None, IfSome, IfNone}
-use Rattle.sr_transport.specs.plain.Problem.{Transport, room_of, IsAllowed}
+use Rattle.sr_transport.specs.{Transport}
+use Rattle.sr_transport.specs.plain.Problem.{room_of, IsAllowed}
 use Rattle.sr_transport.specs.plain.Certificate.{IsLeast}
 use Rattle.sr_solver.specs.declared.taker.Cheapest.{Cheapest}
 use Rattle.sr_solver.specs.Labels.{priced}

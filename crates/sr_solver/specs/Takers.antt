@@ -2,7 +2,7 @@
 
 use Rattle.std.specs.Prelude.{ℕ, List, map}
 use Rattle.sr_transport.specs.declared.problem.Tier.{Tier}
-use Rattle.sr_transport.specs.Problem.{tier_at}
+use Rattle.sr_transport.specs.{tier_at}
 
 -- the consumer of each of these tiers
 abbrev pub takers_of : List Tier → List ℕ → List ℕ

@@ -1,8 +1,8 @@
 //! Bounds for groups of entries: where many entries stand, the one that costs least more elsewhere is looked for in the
 //! group with the least bound, and not among all.
 ghost use Rattle.std.specs.Prelude.{◌≡◌, ℕ, ◌+◌, ◌*◌, ◌<◌, ◌≤◌, ◌⊎◌, ◌^◌, length, slice_index, IfSome, IfNone, IsSome};
-ghost use Rattle.sr_transport.specs.Limits.{most_entries};
-ghost use Rattle.sr_transport.specs.plain.Problem.{IsWithinLimits, consumers, room_of, IsAllowed};
+ghost use Rattle.sr_transport.specs.{most_entries, consumers};
+ghost use Rattle.sr_transport.specs.plain.Problem.{IsWithinLimits, room_of, IsAllowed};
 ghost use Rattle.sr_solver.specs.Limits.{group_size, narrow_room, greatest_bound};
 ghost use Rattle.sr_solver.specs.Members.{AreMembers};
 ghost use Rattle.sr_solver.specs.Groups.{IsAt, IsAtIn, AreGroups, AreLowsOf, AreLowered};

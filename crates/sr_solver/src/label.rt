@@ -1,5 +1,5 @@
 ghost use Rattle.std.specs.Prelude.{◌≡◌, ◌+◌, ◌*◌, ◌≤◌, ◌&&◌, not, nat_lt, IfSome, true, false};
-ghost use Rattle.sr_transport.specs.Limits.{greatest_charge};
+ghost use Rattle.sr_transport.specs.{greatest_charge};
 ghost use Rattle.sr_solver.specs.Limits.{greatest_way};
 ghost use Rattle.sr_solver.specs.Labels.{no_label};
 ghost use Rattle.sr_solver.specs.Cutoff.{IsBeyond};

@@ -1,6 +1,6 @@
 ghost use Rattle.std.specs.Prelude.{◌≡◌, ◌<◌, ◌≤◌, ◌++◌, length, All, IfOk};
-ghost use Rattle.sr_transport.specs.Limits.{most_entries};
-ghost use Rattle.sr_transport.specs.plain.Problem.{consumers, IsWithinLimits};
+ghost use Rattle.sr_transport.specs.{most_entries, consumers};
+ghost use Rattle.sr_transport.specs.plain.Problem.{IsWithinLimits};
 ghost use Rattle.sr_solver.specs.Order.{numbers_below, IsOrder, IsReordered, IsRenamed, AreEntriesAt, row_below};
 ghost use Rattle.sr_solver.specs.Order.{rows_below};
 

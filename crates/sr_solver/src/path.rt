@@ -1,8 +1,8 @@
 ghost use Rattle.std.specs.Prelude.{◌≡◌, ℕ, ◌+◌, ◌<◌, ◌≤◌, ◌==◌, cond, length, slice_index, true};
-ghost use Rattle.sr_transport.specs.Limits.{most_tiers};
+ghost use Rattle.sr_transport.specs.{most_tiers, consumers};
 ghost use Rattle.sr_solver.specs.Limits.{greatest_way};
 ghost use Rattle.sr_solver.specs.Labels.{label_at};
-ghost use Rattle.sr_transport.specs.plain.Problem.{IsWithinLimits, consumers, room_of, IsAllowed};
+ghost use Rattle.sr_transport.specs.plain.Problem.{IsWithinLimits, room_of, IsAllowed};
 ghost use Rattle.sr_transport.specs.plain.Assignment.{load};
 ghost use Rattle.sr_solver.specs.Table.{IsTable};
 ghost use Rattle.sr_solver.specs.Members.{AreWide, AreMembers};

@@ -1,6 +1,6 @@
 ghost use Rattle.std.specs.Prelude.{◌≡◌, ℕ, ◌+◌, ◌*◌, ◌^◌, ◌<◌, length, All, IfOk, IfSome};
 ghost use Rattle.std.specs.List.Sorted.{IsPermutation};
-ghost use Rattle.sr_transport.specs.plain.Problem.{consumers};
+ghost use Rattle.sr_transport.specs.{consumers};
 ghost use Rattle.sr_solver.specs.Order.{IsOrder};
 
 use crate::order::{by_stake, rows};

@@ -1,7 +1,7 @@
 ghost use Rattle.std.specs.Prelude.{◌≡◌, ℕ, ◌<◌, ◌≤◌, length, slice_index, IfSome, IfNone, None, true};
-ghost use Rattle.sr_transport.specs.Limits.{most_tiers};
+ghost use Rattle.sr_transport.specs.{most_tiers, consumers};
 ghost use Rattle.sr_solver.specs.Limits.{greatest_way};
-ghost use Rattle.sr_transport.specs.plain.Problem.{IsWithinLimits, consumers, room_of, IsAllowed};
+ghost use Rattle.sr_transport.specs.plain.Problem.{IsWithinLimits, room_of, IsAllowed};
 ghost use Rattle.sr_transport.specs.plain.Assignment.{load};
 ghost use Rattle.sr_transport.specs.plain.Certificate.{IsLeast};
 ghost use Rattle.sr_solver.specs.Labels.{label_at, open_count};

@@ -1,6 +1,6 @@
 ghost use Rattle.std.specs.Prelude.{◌≡◌, ℕ, ◌<◌, ◌++◌, ◌∷◌, [], length, slice_index, IfOk};
-ghost use Rattle.sr_transport.specs.Sum.{sum_below};
-ghost use Rattle.sr_transport.specs.plain.Problem.{consumers, room_of};
+ghost use Rattle.sr_transport.specs.{sum_below, consumers};
+ghost use Rattle.sr_transport.specs.plain.Problem.{room_of};
 ghost use Rattle.sr_solver.specs.Shortage.{stranded_below};
 
 use crate::label::Label;

@@ -1,7 +1,7 @@
 ghost use Rattle.std.specs.Prelude.{◌≡◌, ◌<◌, ◌≤◌, IfOk, IfSome, IsSome, true};
-ghost use Rattle.sr_transport.specs.Sum.{sum_below};
+ghost use Rattle.sr_transport.specs.{sum_below, consumers};
 ghost use Rattle.sr_transport.specs.Limits.{greatest_total};
-ghost use Rattle.sr_transport.specs.plain.Problem.{consumers, room_of};
+ghost use Rattle.sr_transport.specs.plain.Problem.{room_of};
 ghost use Rattle.sr_transport.specs.plain.Assignment.{IsAssignment, total_of};
 ghost use Rattle.sr_transport.specs.plain.Solved.{IsSolution};
 ghost use Rattle.sr_transport.specs.Solved.{HasSmallPrices};

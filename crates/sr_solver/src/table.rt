@@ -1,8 +1,8 @@
 ghost use Rattle.std.specs.Prelude.{◌≡◌, ℕ, ◌+◌, ◌*◌, ◌<◌, ◌≤◌, length, slice_index, slice_set, IfSome, IsSome, true};
 ghost use Rattle.std.specs.Prelude.{false, List, IfOk};
-ghost use Rattle.sr_transport.specs.Limits.{greatest_charge};
+ghost use Rattle.sr_transport.specs.{greatest_charge, consumers};
 ghost use Rattle.sr_solver.specs.Limits.{greatest_bound, greatest_way};
-ghost use Rattle.sr_transport.specs.plain.Problem.{IsWithinLimits, consumers, room_of, cost_at, cost_of, IsAllowed};
+ghost use Rattle.sr_transport.specs.plain.Problem.{IsWithinLimits, room_of, cost_at, cost_of, IsAllowed};
 ghost use Rattle.sr_transport.specs.plain.Assignment.{load};
 ghost use Rattle.sr_solver.specs.Members.{AreWide, AreMembersOf, AreMembers};
 ghost use Rattle.sr_solver.specs.Groups.{IsAt};

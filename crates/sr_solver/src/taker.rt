@@ -1,6 +1,5 @@
 ghost use Rattle.std.specs.Prelude.{◌≡◌, ℕ, ◌<◌, ◌≤◌, length, slice_index, nat_lt, IfSome, IfNone};
-ghost use Rattle.sr_transport.specs.Limits.{greatest_charge};
-ghost use Rattle.sr_transport.specs.plain.Problem.{consumers};
+ghost use Rattle.sr_transport.specs.{greatest_charge, consumers};
 ghost use Rattle.sr_solver.specs.Limits.{greatest_way};
 ghost use Rattle.sr_solver.specs.Taker.{IsTaker, IsCompared};
 

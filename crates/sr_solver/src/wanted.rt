@@ -1,6 +1,6 @@
 //! Which consumer an entry wants at given prices. No clause mentions it: only the order of placement depends on it.
 ghost use Rattle.std.specs.Prelude.{◌≡◌, ◌<◌, length, IfOk};
-ghost use Rattle.sr_transport.specs.plain.Problem.{consumers};
+ghost use Rattle.sr_transport.specs.{consumers};
 
 use sr_transport::Columns;
 use std::alloc::{AllocError, Global};

@@ -5,17 +5,15 @@ use Rattle.std.specs.List.{All}
 use Rattle.std.proofs.lemmas.List.Elements.{All-cons, All-nil, filter-append}
 use Rattle.sr_args.specs.declared.call.Call.{Call}
 use Rattle.sr_args.specs.declared.commands.xclaim.TimeAsked.TheVariants.{Now}
-use Rattle.sr_bytes.specs.Order.{comes_before}
+use Rattle.sr_bytes.specs.{comes_before}
 use Rattle.sr_entries.specs.declared.entry.Entry.{Entry}
-use Rattle.sr_group.specs.Claim.{HasCount, MoveState, after_move, after_moves}
-use Rattle.sr_group.specs.Group.{GroupState}
+use Rattle.sr_group.specs.{after_moves, GroupState}
+use Rattle.sr_group.specs.Claim.{HasCount, MoveState, after_move}
 use Rattle.sr_group.proofs.NameLemmas.{comes_before-itself, comes_before-one_way}
-use Rattle.sr_plan.specs.Batches.{BatchState, batches_in}
-use Rattle.sr_plan.specs.Calls.{calls_for, claim_call, claim_calls}
-use Rattle.sr_plan.specs.Verdict.{Answer}
-use Rattle.sr_policy.specs.Snapshot.{Shown}
-use Rattle.sr_stream.specs.Groups.{ByName, AreInOrder, group_with, has_group, with_group}
-use Rattle.sr_stream.specs.Stream.{StreamState, with_groups}
+use Rattle.sr_plan.specs.{BatchState, batches_in, calls_for, claim_call, claim_calls, PlanAnswer}
+use Rattle.sr_policy.specs.{SnapshotState}
+use Rattle.sr_stream.specs.{ByName, group_with, has_group, with_group, StreamState, with_groups}
+use Rattle.sr_stream.specs.Groups.{AreInOrder}
 use Rattle.sr_stream.proofs.GroupsLemmas.{AreInOrder-with_group, group_with-none, with_group-same}
 use Rattle.sr_space.specs.Bounds.{in_63_bits}
 use Rattle.sr_space.specs.Commit.{after_calls}
@@ -164,7 +162,7 @@ module _ (moment : ℕ) (key : Key) (name : List ℕ) where
 
 -- ---- the batches of a verdict
 
-module _ (shown : Shown) (answer : Answer) (batches : List BatchState) (are : batches ≡ batches_in shown answer)
+module _ (shown : SnapshotState) (answer : PlanAnswer) (batches : List BatchState) (are : batches ≡ batches_in shown answer)
     (moment : ℕ) (keys : Keys) (key : Key) (name : List ℕ) (key_is : key ≡ shown.key) (name_is : name ≡ shown.group) where
   calls : calls_for key name batches ≡ claim_calls shown answer
   calls = rw (are, key_is, name_is) refl

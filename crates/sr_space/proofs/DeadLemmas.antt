@@ -2,9 +2,8 @@
 use Rattle.std.proofs.Common.{◌≡◌, ℕ, Bool, true, false, cond, List, [], ◌∷◌, filter, length, get_or, refl, sym, ap, ◌∙◌, ◌≤◌, ◌<◌, arith}
 use Rattle.std.specs.Cmp.Lexicographic.{bytes_decides}
 use Rattle.sr_pending.specs.declared.nack.Nack.{Nack}
-use Rattle.sr_pending.specs.Pending.{is_same_name, owned_by}
-use Rattle.sr_policy.specs.Rules.{Text}
-use Rattle.sr_policy.specs.Snapshot.{is_among}
+use Rattle.sr_pending.specs.{is_same_name, owned_by}
+use Rattle.sr_policy.specs.{Text, is_among}
 use Rattle.sr_space.specs.Snap.{of_dead}
 
 -- a test finds the same among what a weaker test lets through

@@ -1,20 +1,22 @@
 -- Each command on the groups of one stream leaves a sound stream, and writes nothing if it replies an error.
 use Rattle.std.proofs.Common.{◌≡◌, ℕ, Bool, true, false, cond, List, [], ◌∷◌, Option, Some, None, refl}
 use Rattle.std.specs.Prelude.{IfSome}
-use Rattle.sr_bytes.specs.Order.{comes_before}
+use Rattle.sr_bytes.specs.{comes_before}
 use Rattle.sr_ids.specs.declared.id.Id.{Id}
 use Rattle.sr_args.specs.declared.call.Position.{Position}
 use Rattle.sr_resp.specs.declared.code.ErrCode.{ErrCode}
 use Rattle.sr_resp.specs.declared.code.ErrCode.TheVariants as errors
 use Rattle.sr_resp.specs.declared.code.Word.{Word}
 use Rattle.sr_resp.specs.declared.code.Word.TheVariants as words
-use Rattle.sr_resp.specs.Reply.{Answer, error_reply, simple_string}
+use Rattle.sr_resp.specs.{ReplyParts, error_reply}
+use Rattle.sr_resp.specs.Reply.{simple_string}
 use Rattle.sr_entries.specs.declared.entry.Entry.{Entry}
 use Rattle.sr_group.specs.declared.claim.Claim.{Claim}
-use Rattle.sr_group.specs.Group.{GroupState, new_group}
-use Rattle.sr_pending.specs.Pending.{is_same_name}
-use Rattle.sr_stream.specs.Groups.{ByName, AreAfter, AreInOrder, group_with, has_group, with_group, with_last, without_group}
-use Rattle.sr_stream.specs.Stream.{StreamState, IsStream, empty_stream, with_groups}
+use Rattle.sr_group.specs.{GroupState, new_group}
+use Rattle.sr_pending.specs.{is_same_name}
+use Rattle.sr_stream.specs.{ByName, group_with, has_group, with_group, StreamState, IsStream, empty_stream}
+use Rattle.sr_stream.specs.{with_groups}
+use Rattle.sr_stream.specs.Groups.{AreAfter, AreInOrder, with_last, without_group}
 use Rattle.sr_stream.proofs.GroupsLemmas.{AreInOrder-with_group, AreInOrder-without_group}
 use Rattle.sr_stream.proofs.LendingLemmas.{IsStream-with_groups}
 use Rattle.sr_space.specs.declared.grouped.Missing.{Missing}
@@ -79,7 +81,7 @@ pub IsLawful-del_consumer : (group consumer : List ℕ) → IsLawful (xgroup_del
 IsLawful-del_consumer group consumer = IsLawful-in_group NoKey (consumer_removed consumer) group (λ entries g code e. absurd (cc))
 
 -- a test decides between a refusal and a stream that is written
-unless-sound : (refused : Bool) (code : ErrCode) (stream : StreamState) (answer : Answer) → IsStream stream → IfSome (cond refused (refuses code) (writes stream answer)).written IsStream
+unless-sound : (refused : Bool) (code : ErrCode) (stream : StreamState) (answer : ReplyParts) → IsStream stream → IfSome (cond refused (refuses code) (writes stream answer)).written IsStream
 unless-sound true code stream answer is = tt
 unless-sound false code stream answer is = is
 
@@ -88,7 +90,7 @@ unless-errors : (refused : Bool) (code other : ErrCode) (stream : StreamState) (
 unless-errors true code other stream word e = refl
 unless-errors false code other stream word e = absurd (cc)
 
-if-sound : (test : Bool) (code : ErrCode) (stream : StreamState) (answer : Answer) → IsStream stream → IfSome (cond test (writes stream answer) (refuses code)).written IsStream
+if-sound : (test : Bool) (code : ErrCode) (stream : StreamState) (answer : ReplyParts) → IsStream stream → IfSome (cond test (writes stream answer) (refuses code)).written IsStream
 if-sound true code stream answer is = is
 if-sound false code stream answer is = tt
 

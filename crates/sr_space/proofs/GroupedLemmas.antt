@@ -1,9 +1,9 @@
 -- What a command on one group leaves of its stream.
 use Rattle.std.proofs.Common.{◌≡◌, ℕ, List, Option, Some, None, ap, ◌∙◌}
 use Rattle.sr_entries.specs.declared.entry.Entry.{Entry}
-use Rattle.sr_group.specs.Group.{GroupState}
-use Rattle.sr_stream.specs.Groups.{ByName, AreInOrder, group_with, with_group}
-use Rattle.sr_stream.specs.Stream.{StreamState, with_groups}
+use Rattle.sr_group.specs.{GroupState}
+use Rattle.sr_stream.specs.{ByName, group_with, with_group, StreamState, with_groups}
+use Rattle.sr_stream.specs.Groups.{AreInOrder}
 use Rattle.sr_stream.proofs.GroupsLemmas.{with_group-same}
 use Rattle.sr_space.specs.declared.grouped.Missing.{Missing}
 use Rattle.sr_space.specs.declared.outcome.Answered.{Answered}

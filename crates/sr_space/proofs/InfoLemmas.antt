@@ -1,14 +1,14 @@
 -- What XINFO counts and lists.
 use Rattle.std.proofs.Common.{◌≡◌, codes, ℕ, zero, suc, ◌<◌, ◌≤◌, Bool, true, false, cond, List, [], ◌∷◌, length, map, get_or, refl, ap, sym, ◌∙◌, arith}
 use Rattle.std.proofs.lemmas.List.{get_or-map, length-map}
-use Rattle.sr_group.specs.Group.{KeptGroup, counts_of}
+use Rattle.sr_group.specs.{KeptGroup, counts_of}
 use Rattle.sr_group.specs.declared.consumer.Consumer.{Consumer}
 use Rattle.sr_pending.specs.declared.nack.Nack.{Nack}
-use Rattle.sr_pending.specs.Pending.{is_same_name, owned_by}
-use Rattle.sr_ids.specs.Spelling.{spelling}
-use Rattle.sr_resp.specs.Reply.{Answer, array_of, bulk_string}
-use Rattle.sr_stream.specs.Stream.{StreamState}
-use Rattle.sr_stream.specs.Groups.{ByName, shown_groups}
+use Rattle.sr_pending.specs.{is_same_name, owned_by}
+use Rattle.sr_ids.specs.{spelling}
+use Rattle.sr_resp.specs.{ReplyParts, array_of, bulk_string}
+use Rattle.sr_stream.specs.{StreamState, ByName}
+use Rattle.sr_stream.specs.Groups.{shown_groups}
 use Rattle.sr_space.specs.commands.Xinfo.{entry_or_null, first_entry, group_answer, last_entry, number, stream_answer}
 
 pub length-shown_groups : (groups : ByName KeptGroup) → length (shown_groups groups) ≡ length groups
@@ -17,7 +17,7 @@ length-shown_groups groups = length-map groups (λ named. (named.0, named.1.show
 -- the lines of groups say what is shown of them
 pub group_lines-shown : (groups : ByName KeptGroup) → map (λ named. group_answer named.0 named.1) (shown_groups groups) ≡ map (λ named. group_answer named.0 named.1.shown) groups
 group_lines-shown [] = refl
-group_lines-shown (named ∷ groups) = ap (λ (lines : List Answer). group_answer named.0 named.1.shown ∷ lines) (group_lines-shown groups)
+group_lines-shown (named ∷ groups) = ap (λ (lines : List ReplyParts). group_answer named.0 named.1.shown ∷ lines) (group_lines-shown groups)
 
 length-owned_by : (owner : List ℕ) (nacks : List Nack) → length (owned_by owner nacks) ≤ length nacks
 length-owned_by owner [] = omega arith
@@ -47,6 +47,6 @@ counts_of-read consumers nacks counts i n consumer is within read at =
     read ∙ ap (λ (l : List ℕ). get_or l i n) is ∙ get_or-map pending consumers i consumer n within ∙ ap pending (sym at)
 
 -- what is told of a stream, name by name and value by value
-pub stream_told : (stream : StreamState) (count_name count last_name last added_name added groups_name groups first_name first end_name end : Answer) → count_name ≡ bulk_string (codes "length") → count ≡ number (length stream.entries) → last_name ≡ bulk_string (codes "last-generated-id") → last ≡ bulk_string (spelling stream.last) → added_name ≡ bulk_string (codes "entries-added") → added ≡ number stream.added → groups_name ≡ bulk_string (codes "groups") → groups ≡ number (length stream.groups) → first_name ≡ bulk_string (codes "first-entry") → first ≡ entry_or_null (first_entry stream.entries) → end_name ≡ bulk_string (codes "last-entry") → end ≡ entry_or_null (last_entry stream.entries) → array_of (count_name ∷ count ∷ last_name ∷ last ∷ added_name ∷ added ∷ groups_name ∷ groups ∷ first_name ∷ first ∷ end_name ∷ end ∷ []) ≡ stream_answer stream
+pub stream_told : (stream : StreamState) (count_name count last_name last added_name added groups_name groups first_name first end_name end : ReplyParts) → count_name ≡ bulk_string (codes "length") → count ≡ number (length stream.entries) → last_name ≡ bulk_string (codes "last-generated-id") → last ≡ bulk_string (spelling stream.last) → added_name ≡ bulk_string (codes "entries-added") → added ≡ number stream.added → groups_name ≡ bulk_string (codes "groups") → groups ≡ number (length stream.groups) → first_name ≡ bulk_string (codes "first-entry") → first ≡ entry_or_null (first_entry stream.entries) → end_name ≡ bulk_string (codes "last-entry") → end ≡ entry_or_null (last_entry stream.entries) → array_of (count_name ∷ count ∷ last_name ∷ last ∷ added_name ∷ added ∷ groups_name ∷ groups ∷ first_name ∷ first ∷ end_name ∷ end ∷ []) ≡ stream_answer stream
 stream_told stream count_name count last_name last added_name added groups_name groups first_name first end_name end a b c d e f g h i j k l =
     rw (a, b, c, d, e, f, g, h, i, j, k, l) refl

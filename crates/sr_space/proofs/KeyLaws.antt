@@ -3,8 +3,8 @@ use Rattle.std.proofs.Common.{◌≡◌, ◌≢◌, Bool, true, false, cond, [],
 use Rattle.std.specs.Prelude.{IfSome, IsSome}
 use Rattle.std.specs.Cmp.Lexicographic.{pointwise, bytes_decides}
 use Rattle.sr_resp.specs.declared.code.ErrCode.{ErrCode}
-use Rattle.sr_resp.specs.Reply.{Answer, error_reply}
-use Rattle.sr_stream.specs.Stream.{StreamState, IsStream}
+use Rattle.sr_resp.specs.{ReplyParts, error_reply}
+use Rattle.sr_stream.specs.{StreamState, IsStream}
 use Rattle.sr_space.specs.Keys.{Key, Keys, stream_at, with_stream, AreStreams}
 use Rattle.sr_space.specs.Touched.{Executed, Touched, at_key, left_at, reply_of, unchanged}
 use Rattle.sr_space.proofs.Lawful.{IsLawful}
@@ -82,7 +82,7 @@ pub record KeepsKeys (keys : Keys) (at_once : Executed) : Type 0 where
   pub stay : (key : Key) → IsSome (stream_at keys key) → IsSome (stream_at at_once.keys key)
 
 -- such are one that only reads, and a lawful one at one key
-pub KeepsKeys-unchanged : (keys : Keys) (answer : Answer) → KeepsKeys keys (unchanged keys answer)
+pub KeepsKeys-unchanged : (keys : Keys) (answer : ReplyParts) → KeepsKeys keys (unchanged keys answer)
 KeepsKeys-unchanged keys answer = record { sound = λ all. all; errors = λ code e. refl; stay = λ key there. there }
 
 pub KeepsKeys-at_key : (keys : Keys) (key : Key) (f : Option StreamState → Touched) → IsLawful f → KeepsKeys keys (at_key keys key f)

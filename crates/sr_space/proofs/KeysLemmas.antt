@@ -3,7 +3,7 @@ use Rattle.std.proofs.Common.{◌≡◌, Bool, true, false, cond, [], ◌∷◌,
 use Rattle.std.specs.Cmp.Lexicographic.{pointwise}
 use Rattle.std.specs.Map.{lookup, set_value}
 use Rattle.indexmap.specs.IndexMap.{insert_entry}
-use Rattle.sr_stream.specs.Stream.{StreamState, KeptStream}
+use Rattle.sr_stream.specs.{StreamState, KeptStream}
 use Rattle.sr_space.specs.Keys.{Key, Keys, stream_at, with_stream, shown_of, shown_keys}
 use Rattle.sr_space.specs.Touched.{Touched, left_of, left_at, at_key}
 pub use Rattle.sr_space.specs.steps.Reading.{Stored}

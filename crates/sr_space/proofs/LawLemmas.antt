@@ -2,7 +2,7 @@
 use Rattle.std.proofs.Common.{◌≡◌, ℕ}
 use Rattle.std.specs.Prelude.{IsSome}
 use Rattle.sr_resp.specs.declared.code.ErrCode.{ErrCode}
-use Rattle.sr_resp.specs.Reply.{error_reply}
+use Rattle.sr_resp.specs.{error_reply}
 use Rattle.sr_args.specs.declared.call.Call.{Call}
 use Rattle.sr_space.specs.Keys.{Key, Keys, stream_at, AreStreams}
 use Rattle.sr_space.specs.Touched.{reply_of}

@@ -2,8 +2,8 @@
 use Rattle.std.proofs.Common.{◌≡◌, ℤ, Option, None, refl, arith}
 use Rattle.std.specs.Prelude.{IfSome}
 use Rattle.sr_resp.specs.declared.code.ErrCode.{ErrCode}
-use Rattle.sr_resp.specs.Reply.{Answer, error_reply, integer}
-use Rattle.sr_stream.specs.Stream.{StreamState, IsStream, empty_stream}
+use Rattle.sr_resp.specs.{ReplyParts, error_reply, integer}
+use Rattle.sr_stream.specs.{StreamState, IsStream, empty_stream}
 use Rattle.sr_space.specs.Touched.{Touched, reply_of, replies}
 
 pub record IsLawful (f : Option StreamState → Touched) : Type 0 where
@@ -15,7 +15,7 @@ pub integer_no_error : (n : ℤ) (code : ErrCode) → reply_of (integer n) ≡ r
 integer_no_error n code e = cc
 
 -- a command that writes nothing
-pub IsLawful-replies : (answer : Option StreamState → Answer) → IsLawful (λ found. replies (answer found))
+pub IsLawful-replies : (answer : Option StreamState → ReplyParts) → IsLawful (λ found. replies (answer found))
 IsLawful-replies answer = record { sound = λ found is. tt; errors = λ found code e. refl }
 
 -- a new stream

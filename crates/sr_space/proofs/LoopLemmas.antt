@@ -1,7 +1,7 @@
 -- What loops make, one step after the other.
 use Rattle.std.proofs.Common.{◌≡◌, ℕ, zero, suc, ◌+◌, ◌-◌, ◌<◌, ◌≤◌, List, [], ◌∷◌, ◌++◌, length, get_or, map, take, drop, ap, sym, ◌∙◌, append-nil, append_assoc, arith}
 use Rattle.std.proofs.lemmas.List.{at_drop_all, drop_more, map_more}
-use Rattle.sr_resp.specs.Reply.{Answer, array_of}
+use Rattle.sr_resp.specs.{ReplyParts, array_of}
 
 -- a place that is counted down
 pub within-behind : (place n : ℕ) → 0 < place → place ≤ n → place - 1 < n
@@ -26,10 +26,10 @@ module _ {X Y : Type 0} (F : List X → Y) (xs : List X) where
   behind-end (suc i) now none is = absurd (omega arith)
 
 -- one more item of an array
-pub lines-next : {X : Type 0} (f : X → Answer) (xs : List X) (i : ℕ) (x : X) (lines line now : Answer) → i < length xs → x ≡ get_or xs i x
-    → ((items : List Answer) → lines ≡ array_of items → now ≡ array_of (items ++ line ∷ [])) → line ≡ f x → lines ≡ array_of (map f (take i xs)) → now ≡ array_of (map f (take (i + 1) xs))
+pub lines-next : {X : Type 0} (f : X → ReplyParts) (xs : List X) (i : ℕ) (x : X) (lines line now : ReplyParts) → i < length xs → x ≡ get_or xs i x
+    → ((items : List ReplyParts) → lines ≡ array_of items → now ≡ array_of (items ++ line ∷ [])) → line ≡ f x → lines ≡ array_of (map f (take i xs)) → now ≡ array_of (map f (take (i + 1) xs))
 lines-next f xs i x lines line now within read pushed is so_far =
-    pushed (map f (take i xs)) so_far ∙ ap (λ (l : Answer). array_of (map f (take i xs) ++ l ∷ [])) (is ∙ ap f read) ∙ ap array_of (sym (map_more f xs i x within))
+    pushed (map f (take i xs)) so_far ∙ ap (λ (l : ReplyParts). array_of (map f (take i xs) ++ l ∷ [])) (is ∙ ap f read) ∙ ap array_of (sym (map_more f xs i x within))
 
 module _ {X Y : Type 0} where
   -- one more item of a list that is written item by item

@@ -5,12 +5,12 @@ use Rattle.std.specs.List.{insert}
 use Rattle.std.specs.List.Sorted.{IsPartitionedBy}
 use Rattle.std.proofs.Math.Seq.{take-nil}
 use Rattle.std.proofs.lemmas.List.Folds.{list_any-append}
-use Rattle.sr_bytes.specs.Order.{AreInOrder, ComesBefore, comes_before}
+use Rattle.sr_bytes.specs.{AreInOrder, ComesBefore, comes_before}
 use Rattle.sr_group.proofs.NameLemmas.{comes_before-trans, comes_before-itself, comes_before-one_way, comes_before-neither, is_same_name-refl, is_same_name-true, is_same_name-before, is_same_name-after}
 use Rattle.sr_pending.proofs.Splitting.{Splits, Splits-counted, drop-Splits}
-use Rattle.sr_policy.specs.Rules.{Text}
-use Rattle.sr_policy.specs.Snapshot.{is_among}
-use Rattle.sr_space.specs.Snap.{in_order, with_name}
+use Rattle.sr_policy.specs.{Text, is_among}
+use Rattle.sr_bytes.specs.{with_name}
+use Rattle.sr_space.specs.Snap.{in_order}
 use Rattle.sr_space.specs.steps.Snapping.{count_before}
 use Rattle.sr_space.proofs.RisingLemmas.{AreAfter, Rises, AreAfter-filter, Rises-filter, in_order-rising, rising-in_order}
 

@@ -2,16 +2,15 @@
 use Rattle.std.proofs.Common.{◌≡◌, ◌≢◌, ℕ, Bool, true, false, cond, List, [], ◌∷◌, ◌++◌, filter, Option, Some, None, nat_eq, refl, ap, sym, ◌∙◌, true≢false}
 use Rattle.std.specs.Prelude.{IfSome}
 use Rattle.std.specs.Cmp.Lexicographic.{pointwise, bytes_decides}
-use Rattle.sr_bytes.specs.Order.{comes_before}
+use Rattle.sr_bytes.specs.{comes_before}
 use Rattle.sr_args.specs.declared.reads.ReadAsked.{ReadAsked}
 use Rattle.sr_args.specs.declared.reads.ReadAsked.TheVariants as asked
 use Rattle.sr_resp.specs.declared.code.ErrCode.TheVariants as errors
-use Rattle.sr_resp.specs.Reply.{error_reply}
-use Rattle.sr_group.specs.Group.{GroupState}
+use Rattle.sr_resp.specs.{error_reply}
+use Rattle.sr_group.specs.{GroupState}
 use Rattle.sr_group.proofs.NameLemmas.{comes_before-neither, comes_before-one_way, is_same_name-true}
-use Rattle.sr_pending.specs.Pending.{is_same_name}
-use Rattle.sr_stream.specs.Groups.{ByName, group_with, with_group}
-use Rattle.sr_stream.specs.Stream.{StreamState}
+use Rattle.sr_pending.specs.{is_same_name}
+use Rattle.sr_stream.specs.{ByName, group_with, with_group, StreamState}
 use Rattle.sr_space.specs.Keys.{Key, Keys, stream_at, with_stream}
 use Rattle.sr_space.specs.PendingAt.{AskForNew, nacks_of, pending_at, pending_of}
 use Rattle.sr_space.specs.Touched.{left_at, reply_of, unchanged}

@@ -1,9 +1,9 @@
 -- What a command on one key leaves at other keys.
 use Rattle.std.proofs.Common.{◌≡◌, ◌≢◌, ℕ, Bool, true, false, cond, List, [], ◌∷◌, Option, Some, None, refl, ◌∙◌}
 use Rattle.sr_args.specs.declared.reads.ReadAsked.{ReadAsked}
-use Rattle.sr_resp.specs.Reply.{Answer, error_reply}
+use Rattle.sr_resp.specs.{ReplyParts, error_reply}
 use Rattle.sr_resp.specs.declared.code.ErrCode.TheVariants as errors
-use Rattle.sr_stream.specs.Stream.{StreamState}
+use Rattle.sr_stream.specs.{StreamState}
 use Rattle.sr_space.specs.Keys.{Key, Keys, stream_at}
 use Rattle.sr_space.specs.Effect.{only_key}
 use Rattle.sr_space.specs.Touched.{Executed, Touched, at_key, left_at, reply_of, unchanged}
@@ -28,7 +28,7 @@ module _ (moment : ℕ) (name consumer : List ℕ) (count : Option ℕ) (no_ack 
       left-others keys stream.0 other (grouped.read_stream moment name consumer count no_ack stream.1 stream.0 (stream_at keys stream.0)).written (λ e. apart (e ∙ same))
   after-others (stream ∷ next ∷ streams) is = cc
 
-  pub grouped-others : (there : Bool) (streams : List (Key × ReadAsked)) (answer : Answer) → only_key streams ≡ Some key
+  pub grouped-others : (there : Bool) (streams : List (Key × ReadAsked)) (answer : ReplyParts) → only_key streams ≡ Some key
       → stream_at (cond there (let found : Executed = record { keys = after_reads moment name consumer count no_ack keys streams; outcome = reply_of answer } in found) (unchanged keys (error_reply errors.NoGroup))).keys other ≡ stream_at keys other
   grouped-others true streams answer is = after-others streams is
   grouped-others false streams answer is = refl

@@ -9,16 +9,17 @@ use Rattle.std.proofs.lemmas.List.{get_or-map, length-map}
 use Rattle.std.proofs.lemmas.List.Sorted.{IsPermutation-append_right, IsPermutation-filter_both, IsPermutation-map, IsPermutation-refl, IsPermutation-sym, IsPermutation-trans, sum_by-IsPermutation}
 use Rattle.std.proofs.lemmas.List.Sums.{length-filter, sum_by-cons}
 use Rattle.sr_ids.specs.declared.id.Id.{Id}
-use Rattle.sr_ids.specs.Id.{IsBelow}
+use Rattle.sr_ids.specs.{IsBelow}
 use Rattle.sr_ids.proofs.IdLemmas.{IsBelow-cases, IsBelow-one_way}
 use Rattle.sr_entries.specs.declared.entry.Entry.{Entry}
-use Rattle.sr_entries.specs.Entries.{entry_with, has_id}
+use Rattle.sr_entries.specs.{entry_with, has_id}
 use Rattle.sr_pending.specs.declared.nack.Nack.{Nack}
-use Rattle.sr_pending.specs.Pending.{AreAbove, AreRising, is_below, is_same_id, is_same_name, owned_by}
+use Rattle.sr_ids.specs.{is_below, is_same_id}
+use Rattle.sr_pending.specs.{AreRising, is_same_name, owned_by}
+use Rattle.sr_pending.specs.Pending.{AreAbove}
 use Rattle.sr_pending.proofs.NackLemmas.{IsBelow-trans, is_below-from, is_same_id-above, is_same_id-refl, is_same_id-true}
 use Rattle.sr_group.proofs.NameLemmas.{is_same_name-refl, is_same_name-true}
-use Rattle.sr_policy.specs.Rules.{Text}
-use Rattle.sr_policy.specs.Snapshot.{is_among}
+use Rattle.sr_policy.specs.{Text, is_among}
 use Rattle.sr_space.specs.Snap.{of_dead}
 use Rattle.sr_space.specs.steps.Snapping.{gone_as, own_of}
 use Rattle.sr_space.proofs.RisingLemmas.{AreAfter, Rises, Rises-filter, rising-in_order}

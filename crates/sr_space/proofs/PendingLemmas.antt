@@ -4,10 +4,11 @@ use Rattle.std.specs.List.{All, flat_map}
 use Rattle.std.proofs.lemmas.List.{drop_all, get_or-map}
 use Rattle.std.proofs.lemmas.List.Elements.{All-filter, All-head, All-tail, All-take}
 use Rattle.sr_pending.specs.declared.nack.Nack.{Nack}
-use Rattle.sr_pending.specs.Pending.{IsCountable, owned_by}
+use Rattle.sr_pending.specs.{IsCountable, owned_by}
 use Rattle.sr_group.specs.declared.consumer.Consumer.{Consumer}
-use Rattle.sr_group.specs.Group.{counts_of}
-use Rattle.sr_resp.specs.Reply.{Answer, Part, IsReply, array_header, array_of}
+use Rattle.sr_group.specs.{counts_of}
+use Rattle.sr_resp.specs.{ReplyParts, array_header, array_of}
+use Rattle.sr_resp.specs.Reply.{Part, IsReply}
 use Rattle.sr_resp.proofs.CallerLemmas.{IsReply-array_of_map}
 use Rattle.sr_args.specs.declared.commands.xpending.PendingAsked.{PendingAsked}
 use Rattle.sr_space.specs.commands.Xpending.{at_least_0, listing_of, nack_answer, share_of, shares_of}
@@ -47,11 +48,11 @@ module _ (moment : ℕ) where
   IsReply-listing all = IsReply-array_of_map (nack_answer moment) all (λ nack. refl)
 
 -- what a consumer has in the list of shares
-abbrev pub share_in : List Nack → Consumer → List Answer
+abbrev pub share_in : List Nack → Consumer → List ReplyParts
 share_in nacks consumer = share_of consumer.name (length (owned_by consumer.name nacks))
 
 -- the shares of the consumers from this place on are still to come
-abbrev pub HasSharesFrom : ℕ → List Consumer → List Nack → Answer → Type 0
+abbrev pub HasSharesFrom : ℕ → List Consumer → List Nack → ReplyParts → Type 0
 HasSharesFrom place consumers nacks shares = HasLeft shares (flat_map (share_in nacks) (drop place consumers)) (flat_map (share_in nacks) consumers)
 
 module _ (consumers : List Consumer) (nacks : List Nack) where
@@ -63,15 +64,15 @@ module _ (consumers : List Consumer) (nacks : List Nack) where
   rest_at : (place : ℕ) (consumer : Consumer) → place < length consumers → consumer ≡ get_or consumers place consumer → drop place consumers ≡ consumer ∷ drop (place + 1) consumers
   rest_at place consumer below at = rw (add-one, drop-cons consumers place consumer below) (ap (λ (c : Consumer). c ∷ drop (suc place) consumers) (sym at))
 
-  pub shares-next : (place : ℕ) (consumer : Consumer) (counts : List ℕ) (shares now : Answer) → place < length consumers → consumer ≡ get_or consumers place consumer → counts ≡ counts_of consumers nacks
-      → HasSharesFrom place consumers nacks shares → ((items : List Answer) → shares ≡ array_of items → now ≡ array_of (items ++ share_of consumer.name (get_or counts place 0)))
+  pub shares-next : (place : ℕ) (consumer : Consumer) (counts : List ℕ) (shares now : ReplyParts) → place < length consumers → consumer ≡ get_or consumers place consumer → counts ≡ counts_of consumers nacks
+      → HasSharesFrom place consumers nacks shares → ((items : List ReplyParts) → shares ≡ array_of items → now ≡ array_of (items ++ share_of consumer.name (get_or counts place 0)))
       → HasSharesFrom (place + 1) consumers nacks now
   shares-next place consumer counts shares now below at are has added =
       left-after shares now (share_in nacks consumer) (flat_map (share_in nacks) (drop (place + 1) consumers)) (flat_map (share_in nacks) consumers)
       (rw (rest_at place consumer below at) at has)
-      (λ items is. added items is ∙ ap (λ (more : List Answer). array_of (items ++ more)) (ap (λ (l : List ℕ). share_of consumer.name (get_or l place 0)) are ∙ share_at place consumer below at))
+      (λ items is. added items is ∙ ap (λ (more : List ReplyParts). array_of (items ++ more)) (ap (λ (l : List ℕ). share_of consumer.name (get_or l place 0)) are ∙ share_at place consumer below at))
 
-  pub shares-ended : (place : ℕ) (shares : Answer) → length consumers ≤ place → HasSharesFrom place consumers nacks shares → shares ≡ array_of (flat_map (share_in nacks) consumers)
+  pub shares-ended : (place : ℕ) (shares : ReplyParts) → length consumers ≤ place → HasSharesFrom place consumers nacks shares → shares ≡ array_of (flat_map (share_in nacks) consumers)
   shares-ended place shares past has =
       left-none shares (flat_map (share_in nacks) (drop place consumers)) (flat_map (share_in nacks) consumers) has (ap (flat_map (share_in nacks)) (drop_all place consumers past))
 

@@ -12,16 +12,14 @@ use Rattle.sr_args.specs.declared.commands.xreadgroup.Xreadgroup.{Xreadgroup}
 use Rattle.sr_args.specs.declared.reads.ReadAsked.{ReadAsked}
 use Rattle.sr_args.specs.declared.reads.ReadAsked.TheVariants as asked
 use Rattle.sr_entries.specs.declared.entry.Entry.{Entry}
-use Rattle.sr_entries.specs.Entries.{entries_above, last_id_or}
-use Rattle.sr_group.specs.Delivery.{new_entries}
-use Rattle.sr_group.specs.Group.{GroupState}
+use Rattle.sr_entries.specs.{entries_above, last_id_or}
+use Rattle.sr_group.specs.{new_entries, GroupState}
 use Rattle.sr_group.proofs.NameLemmas.{is_same_name-true, is_same_name-refl}
 use Rattle.sr_ids.specs.declared.id.Id.{Id}
-use Rattle.sr_pending.specs.Pending.{is_same_name}
+use Rattle.sr_pending.specs.{is_same_name}
 use Rattle.sr_resp.specs.declared.code.ErrCode.TheVariants as errors
-use Rattle.sr_resp.specs.Reply.{Answer, error_reply}
-use Rattle.sr_stream.specs.Groups.{ByName, group_with, has_group, with_group}
-use Rattle.sr_stream.specs.Stream.{StreamState, with_groups}
+use Rattle.sr_resp.specs.{ReplyParts, error_reply}
+use Rattle.sr_stream.specs.{ByName, group_with, has_group, with_group, StreamState, with_groups}
 use Rattle.sr_space.specs.Blocking.{finds_nothing, is_nothing}
 use Rattle.sr_space.specs.Bounds.{in_63_bits}
 use Rattle.sr_space.specs.Effect.{at_once}
@@ -176,7 +174,7 @@ module _ (moment : ℕ) (name consumer : List ℕ) (count : Option ℤ) (no_ack 
       left-quiet keys (after_reads moment name consumer (count_of count) no_ack keys streams) stream.0 other (grouped.read_stream moment name consumer (count_of count) no_ack stream.1 stream.0 found).written
       (written-quiet stream.1 stream.0 found) (reads-quiet keys streams other)
 
-  grouped-quiet : (there : Bool) (keys : Keys) (streams : List (Key × ReadAsked)) (answer : Answer) (other : Key)
+  grouped-quiet : (there : Bool) (keys : Keys) (streams : List (Key × ReadAsked)) (answer : ReplyParts) (other : Key)
       → IsAsQuiet (stream_at keys other) (stream_at (cond there (let found : Executed = record { keys = after_reads moment name consumer (count_of count) no_ack keys streams; outcome = reply_of answer } in found) (unchanged keys (error_reply errors.NoGroup))).keys other)
   grouped-quiet true keys streams answer other = reads-quiet keys streams other
   grouped-quiet false keys streams answer other = stays-quiet (stream_at keys other)
@@ -218,7 +216,7 @@ module _ (keys now : Keys) (quiet : (key : Key) → IsAsQuiet (stream_at keys ke
 
   group-read-quiet : (earlier later : ℕ) (read : Xreadgroup) → finds_nothing keys earlier (calls.Xreadgroup read) ≡ true → finds_nothing now later (calls.Xreadgroup read) ≡ true
   group-read-quiet earlier later read none =
-      let listed : Keys → ℕ → List Answer = λ at time. listed_of_all (in_63_bits time) read.group read.consumer (count_of read.count) read.no_ack at read.streams in
+      let listed : Keys → ℕ → List ReplyParts = λ at time. listed_of_all (in_63_bits time) read.group read.consumer (count_of read.count) read.no_ack at read.streams in
       let parts = both (have_group read.group keys read.streams) (is_nothing (listed keys earlier)) none in
       let unlisted : lists_any read.group keys read.streams ≡ false =
       sym (lists_any-read (in_63_bits earlier) read.group read.consumer read.count read.no_ack keys read.streams) ∙ nothing-something (listed keys earlier) parts.1 in

@@ -4,10 +4,9 @@ use Rattle.std.specs.Prelude.{IfSome, IsSome}
 use Rattle.sr_args.specs.declared.reads.ReadAsked.{ReadAsked}
 use Rattle.sr_resp.specs.declared.code.ErrCode.{ErrCode}
 use Rattle.sr_resp.specs.declared.code.ErrCode.TheVariants as errors
-use Rattle.sr_resp.specs.Reply.{Answer, error_reply}
-use Rattle.sr_group.specs.Group.{GroupState}
-use Rattle.sr_stream.specs.Groups.{group_with, with_group}
-use Rattle.sr_stream.specs.Stream.{StreamState, IsStream}
+use Rattle.sr_resp.specs.{ReplyParts, error_reply}
+use Rattle.sr_group.specs.{GroupState}
+use Rattle.sr_stream.specs.{group_with, with_group, StreamState, IsStream}
 use Rattle.sr_stream.proofs.GroupsLemmas.{AreInOrder-with_group}
 use Rattle.sr_stream.proofs.LendingLemmas.{IsStream-with_groups}
 use Rattle.sr_space.specs.Keys.{Key, Keys, AreStreams, stream_at}
@@ -17,7 +16,7 @@ use Rattle.sr_space.specs.commands.Xreadgroup.{after_reads, have_group, listed_o
 use Rattle.sr_space.proofs.KeyLaws.{AreStreams-left_at, IsSome-left_at, KeepsKeys, KeepsKeys-unchanged, found-sound}
 
 -- what is listed is no error
-listed-no_error : (listed : List Answer) (code : ErrCode) → reply_of (listed_or_null listed) ≡ reply_of (error_reply code) → ⊥
+listed-no_error : (listed : List ReplyParts) (code : ErrCode) → reply_of (listed_or_null listed) ≡ reply_of (error_reply code) → ⊥
 listed-no_error [] code e = cc
 listed-no_error (answer ∷ answers) code e = cc
 

@@ -1,23 +1,24 @@
 -- What XREADGROUP lists and leaves, stream by stream.
 use Rattle.std.proofs.Common.{◌≡◌, ℕ, IsTrue, Bool, true, false, cond, ◌&&◌, List, [], ◌∷◌, ◌++◌, map, filter, Option, Some, inl, inr, refl, ap, sym, ◌∙◌, append_assoc}
 use Rattle.std.specs.List.{list_all}
-use Rattle.sr_args.specs.Different.{IsAmong}
+use Rattle.sr_args.specs.{IsAmong}
 use Rattle.sr_args.specs.declared.reads.ReadAsked.{ReadAsked}
 use Rattle.sr_args.specs.declared.reads.ReadAsked.TheVariants.{New, PendingAfter}
-use Rattle.sr_bytes.specs.Order.{comes_before}
+use Rattle.sr_bytes.specs.{comes_before}
 use Rattle.sr_entries.specs.declared.entry.Entry.{Entry}
-use Rattle.sr_entries.specs.Entries.{entries_above, entry_with}
+use Rattle.sr_entries.specs.{entries_above, entry_with}
 use Rattle.sr_entries.specs.Entries as entries
 use Rattle.sr_group.specs.declared.shown.Listed.{Listed}
-use Rattle.sr_group.specs.Delivery.{after_delivery, after_history, history_of, listed_in, new_entries}
-use Rattle.sr_group.specs.Group.{GroupState, KeptGroup}
-use Rattle.sr_group.specs.Shown.{HasRoomFor, ShownState}
+use Rattle.sr_group.specs.{history_of, new_entries, GroupState, KeptGroup, HasRoomFor}
+use Rattle.sr_group.specs.Delivery.{after_delivery, after_history, listed_in}
+use Rattle.sr_group.specs.Shown.{ShownState}
 use Rattle.sr_group.proofs.NameLemmas.{is_same_name-before, is_same_name-refl}
 use Rattle.sr_ids.specs.declared.id.Id.{Id}
 use Rattle.sr_pending.specs.declared.nack.Nack.{Nack}
-use Rattle.sr_resp.specs.Reply.{Answer, array_of, bulk_string}
-use Rattle.sr_stream.specs.Groups.{ByName, AreInOrder, group_with, has_group, with_group}
-use Rattle.sr_stream.specs.Stream.{StreamState, KeptStream, kept_with_group, with_groups}
+use Rattle.sr_resp.specs.{ReplyParts, array_of, bulk_string}
+use Rattle.sr_stream.specs.{ByName, group_with, has_group, with_group, StreamState, KeptStream, with_groups}
+use Rattle.sr_stream.specs.Groups.{AreInOrder}
+use Rattle.sr_stream.specs.Stream.{kept_with_group}
 use Rattle.sr_stream.proofs.GroupsLemmas.{with_group-same}
 use Rattle.sr_space.specs.Bounds.{in_63_bits}
 use Rattle.sr_space.specs.Keys.{Key, Keys, shown_keys, shown_of, stream_at, with_stream}
@@ -29,21 +30,21 @@ use Rattle.sr_space.specs.steps.Reading.{HasRoomAt, HasRoomIn, StayBeside, StayB
 use Rattle.sr_space.proofs.KeysLemmas.{stream_at-shown}
 use Rattle.sr_space.proofs.ArrayLemmas.{HasLeft}
 
-abbrev pub again : List Entry → Listed → Answer
+abbrev pub again : List Entry → Listed → ReplyParts
 again entries item = again_answer item.id (entry_with item.id entries)
 
 -- of all that is listed, the replies of those that are left are still to come
-abbrev pub HasListed : List Entry → List Listed → List Listed → Answer → Type 0
+abbrev pub HasListed : List Entry → List Listed → List Listed → ReplyParts → Type 0
 HasListed entries all left items = HasLeft items (map (again entries) left) (map (again entries) all)
 
 -- what is listed of a history is the history's answer
 pub history-listed : (key : List ℕ) (entries : List Entry) (history : List Nack) (listed : List Listed) → listed ≡ map (listed_in entries) history → history_item key entries listed ≡ history_answer key entries history
 history-listed key entries history listed are =
-    ap (λ (l : List Answer). array_of (bulk_string key ∷ array_of l ∷ [])) (ap (map (again entries)) are ∙ each history)
+    ap (λ (l : List ReplyParts). array_of (bulk_string key ∷ array_of l ∷ [])) (ap (map (again entries)) are ∙ each history)
   where
     each : (history : List Nack) → map (again entries) (map (listed_in entries) history) ≡ map (λ (nack : Nack). again_answer nack.id (entry_with nack.id entries)) history
     each [] = refl
-    each (nack ∷ history) = ap (λ (l : List Answer). again_answer nack.id (entry_with nack.id entries) ∷ l) (each history)
+    each (nack ∷ history) = ap (λ (l : List ReplyParts). again_answer nack.id (entry_with nack.id entries) ∷ l) (each history)
 
 -- a group that was put under its name is there
 abbrev before : {G : Type 0} → List ℕ → ByName G → ByName G
@@ -114,10 +115,10 @@ module _ (r : GroupRead) (asked : ReadAsked) (key : Key) (rest : List (Key × Re
       ∙ sym (ap (left_at (keys_after r (shown_keys begun) rest) key) written)
 
   -- it lists what comes before what the others list
-  pub first-listed : (old now end : Answer) → shown_keys prepared ≡ shown_keys begun
-      → ((items : List Answer) → old ≡ array_of items → now ≡ array_of (items ++ (in_stream r asked key (stream_at (shown_keys begun) key)).listed))
-      → ((items : List Answer) → now ≡ array_of items → end ≡ listed_or_null (items ++ listed_by r (shown_keys prepared) rest))
-      → (items : List Answer) → old ≡ array_of items → end ≡ listed_or_null (items ++ listed_by r (shown_keys begun) ((key, asked) ∷ rest))
+  pub first-listed : (old now end : ReplyParts) → shown_keys prepared ≡ shown_keys begun
+      → ((items : List ReplyParts) → old ≡ array_of items → now ≡ array_of (items ++ (in_stream r asked key (stream_at (shown_keys begun) key)).listed))
+      → ((items : List ReplyParts) → now ≡ array_of items → end ≡ listed_or_null (items ++ listed_by r (shown_keys prepared) rest))
+      → (items : List ReplyParts) → old ≡ array_of items → end ≡ listed_or_null (items ++ listed_by r (shown_keys begun) ((key, asked) ∷ rest))
   first-listed old now end same first others items is =
       let more = (in_stream r asked key (stream_at (shown_keys begun) key)).listed in
       others (items ++ more) (first items is)

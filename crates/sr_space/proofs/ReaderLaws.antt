@@ -7,8 +7,8 @@ use Rattle.sr_args.specs.declared.call.Position.{Position}
 use Rattle.sr_args.specs.declared.commands.xread.Xread.{Xread}
 use Rattle.sr_args.specs.declared.commands.xreadgroup.Xreadgroup.{Xreadgroup}
 use Rattle.sr_args.specs.declared.reads.ReadAsked.{ReadAsked}
-use Rattle.sr_resp.specs.Reply.{Answer}
-use Rattle.sr_stream.specs.Stream.{StreamState}
+use Rattle.sr_resp.specs.{ReplyParts}
+use Rattle.sr_stream.specs.{StreamState}
 use Rattle.sr_space.specs.Blocking.{executed, finds_nothing, is_nothing}
 use Rattle.sr_space.specs.Bounds.{in_63_bits}
 use Rattle.sr_space.specs.Effect.{at_once, key_of}
@@ -71,7 +71,7 @@ module _ (keys now : Keys) (key : Key) (same : (other : Key) → other ≢ key �
 
   grouped-same : (moment later : ℕ) (read : Xreadgroup) → has_key key read.streams ≡ false → finds_nothing now later (calls.Xreadgroup read) ≡ finds_nothing keys moment (calls.Xreadgroup read)
   grouped-same moment later read apart =
-      let listed : Keys → ℕ → List Answer = λ at time. listed_of_all (in_63_bits time) read.group read.consumer (count_of read.count) read.no_ack at read.streams in
+      let listed : Keys → ℕ → List ReplyParts = λ at time. listed_of_all (in_63_bits time) read.group read.consumer (count_of read.count) read.no_ack at read.streams in
       let lists : is_nothing (listed now later) ≡ is_nothing (listed keys moment) =
       nothing-if (listed now later) (listed keys moment)
       (lists_any-read (in_63_bits later) read.group read.consumer read.count read.no_ack now read.streams ∙ lists_any-same read.group read.streams apart
@@ -89,7 +89,7 @@ module _ (keys now : Keys) (key : Key) (same : (other : Key) → other ≢ key �
 pub finds-moment : (keys : Keys) (moment later : ℕ) (read : Call) → finds_nothing keys later read ≡ finds_nothing keys moment read
 finds-moment keys moment later (calls.Xread read) = refl
 finds-moment keys moment later (calls.Xreadgroup read) =
-    let listed : ℕ → List Answer = λ time. listed_of_all (in_63_bits time) read.group read.consumer (count_of read.count) read.no_ack keys read.streams in
+    let listed : ℕ → List ReplyParts = λ time. listed_of_all (in_63_bits time) read.group read.consumer (count_of read.count) read.no_ack keys read.streams in
     ap (λ (b : Bool). have_group read.group keys read.streams && b)
     (nothing-if (listed later) (listed moment)
     (lists_any-read (in_63_bits later) read.group read.consumer read.count read.no_ack keys read.streams

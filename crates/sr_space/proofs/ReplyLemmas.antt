@@ -1,8 +1,9 @@
 -- The reply for an entry, written part by part.
 use Rattle.std.proofs.Common.{◌≡◌, ℕ, ◌*◌, List, [], ◌∷◌, ◌++◌, length, map, refl, ap, sym, ◌∙◌, arith, append_assoc, append-nil}
 use Rattle.std.specs.List.{flat_map, AllByRecursion}
-use Rattle.sr_ids.specs.Spelling.{spelling}
-use Rattle.sr_resp.specs.Reply.{Answer, Part, Bulk, Array, IsReply, array_header, array_of, bulk_string}
+use Rattle.sr_ids.specs.{spelling}
+use Rattle.sr_resp.specs.{ReplyParts, Bulk, array_header, array_of, bulk_string}
+use Rattle.sr_resp.specs.Reply.{Part, Array, IsReply}
 use Rattle.sr_resp.proofs.CallerLemmas.{IsReply-array_of, IsReply-array_of_map}
 use Rattle.sr_entries.specs.declared.entry.Entry.{Entry}
 use Rattle.sr_space.proofs.ArrayLemmas.{array_of-map}
@@ -21,7 +22,7 @@ pairs_answer-parts pairs =
     count [] = omega arith
     count (pair ∷ pairs) = omega (arith, count pairs)
 
-    parts : (pairs : List (List ℕ × List ℕ)) → flat_map (λ (item : Answer). item) (flat_map (λ (pair : List ℕ × List ℕ). bulk_string pair.0 ∷ bulk_string pair.1 ∷ []) pairs) ≡ flat_map pair_parts pairs
+    parts : (pairs : List (List ℕ × List ℕ)) → flat_map (λ (item : ReplyParts). item) (flat_map (λ (pair : List ℕ × List ℕ). bulk_string pair.0 ∷ bulk_string pair.1 ∷ []) pairs) ≡ flat_map pair_parts pairs
     parts [] = refl
     parts (pair ∷ pairs) = ap (λ (l : List Part). Bulk pair.0 ∷ Bulk pair.1 ∷ l) (parts pairs)
 

@@ -1,7 +1,7 @@
 -- Lists that rise by a key: what is left of one rises too, and so do names put in byte order, each once.
 use Rattle.std.proofs.Common.{◌≡◌, ℕ, zero, suc, ◌+◌, ◌<◌, ◌≤◌, Bool, true, false, cond, List, [], ◌∷◌, ◌++◌, length, get_or, filter, map, subst, sym, arith, length-append}
 use Rattle.std.specs.List.{flat_map}
-use Rattle.sr_bytes.specs.Order.{AreInOrder}
+use Rattle.sr_bytes.specs.{AreInOrder}
 
 -- no element, or one with this property
 abbrev pub AtMostOne : {Y : Type 0} → (Y → Type 0) → List Y → Type 0

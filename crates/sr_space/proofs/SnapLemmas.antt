@@ -5,21 +5,23 @@ use Rattle.std.specs.List.{flat_map}
 use Rattle.std.proofs.lemmas.List.{length-map}
 use Rattle.std.proofs.lemmas.List.Elements.{All-append, All-cons, All-head, All-map, All-nil, All-tail, filter_agree, filter_passes}
 use Rattle.std.proofs.lemmas.List.Filters.{length-filter_both}
-use Rattle.sr_bytes.specs.Order.{AreInOrder, ComesBefore}
+use Rattle.sr_bytes.specs.{AreInOrder, ComesBefore}
 use Rattle.sr_ids.specs.declared.id.Id.{Id}
-use Rattle.sr_ids.specs.Id.{IsBelow}
+use Rattle.sr_ids.specs.{IsBelow}
 use Rattle.sr_entries.specs.declared.entry.Entry.{Entry}
-use Rattle.sr_entries.specs.Entries.{entry_with, has_id, is_same_id}
+use Rattle.sr_ids.specs.{is_same_id}
+use Rattle.sr_entries.specs.{entry_with, has_id}
 use Rattle.sr_pending.specs.declared.nack.Nack.{Nack}
-use Rattle.sr_pending.specs.Pending.{AreRising, owned_by}
+use Rattle.sr_pending.specs.{AreRising, owned_by}
 use Rattle.sr_group.proofs.NameLemmas.{is_same_name-refl, is_same_name-true}
 use Rattle.sr_policy.specs.Bounds.{most_stranded}
 use Rattle.sr_policy.specs.declared.live.Live.{Live}
 use Rattle.sr_policy.specs.declared.stranded.Stranded.{Stranded}
 use Rattle.sr_policy.specs.Policy.{IsPolicy}
-use Rattle.sr_policy.specs.Rules.{Rules, Text, class_of_value, classed_by, consumers_of, limit_of, live_of, other_class, rate_of, tier_of, value_at, weight_of}
+use Rattle.sr_policy.specs.{Text, consumers_of, live_of, SnapshotState, is_among}
+use Rattle.sr_policy.specs.Rules.{Rules, class_of_value, classed_by, limit_of, other_class, rate_of, tier_of, value_at, weight_of}
 use Rattle.sr_policy.proofs.PolicyLemmas.{live_of-tier}
-use Rattle.sr_policy.specs.Snapshot.{AreIdsInOrder, AreNamesInOrder, AreOwnersDead, AreRates, IsSnapshot, IsTier, IsWeight, IsWithinBounds, Shown, is_among}
+use Rattle.sr_policy.specs.Snapshot.{AreIdsInOrder, AreNamesInOrder, AreOwnersDead, AreRates, IsSnapshot, IsTier, IsWeight, IsWithinBounds}
 use Rattle.sr_space.specs.declared.snap.SnapFault.{SnapFault}
 use Rattle.sr_space.specs.declared.snap.SnapFault.TheVariants as faults
 use Rattle.sr_space.specs.Snap.{IsSnapFault, gone_in, if_few, in_order, listed, live_in, of_dead, rates_in, shown_with, stranded_as, stranded_in}
@@ -297,7 +299,7 @@ is_snapshot rules key group dead entries nacks policy rising order few = record 
 -- ---- what is answered
 
 module _ (rules : Rules) (key name : Text) (dead : List Text) (entries : List Entry) (nacks : List Nack) where
-  abbrev shown : Shown
+  abbrev shown : SnapshotState
   shown = shown_with rules key name (in_order dead) entries nacks
 
   -- as many are stranded as are left, as a test

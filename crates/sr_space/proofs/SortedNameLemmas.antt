@@ -8,10 +8,9 @@ use Rattle.std.specs.declared.cmp.Ordering.TheVariants.{Less}
 use Rattle.std.proofs.lemmas.Cmp.{nat_list_cmp_total, nat_list_eq_equiv}
 use Rattle.std.proofs.lemmas.List.Kept.{Contains-dedup, Contains-from_dedup, IsStrictlySortedBy-dedup}
 use Rattle.std.proofs.lemmas.List.Sorted.{IsPermutation-sym}
-use Rattle.sr_bytes.specs.Order.{AreInOrder, ComesBefore}
+use Rattle.sr_bytes.specs.{AreInOrder, ComesBefore}
 use Rattle.sr_group.proofs.NameLemmas.{comes_before-one_way, is_same_name-refl, is_same_name-true}
-use Rattle.sr_policy.specs.Rules.{Text}
-use Rattle.sr_policy.specs.Snapshot.{is_among}
+use Rattle.sr_policy.specs.{Text, is_among}
 use Rattle.sr_space.specs.Snap.{in_order}
 use Rattle.sr_space.proofs.RisingLemmas.{AreAfter}
 use Rattle.sr_space.proofs.SortedLemmas.{Contains-one, IsIn, IsIn-contained, IsIn-permutation, Rises-same}

@@ -7,9 +7,10 @@ use Rattle.sr_args.specs.declared.call.Call.TheVariants as calls
 use Rattle.sr_args.specs.declared.call.Position.{Position}
 use Rattle.sr_args.specs.declared.commands.xread.Xread.{Xread}
 use Rattle.sr_args.specs.declared.commands.xreadgroup.Xreadgroup.{Xreadgroup}
-use Rattle.sr_args.specs.Blocking.{block_of}
+use Rattle.sr_args.specs.{block_of}
 use Rattle.sr_resp.specs.declared.code.ErrCode.TheVariants as errors
-use Rattle.sr_resp.specs.Reply.{Answer, error_reply, null_array}
+use Rattle.sr_resp.specs.{ReplyParts, error_reply}
+use Rattle.sr_resp.specs.Reply.{null_array}
 use Rattle.sr_space.specs.declared.blocking.Outcome.TheVariants as outcomes
 use Rattle.sr_space.specs.declared.outcome.Answered.{Answered}
 use Rattle.sr_space.specs.declared.outcome.Answered.TheVariants as answers
@@ -33,14 +34,14 @@ module _ (keys : Keys) (moment : ℕ) (call : Call) where
   executed-keys = same-keys (block_of call) (finds_nothing keys moment call)
 
 -- what is listed is the null array exactly if it is nothing
-null-nothing : (listed : List Answer) → (reply_of (listed_or_null listed) ≡ reply_of null_array) ↔ (is_nothing listed ≡ true)
+null-nothing : (listed : List ReplyParts) → (reply_of (listed_or_null listed) ≡ reply_of null_array) ↔ (is_nothing listed ≡ true)
 null-nothing [] = (λ e. refl, λ e. refl)
 null-nothing (answer ∷ answers) = (λ e. cc, λ e. cc)
 
 pub null-read : (keys : Keys) (moment : ℕ) (read : Xread) → ((at_once keys moment (calls.Xread read)).outcome ≡ reply_of null_array) ↔ (finds_nothing keys moment (calls.Xread read) ≡ true)
 null-read keys moment read = null-nothing (read_streams read.count keys read.streams)
 
-null-grouped : (there : Bool) (keys after : Keys) (listed : List Answer)
+null-grouped : (there : Bool) (keys after : Keys) (listed : List ReplyParts)
     → ((cond there (let found : Executed = record { keys = after; outcome = reply_of (listed_or_null listed) } in found) (unchanged keys (error_reply errors.NoGroup))).outcome ≡ reply_of null_array) ↔ ((there && is_nothing listed) ≡ true)
 null-grouped true keys after listed = null-nothing listed
 null-grouped false keys after listed = (λ e. cc, λ e. cc)
@@ -54,11 +55,11 @@ null-read_group keys moment read =
 -- XREAD: a stream that was read after `$` is read after the same id
 fixed-read : (count : Option ℤ) (keys : Keys) (streams : List (Key × Position)) → read_streams count keys (map (fixed_position keys) streams) ≡ read_streams count keys streams
 fixed-read count keys [] = refl
-fixed-read count keys (stream ∷ streams) = ap (λ (l : List Answer). read_stream count keys stream.0 stream.1 ++ l) (fixed-read count keys streams)
+fixed-read count keys (stream ∷ streams) = ap (λ (l : List ReplyParts). read_stream count keys stream.0 stream.1 ++ l) (fixed-read count keys streams)
 
 module _ (keys : Keys) (moment later : ℕ) where
   still-read : (read : Xread) → is_nothing (read_streams read.count keys read.streams) ≡ true → is_nothing (read_streams read.count keys (map (fixed_position keys) read.streams)) ≡ true
-  still-read read none = ap (λ (l : List Answer). is_nothing l) (fixed-read read.count keys read.streams) ∙ none
+  still-read read none = ap (λ (l : List ReplyParts). is_nothing l) (fixed-read read.count keys read.streams) ∙ none
 
   still-nothing : (call : Call) → finds_nothing keys moment call ≡ true → finds_nothing (at_once keys moment call).keys later (waiting_as keys call) ≡ true
   still-nothing (calls.Xread read) none = still-read read none

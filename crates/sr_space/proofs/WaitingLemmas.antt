@@ -1,7 +1,6 @@
 -- Whether a read finds nothing: stream by stream, whatever COUNT and the moment are.
 use Rattle.std.proofs.Common.{◌≡◌, ℕ, zero, suc, ℤ, pos, negsuc, Bool, true, false, ◌&&◌, ◌||◌, not, List, [], ◌∷◌, ◌++◌, map, Option, Some, None, refl, ap, sym, ◌∙◌}
-use Rattle.sr_args.specs.Blocking.{without_block}
-use Rattle.sr_args.specs.Different.{AreDifferent}
+use Rattle.sr_args.specs.{without_block, AreDifferent}
 use Rattle.sr_args.specs.declared.call.Call.{Call}
 use Rattle.sr_args.specs.declared.call.Call.TheVariants as calls
 use Rattle.sr_args.specs.declared.call.Position.{Position}
@@ -10,12 +9,11 @@ use Rattle.sr_args.specs.declared.call.Position.TheVariants.{At}
 use Rattle.sr_args.specs.declared.reads.ReadAsked.{ReadAsked}
 use Rattle.sr_args.specs.declared.reads.ReadAsked.TheVariants as asked
 use Rattle.sr_entries.specs.declared.entry.Entry.{Entry}
-use Rattle.sr_entries.specs.Entries.{entries_above, first_of}
-use Rattle.sr_group.specs.Group.{GroupState}
+use Rattle.sr_entries.specs.{entries_above, first_of}
+use Rattle.sr_group.specs.{GroupState}
 use Rattle.sr_ids.specs.declared.id.Id.{Id}
-use Rattle.sr_resp.specs.Reply.{Answer}
-use Rattle.sr_stream.specs.Groups.{group_with}
-use Rattle.sr_stream.specs.Stream.{StreamState}
+use Rattle.sr_resp.specs.{ReplyParts}
+use Rattle.sr_stream.specs.{group_with, StreamState}
 use Rattle.sr_space.specs.Blocking.{fixed_position, is_nothing, waiting_as}
 use Rattle.sr_space.specs.Keys.{Key, Keys, entries_of, stream_at}
 use Rattle.sr_space.specs.commands.Xread.{count_of, entries_of_key, read_from, read_streams}
@@ -55,10 +53,10 @@ any_after-read count keys (stream ∷ streams) =
     ∙ ap (λ (b : Bool). has_after stream.1 found || b) (any_after-read count keys streams)
 
 module _ (moment : ℕ) (name consumer : List ℕ) (count : Option ℤ) (no_ack : Bool) where
-  abbrev listed_in : ReadAsked → Key → Option StreamState → List Answer
+  abbrev listed_in : ReadAsked → Key → Option StreamState → List ReplyParts
   listed_in asked key found = (xreadgroup.read_stream moment name consumer (count_of count) no_ack asked key found).listed
 
-  abbrev listed : Keys → List (Key × ReadAsked) → List Answer
+  abbrev listed : Keys → List (Key × ReadAsked) → List ReplyParts
   listed keys streams = xreadgroup.listed_of_all moment name consumer (count_of count) no_ack keys streams
 
   lists_found-read : (asked : ReadAsked) (key : Key) (stream : StreamState) (found : Option GroupState)

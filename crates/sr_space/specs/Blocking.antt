@@ -7,7 +7,7 @@ use Rattle.sr_args.specs.declared.call.Call.{Call}
 use Rattle.sr_args.specs.declared.call.Call.TheVariants as calls
 use Rattle.sr_args.specs.declared.call.Position.{Position}
 use Rattle.sr_args.specs.declared.call.Position.TheVariants.{At}
-use Rattle.sr_args.specs.Blocking.{block_of}
+use Rattle.sr_args.specs.{block_of}
 use Rattle.sr_space.specs.declared.blocking.Outcome.{Outcome}
 use Rattle.sr_space.specs.declared.blocking.Outcome.TheVariants as outcomes
 use Rattle.sr_space.specs.declared.outcome.Answered.{Answered}

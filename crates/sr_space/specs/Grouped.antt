@@ -4,11 +4,10 @@
 
 use Rattle.std.specs.Prelude.{ℕ, List, Option, Some, None, pos}
 use Rattle.sr_entries.specs.declared.entry.Entry.{Entry}
-use Rattle.sr_group.specs.Group.{GroupState}
+use Rattle.sr_group.specs.{GroupState}
 use Rattle.sr_resp.specs.declared.code.ErrCode.TheVariants as errors
-use Rattle.sr_resp.specs.Reply.{Answer, error_reply, integer}
-use Rattle.sr_stream.specs.Groups.{group_with, with_group}
-use Rattle.sr_stream.specs.Stream.{StreamState, with_groups}
+use Rattle.sr_resp.specs.{ReplyParts, error_reply, integer}
+use Rattle.sr_stream.specs.{group_with, with_group, StreamState, with_groups}
 use Rattle.sr_space.specs.declared.grouped.Missing.{Missing}
 use Rattle.sr_space.specs.declared.grouped.Missing.TheVariants.{Zero, NoGroup, NoKey}
 use Rattle.sr_space.specs.declared.outcome.Answered.{Answered}
@@ -20,17 +19,17 @@ pub record Regrouped : Type 0 where
   pub outcome : Answered
 
 -- the group is changed, and this is replied
-abbrev pub regroups : GroupState → Answer → Regrouped
+abbrev pub regroups : GroupState → ReplyParts → Regrouped
 regroups group answer = record { written = Some group; outcome = reply_of answer }
 
 -- what is replied if there is no such key: 0, or an error
-abbrev pub for_missing_key : Missing → Answer
+abbrev pub for_missing_key : Missing → ReplyParts
 for_missing_key Zero = integer (pos 0)
 for_missing_key NoGroup = error_reply errors.NoGroup
 for_missing_key NoKey = error_reply errors.NoKey
 
 -- what is replied if the key has no such group
-abbrev pub for_missing_group : Missing → Answer
+abbrev pub for_missing_group : Missing → ReplyParts
 for_missing_group Zero = integer (pos 0)
 for_missing_group NoGroup = error_reply errors.NoGroup
 for_missing_group NoKey = error_reply errors.NoGroup

@@ -7,9 +7,8 @@ use Rattle.std.specs.Map.{lookup}
 use Rattle.std.specs.Option.{option_and_then, option_map}
 use Rattle.indexmap.specs.IndexMap.{insert_entry}
 use Rattle.sr_entries.specs.declared.entry.Entry.{Entry}
-use Rattle.sr_group.specs.Group.{GroupState}
-use Rattle.sr_stream.specs.Groups.{group_with}
-use Rattle.sr_stream.specs.Stream.{StreamState, KeptStream, IsStream}
+use Rattle.sr_group.specs.{GroupState}
+use Rattle.sr_stream.specs.{group_with, StreamState, KeptStream, IsStream}
 
 abbrev pub Key : Type 0
 Key = List ℕ

@@ -1,3 +1,5 @@
+-- Keys are a list of names with their streams, and a command leads from keys to keys and a reply.
+
 pub mod Keys
 pub mod Touched
 pub mod Grouped
@@ -11,6 +13,10 @@ pub mod Blocking
 pub mod Readers
 pub mod Commit
 pub mod Snap
-pub use Rattle.sr_space.specs.Blocking.{executed, Called}
+-- what the crates above say most
+pub use Rattle.sr_space.specs.Blocking.{Called, executed, finds_nothing}
 pub use Rattle.sr_space.specs.Effect.{at_once, Executed, reply_of}
-pub use Rattle.sr_space.specs.Keys.{stream_at, entries_of, shown_of, with_stream}
+pub use Rattle.sr_space.specs.Keys.{entries_of, group_at, shown_of, stream_at, with_stream}
+pub use Rattle.sr_space.specs.Snap.{in_order, listed, shown_with, snapped}
+pub use Rattle.sr_space.specs.Readers.{read_at}
+pub use Rattle.sr_space.specs.Commit.{after_calls}

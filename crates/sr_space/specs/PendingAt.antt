@@ -4,10 +4,9 @@
 use Rattle.std.specs.Prelude.{⊤, ◌≡◌, ℕ, List, [], ◌∷◌, Option, Some, None}
 use Rattle.sr_args.specs.declared.reads.ReadAsked.{ReadAsked}
 use Rattle.sr_args.specs.declared.reads.ReadAsked.TheVariants as asked
-use Rattle.sr_group.specs.Group.{GroupState}
+use Rattle.sr_group.specs.{GroupState}
 use Rattle.sr_pending.specs.declared.nack.Nack.{Nack}
-use Rattle.sr_stream.specs.Groups.{group_with}
-use Rattle.sr_stream.specs.Stream.{StreamState}
+use Rattle.sr_stream.specs.{group_with, StreamState}
 use Rattle.sr_space.specs.Keys.{Key, Keys, stream_at}
 
 -- what is pending in a group that was found

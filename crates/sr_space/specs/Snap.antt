@@ -2,32 +2,25 @@
 -- could take what was left.
 -- Source: docs/RECOVERY.md.
 
-use Rattle.std.specs.Prelude.{◌≡◌, ℕ, List, [], ◌∷◌, ◌++◌, Bool, not, nat_lt, filter, length, map, Option, Some, None}
+use Rattle.std.specs.Prelude.{◌≡◌, ℕ, List, [], ◌∷◌, not, nat_lt, filter, length, map, Option, Some, None}
 use Rattle.std.specs.Prelude.{Result, Ok, Err, if◌then◌else◌}
 use Rattle.std.specs.List.{flat_map}
-use Rattle.std.specs.Option.{option_map}
-use Rattle.sr_bytes.specs.Order.{comes_before}
+use Rattle.sr_bytes.specs.{with_name}
 use Rattle.sr_ids.specs.declared.id.Id.{Id}
 use Rattle.sr_entries.specs.declared.entry.Entry.{Entry}
-use Rattle.sr_entries.specs.Entries.{entry_with, has_id}
+use Rattle.sr_entries.specs.{entry_with, has_id}
 use Rattle.sr_pending.specs.declared.nack.Nack.{Nack}
-use Rattle.sr_pending.specs.Pending.{owned_by}
-use Rattle.sr_group.specs.Group.{GroupState}
-use Rattle.sr_stream.specs.Groups.{group_with}
-use Rattle.sr_stream.specs.Stream.{StreamState}
+use Rattle.sr_pending.specs.{owned_by}
+use Rattle.sr_group.specs.{GroupState}
+use Rattle.sr_stream.specs.{group_with, StreamState}
 use Rattle.sr_policy.specs.declared.live.Live.{Live}
 use Rattle.sr_policy.specs.declared.stranded.Stranded.{Stranded}
 use Rattle.sr_policy.specs.Bounds.{most_stranded}
-use Rattle.sr_policy.specs.Rules.{Rules, Text, class_of, consumers_of, live_of, rate_of, weight_of}
-use Rattle.sr_policy.specs.Snapshot.{Shown, is_among}
+use Rattle.sr_policy.specs.{Text, consumers_of, live_of, SnapshotState, is_among}
+use Rattle.sr_policy.specs.Rules.{Rules, class_of, rate_of, weight_of}
 use Rattle.sr_space.specs.Keys.{Key, Keys, stream_at}
 use Rattle.sr_space.specs.declared.snap.SnapFault.{SnapFault}
 use Rattle.sr_space.specs.declared.snap.SnapFault.TheVariants as faults
-
--- the name among names in byte order: those before it, the name, and those after it
-abbrev pub with_name : Text → List Text → List Text
-with_name name names =
-    filter (λ other. comes_before other name) names ++ name ∷ filter (λ other. comes_before name other) names
 
 -- the names in byte order, each once
 abbrev pub in_order : List Text → List Text
@@ -72,7 +65,7 @@ rates_in rules live stranded =
     (in_order (map (λ entry. entry.class) stranded))
 
 -- the snapshot of a group and its stream's entries, with these consumers dead
-abbrev pub shown_with : Rules → Key → Text → List Text → List Entry → List Nack → Shown
+abbrev pub shown_with : Rules → Key → Text → List Text → List Entry → List Nack → SnapshotState
 shown_with rules key group dead entries nacks =
     let stranded = stranded_in rules dead entries nacks in
     let live = live_in rules dead nacks in
@@ -87,24 +80,25 @@ shown_with rules key group dead entries nacks =
     }
 
 -- there are not too many stranded entries
-abbrev pub if_few : Shown → Result Shown SnapFault
+abbrev pub if_few : SnapshotState → Result SnapshotState SnapFault
 if_few shown = if nat_lt most_stranded (length shown.stranded) then Err faults.TooMany else Ok shown
 
-abbrev pub snapped_group : Rules → Key → Text → List Text → List Entry → Option GroupState → Result Shown SnapFault
+abbrev pub snapped_group : Rules → Key → Text → List Text → List Entry → Option GroupState
+    → Result SnapshotState SnapFault
 snapped_group rules key name dead entries None = Err faults.NoGroup
 snapped_group rules key name dead entries (Some group) =
     if_few (shown_with rules key name (in_order dead) entries group.nacks)
 
-abbrev pub snapped_stream : Rules → Key → Text → List Text → Option StreamState → Result Shown SnapFault
+abbrev pub snapped_stream : Rules → Key → Text → List Text → Option StreamState → Result SnapshotState SnapFault
 snapped_stream rules key name dead None = Err faults.NoGroup
 snapped_stream rules key name dead (Some stream) =
     snapped_group rules key name dead stream.entries (group_with name stream.groups)
 
 -- the snapshot of a group, or why there is none: the key or the group is missing, or too many entries are stranded
-abbrev pub snapped : Rules → Keys → Key → Text → List Text → Result Shown SnapFault
+abbrev pub snapped : Rules → Keys → Key → Text → List Text → Result SnapshotState SnapFault
 snapped rules keys key name dead = snapped_stream rules key name dead (stream_at keys key)
 
 -- why a snapshot is not taken: the reason that there is, or else a failed allocation
-abbrev pub IsSnapFault : Result Shown SnapFault → SnapFault → Type 0
+abbrev pub IsSnapFault : Result SnapshotState SnapFault → SnapFault → Type 0
 IsSnapFault (Ok shown) fault = fault ≡ faults.Memory
 IsSnapFault (Err reason) fault = fault ≡ reason

@@ -1,9 +1,9 @@
 -- What a command leads to, and how a command on one stream is carried out at its key.
 
 use Rattle.std.specs.Prelude.{ℕ, Option, Some, None, pos}
-use Rattle.sr_resp.specs.Reply.{Answer, error_reply, integer}
+use Rattle.sr_resp.specs.{ReplyParts, error_reply, integer}
 use Rattle.sr_resp.specs.declared.code.ErrCode.{ErrCode}
-use Rattle.sr_stream.specs.Stream.{StreamState}
+use Rattle.sr_stream.specs.{StreamState}
 use Rattle.sr_space.specs.declared.outcome.Answered.{Answered}
 use Rattle.sr_space.specs.declared.outcome.Answered.TheVariants.{Reply}
 use Rattle.sr_space.specs.Keys.{Key, Keys, stream_at, with_stream}
@@ -19,15 +19,15 @@ pub record Touched : Type 0 where
   pub outcome : Answered
 
 -- a reply: one to send, and an equal one to keep
-abbrev pub reply_of : Answer → Answered
+abbrev pub reply_of : ReplyParts → Answered
 reply_of answer = Reply answer answer
 
 -- no key changes, and this is replied
-abbrev pub unchanged : Keys → Answer → Executed
+abbrev pub unchanged : Keys → ReplyParts → Executed
 unchanged keys answer = record { keys = keys; outcome = reply_of answer }
 
 -- nothing is written, and this is replied
-abbrev pub replies : Answer → Touched
+abbrev pub replies : ReplyParts → Touched
 replies answer = record { written = None; outcome = reply_of answer }
 
 -- nothing is written, and an error is replied
@@ -35,7 +35,7 @@ abbrev pub refuses : ErrCode → Touched
 refuses code = replies (error_reply code)
 
 -- the stream is written, and this is replied
-abbrev pub writes : StreamState → Answer → Touched
+abbrev pub writes : StreamState → ReplyParts → Touched
 writes stream answer = record { written = Some stream; outcome = reply_of answer }
 
 -- the stream is changed, and a count of it replied: 0 if the key is missing

@@ -1,5 +1,5 @@
 ghost use Rattle.std.specs.Prelude.{◌≡◌, IfOk, OnOk, OnErr, map, take};
-ghost use Rattle.sr_plan.specs.Calls.{claim_calls};
+ghost use Rattle.sr_plan.specs.{claim_calls};
 ghost use Rattle.sr_space.specs.Commit.{after_calls};
 ghost use Rattle.sr_space.specs.steps.Claiming.{move_for, stream_after};
 

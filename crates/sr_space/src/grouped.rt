@@ -27,7 +27,7 @@ pub(crate) enum Missing {
 pub(crate) trait TouchGroup {
     ghost use Rattle.std.specs.Prelude.{◌≡◌, List, OnOk, OnErr, IfOk};
     ghost use Rattle.sr_entries.specs.declared.entry.Entry.{Entry};
-    ghost use Rattle.sr_group.specs.Group.{GroupState};
+    ghost use Rattle.sr_group.specs.{GroupState};
     ghost use Rattle.sr_space.specs.Grouped.{Regrouped, group_left};
 
     /// What the command does to the group, beside the entries of its stream.

@@ -1,5 +1,5 @@
 ghost use Rattle.std.specs.Prelude.{◌≡◌, ◌^◌, ◌<◌, pos, IfOk};
-ghost use Rattle.sr_resp.specs.Reply.{integer, error_reply};
+ghost use Rattle.sr_resp.specs.{integer, error_reply};
 ghost use Rattle.sr_space.specs.Touched.{reply_of};
 
 use sr_resp::{ErrCode, Reply};

@@ -1,7 +1,7 @@
 ghost use Rattle.std.specs.Prelude.{◌≡◌, ◌^◌, ◌<◌, ◌++◌, pos, length, map, reverse, IfOk, OnOk};
 ghost use Rattle.std.specs.List.{flat_map};
-ghost use Rattle.sr_ids.specs.Spelling.{spelling};
-ghost use Rattle.sr_resp.specs.Reply.{array_header, array_of, bulk_string, integer};
+ghost use Rattle.sr_ids.specs.{spelling};
+ghost use Rattle.sr_resp.specs.{array_header, array_of, bulk_string, integer};
 ghost use Rattle.sr_space.specs.EntryReply.{entry_answer, pairs_answer};
 
 use sr_bytes::Pairs;

@@ -1,7 +1,7 @@
 ghost use Rattle.std.specs.Prelude.{◌≡◌, ◌+◌, ◌<◌, ◌≤◌, Ok, IfOk, IfErr, IfSome, IfNone, length, nat_lt};
 ghost use Rattle.std.specs.Prelude.{if◌then◌else◌};
 ghost use Rattle.std.specs.Option.{option_copied};
-ghost use Rattle.sr_bytes.specs.Order.{AreInOrder, ComesBefore};
+ghost use Rattle.sr_bytes.specs.{AreInOrder, ComesBefore};
 ghost use Rattle.sr_policy.specs.Bounds.{most_stranded};
 ghost use Rattle.sr_policy.specs.Snapshot.{IsSnapshot};
 ghost use Rattle.sr_space.specs.Keys.{shown_of};

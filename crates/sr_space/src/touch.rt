@@ -15,7 +15,7 @@ pub(crate) struct Made {
 /// A command that changes the stream at one key.
 pub(crate) trait Touch {
     ghost use Rattle.std.specs.Prelude.{◌≡◌, Option, Some, None, OnOk, OnErr, IfOk};
-    ghost use Rattle.sr_stream.specs.Stream.{StreamState};
+    ghost use Rattle.sr_stream.specs.{StreamState};
     ghost use Rattle.sr_space.specs.Keys.{shown_of};
     ghost use Rattle.sr_space.specs.Touched.{Touched, left_of};
 

@@ -2,7 +2,7 @@
 use Rattle.std.proofs.Common.{◌≡◌, ◌∙◌, sym, subst, refl, ℕ, List, Bool, true, false, true≢false, Option, Result, Ok, Err, OnOk, OnErr, IsTrue}
 use Rattle.std.specs.Io.KnownBytes.{Appends}
 use Rattle.std.specs.declared.net.socket_addr.SocketAddr.{SocketAddr}
-use Rattle.sr_book.specs.Records.{BookState}
+use Rattle.sr_book.specs.{BookState}
 use Rattle.sr_options.specs.declared.way.Way.{Way}
 use Rattle.sr_start.specs.declared.serving.ServeFault.{ServeFault}
 

@@ -1,7 +1,7 @@
 -- As many seats are made as were asked for, and as many connections come.
 use Rattle.std.proofs.Common.{◌≡◌, ◌+◌, ◌-◌, ◌<◌, ◌≤◌, ◌∷◌, [], ◌++◌, ℕ, zero, suc, length, refl, arith, Fits, w64}
 use Rattle.std.proofs.lemmas.List.{length-append}
-use Rattle.sr_seats.specs.Held.{new_seat, new_seats}
+use Rattle.sr_seats.specs.{new_seat, new_seats}
 
 pub length-new_seats : (before n : ℕ) → length (new_seats before n) ≡ n
 length-new_seats before zero = refl

@@ -6,8 +6,9 @@ use Rattle.sr_policy.specs.Rules.{Rules}
 use Rattle.sr_policy.specs.File.{meaning_of}
 use Rattle.sr_policy.specs.declared.file.PolicyFault.{PolicyFault}
 use Rattle.sr_policy.specs.declared.file.PolicyFault.TheVariants as policies
-use Rattle.sr_book.specs.Records.{BookState, empty_book}
-use Rattle.sr_session.specs.Whole.{RunsAs}
+use Rattle.sr_book.specs.{BookState}
+use Rattle.sr_book.specs.Records.{empty_book}
+use Rattle.sr_session.specs.{RunsAs}
 use Rattle.sr_session.specs.declared.run.End.{End}
 use Rattle.sr_session.specs.declared.run.End.TheVariants as ends
 use Rattle.sr_session.specs.declared.run.Ended.{Ended}

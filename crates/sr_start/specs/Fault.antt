@@ -2,8 +2,9 @@
 -- status.
 
 use Rattle.std.specs.Prelude.{◌≡◌, ℕ, Bool, List, [], ◌⊎◌, Option, Some, Result, Ok, Err, true, false}
-use Rattle.sr_book.specs.Records.{BookState, empty_book}
-use Rattle.sr_session.specs.Whole.{RunsAs}
+use Rattle.sr_book.specs.{BookState}
+use Rattle.sr_book.specs.Records.{empty_book}
+use Rattle.sr_session.specs.{RunsAs}
 use Rattle.sr_session.specs.declared.run.End.{End}
 use Rattle.sr_session.specs.declared.run.End.TheVariants as ends
 use Rattle.sr_session.specs.declared.run.Ended.{Ended}

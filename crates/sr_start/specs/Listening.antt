@@ -3,7 +3,8 @@
 
 use Rattle.std.specs.Prelude.{◌≡◌, ◌++◌, ℕ, Bool, false, IsTrue, true, List, [], ◌⊎◌, codes, Option, Result, Ok, Err}
 use Rattle.std.specs.declared.net.socket_addr.SocketAddr.{SocketAddr}
-use Rattle.sr_book.specs.Records.{BookState, empty_book}
+use Rattle.sr_book.specs.{BookState}
+use Rattle.sr_book.specs.Records.{empty_book}
 use Rattle.sr_options.specs.declared.way.Way.{Way}
 use Rattle.sr_policy.specs.Rules.{Rules}
 use Rattle.sr_start.specs.Files.{HasFiles}

@@ -1,7 +1,7 @@
 ghost use Rattle.std.specs.Prelude.{◌≡◌, ◌≤◌, ℕ, Bool, IsTrue, Option, IfOk, IfErr};
 ghost use Rattle.std.specs.declared.net.socket_addr.SocketAddr.{SocketAddr};
-ghost use Rattle.sr_book.specs.Records.{BookState};
-ghost use Rattle.sr_options.specs.Ways.{threads_of};
+ghost use Rattle.sr_book.specs.{BookState};
+ghost use Rattle.sr_options.specs.{threads_of};
 ghost use Rattle.sr_options.specs.declared.way.Way.{Way};
 ghost use Rattle.sr_start.specs.declared.network.ListenFault.{ListenFault};
 ghost use Rattle.sr_start.specs.declared.serving.ServeFault.{ServeFault};

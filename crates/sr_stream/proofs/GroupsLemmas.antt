@@ -7,11 +7,11 @@ use Rattle.std.proofs.lemmas.Option.{slice_get_read}
 use Rattle.std.specs.List.{insert}
 use Rattle.std.specs.List.Sorted.{IsPartitionedBy}
 use Rattle.std.specs.Option.{option_map, is_some, IfSome, IfNone}
-use Rattle.sr_bytes.specs.Order.{comes_before}
+use Rattle.sr_bytes.specs.{comes_before}
 use Rattle.sr_ids.specs.declared.id.Id.{Id}
-use Rattle.sr_pending.specs.Pending.{is_same_name}
+use Rattle.sr_pending.specs.{is_same_name}
 use Rattle.sr_pending.proofs.Splitting.{Splits, Splits-counted, drop-Splits}
-use Rattle.sr_group.specs.Group.{GroupState, KeptGroup}
+use Rattle.sr_group.specs.{GroupState, KeptGroup}
 use Rattle.sr_group.proofs.NameLemmas.{comes_before-trans, comes_before-itself, comes_before-one_way, comes_before-neither, is_same_name-refl, is_same_name-true, is_same_name-before, is_same_name-after}
 use Rattle.sr_stream.specs.Groups.{ByName, AreAfter, AreInOrder, has_group, group_with, with_group, without_group, shown_groups, with_last}
 use Rattle.sr_stream.specs.steps.Places.{IsPlace, before}

@@ -2,7 +2,7 @@
 use Rattle.std.proofs.Common.{◌≡◌, ℕ, List, get_or, set, ap, ◌∙◌}
 use Rattle.sr_ids.specs.declared.id.Id.{Id}
 use Rattle.sr_entries.specs.declared.entry.Entry.{Entry}
-use Rattle.sr_group.specs.Group.{GroupState, KeptGroup}
+use Rattle.sr_group.specs.{GroupState, KeptGroup}
 use Rattle.sr_stream.specs.Groups.{ByName, AreInOrder, shown_groups}
 use Rattle.sr_stream.specs.Stream.{StreamState, KeptStream, IsStream, kept_with_group, with_groups}
 use Rattle.sr_stream.specs.steps.Places.{IsPlace}

@@ -4,10 +4,10 @@
 use Rattle.std.specs.Prelude.{⊤, ℕ, IsTrue, List, [], ◌∷◌, ◌++◌, Option, Some, None, Bool, not, if◌then◌else◌, map}
 use Rattle.std.specs.Prelude.{filter}
 use Rattle.std.specs.List.{list_any}
-use Rattle.sr_bytes.specs.Order.{comes_before}
+use Rattle.sr_bytes.specs.{comes_before}
 use Rattle.sr_ids.specs.declared.id.Id.{Id}
-use Rattle.sr_pending.specs.Pending.{is_same_name}
-use Rattle.sr_group.specs.Group.{GroupState, KeptGroup}
+use Rattle.sr_pending.specs.{is_same_name}
+use Rattle.sr_group.specs.{GroupState, KeptGroup}
 
 -- groups by name, in byte order: as they are shown, or as they are kept
 abbrev pub ByName : Type 0 → Type 0

@@ -3,7 +3,7 @@
 use Rattle.std.specs.Prelude.{ℕ, List, Option}
 use Rattle.std.specs.Borrow.{follows, LendsIf, MutBor, Bor, Fml}
 use Rattle.sr_entries.specs.Entries.{Kept}
-use Rattle.sr_group.specs.Group.{KeptGroup}
+use Rattle.sr_group.specs.{KeptGroup}
 use Rattle.sr_group.specs.contracts.group.Group as group
 use Rattle.sr_stream.specs.Stream.{KeptStream, kept_with_group}
 use Rattle.sr_stream.specs.contracts.stream.Stream as stream

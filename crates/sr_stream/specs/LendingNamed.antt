@@ -2,7 +2,7 @@
 
 use Rattle.std.specs.Prelude.{ℕ, List}
 use Rattle.std.specs.Borrow.{Lends, MutBor, Fml}
-use Rattle.sr_group.specs.Group.{KeptGroup}
+use Rattle.sr_group.specs.{KeptGroup}
 use Rattle.sr_group.specs.contracts.group.Group as group
 use Rattle.sr_stream.specs.contracts.named.NamedGroup as named
 

@@ -10,7 +10,7 @@ impl Stream {
     ghost use Rattle.std.specs.Prelude.{◌≡◌, ◌↔◌, IsTrue, is_some, Some, false, IfSome, IfNone, OnOk, OnErr, IsErrOf};
     ghost use Rattle.std.specs.Borrow.{sem};
     ghost use Rattle.std.specs.Option.{option_map, option_copied, option_copied_mut};
-    ghost use Rattle.sr_group.specs.Group.{new_group};
+    ghost use Rattle.sr_group.specs.{new_group};
     ghost use Rattle.sr_stream.specs.Groups as by_name;
     ghost use Rattle.sr_stream.specs.Groups.{group_with, shown_groups, with_group, without_group, with_last};
     ghost use Rattle.sr_stream.specs.Stream.{with_groups};

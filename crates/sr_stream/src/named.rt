@@ -24,7 +24,7 @@ struct Parts {
 
 impl Model for NamedGroup {
     ghost use Rattle.std.specs.Prelude.{ℕ, List};
-    ghost use Rattle.sr_group.specs.Group.{KeptGroup};
+    ghost use Rattle.sr_group.specs.{KeptGroup};
 
     ghost Value = { List ℕ × KeptGroup };
 
@@ -34,7 +34,7 @@ impl Model for NamedGroup {
 impl NamedGroup {
     ghost use Rattle.std.specs.Prelude.{◌≡◌, IfOk};
     ghost use Rattle.std.specs.Borrow.{sem};
-    ghost use Rattle.sr_group.specs.Group.{new_group};
+    ghost use Rattle.sr_group.specs.{new_group};
     ghost use Rattle.sr_stream.specs.LendingNamed.{LendsGroup};
 
     /// A group of this name that has delivered what lies up to this id.

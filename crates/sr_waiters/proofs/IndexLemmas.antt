@@ -6,7 +6,7 @@ use Rattle.std.specs.List.{AllByRecursion}
 use Rattle.std.specs.Cmp.Lexicographic.{pointwise, bytes_decides}
 use Rattle.std.specs.Global.{Vec}
 use Rattle.std.specs.HashMap.{HashMap, Updates, get}
-use Rattle.sr_args.specs.Different.{IsAmong}
+use Rattle.sr_args.specs.{IsAmong}
 use Rattle.sr_args.specs.declared.call.Call.{Call}
 use Rattle.sr_waiters.specs.Index.{Changes, Gives, IsIndexed, and_read, asking, changed, readers, reads_of, sessions_by, sessions_in, with_session, without}
 use Rattle.sr_waiters.specs.Waiters.{AreOnce, Key, Waiting, asks, call_of, first_that, has_key, has_session, read_of, session_of, without_session}

@@ -4,7 +4,7 @@ use Rattle.std.specs.Prelude.{List, [], ◌∷◌, ◌++◌, Option, Some, None}
 use Rattle.std.specs.Cmp.Lexicographic.{pointwise}
 use Rattle.std.specs.Global.{Vec}
 use Rattle.std.specs.HashMap.{HashMap, get}
-use Rattle.sr_args.specs.Different.{AreDifferent}
+use Rattle.sr_args.specs.{AreDifferent}
 use Rattle.sr_waiters.specs.Waiters.{Key, Waiting, asks, has_key, read_of}
 
 -- the sessions of a list: none if there is no list

@@ -1,6 +1,6 @@
 //! Which sessions wait for a key, in the order in which they blocked. A key for which none waits takes no memory.
 ghost use Rattle.std.specs.Prelude.{◌≡◌, map, IsTrue, OnOk};
-ghost use Rattle.sr_args.specs.Different.{AreDifferent};
+ghost use Rattle.sr_args.specs.{AreDifferent};
 ghost use Rattle.sr_waiters.specs.Waiters as reads;
 ghost use Rattle.sr_waiters.specs.Index.{Gives, changed, sessions_by, with_session, without};
 

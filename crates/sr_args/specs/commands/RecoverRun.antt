@@ -5,7 +5,7 @@ use Rattle.std.specs.Prelude.{ℕ, true, unwrap_or, [], ◌∷◌, codes, None}
 use Rattle.sr_args.specs.declared.call.Command.{Command}
 use Rattle.sr_args.specs.declared.call.Command.TheVariants as asked
 use Rattle.sr_args.specs.declared.name.OptionName.TheVariants as names
-use Rattle.sr_args.specs.Place.{tries}
+use Rattle.sr_args.specs.FormWord.{tries}
 use Rattle.sr_args.specs.Form.{Form, text, before, texts_after, Values}
 use Rattle.sr_args.specs.Row.{Row}
 

@@ -4,7 +4,7 @@
 use Rattle.std.specs.Prelude.{[], ◌∷◌, codes, None}
 use Rattle.sr_args.specs.declared.call.Call.{Call}
 use Rattle.sr_args.specs.declared.call.Call.TheVariants as calls
-use Rattle.sr_args.specs.Place.{strict_id}
+use Rattle.sr_args.specs.FormWord.{strict_id}
 use Rattle.sr_args.specs.Form.{Form, text, ids, Values}
 use Rattle.sr_args.specs.Row.{Row}
 

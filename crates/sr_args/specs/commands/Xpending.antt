@@ -6,7 +6,7 @@ use Rattle.sr_args.specs.declared.call.Call.{Call}
 use Rattle.sr_args.specs.declared.call.Call.TheVariants as calls
 use Rattle.sr_args.specs.declared.commands.xpending.PendingAsked.{PendingAsked}
 use Rattle.sr_args.specs.declared.name.OptionName.TheVariants as names
-use Rattle.sr_args.specs.Place.{int, range_start, range_end}
+use Rattle.sr_args.specs.FormWord.{int, range_start, range_end}
 use Rattle.sr_args.specs.Form.{Form, text, number, id, optional_text, before, maybe, Values}
 use Rattle.sr_args.specs.Row.{Row}
 

@@ -7,7 +7,7 @@ use Rattle.std.specs.List.{zip}
 use Rattle.sr_args.specs.declared.call.Call.{Call}
 use Rattle.sr_args.specs.declared.call.Call.TheVariants as calls
 use Rattle.sr_args.specs.declared.options.OptionSet.TheVariants as sets
-use Rattle.sr_args.specs.Place.{read_id}
+use Rattle.sr_args.specs.FormWord.{read_id}
 use Rattle.sr_args.specs.Form.{Form, grouped, streams, Values}
 use Rattle.sr_args.specs.Row.{Row}
 

@@ -4,7 +4,7 @@
 use Rattle.std.specs.Prelude.{◌≡◌, List, Result, Ok, Err}
 use Rattle.sr_args.specs.declared.fault.CallFault.{CallFault}
 use Rattle.sr_args.specs.declared.fault.CallFault.TheVariants as faults
-use Rattle.sr_args.specs.Place.{Word, HasNumbers, HasIds}
+use Rattle.sr_args.specs.FormWord.{Word, HasNumbers, HasIds}
 use Rattle.sr_args.specs.Form.{Form, Reading, Values, places, Reads, Means}
 
 -- the words fit the form, and what they mean is this

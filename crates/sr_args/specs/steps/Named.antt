@@ -3,7 +3,7 @@
 
 use Rattle.sr_args.specs.declared.commands.named.ConsumerNamed.{ConsumerNamed}
 use Rattle.sr_args.specs.declared.commands.named.GroupNamed.{GroupNamed}
-use Rattle.sr_args.specs.Place.{Word}
+use Rattle.sr_args.specs.FormWord.{Word}
 use Rattle.sr_args.specs.Form.{Form, end, text, Values}
 
 -- key

@@ -8,7 +8,7 @@ use Rattle.sr_args.specs.declared.table.NameMatch.{NameMatch}
 use Rattle.sr_args.specs.declared.table.NameMatch.TheVariants as matches
 use Rattle.sr_args.specs.declared.table.Found.{Found}
 use Rattle.sr_args.specs.declared.table.Found.TheVariants as found
-use Rattle.sr_args.specs.Place.{Word}
+use Rattle.sr_args.specs.FormWord.{Word}
 use Rattle.sr_args.specs.Row.{Row}
 use Rattle.sr_args.specs.Table.{Begins, IsCut, IsNamed, IsHalfNamed}
 use Rattle.sr_args.specs.commands.{row_of}

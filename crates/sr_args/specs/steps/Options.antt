@@ -26,7 +26,7 @@ use Rattle.sr_args.specs.declared.options.OptionSet.{OptionSet}
 use Rattle.sr_args.specs.declared.name.Sign.{Sign}
 use Rattle.sr_args.specs.declared.name.Sign.TheVariants.{Nearly}
 use Rattle.sr_args.specs.Name.{IsSameName, option_text, sign_text}
-use Rattle.sr_args.specs.Place.{Word, Place, Fits, HasNumber, HasNumbers, HasId, HasIds}
+use Rattle.sr_args.specs.FormWord.{Word, FormWord, Fits, HasNumber, HasNumbers, HasId, HasIds}
 use Rattle.sr_args.specs.Options.{TrimReading, Written, count, no_make, make_key, ids_only, idle, since, deliveries}
 use Rattle.sr_args.specs.Options.{named_group, no_ack, block, trimming, operand_places, sign_places, group_in}
 use Rattle.sr_args.specs.Options.{bound_place, option_places, first_name, kind, IsIn}
@@ -35,30 +35,30 @@ use Rattle.sr_args.specs.Options.{IsBound, IsTrim, nothing}
 
 -- the words begin with a part: they fit its places with any after them, if the rest fits those; and before places that
 -- may follow they fit no other part
-pub record Begins {T : Type 0} (form : T → List Place) (IsRight : T → Type 0) (IsNext : T → List Place → Type 0)
+pub record Begins {T : Type 0} (form : T → List FormWord) (IsRight : T → Type 0) (IsNext : T → List FormWord → Type 0)
     (words : List Word) (part : T) (rest : List Word) : Type 0 where
   pub right : IsRight part
-  pub fits : (places : List Place) → Fits rest places → Fits words (form part ++ places)
-  pub only : (other : T) (places : List Place) → IsRight other → IsNext other places →
+  pub fits : (places : List FormWord) → Fits rest places → Fits words (form part ++ places)
+  pub only : (other : T) (places : List FormWord) → IsRight other → IsNext other places →
       Fits words (form other ++ places) → (other ≡ part) × Fits rest places
 
 -- the words begin with no such part
-abbrev pub BeginsNone : {T : Type 0} (form : T → List Place) (IsRight : T → Type 0)
-    (IsNext : T → List Place → Type 0) (words : List Word) → Type 0
+abbrev pub BeginsNone : {T : Type 0} (form : T → List FormWord) (IsRight : T → Type 0)
+    (IsNext : T → List FormWord → Type 0) (words : List Word) → Type 0
 BeginsNone {T} form IsRight IsNext words =
-    (other : T) (places : List Place) → IsRight other → IsNext other places → Fits words (form other ++ places) → ⊥
+    (other : T) (places : List FormWord) → IsRight other → IsNext other places → Fits words (form other ++ places) → ⊥
 
 -- the name of LIMIT fits the first of these places in no words
-pub record IsUnlimited (places : List Place) : Type 0 where
+pub record IsUnlimited (places : List FormWord) : Type 0 where
   pub unnamed : (word : Word) (words : List Word) → IsSameName word (option_text options.Limit) →
       Fits (word ∷ words) places → ⊥
 
 -- any places may follow
-abbrev pub IsAny : {T : Type 0} → T → List Place → Type 0
+abbrev pub IsAny : {T : Type 0} → T → List FormWord → Type 0
 IsAny part places = ⊤
 
 -- [=|~] bound
-abbrev pub signed_places : Measure → Option Sign × Word → List Place
+abbrev pub signed_places : Measure → Option Sign × Word → List FormWord
 signed_places by signed = sign_places signed.0 ++ (bound_place by signed.1 ∷ [])
 
 -- a "=" or "~" before the bound is its sign
@@ -69,11 +69,11 @@ pub record IsSigned (signed : Option Sign × Word) : Type 0 where
 abbrev pub IsLimitOf : Option Sign → Option Word → Type 0
 IsLimitOf sign limit = (limit ≡ None) ⊎ (sign ≡ Some Nearly)
 
-abbrev pub IsUnlimitedAfter : Option Word → List Place → Type 0
+abbrev pub IsUnlimitedAfter : Option Word → List FormWord → Type 0
 IsUnlimitedAfter limit places = IsUnlimited places
 
 -- [=|~] bound [LIMIT number]
-abbrev pub trim_operands : TrimReading → List Place
+abbrev pub trim_operands : TrimReading → List FormWord
 trim_operands trim = operand_places (trimming trim)
 
 -- a trim of this measure
@@ -81,7 +81,7 @@ pub record IsTrimBy (by : Measure) (trim : TrimReading) : Type 0 where
   pub by_is : trim.by ≡ by
   pub fit : IsTrimFit trim
 
-abbrev pub IsTrimEnd : TrimReading → List Place → Type 0
+abbrev pub IsTrimEnd : TrimReading → List FormWord → Type 0
 IsTrimEnd trim places = IsUnlimited places
 
 -- an option of this name in the set
@@ -90,7 +90,7 @@ pub record IsOptionNamed (set : OptionSet) (name : OptionName) (o : Written) : T
   pub fit : IsOptionFit set o
 
 -- no word goes on with the option
-abbrev pub IsOptionEnd : Written → List Place → Type 0
+abbrev pub IsOptionEnd : Written → List FormWord → Type 0
 IsOptionEnd (count range most) places = ⊤
 IsOptionEnd no_make places = ⊤
 IsOptionEnd make_key places = ⊤
@@ -104,7 +104,7 @@ IsOptionEnd (block wait) places = ⊤
 IsOptionEnd (trimming trim) places = IsUnlimited places
 
 -- the other options are those written and a tail, which the words left begin with
-pub record GoesOn (written others : List Written) (left : List Word) (places : List Place) : Type 0 where
+pub record GoesOn (written others : List Written) (left : List Word) (places : List FormWord) : Type 0 where
   pub tail : List Written
   pub are : others ≡ written ++ tail
   pub fits : Fits left (flat_map option_places tail ++ places)
@@ -113,21 +113,21 @@ pub record GoesOn (written others : List Written) (left : List Word) (places : L
 pub record BeginsOptions (set : OptionSet) (words : List Word) (written : List Written) (left : List Word) : Type 0
   where
     pub right : AreOptionsFit set written
-    pub fits : (places : List Place) → Fits left places → Fits words (flat_map option_places written ++ places)
-    pub only : (others : List Written) (places : List Place) → AreOptionsFit set others → IsPast set places →
+    pub fits : (places : List FormWord) → Fits left places → Fits words (flat_map option_places written ++ places)
+    pub only : (others : List Written) (places : List FormWord) → AreOptionsFit set others → IsPast set places →
         Fits words (flat_map option_places others ++ places) → GoesOn written others left places
 
 -- the words begin with the options written and no more: they are the one reading, and what is left follows them
 pub record EndsOptions (set : OptionSet) (words : List Word) (written : List Written) (left : List Word) : Type 0 where
   pub right : AreOptionsFit set written
-  pub fits : (places : List Place) → Fits left places → Fits words (flat_map option_places written ++ places)
-  pub only : (others : List Written) (places : List Place) → AreOptionsFit set others → IsPast set places →
+  pub fits : (places : List FormWord) → Fits left places → Fits words (flat_map option_places written ++ places)
+  pub only : (others : List Written) (places : List FormWord) → AreOptionsFit set others → IsPast set places →
       Fits words (flat_map option_places others ++ places) → (others ≡ written) × Fits left places
   pub past : (word : Word) (rest : List Word) → left ≡ word ∷ rest → IsUnnamed set word
 
 -- the words begin with no options of the set that anything may follow
 abbrev pub BeginsNoOptions : OptionSet → List Word → Type 0
-BeginsNoOptions set words = (others : List Written) (places : List Place) → AreOptionsFit set others →
+BeginsNoOptions set words = (others : List Written) (places : List FormWord) → AreOptionsFit set others →
     IsPast set places → Fits words (flat_map option_places others ++ places) → ⊥
 
 -- the words of a trim

@@ -2,7 +2,7 @@
 
 use Rattle.std.specs.Prelude.{ℤ, List, Option}
 use Rattle.sr_args.specs.declared.name.OptionName.TheVariants as names
-use Rattle.sr_args.specs.Place.{Word, Place, int}
+use Rattle.sr_args.specs.FormWord.{Word, FormWord, int}
 use Rattle.sr_args.specs.Form.{Reading, IsNamedFirst, IsMaybeNumber}
 use Rattle.sr_args.specs.commands.Xpending.{listing}
 use Rattle.sr_args.specs.steps.Numbers.{IsPastNumber}
@@ -11,7 +11,7 @@ abbrev pub listing_reading : Option Word → (start until most : Word) → Optio
 listing_reading least_idle start until most consumer = (least_idle, (start, (until, (most, consumer))))
 
 -- IDLE does not name the first of these places if it is left out
-abbrev pub IsBeforeStart : Option Word → List Place → Type 0
+abbrev pub IsBeforeStart : Option Word → List FormWord → Type 0
 IsBeforeStart word places = IsNamedFirst names.Idle word places
 
 -- nor does it name the next word then

@@ -3,7 +3,7 @@
 use Rattle.std.specs.Prelude.{ℕ, List, Option, unwrap_or}
 use Rattle.sr_args.specs.declared.commands.recover.Rounds.{Rounds}
 use Rattle.sr_args.specs.declared.name.OptionName.TheVariants as names
-use Rattle.sr_args.specs.Place.{Word, tries}
+use Rattle.sr_args.specs.FormWord.{Word, tries}
 use Rattle.sr_args.specs.Form.{Form, before, texts_after, Values, IsMaybeNumber}
 use Rattle.sr_args.specs.commands.RecoverRun.{usual_tries}
 

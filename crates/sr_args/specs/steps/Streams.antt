@@ -2,7 +2,7 @@
 
 use Rattle.std.specs.Prelude.{◌≡◌, List, [], ◌∷◌, ⊤}
 use Rattle.sr_args.specs.declared.options.OptionSet.{OptionSet}
-use Rattle.sr_args.specs.Place.{Word, IdForm, IdOf, Spells}
+use Rattle.sr_args.specs.FormWord.{Word, IdForm, IdOf, Spells}
 use Rattle.sr_args.specs.Options.{Written}
 use Rattle.sr_args.specs.Form.{Form, options, grouped, streams, Reading}
 

@@ -1,5 +1,5 @@
 ghost use Rattle.std.specs.Prelude.{◌≡◌, List, ◌∷◌, IfSome, IfNone, IfOk};
-ghost use Rattle.sr_args.specs.Place.{Word};
+ghost use Rattle.sr_args.specs.FormWord.{Word};
 ghost use Rattle.sr_args.specs.steps.Gives.{Gives};
 ghost use Rattle.sr_args.specs.steps.Named.{key_form, key_of, group_form, group_of, consumer_form, consumer_of};
 

@@ -1,17 +1,17 @@
-ghost use Rattle.std.specs.Prelude.{◌≡◌, List, IfSome, IfNone, IfOk, ◌↔◌, IsTrue};
+ghost use Rattle.std.specs.Prelude.{◌≡◌, ◌%◌, length, List, IfSome, IfNone, IfOk, ◌↔◌, IsTrue};
+ghost use Rattle.sr_bytes.specs.PackedWords.{paired};
 ghost use Rattle.sr_args.specs.Form.{Reading, Reads};
 ghost use Rattle.sr_args.specs.Options.{Written};
 ghost use Rattle.sr_args.specs.commands.Xadd as xadd_form;
 ghost use Rattle.sr_args.specs.steps.Gives.{Gives};
 ghost use Rattle.sr_args.specs.steps.Options.{AreJudged};
-ghost use Rattle.sr_args.specs.steps.Pairs.{pairs_of};
 
 use crate::options::{Choice, OptionSet, ValueFault, read_options};
 use crate::same::{same_fields, same_spec, same_trim_asked};
 use crate::table::Row;
 use crate::value::copy_word;
 use crate::{Call, CallFault, Trim};
-use sr_bytes::{Fields, Name, Unread, room_of};
+use sr_bytes::{Fields, Name, Unread};
 use sr_ids::{Spec, parse_spec};
 use std::alloc::{AllocError, Global};
 
@@ -87,7 +87,7 @@ pub(crate) fn read_xadd(alloc: Global, words: Unread<'_>) -> Result<Call, CallFa
         return Err(CallFault::BadId);
     };
     let key = copy_word(alloc, read.key)?;
-    let fields = copy_fields(alloc, read.fields)?;
+    let fields = Fields::of_words(alloc, read.fields)?;
     Ok(Call::Xadd(Xadd {
         key,
         make: choice.add_makes,
@@ -100,7 +100,8 @@ pub(crate) fn read_xadd(alloc: Global, words: Unread<'_>) -> Result<Call, CallFa
 /// The words of XADD: the key, options in any order, the id, and fields with their values.
 fn xadd_words(mut words: Unread<'_>) -> Option<XaddWords<'_>>
     ensures found { IfSome result (λ read. (written : List Written) × AreJudged written read.judged
-        × Reads xadd_form.form words.entry (read.key.now, (written, (read.id.now, pairs_of read.fields)))) }
+        × Reads xadd_form.form words.entry (read.key.now, (written, (read.id.now, paired read.fields)))) }
+    ensures even { IfSome result (λ read. length read.fields % 2 ≡ 0) }
     ensures none { IfNone result ((reading : Reading xadd_form.form) →
         Reads xadd_form.form words.entry reading → ⊥) }
 {
@@ -116,27 +117,4 @@ fn xadd_words(mut words: Unread<'_>) -> Option<XaddWords<'_>>
         id,
         fields: words,
     })
-}
-
-/// A copy of fields with their values, in one block.
-fn copy_fields(alloc: Global, mut words: Unread<'_>) -> Result<Fields, AllocError>
-    ensures { IfOk result (λ fields. fields ≡ pairs_of words.entry) }
-{
-    let mut fields = Fields::with_room(alloc, room_for(words.again()))?;
-    while let Some(field) = words.next() {
-        let Some(value) = words.next() else {
-            break;
-        };
-        fields.add(field, value)?;
-    }
-    Ok(fields)
-}
-
-/// How many bytes the words take as fields and values. More or fewer would only cost memory.
-fn room_for(mut words: Unread<'_>) -> usize {
-    let mut bytes = 0_usize;
-    while let Some(word) = words.next() {
-        bytes = bytes.saturating_add(room_of(word));
-    }
-    bytes
 }

@@ -1,5 +1,5 @@
 ghost use Rattle.std.specs.Prelude.{◌≡◌, ◌↔◌, ◌+◌, List, ◌∷◌, length, take, IsTrue, IfSome, IfNone, IfOk};
-ghost use Rattle.sr_args.specs.Place.{Word};
+ghost use Rattle.sr_args.specs.FormWord.{Word};
 ghost use Rattle.sr_args.specs.Form.{Reading, Reads, AreNoneOf};
 ghost use Rattle.sr_args.specs.Options.{Written, IsUnnamed};
 ghost use Rattle.sr_args.specs.commands.Xclaim as xclaim_form;

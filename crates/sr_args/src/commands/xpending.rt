@@ -1,7 +1,7 @@
 ghost use Rattle.std.specs.Prelude.{◌≡◌, ℤ, Option, IfSome, IfNone, IfOk, ◌↔◌, IsTrue};
 ghost use Rattle.std.specs.Option.{option_copied};
 ghost use Rattle.sr_args.specs.Form.{Reading, Reads, maybe, named_places};
-ghost use Rattle.sr_args.specs.Place.{int};
+ghost use Rattle.sr_args.specs.FormWord.{int};
 ghost use Rattle.sr_args.specs.commands.Xpending as xpending_form;
 ghost use Rattle.sr_args.specs.steps.Gives.{Gives};
 ghost use Rattle.sr_args.specs.steps.Numbers.{IsAnyWord};

@@ -1,5 +1,5 @@
 ghost use Rattle.std.specs.Prelude.{◌≡◌, List, IfSome, IfNone, ◌↔◌, IsTrue, IfOk};
-ghost use Rattle.sr_args.specs.Place.{IdForm, IdOf, Spells, HasId, spelled};
+ghost use Rattle.sr_args.specs.FormWord.{IdForm, IdOf, Spells, HasId, spelled};
 ghost use Rattle.sr_args.specs.Options.{Written};
 ghost use Rattle.sr_args.specs.Form.{Reading, Reads};
 ghost use Rattle.sr_args.specs.commands.Xrange as xrange_form;

@@ -1,5 +1,5 @@
 ghost use Rattle.std.specs.Prelude.{None, ◌↔◌, ◌≤◌, map, length, IsTrue, IfOk, ◌≡◌};
-ghost use Rattle.sr_args.specs.Place.{position, spelled, HasIds};
+ghost use Rattle.sr_args.specs.FormWord.{position, spelled, HasIds};
 ghost use Rattle.sr_args.specs.commands.Xread as xread_form;
 ghost use Rattle.sr_args.specs.steps.Gives.{Gives};
 ghost use Rattle.sr_args.specs.steps.Streams.{AreStreams};

@@ -1,5 +1,5 @@
 ghost use Rattle.std.specs.Prelude.{None, ◌≡◌, ◌↔◌, ◌≤◌, map, length, IsTrue, IfOk};
-ghost use Rattle.sr_args.specs.Place.{read_id, spelled, HasIds};
+ghost use Rattle.sr_args.specs.FormWord.{read_id, spelled, HasIds};
 ghost use Rattle.sr_args.specs.commands.Xreadgroup as xreadgroup_form;
 ghost use Rattle.sr_args.specs.steps.Gives.{Gives};
 ghost use Rattle.sr_args.specs.steps.Streams.{AreStreams};

@@ -7,9 +7,8 @@ use std::alloc::{AllocError, Global};
 
 impl Machine {
     ghost use Rattle.std.specs.Prelude.{◌≡◌, ◌↔◌, ◌&&◌, IsTrue, IfNone, IfSome, Some, None, OnErr, IfOk, not};
-    ghost use Rattle.sr_space.specs.Blocking.{finds_nothing};
-    ghost use Rattle.sr_space.specs.Readers.{read_at};
-    ghost use Rattle.sr_waiters.specs.Waiters.{asks, first_that, session_of};
+    ghost use Rattle.sr_space.specs.{finds_nothing, read_at};
+    ghost use Rattle.sr_waiters.specs.{asks, first_that, session_of};
     ghost use Rattle.sr_book.specs.Server.{serving};
     ghost use Rattle.sr_book.specs.Watched.{AreQuietBeside, IsQuietAt};
 

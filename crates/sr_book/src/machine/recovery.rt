@@ -1,7 +1,7 @@
 //! Boards, snapshots and verdicts.
 ghost use Rattle.std.specs.Prelude.{◌≡◌, ◌≢◌, IfOk, OnOk};
-ghost use Rattle.sr_policy.specs.Same.{same};
-ghost use Rattle.sr_resp.specs.Reply.{error_reply};
+ghost use Rattle.sr_policy.specs.{same};
+ghost use Rattle.sr_resp.specs.{error_reply};
 ghost use Rattle.sr_book.specs.Server.{snap_code};
 
 use super::Machine;
@@ -17,9 +17,8 @@ use std::alloc::{AllocError, Global};
 
 impl Machine {
     ghost use Rattle.std.specs.Prelude.{◌≡◌, ◌^◌, ◌<◌, [], true, None, Some, OnOk, OnErr, IfOk, IfErr};
-    ghost use Rattle.sr_check.specs.PlanReply.{verdict_answer};
-    ghost use Rattle.sr_space.specs.Keys.{group_at};
-    ghost use Rattle.sr_space.specs.Snap.{snapped};
+    ghost use Rattle.sr_check.specs.{verdict_answer};
+    ghost use Rattle.sr_space.specs.{group_at, snapped};
     ghost use Rattle.sr_book.specs.Server.{after_call, board_reply, concluded, fresh_snapshot, is_open, keys_after};
     ghost use Rattle.sr_book.specs.Server.{replied};
     ghost use Rattle.sr_book.specs.Server.{snapped_for, unreplied};

@@ -7,15 +7,14 @@ use Rattle.std.specs.List.{flat_map}
 use Rattle.std.specs.List.Sorted.{IsStrictlyIncreasing}
 use Rattle.sr_ids.specs.declared.id.Id.{Id}
 use Rattle.sr_transport.specs.Certificate.{places_of}
-use Rattle.sr_transport.specs.Problem.{Tiered}
+use Rattle.sr_transport.specs.{Tiered}
 use Rattle.sr_policy.specs.declared.live.Live.{Live}
 use Rattle.sr_policy.specs.declared.stranded.Stranded.{Stranded}
-use Rattle.sr_policy.specs.Problem.{problem_of, tier_count}
-use Rattle.sr_policy.specs.Rules.{Text}
-use Rattle.sr_policy.specs.Snapshot.{Shown}
-use Rattle.sr_resp.specs.Reply.{Answer, Int, Bulk, Array, array_header, array_of, integer, reply_text}
+use Rattle.sr_policy.specs.{problem_of, tier_count, Text, SnapshotState}
+use Rattle.sr_resp.specs.{ReplyParts, Bulk, array_header, array_of, integer, reply_text}
+use Rattle.sr_resp.specs.Reply.{Int, Array}
 use Rattle.sr_resp.specs.steps.Decoding.{HasPart}
-use Rattle.sr_check.specs.Answer.{AreTold, id_at, name_at}
+use Rattle.sr_check.specs.PlanAnswer.{AreTold, id_at, name_at}
 use Rattle.sr_check.specs.PlanReply.{id_answer, move_answer, price_answer, reached_from, share_answer}
 
 -- the text begins with this mark and this number in a line, and these bytes come after the line
@@ -24,7 +23,7 @@ pub record HasNumber (text : List ℕ) (sign n : ℕ) (after : List ℕ) : Type 
   pub small : n < 2 ^ 64
 
 -- the text begins with the spelling of these parts, and these bytes come after it
-pub record Begins (text : List ℕ) (parts : Answer) (after : List ℕ) : Type 0 where
+pub record Begins (text : List ℕ) (parts : ReplyParts) (after : List ℕ) : Type 0 where
   pub whole : text ≡ reply_text parts ++ after
 
 -- the text begins with the move of the entry to the consumer with this number
@@ -67,11 +66,11 @@ pub record ArePrices (live : List Live) (text prices after : List ℕ) : Type 0 
   pub in_turn : prices ≡ flat_map (λ own. own) grouped
 
 -- the ids of the entries that are gone
-abbrev pub gone_ids : List (Id × Text) → Answer
+abbrev pub gone_ids : List (Id × Text) → ReplyParts
 gone_ids gone = array_of (map (λ entry. id_answer entry.0) gone)
 
 -- after the word, the text is this plan
-pub record IsPlanText (shown : Shown) (text assign prices : List ℕ) (total : ℕ) : Type 0 where
+pub record IsPlanText (shown : SnapshotState) (text assign prices : List ℕ) (total : ℕ) : Type 0 where
   pub moves_at : List ℕ
   pub prices_at : List ℕ
   pub gone_at : List ℕ
@@ -87,7 +86,7 @@ flagged_from n (true ∷ flags) = n ∷ flagged_from (n + 1) flags
 flagged_from n (false ∷ flags) = flagged_from (n + 1) flags
 
 -- the ids of the entries with these numbers
-abbrev pub ids_of : List Stranded → List ℕ → List Answer
+abbrev pub ids_of : List Stranded → List ℕ → List ReplyParts
 ids_of stranded set = map (λ i. id_answer (id_at stranded i)) set
 
 -- the text begins with the ids of the entries with these numbers, which rise, and then with no bulk string
@@ -98,11 +97,11 @@ pub record HasChosen (stranded : List Stranded) (text set after : List ℕ) : Ty
   pub ended : (string others : List ℕ) → HasPart after (Bulk string) others → ⊥
 
 -- the rooms of the consumers that some entry of the set is allowed
-abbrev pub rooms_answer : Tiered → List ℕ → List Live → Answer
+abbrev pub rooms_answer : Tiered → List ℕ → List Live → ReplyParts
 rooms_answer p set live = array_of (map share_answer (reached_from p set 0 live))
 
 -- after the word, the text is the shortage of this set
-pub record IsShortageText (shown : Shown) (text set : List ℕ) : Type 0 where
+pub record IsShortageText (shown : SnapshotState) (text set : List ℕ) : Type 0 where
   pub ids_at : List ℕ
   pub rooms_at : List ℕ
   pub places_at : List ℕ

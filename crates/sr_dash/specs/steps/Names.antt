@@ -2,10 +2,11 @@
 
 use Rattle.std.specs.Prelude.{⊤, ℕ, IsTrue, List, [], ◌∷◌, ◌++◌, filter}
 use Rattle.std.specs.List.{flat_map}
-use Rattle.sr_bytes.specs.Order.{comes_before}
+use Rattle.sr_bytes.specs.{comes_before}
 use Rattle.sr_group.specs.declared.consumer.Consumer.{Consumer}
-use Rattle.sr_group.specs.Group.{GroupState}
-use Rattle.sr_policy.specs.Rules.{Rules, Text, has_tiers}
+use Rattle.sr_group.specs.{GroupState}
+use Rattle.sr_policy.specs.{Text}
+use Rattle.sr_policy.specs.Rules.{Rules, has_tiers}
 use Rattle.sr_dash.specs.Board.{line, row_of}
 
 -- the name comes before all of these

@@ -6,11 +6,11 @@ use Rattle.std.specs.List.{All}
 use Rattle.sr_ids.specs.declared.id.Id.{Id}
 use Rattle.sr_entries.specs.declared.entry.Entry.{Entry}
 use Rattle.sr_pending.specs.declared.nack.Nack.{Nack}
-use Rattle.sr_pending.specs.Pending.{is_below, is_same_id}
+use Rattle.sr_ids.specs.{is_below, is_same_id}
 use Rattle.sr_group.specs.declared.claim.Claim.{Claim}
 use Rattle.sr_group.specs.declared.claim.Delivery.{Delivery}
-use Rattle.sr_group.specs.declared.claim.Judgement.{Judgement}
-use Rattle.sr_group.specs.declared.claim.Judgement.TheVariants.{Stays, Leaves, Moves}
+use Rattle.sr_group.specs.declared.claim.Weighed.{Weighed}
+use Rattle.sr_group.specs.declared.claim.Weighed.TheVariants.{Stays, Leaves, Moves}
 use Rattle.sr_group.specs.declared.shown.Act.{Act}
 use Rattle.sr_group.specs.declared.shown.Act.TheVariants.{Give, Touch, Forget, Only}
 use Rattle.sr_group.specs.Claim.{Fate, Skipped, Dropped, GivenOver, after_claim, fate_with, after_fate, listed_claim}
@@ -36,7 +36,7 @@ act_with Dropped id = Some (Forget id)
 act_with (GivenOver nack) id = Some (Give nack)
 
 -- what is done to a pending entry that was judged so
-abbrev pub act_judged : List ℕ → Id → Judgement → Option Act
+abbrev pub act_judged : List ℕ → Id → Weighed → Option Act
 act_judged claimer id Stays = None
 act_judged claimer id Leaves = Some (Forget id)
 act_judged claimer id (Moves delivery) =

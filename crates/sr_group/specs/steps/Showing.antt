@@ -4,10 +4,10 @@ use Rattle.std.specs.Prelude.{⊤, ◌≡◌, ℕ, ◌^◌, ◌<◌, ◌≤◌, 
 use Rattle.std.specs.List.{All}
 use Rattle.sr_ids.specs.declared.id.Id.{Id}
 use Rattle.sr_entries.specs.declared.entry.Entry.{Entry}
-use Rattle.sr_entries.specs.Entries.{has_id}
+use Rattle.sr_entries.specs.{has_id}
 use Rattle.sr_pending.specs.declared.nack.Nack.{Nack}
 use Rattle.sr_pending.specs.declared.room.Room.{Room}
-use Rattle.sr_pending.specs.Pending.{IsCountable, room_of}
+use Rattle.sr_pending.specs.{IsCountable, room_left}
 use Rattle.sr_group.specs.declared.shown.Act.{Act}
 use Rattle.sr_group.specs.declared.shown.Act.TheVariants.{Give, Touch, Forget, Only}
 use Rattle.sr_group.specs.Delivery.{raised}
@@ -36,7 +36,7 @@ pub record IsShowable (shown : ShownState) : Type 0 where
 pub record HaveRoom (acts : List Act) (rooms : List Room) : Type 0 where
   pub consumer : List ℕ
   pub each : All (IsActOf consumer) acts
-  pub room : gifts acts ≤ room_of consumer rooms
+  pub room : gifts acts ≤ room_left consumer rooms
 
 -- what is done to an entry with this id that is delivered: it is given to its reader, or listed alone
 abbrev pub delivery_act : List ℕ → ℕ → Bool → Id → Act

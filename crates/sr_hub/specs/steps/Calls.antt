@@ -4,7 +4,8 @@ use Rattle.std.specs.Prelude.{◌≡◌, ◌≢◌, ℕ, List, [], false, drop, 
 use Rattle.slab.specs.Slab.{Slab, get}
 use Rattle.sr_resp.specs.Stream.{Stands}
 use Rattle.sr_book.specs.Server.{refusal}
-use Rattle.sr_book.specs.Records.{BookState, IsRefusal, next_index}
+use Rattle.sr_book.specs.{BookState, next_index}
+use Rattle.sr_book.specs.Records.{IsRefusal}
 use Rattle.sr_book.specs.declared.event.BookFault.{BookFault}
 use Rattle.sr_book.specs.declared.event.Event.TheVariants as events
 use Rattle.sr_hub.specs.Line.{ConnectionState, IsAtRest, is_ended}

@@ -1,7 +1,7 @@
 -- Cited by private clauses alone: what a connection has left to do.
 
 use Rattle.std.specs.Prelude.{◌≡◌, ℕ, ◌+◌, ◌*◌, Bool, length, Option, Some, None, IsSomeAnd}
-use Rattle.sr_plan.specs.Verdict.{Judged}
+use Rattle.sr_plan.specs.{Judged}
 use Rattle.sr_hub.specs.declared.stage.Judging.{Judging}
 use Rattle.sr_hub.specs.Line.{ConnectionState}
 use Rattle.sr_hub.specs.declared.stage.Stage.{Stage}

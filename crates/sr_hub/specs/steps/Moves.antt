@@ -2,11 +2,12 @@
 
 use Rattle.std.specs.Prelude.{◌≡◌, ℕ, true, List, [], ◌∷◌, ◌++◌}
 use Rattle.std.specs.List.{AllByRecursion}
-use Rattle.sr_resp.specs.Request.{Words}
+use Rattle.sr_resp.specs.{Words}
 use Rattle.sr_resp.specs.Stream.{Stands}
-use Rattle.sr_book.specs.Server.{Server, is_open}
-use Rattle.sr_book.specs.Records.{BookState, Legal, Recorded, next_index}
-use Rattle.sr_session.specs.Session.{AreAnswered}
+use Rattle.sr_book.specs.{is_open, BookState, Recorded, next_index}
+use Rattle.sr_book.specs.Server.{Server}
+use Rattle.sr_book.specs.Records.{Legal}
+use Rattle.sr_session.specs.{AreAnswered}
 use Rattle.sr_hub.specs.Told.{IsSilent, IsTold}
 use Rattle.sr_hub.specs.Line.{ConnectionState, IsFree, IsJoined, IsLine}
 use Rattle.sr_hub.specs.Lines.{AreAll}

@@ -1,7 +1,7 @@
 -- Cited by private clauses alone: a hub and the bytes of its sockets go on together.
 
 use Rattle.std.specs.Prelude.{ℕ, List}
-use Rattle.sr_book.specs.Records.{Recorded}
+use Rattle.sr_book.specs.{Recorded}
 use Rattle.sr_hub.specs.Heard.{GoOnAs}
 use Rattle.sr_hub.specs.Lines.{AreLines, GoOn, HubState}
 

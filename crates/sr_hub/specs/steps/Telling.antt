@@ -4,13 +4,14 @@ use Rattle.std.specs.Prelude.{◌≡◌, ℕ, List, ◌++◌, true, false, Err}
 use Rattle.sr_resp.specs.Stream.{Advances}
 use Rattle.sr_resp.specs.declared.code.ErrCode.{ErrCode}
 use Rattle.sr_resp.specs.declared.code.ErrCode.TheVariants as errors
-use Rattle.sr_book.specs.Records.{BookState, IsCertain, IsHistory, IsStepped, Steps}
+use Rattle.sr_book.specs.{BookState, IsHistory, IsStepped}
+use Rattle.sr_book.specs.Records.{IsCertain, Steps}
 use Rattle.sr_book.specs.declared.answer.Answer.{Answer}
 use Rattle.sr_book.specs.declared.event.BookFault.{BookFault}
 use Rattle.sr_book.specs.declared.event.BookFault.TheVariants as faults
 use Rattle.sr_book.specs.declared.event.Event.{Event}
 use Rattle.sr_book.specs.declared.event.Out.{Out}
-use Rattle.sr_session.specs.Session.{protocol_text}
+use Rattle.sr_session.specs.{protocol_text}
 use Rattle.sr_hub.specs.Line.{ConnectionState, is_ended}
 use Rattle.sr_hub.specs.declared.hub.TakeFault.{TakeFault}
 use Rattle.sr_hub.specs.declared.hub.TakeFault.TheVariants as take_faults

@@ -2,7 +2,7 @@
 -- Source: RESP2 protocol specification, "RESP protocol description".
 
 use Rattle.std.specs.Prelude.{◌≡◌, ℕ, ◌<◌, ◌≤◌, ◌↔◌, Result, Ok, Err, List, [], ◌++◌, length, drop}
-use Rattle.sr_peer.specs.declared.answers.Place.{Place}
+use Rattle.sr_peer.specs.declared.answers.ReadSoFar.{ReadSoFar}
 use Rattle.sr_peer.specs.declared.answers.TakeFault.{TakeFault}
 use Rattle.sr_peer.specs.declared.answers.TakeFault.TheVariants as faults
 use Rattle.sr_peer.specs.declared.first.Front.{Front}
@@ -52,7 +52,7 @@ pub record AreRead (count : ℕ) (text : List ℕ) (at due : ℕ) : Type 0 where
   pub left : AreLeft due (drop at text)
 
 -- what reading on from a place came to
-abbrev pub ReadsOn : List ℕ → ℕ → ℕ → Result Place TakeFault → Type 0
+abbrev pub ReadsOn : List ℕ → ℕ → ℕ → Result ReadSoFar TakeFault → Type 0
 ReadsOn text at due (Ok place) =
     (place.at ≤ length text) × AreAlike due (drop at text) place.due (drop place.at text)
     × AreLeft place.due (drop place.at text)
@@ -62,7 +62,7 @@ ReadsOn text at due (Err faults.TooLong) = (more : List ℕ) → AreWhole due (d
     → most_bytes < length (text ++ more)
 
 -- the same, where the text may have been too long or have had no room
-abbrev pub GrowsOn : List ℕ → ℕ → ℕ → Result Place TakeFault → Type 0
+abbrev pub GrowsOn : List ℕ → ℕ → ℕ → Result ReadSoFar TakeFault → Type 0
 GrowsOn text at due (Ok place) = ReadsOn text at due (Ok place)
 GrowsOn text at due (Err faults.Memory) = Unit {0}
 GrowsOn text at due (Err faults.Malformed) = ReadsOn text at due (Err faults.Malformed)

@@ -3,7 +3,7 @@
 use Rattle.std.specs.Prelude.{◌≡◌, ℕ, ◌+◌, ◌<◌, ◌≢◌, List, Some, true, slice_get}
 use Rattle.std.specs.List.{sum_by}
 use Rattle.sr_pending.specs.declared.room.Room.{Room}
-use Rattle.sr_pending.specs.Pending.{is_same_name, room_of}
+use Rattle.sr_pending.specs.Pending.{is_same_name, room_left}
 
 -- the rooms of all owners together
 abbrev pub rooms_in_all : List Room → ℕ
@@ -18,6 +18,6 @@ pub record IsRoomAt (owner : List ℕ) (rooms : List Room) (place : ℕ) : Type 
 
 -- this owner has so much more room, and no other
 pub record AddsRoom (owner : List ℕ) (more : ℕ) (old new : List Room) : Type 0 where
-  pub added : room_of owner new ≡ room_of owner old + more
-  pub others : (other : List ℕ) → other ≢ owner → room_of other new ≡ room_of other old
+  pub added : room_left owner new ≡ room_left owner old + more
+  pub others : (other : List ℕ) → other ≢ owner → room_left other new ≡ room_left other old
   pub in_all : rooms_in_all new ≡ rooms_in_all old + more

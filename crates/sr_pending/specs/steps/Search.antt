@@ -6,7 +6,7 @@ use Rattle.slab.specs.Slab.{Slab}
 use Rattle.sr_ids.specs.declared.id.Id.{Id}
 use Rattle.sr_pending.specs.declared.nack.Nack.{Nack}
 use Rattle.sr_pending.specs.declared.blocks.Place.{Place}
-use Rattle.sr_pending.specs.Pending.{is_below}
+use Rattle.sr_ids.specs.{is_below}
 use Rattle.sr_pending.specs.steps.Blocks.{IsIn, Laid, at_of, items_of}
 use Rattle.sr_pending.specs.steps.Slots.{nack_at}
 

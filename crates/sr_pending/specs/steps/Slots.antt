@@ -5,7 +5,8 @@ use Rattle.std.specs.List.{All}
 use Rattle.slab.specs.Slab.{Slab, ContainsKey, Updates, get, slab_len}
 use Rattle.sr_ids.specs.declared.id.Id.{Id}
 use Rattle.sr_pending.specs.declared.nack.Nack.{Nack}
-use Rattle.sr_pending.specs.Pending.{is_below, is_same_id, is_same_name}
+use Rattle.sr_ids.specs.{is_below, is_same_id}
+use Rattle.sr_pending.specs.Pending.{is_same_name}
 
 -- the entry, and one of 0-0 and of nobody if there is none
 abbrev pub nack_or : Option Nack → Nack

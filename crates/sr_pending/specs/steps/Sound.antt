@@ -7,7 +7,7 @@ use Rattle.slab.specs.Slab.{Slab, slab_len}
 use Rattle.sr_pending.specs.declared.nack.Nack.{Nack}
 use Rattle.sr_pending.specs.declared.room.Room.{Room}
 use Rattle.sr_pending.specs.steps.Blocks.{Laid}
-use Rattle.sr_pending.specs.steps.Held.{HasSpare, IsIndexed}
+use Rattle.sr_pending.specs.steps.OwnedSlots.{HasSpare, IsIndexed}
 use Rattle.sr_pending.specs.steps.Room.{rooms_in_all}
 use Rattle.sr_pending.specs.steps.Slots.{AreTaken, nacks_at}
 use Rattle.sr_pending.specs.Pending.{AreRising, IsCountable}

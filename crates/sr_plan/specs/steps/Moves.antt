@@ -2,7 +2,7 @@
 
 use Rattle.std.specs.Prelude.{◌≡◌, ℕ, ◌<◌, List, All, length}
 use Rattle.std.specs.List.{sum_by}
-use Rattle.sr_policy.specs.Problem.{tier_count}
+use Rattle.sr_policy.specs.{tier_count}
 use Rattle.sr_policy.specs.declared.live.Live.{Live}
 use Rattle.sr_policy.specs.declared.stranded.Stranded.{Stranded}
 

@@ -1,10 +1,10 @@
 -- Cited by private clauses alone: the requests of one read, which are read before the first of them is carried out.
 
 use Rattle.std.specs.Prelude.{⊤, List, [], ◌∷◌, Result, Ok, Err}
-use Rattle.sr_resp.specs.Request.{Words}
+use Rattle.sr_resp.specs.{Words}
 use Rattle.sr_args.specs.declared.fault.CallFault.{CallFault}
 use Rattle.sr_args.specs.declared.call.Command.{Command}
-use Rattle.sr_args.specs.Command.{IsCommand, Refuses}
+use Rattle.sr_args.specs.{IsCommand, Refuses}
 
 -- the words are this command, or this is why they are none
 abbrev pub IsAsked : Words → Result Command CallFault → Type 0

@@ -1,10 +1,11 @@
 -- Cited by private clauses alone: how a call at a desk comes out, and a reply that is not there.
 
 use Rattle.std.specs.Prelude.{◌≡◌, ℕ, List, ◌++◌, Bool, IsTrue, Option, Some, None, Result, Ok, Err}
-use Rattle.sr_resp.specs.Request.{Words}
-use Rattle.sr_resp.specs.Reply.{Answer as ReplyParts, error_reply}
+use Rattle.sr_resp.specs.{Words}
+use Rattle.sr_resp.specs.Reply.{ReplyParts, error_reply}
 use Rattle.sr_resp.specs.declared.code.ErrCode.TheVariants as errors
-use Rattle.sr_book.specs.Records.{BookState, Recorded, addressed}
+use Rattle.sr_book.specs.{BookState, Recorded}
+use Rattle.sr_book.specs.Records.{addressed}
 use Rattle.sr_book.specs.declared.answer.Answer.{Answer}
 use Rattle.sr_book.specs.declared.answer.Letter.{Letter}
 use Rattle.sr_book.specs.declared.event.BookFault.{BookFault}

@@ -1,7 +1,7 @@
 -- Cited by private clauses alone: the replies that are gathered for the writer, and how one more request is answered.
 
 use Rattle.std.specs.Prelude.{◌≡◌, ℕ, ◌+◌, ◌<◌, List, [], ◌++◌, length, take, min, Bool, true, Result, Ok, Err}
-use Rattle.sr_resp.specs.Request.{Words}
+use Rattle.sr_resp.specs.{Words}
 use Rattle.sr_session.specs.declared.run.End.{End}
 use Rattle.sr_session.specs.declared.run.End.TheVariants.{Closed, Protocol, ReadFault, SendFault, Turns, Memory, Desk}
 

@@ -1,8 +1,8 @@
 -- Cited by private clauses alone: a session between two reads, and between two requests of one read.
 
 use Rattle.std.specs.Prelude.{◌≡◌, ℕ, List, [], ◌++◌, length, min, false}
-use Rattle.sr_resp.specs.Request.{Words}
-use Rattle.sr_resp.specs.Stream.{Progress, Stands}
+use Rattle.sr_resp.specs.{Words, Progress}
+use Rattle.sr_resp.specs.Stream.{Stands}
 use Rattle.sr_session.specs.Session.{AreAnswered}
 use Rattle.sr_session.specs.declared.run.End.{End}
 use Rattle.sr_session.specs.declared.run.End.TheVariants.{Closed, Protocol, ReadFault, SendFault, Turns, Memory, Desk}

@@ -4,9 +4,10 @@
 use Rattle.std.specs.Prelude.{ℕ, List, length, Option, pos}
 use Rattle.sr_ids.specs.declared.id.Id.{Id}
 use Rattle.sr_entries.specs.declared.entry.Entry.{Entry}
-use Rattle.sr_group.specs.Group.{GroupState, with_ids, without_ids}
-use Rattle.sr_resp.specs.Reply.{integer}
-use Rattle.sr_stream.specs.Stream.{StreamState}
+use Rattle.sr_group.specs.{GroupState}
+use Rattle.sr_group.specs.Group.{with_ids, without_ids}
+use Rattle.sr_resp.specs.{integer}
+use Rattle.sr_stream.specs.{StreamState}
 use Rattle.sr_space.specs.declared.grouped.Missing.TheVariants.{Zero}
 use Rattle.sr_space.specs.Grouped.{Regrouped, in_group, regroups}
 use Rattle.sr_space.specs.Touched.{Touched}

@@ -5,20 +5,20 @@ use Rattle.std.specs.Prelude.{ℕ, ℤ, List, [], ◌∷◌, length, map, Option
 use Rattle.std.specs.List.{flat_map}
 use Rattle.std.specs.Option.{option_map}
 use Rattle.sr_ids.specs.declared.id.Id.{Id}
-use Rattle.sr_ids.specs.Spelling.{spelling}
+use Rattle.sr_ids.specs.{spelling}
 use Rattle.sr_args.specs.declared.commands.xclaim.TimeAsked.{TimeAsked}
 use Rattle.sr_args.specs.declared.commands.xclaim.TimeAsked.TheVariants as asked
 use Rattle.sr_entries.specs.declared.entry.Entry.{Entry}
-use Rattle.sr_entries.specs.Entries.{entry_with}
+use Rattle.sr_entries.specs.{entry_with}
 use Rattle.sr_group.specs.declared.claim.Claim.{Claim}
 use Rattle.sr_group.specs.declared.claim.ClaimTime.{ClaimTime}
 use Rattle.sr_group.specs.declared.claim.ClaimTime.TheVariants as times
 use Rattle.sr_group.specs.declared.shown.Listed.{Listed}
 use Rattle.sr_group.specs.Claim.{group_after_claim, id_behind, listed_claim, pending_from, scanned}
-use Rattle.sr_group.specs.Group.{GroupState}
+use Rattle.sr_group.specs.{GroupState}
 use Rattle.sr_pending.specs.declared.nack.Nack.{Nack}
-use Rattle.sr_resp.specs.Reply.{Answer, array_of, bulk_string}
-use Rattle.sr_stream.specs.Stream.{StreamState}
+use Rattle.sr_resp.specs.{ReplyParts, array_of, bulk_string}
+use Rattle.sr_stream.specs.{StreamState}
 use Rattle.sr_space.specs.declared.grouped.Missing.TheVariants.{NoGroup}
 use Rattle.sr_space.specs.Bounds.{in_63_bits}
 use Rattle.sr_space.specs.EntryReply.{entry_answer}
@@ -42,26 +42,26 @@ claim_of least_idle time count just_ids =
     }
 
 -- an entry of the stream, if it has it
-abbrev pub entry_reply : Option Entry → List Answer
+abbrev pub entry_reply : Option Entry → List ReplyParts
 entry_reply None = []
 entry_reply (Some entry) = entry_answer entry ∷ []
 
 -- what is replied of an entry that was claimed: its id, or itself; and nothing of one that the stream has no longer
-abbrev pub claimed_reply : Bool → List Entry → Id → Bool → List Answer
+abbrev pub claimed_reply : Bool → List Entry → Id → Bool → List ReplyParts
 claimed_reply just_ids entries id false = []
 claimed_reply true entries id true = bulk_string (spelling id) ∷ []
 claimed_reply false entries id true = entry_reply (entry_with id entries)
 
-abbrev pub claimed_answer : Bool → List Entry → List Listed → Answer
+abbrev pub claimed_answer : Bool → List Entry → List Listed → ReplyParts
 claimed_answer just_ids entries listed =
     array_of (flat_map (λ l. claimed_reply just_ids entries l.id l.found) listed)
 
 -- the id of an entry that the stream has no longer
-abbrev pub deleted_id : Id → Bool → List Answer
+abbrev pub deleted_id : Id → Bool → List ReplyParts
 deleted_id id false = bulk_string (spelling id) ∷ []
 deleted_id id true = []
 
-abbrev pub deleted_answer : List Listed → Answer
+abbrev pub deleted_answer : List Listed → ReplyParts
 deleted_answer listed = array_of (flat_map (λ l. deleted_id l.id l.found) listed)
 
 module _ (moment : ℕ) (consumer : List ℕ) (claim : Claim) where
@@ -74,7 +74,7 @@ module _ (moment : ℕ) (consumer : List ℕ) (claim : Claim) where
   xclaim group ids = in_group NoGroup (claimed ids) group
 
   -- [where to go on, what was claimed, the ids that the stream has no longer]
-  abbrev pub scan_answer : List Entry → List Listed → Id → Answer
+  abbrev pub scan_answer : List Entry → List Listed → Id → ReplyParts
   scan_answer entries listed next = array_of (
       bulk_string (spelling next) ∷ claimed_answer claim.just_ids entries listed ∷ deleted_answer listed ∷ [])
 

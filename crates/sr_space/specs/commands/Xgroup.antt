@@ -7,13 +7,16 @@ use Rattle.sr_ids.specs.declared.id.Id.{Id}
 use Rattle.sr_args.specs.declared.call.Position.{Position}
 use Rattle.sr_args.specs.declared.call.Position.TheVariants.{Last, At}
 use Rattle.sr_entries.specs.declared.entry.Entry.{Entry}
-use Rattle.sr_group.specs.Group.{GroupState, has_consumer, made_at, new_group, without_consumer}
-use Rattle.sr_pending.specs.Pending.{owned_by, without_owner}
+use Rattle.sr_group.specs.{GroupState, new_group}
+use Rattle.sr_group.specs.Group.{has_consumer, made_at, without_consumer}
+use Rattle.sr_pending.specs.{owned_by}
+use Rattle.sr_pending.specs.Pending.{without_owner}
 use Rattle.sr_resp.specs.declared.code.ErrCode.TheVariants as errors
 use Rattle.sr_resp.specs.declared.code.Word.TheVariants as words
-use Rattle.sr_resp.specs.Reply.{Answer, integer, simple_string}
-use Rattle.sr_stream.specs.Groups.{has_group, with_group, with_last, without_group}
-use Rattle.sr_stream.specs.Stream.{StreamState, empty_stream, with_groups}
+use Rattle.sr_resp.specs.{ReplyParts, integer}
+use Rattle.sr_resp.specs.Reply.{simple_string}
+use Rattle.sr_stream.specs.{has_group, with_group, StreamState, empty_stream, with_groups}
+use Rattle.sr_stream.specs.Groups.{with_last, without_group}
 use Rattle.sr_space.specs.declared.grouped.Missing.TheVariants.{NoKey}
 use Rattle.sr_space.specs.Grouped.{Regrouped, in_group, regroups}
 use Rattle.sr_space.specs.Touched.{Touched, refuses, writes}
@@ -24,7 +27,7 @@ id_of Last stream = stream.last
 id_of (At id) stream = id
 
 -- 1 for yes, 0 for no
-abbrev pub yes_or_no : Bool → Answer
+abbrev pub yes_or_no : Bool → ReplyParts
 yes_or_no true = integer (pos 1)
 yes_or_no false = integer (pos 0)
 

@@ -4,18 +4,18 @@
 use Rattle.std.specs.Prelude.{ℕ, List, [], ◌∷◌, map, Option, Some, None, Bool, true, false, ◌&&◌, if◌then◌else◌}
 use Rattle.std.specs.List.{flat_map}
 use Rattle.sr_ids.specs.declared.id.Id.{Id}
-use Rattle.sr_ids.specs.Spelling.{spelling}
+use Rattle.sr_ids.specs.{spelling}
 use Rattle.sr_args.specs.declared.reads.ReadAsked.{ReadAsked}
 use Rattle.sr_args.specs.declared.reads.ReadAsked.TheVariants as asked
 use Rattle.sr_entries.specs.declared.entry.Entry.{Entry}
-use Rattle.sr_entries.specs.Entries.{entry_with}
-use Rattle.sr_group.specs.Delivery.{after_delivery, after_history, history_of, new_entries}
-use Rattle.sr_group.specs.Group.{GroupState}
+use Rattle.sr_entries.specs.{entry_with}
+use Rattle.sr_group.specs.{history_of, new_entries, GroupState}
+use Rattle.sr_group.specs.Delivery.{after_delivery, after_history}
 use Rattle.sr_pending.specs.declared.nack.Nack.{Nack}
 use Rattle.sr_resp.specs.declared.code.ErrCode.TheVariants as errors
-use Rattle.sr_resp.specs.Reply.{Answer, array_of, bulk_string, error_reply, null_array}
-use Rattle.sr_stream.specs.Groups.{group_with, has_group}
-use Rattle.sr_stream.specs.Stream.{StreamState}
+use Rattle.sr_resp.specs.{ReplyParts, array_of, bulk_string, error_reply}
+use Rattle.sr_resp.specs.Reply.{null_array}
+use Rattle.sr_stream.specs.{group_with, has_group, StreamState}
 use Rattle.sr_space.specs.EntryReply.{entry_answer}
 use Rattle.sr_space.specs.Grouped.{regrouped}
 use Rattle.sr_space.specs.Keys.{Key, Keys, stream_at}
@@ -25,22 +25,22 @@ use Rattle.sr_space.specs.commands.Xread.{entries_of_key, listed_or_null}
 -- what a read leaves of a group, and what it lists of its stream
 pub record GroupRead : Type 0 where
   pub group : GroupState
-  pub listed : List Answer
+  pub listed : List ReplyParts
 
 -- a pending entry as it is listed: the entry, or [id, null array] if the stream has it no longer
-abbrev pub again_answer : Id → Option Entry → Answer
+abbrev pub again_answer : Id → Option Entry → ReplyParts
 again_answer id None = array_of (bulk_string (spelling id) ∷ null_array ∷ [])
 again_answer id (Some entry) = entry_answer entry
 
 -- [key, pending entries], even if there are none
-abbrev pub history_answer : Key → List Entry → List Nack → Answer
+abbrev pub history_answer : Key → List Entry → List Nack → ReplyParts
 history_answer key entries history =
     array_of (bulk_string key ∷ array_of (map (λ nack. again_answer nack.id (entry_with nack.id entries)) history) ∷ [])
 
 -- what a command on several streams leaves of one of them, if it writes there, and what it lists of it
 pub record StreamRead : Type 0 where
   pub written : Option StreamState
-  pub listed : List Answer
+  pub listed : List ReplyParts
 
 -- the stream has the group
 abbrev pub has_group_in : List ℕ → Option StreamState → Bool
@@ -79,7 +79,7 @@ module _ (moment : ℕ) (name consumer : List ℕ) (count : Option ℕ) (no_ack 
   read_stream asked key (Some stream) = read_found asked key stream (group_with name stream.groups)
 
   -- what is listed of the streams, in the order in which they are named
-  abbrev pub listed_of_all : Keys → List (Key × ReadAsked) → List Answer
+  abbrev pub listed_of_all : Keys → List (Key × ReadAsked) → List ReplyParts
   listed_of_all keys streams = flat_map (λ stream. (read_stream stream.1 stream.0 (stream_at keys stream.0)).listed)
       streams
 

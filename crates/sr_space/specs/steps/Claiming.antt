@@ -2,11 +2,10 @@
 
 use Rattle.std.specs.Prelude.{ℕ, List, map, Option, Some, None, pos, true}
 use Rattle.sr_args.specs.declared.commands.xclaim.TimeAsked.TheVariants.{Now}
-use Rattle.sr_group.specs.Claim.{MoveState, after_moves}
-use Rattle.sr_group.specs.Group.{GroupState}
-use Rattle.sr_plan.specs.Batches.{BatchState}
-use Rattle.sr_stream.specs.Groups.{group_with, with_group}
-use Rattle.sr_stream.specs.Stream.{StreamState, with_groups}
+use Rattle.sr_group.specs.{after_moves, GroupState}
+use Rattle.sr_group.specs.Claim.{MoveState}
+use Rattle.sr_plan.specs.{BatchState}
+use Rattle.sr_stream.specs.{group_with, with_group, StreamState, with_groups}
 use Rattle.sr_space.specs.Bounds.{in_63_bits}
 use Rattle.sr_space.specs.commands.Xclaim.{claim_of}
 

@@ -4,15 +4,14 @@ use Rattle.std.specs.Prelude.{◌≡◌, ◌≢◌, ℕ, IsTrue, List, [], ◌�
 use Rattle.std.specs.Cmp.Lexicographic.{pointwise}
 use Rattle.std.specs.Map.{lookup}
 use Rattle.sr_args.specs.declared.reads.ReadAsked.{ReadAsked}
-use Rattle.sr_args.specs.Different.{IsAmong}
+use Rattle.sr_args.specs.{IsAmong}
 use Rattle.sr_entries.specs.declared.entry.Entry.{Entry}
-use Rattle.sr_entries.specs.Entries.{entry_with}
+use Rattle.sr_entries.specs.{entry_with}
 use Rattle.sr_group.specs.declared.shown.Listed.{Listed}
-use Rattle.sr_group.specs.Group.{GroupState, KeptGroup}
-use Rattle.sr_group.specs.Shown.{HasRoomFor, ShownState, after_showing}
-use Rattle.sr_resp.specs.Reply.{Answer, array_of, bulk_string}
-use Rattle.sr_stream.specs.Groups.{group_with, has_group, with_group}
-use Rattle.sr_stream.specs.Stream.{StreamState, KeptStream, with_groups}
+use Rattle.sr_group.specs.{GroupState, KeptGroup, HasRoomFor, after_showing}
+use Rattle.sr_group.specs.Shown.{ShownState}
+use Rattle.sr_resp.specs.{ReplyParts, array_of, bulk_string}
+use Rattle.sr_stream.specs.{group_with, has_group, with_group, StreamState, KeptStream, with_groups}
 use Rattle.sr_space.specs.declared.commands.xreadgroup.GroupRead.{GroupRead}
 use Rattle.sr_space.specs.Bounds.{in_63_bits}
 use Rattle.sr_space.specs.Keys.{Key, Keys}
@@ -34,7 +33,7 @@ in_group r = xreadgroup.read_group (in_63_bits r.moment) r.group.now r.consumer.
 abbrev pub in_stream : GroupRead → ReadAsked → Key → Option StreamState → xreadgroup.StreamRead
 in_stream r = xreadgroup.read_stream (in_63_bits r.moment) r.group.now r.consumer.now (count_of r.count) r.no_ack
 
-abbrev pub listed_by : GroupRead → Keys → List (Key × ReadAsked) → List Answer
+abbrev pub listed_by : GroupRead → Keys → List (Key × ReadAsked) → List ReplyParts
 listed_by r = xreadgroup.listed_of_all (in_63_bits r.moment) r.group.now r.consumer.now (count_of r.count) r.no_ack
 
 abbrev pub keys_after : GroupRead → Keys → List (Key × ReadAsked) → Keys
@@ -44,7 +43,7 @@ abbrev pub by_read : GroupRead → List (Key × ReadAsked) → Keys → Executed
 by_read r = xreadgroup.xreadgroup (in_63_bits r.moment) r.group.now r.consumer.now (count_of r.count) r.no_ack
 
 -- a key with pending entries that are listed
-abbrev pub history_item : Key → List Entry → List Listed → Answer
+abbrev pub history_item : Key → List Entry → List Listed → ReplyParts
 history_item key entries listed =
     array_of (bulk_string key
     ∷ array_of (map (λ item. xreadgroup.again_answer item.id (entry_with item.id entries)) listed) ∷ [])

@@ -2,15 +2,15 @@
 
 use Rattle.std.specs.Prelude.{ℕ, List, [], ◌∷◌, not, filter, length, Option, Some, None}
 use Rattle.std.specs.List.{count_by, flat_map}
-use Rattle.sr_bytes.specs.Order.{comes_before}
+use Rattle.sr_bytes.specs.{comes_before}
 use Rattle.sr_ids.specs.declared.id.Id.{Id}
 use Rattle.sr_entries.specs.declared.entry.Entry.{Entry}
-use Rattle.sr_entries.specs.Entries.{has_id}
+use Rattle.sr_entries.specs.{has_id}
 use Rattle.sr_pending.specs.declared.nack.Nack.{Nack}
-use Rattle.sr_pending.specs.Pending.{owned_by}
+use Rattle.sr_pending.specs.{owned_by}
 use Rattle.sr_policy.specs.declared.live.Live.{Live}
-use Rattle.sr_policy.specs.Rules.{Rules, Text, live_of}
-use Rattle.sr_policy.specs.Snapshot.{is_among}
+use Rattle.sr_policy.specs.{Text, live_of, is_among}
+use Rattle.sr_policy.specs.Rules.{Rules}
 use Rattle.sr_space.specs.Snap.{listed, of_dead}
 
 -- what is pending for these consumers, one after the other

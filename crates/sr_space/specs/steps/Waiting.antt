@@ -6,10 +6,9 @@ use Rattle.sr_args.specs.declared.call.Position.{Position}
 use Rattle.sr_args.specs.declared.reads.ReadAsked.{ReadAsked}
 use Rattle.sr_args.specs.declared.reads.ReadAsked.TheVariants as asked
 use Rattle.sr_entries.specs.declared.entry.Entry.{Entry}
-use Rattle.sr_entries.specs.Entries.{entries_above}
-use Rattle.sr_group.specs.Group.{GroupState}
-use Rattle.sr_stream.specs.Groups.{group_with}
-use Rattle.sr_stream.specs.Stream.{StreamState}
+use Rattle.sr_entries.specs.{entries_above}
+use Rattle.sr_group.specs.{GroupState}
+use Rattle.sr_stream.specs.{group_with, StreamState}
 use Rattle.sr_space.specs.Blocking.{is_nothing}
 use Rattle.sr_space.specs.Keys.{Key, Keys, entries_of, stream_at}
 use Rattle.sr_space.specs.commands.Xread.{read_from}

@@ -1,6 +1,7 @@
 ghost use Rattle.std.specs.Prelude.{◌≡◌, ◌^◌, ◌<◌, ◌++◌, true, List, IfOk, IfSome, OnOk};
-ghost use Rattle.sr_group.specs.Shown.{listed_of};
-ghost use Rattle.sr_resp.specs.Reply.{Answer, IsArray, array_of};
+ghost use Rattle.sr_group.specs.{listed_of};
+ghost use Rattle.sr_resp.specs.{ReplyParts, array_of};
+ghost use Rattle.sr_resp.specs.Reply.{IsArray};
 ghost use Rattle.sr_space.specs.Bounds as bounds;
 ghost use Rattle.sr_space.specs.commands.Xclaim.{autoclaimed, claim_of, claimed, count_or_100 as or_100};
 ghost use Rattle.sr_space.specs.commands.Xclaim.{claimed_answer, claimed_reply as claimed_items, deleted_answer};
@@ -171,7 +172,7 @@ fn push_claimed(
     just_ids: bool,
 ) -> Result<(), AllocError>
     requires array { IsArray claimed.old }
-    ensures { OnOk result ((items : List Answer) → claimed.old ≡ array_of items
+    ensures { OnOk result ((items : List ReplyParts) → claimed.old ≡ array_of items
         → claimed.new ≡ array_of (items ++ claimed_items just_ids entries.now.entries id true)) }
 {
     if just_ids {

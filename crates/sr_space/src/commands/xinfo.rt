@@ -1,6 +1,6 @@
 ghost use Rattle.std.specs.Prelude.{◌≡◌, ◌^◌, ◌<◌, Some, IfOk, length, map};
 ghost use Rattle.std.specs.Option.{option_copied};
-ghost use Rattle.sr_resp.specs.Reply.{array_of};
+ghost use Rattle.sr_resp.specs.{array_of};
 ghost use Rattle.sr_space.specs.{reply_of, shown_of};
 ghost use Rattle.sr_space.specs.Bounds as bounds;
 ghost use Rattle.sr_space.specs.commands.Xinfo.{consumer_line, consumers_answer};

@@ -1,7 +1,8 @@
 ghost use Rattle.std.specs.Prelude.{◌≡◌, ◌^◌, ◌<◌, ◌++◌, List, IfOk, OnOk};
 ghost use Rattle.std.specs.Option.{option_copied};
-ghost use Rattle.sr_group.specs.Group.{counts_of};
-ghost use Rattle.sr_resp.specs.Reply.{Answer, IsArray, array_of};
+ghost use Rattle.sr_group.specs.{counts_of};
+ghost use Rattle.sr_resp.specs.{ReplyParts, array_of};
+ghost use Rattle.sr_resp.specs.Reply.{IsArray};
 ghost use Rattle.sr_space.specs.{reply_of, shown_of};
 ghost use Rattle.sr_space.specs.Bounds as bounds;
 ghost use Rattle.sr_space.specs.commands.Xpending.{at_least_0 as not_below_0, id_or_null as id_or_null_answer};
@@ -103,7 +104,7 @@ fn push_share(
     pending: u64,
 ) -> Result<(), AllocError>
     requires array { IsArray shares.old }
-    ensures { OnOk result ((items : List Answer) → shares.old ≡ array_of items
+    ensures { OnOk result ((items : List ReplyParts) → shares.old ≡ array_of items
         → shares.new ≡ array_of (items ++ share_of consumer.now.name pending)) }
 {
     if pending == 0 {

@@ -1,10 +1,11 @@
 ghost use Rattle.std.specs.Prelude.{◌≡◌, ◌++◌, IsTrue, List, Some, map, IfOk, OnOk, OnErr};
-ghost use Rattle.sr_args.specs.Different.{AreDifferent};
-ghost use Rattle.sr_entries.specs.Entries.{entry_with};
-ghost use Rattle.sr_group.specs.Shown.{HasRoomFor, after_showing, listed_of};
-ghost use Rattle.sr_resp.specs.Reply.{Answer, IsArray, array_of};
+ghost use Rattle.sr_args.specs.{AreDifferent};
+ghost use Rattle.sr_entries.specs.{entry_with};
+ghost use Rattle.sr_group.specs.{HasRoomFor, after_showing, listed_of};
+ghost use Rattle.sr_resp.specs.{ReplyParts, array_of};
+ghost use Rattle.sr_resp.specs.Reply.{IsArray};
 ghost use Rattle.sr_stream.specs.Groups as by_name;
-ghost use Rattle.sr_stream.specs.Stream.{StreamState};
+ghost use Rattle.sr_stream.specs.{StreamState};
 ghost use Rattle.sr_space.specs.Keys.{shown_keys, stream_at, with_stream};
 ghost use Rattle.sr_space.specs.Readers.{streams_at};
 ghost use Rattle.sr_space.specs.commands.Xread.{listed_or_null};
@@ -131,7 +132,7 @@ pub(crate) fn read_all(
     requires there { IsTrue (groups.have_group read.now.group.now (shown_keys keys.old.entries) streams.now) }
     ensures keys { OnOk result (shown_keys keys.new.entries
         ≡ keys_after read.now (shown_keys keys.old.entries) streams.now) }
-    ensures send { OnOk result ((items : List Answer) → send.old ≡ array_of items
+    ensures send { OnOk result ((items : List ReplyParts) → send.old ≡ array_of items
         → send.new ≡ listed_or_null (items ++ listed_by read.now (shown_keys keys.old.entries) streams.now)) }
     ensures keep { OnOk result (keep.new ≡ send.new) }
     ensures err { OnErr result (shown_keys keys.new.entries ≡ shown_keys keys.old.entries) }
@@ -165,7 +166,7 @@ fn prepare_at(
     ensures room { IfOk result (λ shown. HasRoomAt read.now.group.now shown key.now keys.new.entries) }
     ensures written { IfOk result (λ shown.
         WritesAt read.now asked key.now shown (stream_at (shown_keys keys.old.entries) key.now)) }
-    ensures listed { OnOk result ((items : List Answer) → listed.old ≡ array_of items → listed.new
+    ensures listed { OnOk result ((items : List ReplyParts) → listed.old ≡ array_of items → listed.new
         ≡ array_of (items ++ (in_stream read.now asked key.now
         (stream_at (shown_keys keys.old.entries) key.now)).listed)) }
 {
@@ -203,7 +204,7 @@ fn prepare(
     ensures shown { stream.new.shown ≡ stream.old.shown }
     ensures room { IfOk result (λ shown. HasRoomIn read.now.group.now shown stream.new) }
     ensures written { IfOk result (λ shown. Writes read.now asked key.now shown stream.old.shown) }
-    ensures listed { OnOk result ((items : List Answer) → listed.old ≡ array_of items → listed.new
+    ensures listed { OnOk result ((items : List ReplyParts) → listed.old ≡ array_of items → listed.new
         ≡ array_of (items ++ (in_stream read.now asked key.now (Some stream.old.shown)).listed)) }
 {
     stream.sound();
@@ -235,7 +236,7 @@ fn prepare_group(
     ensures effect { IfOk result (λ shown. after_showing shown group.old.shown
         ≡ (in_group read.now asked key.now entries.now.entries group.old.shown).group) }
     ensures room { IfOk result (λ shown. HasRoomFor shown group.new) }
-    ensures listed { OnOk result ((items : List Answer) → listed.old ≡ array_of items → listed.new
+    ensures listed { OnOk result ((items : List ReplyParts) → listed.old ≡ array_of items → listed.new
         ≡ array_of (items ++ (in_group read.now asked key.now entries.now.entries group.old.shown).listed)) }
 {
     let (moment, count) = (in_63_bits(read.moment), most(read.count));

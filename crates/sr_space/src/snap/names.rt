@@ -1,9 +1,10 @@
 //! Names in byte order, each once.
 ghost use Rattle.std.specs.Prelude.{◌≡◌, ◌≤◌, IsTrue, ◌↔◌, IfOk, OnOk, length, map, vec_len};
 ghost use Rattle.std.specs.List.{insert};
-ghost use Rattle.sr_bytes.specs.Order.{AreInOrder, ComesBefore};
+ghost use Rattle.sr_bytes.specs.{AreInOrder, ComesBefore};
 ghost use Rattle.sr_policy.specs.Snapshot.{is_among as among};
-ghost use Rattle.sr_space.specs.Snap.{in_order, with_name};
+ghost use Rattle.sr_bytes.specs.{with_name};
+ghost use Rattle.sr_space.specs.Snap.{in_order};
 ghost use Rattle.sr_space.specs.steps.Snapping.{count_before};
 
 use sr_bytes::Name;

@@ -1,8 +1,8 @@
 //! The parts of a snapshot: what the dead have left, and the consumers that could take it.
 ghost use Rattle.std.specs.Prelude.{◌≡◌, ◌++◌, IfOk, OnOk, length, map};
-ghost use Rattle.sr_bytes.specs.Order.{AreInOrder, ComesBefore};
-ghost use Rattle.sr_entries.specs.Entries.{entry_with, has_id};
-ghost use Rattle.sr_pending.specs.Pending.{owned_by};
+ghost use Rattle.sr_bytes.specs.{AreInOrder, ComesBefore};
+ghost use Rattle.sr_entries.specs.{entry_with, has_id};
+ghost use Rattle.sr_pending.specs.{owned_by};
 ghost use Rattle.sr_policy.specs.Rules.{class_of, live_of, rate_of, weight_of as weight};
 ghost use Rattle.sr_space.specs.Snap.{gone_in, listed, live_in, of_dead, rates_in, stranded_as, stranded_in};
 ghost use Rattle.sr_space.specs.steps.Snapping.{gone_as, there_in};

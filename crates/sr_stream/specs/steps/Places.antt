@@ -2,7 +2,7 @@
 
 use Rattle.std.specs.Prelude.{◌≡◌, ℕ, List, Some, slice_get}
 use Rattle.std.specs.List.{count_by}
-use Rattle.sr_bytes.specs.Order.{comes_before}
+use Rattle.sr_bytes.specs.{comes_before}
 use Rattle.sr_stream.specs.Groups.{ByName}
 
 -- how many groups come before the name

@@ -1,7 +1,7 @@
 use Rattle.std.proofs.Common.{sym, subst, ◌∙◌}
 use Rattle.std.proofs.lemmas.Bool.{false≢true}
 use Rattle.sr_args.specs.Name.{IsSameName}
-use Rattle.sr_args.specs.Place.{Word}
+use Rattle.sr_args.specs.FormWord.{Word}
 use Rattle.sr_args.proofs.NameLemmas.{AreUnnamed-more, unnamed-end}
 use Rattle.sr_args.proofs.name.option_named.Goals as goal
 

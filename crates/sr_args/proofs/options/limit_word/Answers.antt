@@ -2,7 +2,7 @@ use Rattle.std.proofs.Common.{◌≡◌, List, ◌++◌, Option, Some, None, inl
 use Rattle.sr_args.specs.declared.name.OptionName.TheVariants.{Limit}
 use Rattle.sr_args.specs.declared.name.Sign.{Sign}
 use Rattle.sr_args.specs.declared.name.Sign.TheVariants.{Nearly}
-use Rattle.sr_args.specs.Place.{Word, Place, nat, Fits}
+use Rattle.sr_args.specs.FormWord.{Word, FormWord, nat, Fits}
 use Rattle.sr_args.specs.Form.{IsNamedFirst, named_places}
 use Rattle.sr_args.specs.Options.{limit_places}
 use Rattle.sr_args.specs.steps.Numbers.{IsAnyWord}
@@ -14,17 +14,17 @@ places-limit : (limit : Option Word) → named_places Limit nat limit ≡ limit_
 places-limit None = refl
 places-limit (Some word) = refl
 
-fits-limit : (words : List Word) (limit : Option Word) (places : List Place) → Fits words (limit_places limit ++ places) → Fits words (named_places Limit nat limit ++ places)
-fits-limit words limit places f = subst (λ (ps : List Place). Fits words (ps ++ places)) (sym (places-limit limit)) f
+fits-limit : (words : List Word) (limit : Option Word) (places : List FormWord) → Fits words (limit_places limit ++ places) → Fits words (named_places Limit nat limit ++ places)
+fits-limit words limit places f = subst (λ (ps : List FormWord). Fits words (ps ++ places)) (sym (places-limit limit)) f
 
-named_first : (limit : Option Word) (places : List Place) → IsUnlimited places → IsNamedFirst Limit limit places
+named_first : (limit : Option Word) (places : List FormWord) → IsUnlimited places → IsNamedFirst Limit limit places
 named_first None places u = record { unnamed = λ word words f same. u.unnamed word words same f }
 named_first (Some word) places u = tt
 
 Begins-limit : (sign : Option Sign) (limit : Option Word) (words rest : List Word) → Begins (named_places Limit nat) IsAnyWord (IsNamedFirst Limit) words limit rest → IsLimitOf sign limit → Begins limit_places (IsLimitOf sign) IsUnlimitedAfter words limit rest
 Begins-limit sign limit words rest b right = record {
   right = right;
-  fits = λ places f. subst (λ (ps : List Place). Fits words (ps ++ places)) (places-limit limit) (b.fits places f);
+  fits = λ places f. subst (λ (ps : List FormWord). Fits words (ps ++ places)) (places-limit limit) (b.fits places f);
   only = λ other places r u f. b.only other places tt (named_first other places u) (fits-limit words other places f);
 }
 

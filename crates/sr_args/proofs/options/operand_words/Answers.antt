@@ -2,7 +2,7 @@ use Rattle.std.proofs.Common.{refl}
 use Rattle.sr_args.specs.declared.name.Measure.TheVariants.{MaxLen, MinId}
 use Rattle.sr_args.specs.declared.name.OptionName.TheVariants as names
 use Rattle.sr_args.specs.declared.options.OptionWords.TheVariants as words
-use Rattle.sr_args.specs.Place.{nat, numeric}
+use Rattle.sr_args.specs.FormWord.{nat, numeric}
 use Rattle.sr_args.specs.Options.{count, no_make, make_key, ids_only, idle, since, deliveries, no_ack, block, count_place}
 use Rattle.sr_args.specs.steps.Options.{trim_reading}
 use Rattle.sr_args.proofs.PartLemmas.{BeginsNone-group, BeginsNone-trimming, BeginsNone-word, Begins-bare, Begins-group, Begins-trimming, Begins-word, count-stands, mapped-none, mapped-some, shorter}

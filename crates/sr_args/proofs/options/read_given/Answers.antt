@@ -1,5 +1,5 @@
 use Rattle.std.proofs.Common.{◌≡◌, ◌∙◌, ℕ, List, [], ◌∷◌, ◌++◌, get_or, set, Option, true, false, ap, sym, subst}
-use Rattle.sr_args.specs.Place.{Word}
+use Rattle.sr_args.specs.FormWord.{Word}
 use Rattle.std.specs.Option.{option_or}
 use Rattle.sr_args.specs.Options.{kind, group_in_one}
 use Rattle.sr_args.specs.steps.Options.{AreSeen, BeginsOptions, index_of, written_of}

@@ -1,5 +1,5 @@
 use Rattle.std.proofs.Common.{◌<◌, arith, rules}
-use Rattle.sr_args.specs.Place.{strict_id, spelled, HasId}
+use Rattle.sr_args.specs.FormWord.{strict_id, spelled, HasId}
 use Rattle.sr_args.proofs.IdsLemmas.{HasIds-next, HasIds-with}
 use Rattle.sr_args.proofs.value.are_first_ids.Goals as goal
 

@@ -1,5 +1,5 @@
 use Rattle.std.proofs.Common.{map, take}
-use Rattle.sr_args.specs.Place.{strict_id, spelled, HasIds}
+use Rattle.sr_args.specs.FormWord.{strict_id, spelled, HasIds}
 use Rattle.sr_args.proofs.value.are_first_ids.Given as goal
 
 abbrev pub invariant-loop-left : goal.invariant-loop-left

@@ -1,7 +1,7 @@
 use Rattle.std.proofs.lemmas.Result.{IfOk-from_err}
 use Rattle.std.proofs.Common.{◌≡◌, ◌<◌, [], take, rules, append-nil, sym, subst, List}
-use Rattle.sr_ids.specs.Spelling.{SpellsId}
-use Rattle.sr_args.specs.Place.{Word, strict_id}
+use Rattle.sr_ids.specs.{SpellsId}
+use Rattle.sr_args.specs.FormWord.{Word, strict_id}
 use Rattle.sr_args.specs.Form.{AreIds}
 use Rattle.sr_args.proofs.IdsLemmas.{HasIds-next, AreIds-more, take-none}
 use Rattle.sr_args.proofs.value.copy_first_ids.Goals.{else-loop-left-test, then-loop-left-test+in_default}

@@ -1,6 +1,6 @@
 use Rattle.std.proofs.Common.{◌++◌, List, map, take}
 use Rattle.sr_ids.specs.declared.id.Id.{Id}
-use Rattle.sr_args.specs.Place.{strict_id, spelled, HasIds}
+use Rattle.sr_args.specs.FormWord.{strict_id, spelled, HasIds}
 use Rattle.sr_args.specs.Form.{AreIds}
 use Rattle.sr_args.proofs.value.copy_first_ids.Given as goal
 

@@ -1,7 +1,7 @@
 use Rattle.std.proofs.Common.{◌≡◌, List, [], ◌∷◌, ◌++◌, Option, Some, None, refl, subst}
 use Rattle.sr_args.specs.declared.name.OptionName.{OptionName}
 use Rattle.sr_args.specs.Name.{IsSameName, option_text}
-use Rattle.sr_args.specs.Place.{Word, Place, Range, Fits}
+use Rattle.sr_args.specs.FormWord.{Word, FormWord, Range, Fits}
 use Rattle.sr_args.specs.Form.{IsNamedFirst, named_places}
 use Rattle.sr_args.specs.steps.Numbers.{IsAnyWord, IsPastNumber}
 use Rattle.sr_args.specs.steps.Options.{Begins}
@@ -15,7 +15,7 @@ past : (name : OptionName) (words left : List Word) (seen : Word) → words ≡ 
 past name words left seen e differs word rest f same = let one : word ≡ seen = cc in differs (subst (λ (w : Word). IsSameName w (option_text name)) one same)
 
 -- so the option is left out
-left_out : (name : OptionName) (range : Range) (words : List Word) (other : Option Word) (places : List Place) → IsPastNumber name None words → Fits words (named_places name range other ++ places) → (other ≡ None) × Fits words places
+left_out : (name : OptionName) (range : Range) (words : List Word) (other : Option Word) (places : List FormWord) → IsPastNumber name None words → Fits words (named_places name range other ++ places) → (other ≡ None) × Fits words places
 left_out name range words None places p f = (refl, f)
 left_out name range [] (Some number) places p f = absurd f
 left_out name range (word ∷ words) (Some number) places p f = absurd (p word words refl f.0)

@@ -1,6 +1,6 @@
 use Rattle.std.proofs.Common.{rules, ◌≡◌, ℕ, List, codes}
 use Rattle.sr_ids.specs.declared.id.Id.{Id}
-use Rattle.sr_ids.specs.Spelling.{SpellsId}
+use Rattle.sr_ids.specs.{SpellsId}
 use Rattle.sr_args.specs.declared.reads.ReadAsked.{ReadAsked}
 use Rattle.sr_args.specs.declared.reads.ReadAsked.TheVariants.{New, PendingAfter}
 use Rattle.sr_args.specs.Position.{SpellsRead}

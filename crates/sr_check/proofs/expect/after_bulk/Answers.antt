@@ -1,5 +1,5 @@
 use Rattle.std.proofs.Common.{rules, ◌≢◌, ◌<◌, ◌^◌, length}
-use Rattle.sr_resp.specs.Reply.{Bulk}
+use Rattle.sr_resp.specs.{Bulk}
 use Rattle.sr_check.proofs.BeginsLemmas.{other_part}
 use Rattle.sr_check.proofs.expect.after_bulk.Goals as goal
 

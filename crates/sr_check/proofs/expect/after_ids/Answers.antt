@@ -1,13 +1,13 @@
 use Rattle.std.proofs.Common.{◌+◌, ◌∷◌, length, map, drop}
 use Rattle.sr_ids.specs.declared.id.Id.{Id}
-use Rattle.sr_policy.specs.Rules.{Text}
-use Rattle.sr_resp.specs.Reply.{Answer}
+use Rattle.sr_policy.specs.{Text}
+use Rattle.sr_resp.specs.{ReplyParts}
 use Rattle.sr_check.specs.PlanReply.{id_answer}
 use Rattle.sr_check.proofs.ListLemmas.{AreLeft-same, AreLeft-more, AreLeft-stuck, array-items, no_array, next_of}
 use Rattle.sr_check.proofs.ListLemmas.{count_of}
 use Rattle.sr_check.proofs.expect.after_ids.Goals as goal
 
-abbrev item : Id × Text → Answer
+abbrev item : Id × Text → ReplyParts
 item entry = id_answer entry.0
 
 pub returns-in_err-left-clause-none : goal.returns-in_err-left-clause-none

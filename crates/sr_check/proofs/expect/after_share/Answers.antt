@@ -1,5 +1,5 @@
 use Rattle.std.proofs.Common.{rules, ◌++◌, pos, ℕ, List}
-use Rattle.sr_resp.specs.Reply.{array_header, bulk_string, integer}
+use Rattle.sr_resp.specs.{array_header, bulk_string, integer}
 use Rattle.sr_resp.proofs.DecodingLemmas.{none-weaker}
 use Rattle.sr_check.specs.steps.Read.{Begins}
 use Rattle.sr_check.proofs.BeginsLemmas.{Begins-front, Begins-rest}

@@ -1,4 +1,4 @@
-use Rattle.sr_resp.specs.Reply.{array_header, bulk_string}
+use Rattle.sr_resp.specs.{array_header, bulk_string}
 use Rattle.sr_resp.proofs.DecodingLemmas.{none-weaker}
 use Rattle.sr_check.proofs.BeginsLemmas.{Begins-rest}
 use Rattle.sr_check.proofs.judge.after_word.Goals as goal

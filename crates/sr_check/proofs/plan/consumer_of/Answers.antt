@@ -1,6 +1,6 @@
 use Rattle.std.proofs.Common.{rules, ◌≡◌, ◌≢◌, ◌∙◌, ℕ, sym, ap, below_more}
 use Rattle.sr_policy.specs.declared.live.Live.{Live}
-use Rattle.sr_check.specs.Answer.{name_at}
+use Rattle.sr_check.specs.PlanAnswer.{name_at}
 use Rattle.sr_check.proofs.OrderLemmas.{name_at-is}
 use Rattle.sr_check.proofs.plan.consumer_of.Goals as goal
 

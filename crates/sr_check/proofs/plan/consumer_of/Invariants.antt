@@ -1,5 +1,5 @@
 use Rattle.std.proofs.Common.{◌≡◌, ℕ, ◌<◌}
-use Rattle.sr_check.specs.Answer.{name_at}
+use Rattle.sr_check.specs.PlanAnswer.{name_at}
 use Rattle.sr_check.proofs.plan.consumer_of.Given as goal
 
 abbrev pub invariant-loop-number : goal.invariant-loop-number

@@ -1,4 +1,4 @@
-use Rattle.sr_check.specs.Answer.{name_at}
+use Rattle.sr_check.specs.PlanAnswer.{name_at}
 use Rattle.sr_check.proofs.MoveLemmas.{no_move-header, no_move-id, move-name, no_move-name}
 use Rattle.sr_check.proofs.plan.first_move.Goals as goal
 

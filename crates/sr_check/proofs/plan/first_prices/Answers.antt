@@ -1,6 +1,6 @@
 use Rattle.std.proofs.Common.{rules, ◌≡◌, ◌+◌, ℕ, List, true, false, ap}
 use Rattle.std.specs.Option.{is_none}
-use Rattle.sr_resp.specs.Reply.{bulk_string}
+use Rattle.sr_resp.specs.{bulk_string}
 use Rattle.sr_check.specs.steps.Read.{Begins}
 use Rattle.sr_check.proofs.PriceLemmas.{one_tier, two_tiers, no_prices-header, no_prices-name, no_prices-first}
 use Rattle.sr_check.proofs.PriceLemmas.{no_prices-second, HasPrices-one_tier, HasPrices-two_tiers}

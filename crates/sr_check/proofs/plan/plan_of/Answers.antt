@@ -1,7 +1,8 @@
 use Rattle.std.proofs.Common.{◌≡◌, ℕ, true, List, [], sym, subst, ◌∙◌, true≢false}
 use Rattle.std.proofs.lemmas.Result.{IfOk-from_err}
 use Rattle.sr_policy.specs.declared.live.Live.{Live}
-use Rattle.sr_policy.specs.Snapshot.{AreInOrder, ComesBefore}
+use Rattle.sr_policy.specs.{AreInOrder}
+use Rattle.sr_policy.specs.Snapshot.{ComesBefore}
 use Rattle.sr_resp.proofs.DecodingLemmas.{empty-true, true-empty}
 use Rattle.sr_check.specs.steps.Read.{Begins, gone_ids}
 use Rattle.sr_check.proofs.BeginsLemmas.{Begins-one}

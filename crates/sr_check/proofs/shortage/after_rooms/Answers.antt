@@ -1,6 +1,6 @@
 use Rattle.std.proofs.Common.{◌∙◌, ℕ, List, map, sym, subst, arith}
 use Rattle.sr_policy.specs.declared.live.Live.{Live}
-use Rattle.sr_policy.specs.Problem.{room_at}
+use Rattle.sr_policy.specs.{room_at}
 use Rattle.sr_check.specs.PlanReply.{reached_from, share_answer}
 use Rattle.sr_check.specs.steps.Read.{Begins, rooms_answer}
 use Rattle.sr_check.proofs.ListLemmas.{AreLeft-start, array-begins, array-items, no_array, count_of, one_room}

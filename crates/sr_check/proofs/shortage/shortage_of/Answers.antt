@@ -1,9 +1,9 @@
 use Rattle.std.proofs.Common.{◌≡◌, ◌∙◌, ℕ, pos, true, [], List, All, ◌<◌, length, sym, ap, subst, true≢false, arith}
 use Rattle.std.proofs.lemmas.Result.{IfOk-from_err}
-use Rattle.sr_ids.specs.Id.{IsBelow}
-use Rattle.sr_policy.specs.Snapshot.{AreInOrder}
+use Rattle.sr_ids.specs.{IsBelow}
+use Rattle.sr_policy.specs.{AreInOrder}
 use Rattle.sr_policy.specs.declared.stranded.Stranded.{Stranded}
-use Rattle.sr_resp.specs.Reply.{integer}
+use Rattle.sr_resp.specs.{integer}
 use Rattle.sr_resp.proofs.DecodingLemmas.{empty-true, true-empty}
 use Rattle.sr_transport.specs.Certificate.{places_of}
 use Rattle.sr_check.specs.steps.Read.{Begins, HasChosen, ids_of, rooms_answer}

@@ -1,6 +1,6 @@
 use Rattle.std.proofs.Common.{rules, ◌≡◌, ◌++◌, ◌∷◌, [], List, ℕ, decimal, length, option_map, sym, ap, append-nil, append_assoc, ◌∙◌}
 use Rattle.sr_pending.specs.declared.nack.Nack.{Nack}
-use Rattle.sr_pending.specs.Pending.{owned_by}
+use Rattle.sr_pending.specs.{owned_by}
 use Rattle.sr_group.specs.Group.{consumer_with}
 use Rattle.sr_dash.specs.Board as boards
 use Rattle.sr_dash.specs.Board.{Row, on_the_left, on_the_right, cell, cells, columns, escaped, fee_in, room_in, since, soft_in, tier_cells}

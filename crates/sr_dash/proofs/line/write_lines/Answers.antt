@@ -1,7 +1,8 @@
 use Rattle.std.proofs.Common.{◌≡◌, ℕ, ◌+◌, ◌++◌, ◌∷◌, [], List, take, sym, ap, ◌∙◌, arith}
 use Rattle.std.proofs.lemmas.List.{flat_map_more, take_all, take_more}
 use Rattle.std.proofs.lemmas.Result.{IfOk-from_err}
-use Rattle.sr_policy.specs.Rules.{Text, has_tiers}
+use Rattle.sr_policy.specs.{Text}
+use Rattle.sr_policy.specs.Rules.{has_tiers}
 use Rattle.sr_dash.specs.Board.{line, row_of}
 use Rattle.sr_dash.specs.steps.Names.{lines_of}
 use Rattle.sr_dash.proofs.line.write_lines.Goals as goal

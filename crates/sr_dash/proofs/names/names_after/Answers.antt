@@ -1,8 +1,8 @@
 use Rattle.std.proofs.Common.{rules, Bool, not, ◌∙◌}
 use Rattle.std.proofs.lemmas.List.Sorted.{IsPartitionPoint-from_clause}
-use Rattle.sr_bytes.specs.Order.{comes_before}
+use Rattle.sr_bytes.specs.{comes_before}
 use Rattle.sr_pending.proofs.Splitting.{Splits-point}
-use Rattle.sr_policy.specs.Rules.{Text}
+use Rattle.sr_policy.specs.{Text}
 use Rattle.sr_dash.proofs.NameLemmas.{not_after_first, drop-not_Splits, drop-whole}
 use Rattle.sr_dash.proofs.names.names_after.Goals as goal
 

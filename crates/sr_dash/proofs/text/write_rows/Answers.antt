@@ -1,11 +1,12 @@
 use Rattle.std.proofs.Common.{rules, ◌≡◌, ◌++◌, ◌+◌, ◌<◌, ◌≤◌, List, ℕ, length, get_or, drop, ap, ◌∙◌, refl}
 use Rattle.std.proofs.lemmas.List.{drop_all}
 use Rattle.std.proofs.lemmas.Result.{on_ok_weaker}
-use Rattle.sr_policy.specs.Rules.{Text, consumers_of, has_tiers}
+use Rattle.sr_policy.specs.{Text, consumers_of}
+use Rattle.sr_policy.specs.Rules.{has_tiers}
 use Rattle.sr_dash.specs.Board as boards
 use Rattle.sr_dash.specs.steps.Names.{AreRising, lines_of, merged}
 use Rattle.sr_dash.proofs.NameLemmas.{AreRising-filter, AreRising-in_order, consumers-at, lines-next, merged-all}
-use Rattle.sr_bytes.specs.Order.{comes_before}
+use Rattle.sr_bytes.specs.{comes_before}
 use Rattle.sr_dash.proofs.text.write_rows.Goals as goal
 
 pub loop-consumer-init : goal.loop-consumer-init

@@ -1,5 +1,5 @@
 use Rattle.std.proofs.Common.{◌≡◌, ◌++◌, List, ℕ, drop}
-use Rattle.sr_policy.specs.Rules.{Text, consumers_of}
+use Rattle.sr_policy.specs.{Text, consumers_of}
 use Rattle.sr_dash.specs.steps.Names.{AreRising, lines_of, merged}
 use Rattle.sr_dash.proofs.text.write_rows.Given as goal
 

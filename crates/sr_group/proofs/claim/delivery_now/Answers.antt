@@ -1,5 +1,5 @@
 use Rattle.std.proofs.Common.{rules, ◌≡◌, true, sym, ◌∙◌}
-use Rattle.sr_pending.specs.Pending.{is_below}
+use Rattle.sr_ids.specs.{is_below}
 use Rattle.sr_group.proofs.FoundLemmas.{delivery-above}
 use Rattle.sr_group.proofs.claim.delivery_now.Goals as goal
 

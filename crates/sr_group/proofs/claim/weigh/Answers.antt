@@ -1,5 +1,5 @@
 use Rattle.std.proofs.Common.{◌≡◌, true, refl, sym, ◌∙◌}
-use Rattle.sr_entries.specs.Entries.{has_id}
+use Rattle.sr_entries.specs.{has_id}
 use Rattle.sr_group.proofs.JudgeLemmas.{moves-late, stays-early}
 use Rattle.sr_group.proofs.claim.weigh.Goals as goal
 

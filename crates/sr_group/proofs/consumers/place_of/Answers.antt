@@ -1,7 +1,7 @@
 use Rattle.std.proofs.Common.{rules, ◌≡◌, ◌≤◌, ◌<◌, Bool, true, false, Some, None, length, slice_get, get_or, sym, ◌∙◌, refl}
 use Rattle.std.proofs.lemmas.Option.{slice_get_past, slice_get_read}
-use Rattle.sr_bytes.specs.Order.{comes_before}
-use Rattle.sr_pending.specs.Pending.{is_same_name}
+use Rattle.sr_bytes.specs.{comes_before}
+use Rattle.sr_pending.specs.{is_same_name}
 use Rattle.sr_pending.proofs.Splitting.{Splits-counted}
 use Rattle.sr_group.specs.declared.consumer.Consumer.{Consumer}
 use Rattle.sr_group.specs.steps.Consumers.{before}

@@ -1,6 +1,6 @@
 use Rattle.std.proofs.Common.{List, sym, ap, ◌∙◌}
 use Rattle.sr_entries.specs.declared.entry.Entry.{Entry}
-use Rattle.sr_entries.specs.Entries.{last_id_or}
+use Rattle.sr_entries.specs.{last_id_or}
 use Rattle.sr_group.proofs.DeliveryLemmas.{last_id_or-end}
 use Rattle.sr_group.proofs.deliver.last_of.Goals as goal
 

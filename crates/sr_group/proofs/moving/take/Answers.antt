@@ -1,6 +1,6 @@
 use Rattle.std.proofs.Common.{◌≡◌, [], ◌∷◌, sym, refl, ◌∙◌}
 use Rattle.std.proofs.lemmas.List.Elements.{All-nil}
-use Rattle.sr_pending.specs.Pending.{with_nack}
+use Rattle.sr_pending.specs.{with_nack}
 use Rattle.sr_group.specs.declared.shown.Act.TheVariants.{Give, Forget}
 use Rattle.sr_group.specs.steps.Showing.{IsActOf}
 use Rattle.sr_group.proofs.JudgeLemmas.{Judges-none, Judges-pushed, count-known}

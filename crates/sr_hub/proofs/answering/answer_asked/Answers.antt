@@ -1,5 +1,5 @@
 use Rattle.std.proofs.Common.{subst}
-use Rattle.sr_resp.specs.Reply.{error_reply, reply_text}
+use Rattle.sr_resp.specs.{error_reply, reply_text}
 use Rattle.sr_resp.specs.declared.code.ErrCode.{ErrCode}
 use Rattle.sr_session.specs.steps.Asked.{IsAsked}
 use Rattle.sr_hub.specs.steps.Telling.{Tells}

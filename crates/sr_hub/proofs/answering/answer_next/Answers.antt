@@ -1,5 +1,5 @@
 use Rattle.std.proofs.Common.{◌≡◌, [], ap, ◌∙◌, sym, subst}
-use Rattle.sr_resp.specs.Stream.{Progress}
+use Rattle.sr_resp.specs.{Progress}
 use Rattle.sr_session.proofs.AskedLemmas.{IsAsked-read}
 use Rattle.sr_hub.specs.Line.{ConnectionState, IsLine}
 use Rattle.sr_hub.specs.declared.stage.Stage.TheVariants as stages

@@ -1,6 +1,7 @@
 use Rattle.std.proofs.Common.{ℕ, ap, refl, subst, sym}
 use Rattle.sr_book.specs.Server.{refusal}
-use Rattle.sr_book.specs.Records.{BookState, IsRefusal, next_index}
+use Rattle.sr_book.specs.{BookState, next_index}
+use Rattle.sr_book.specs.Records.{IsRefusal}
 use Rattle.sr_book.specs.declared.event.Event.TheVariants as events
 use Rattle.sr_hub.specs.steps.Calls.{hub_of, no_one}
 use Rattle.sr_hub.specs.steps.Telling.{Happens}

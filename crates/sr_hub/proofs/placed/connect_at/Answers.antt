@@ -1,6 +1,6 @@
 use Rattle.std.proofs.Common.{ap, ◌∙◌}
 use Rattle.slab.specs.Slab.{Slab, get}
-use Rattle.sr_book.specs.Records.{BookState}
+use Rattle.sr_book.specs.{BookState}
 use Rattle.sr_hub.specs.Line.{ConnectionState}
 use Rattle.sr_hub.specs.steps.Calls.{hub_of}
 use Rattle.sr_hub.proofs.GoingLemmas.{comes-at}

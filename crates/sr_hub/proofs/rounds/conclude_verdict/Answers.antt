@@ -1,5 +1,5 @@
 use Rattle.std.proofs.Common.{◌≡◌, ◌==◌, ◌∙◌, ◌-◌, suc, ap, arith, subst, sym}
-use Rattle.sr_policy.specs.Snapshot.{Shown}
+use Rattle.sr_policy.specs.{SnapshotState}
 use Rattle.sr_book.specs.declared.event.Event.{Event}
 use Rattle.sr_book.specs.declared.event.Event.TheVariants as events
 use Rattle.sr_book.specs.declared.event.Out.TheVariants as outs
@@ -36,7 +36,7 @@ returns-in-Stale-clause-moves c = λ stage concludes.
     let some = some-later c.args.round.later (subst (IsConcludeOut (c.args.round.later == 0)) c.in-Stale.is comes) in
     let less : suc (c.args.round.later - 1) ≡ c.args.round.later = omega (arith, some) in
     concluded-stale c.args.book.now line c.args.moment c.said.new.book c.pass_to.new.self c.args.verdict c.args.round.apply c.args.round.later concludes c.keep.result (c.args.round.later - 1) less
-    (comes-same _ _ _ _ _ _ _ same (c.in-Stale.is ∙ ap (λ (shown : Shown). outs.Stale shown) (sym c.keep.ensures)) c.in-Ok.ensures.ok) c.pass_to.ensures
+    (comes-same _ _ _ _ _ _ _ same (c.in-Stale.is ∙ ap (λ (shown : SnapshotState). outs.Stale shown) (sym c.keep.ensures)) c.in-Ok.ensures.ok) c.pass_to.ensures
 
 pub returns-in-Err-clause-moves : goal.returns-in-Err-clause-moves
 returns-in-Err-clause-moves c = λ stage concludes.

@@ -1,6 +1,6 @@
 use Rattle.std.proofs.Common.{◌≡◌, ◌∙◌, ◌-◌, suc, max, ap, arith, refl, subst, sym}
 use Rattle.sr_args.specs.declared.call.Command.TheVariants as commands
-use Rattle.sr_policy.specs.Snapshot.{Shown}
+use Rattle.sr_policy.specs.{SnapshotState}
 use Rattle.sr_book.specs.declared.event.Event.{Event}
 use Rattle.sr_book.specs.declared.event.Event.TheVariants as events
 use Rattle.sr_book.specs.declared.event.Out.TheVariants as outs
@@ -32,7 +32,7 @@ returns-in-Snap-clause-answers c = λ words is.
     let judging : Judging = record { apply = r.apply; later = c.max-later.result - 1; snapshot = c.keep.result } in
     let later : suc (c.max-later.result - 1) ≡ max r.tries 1 = omega (arith, c.max-later.ensures) in
     answers-snapped words r.apply r.tries r.key r.group r.dead c.args.book.now c.args.connection.now c.args.moment c.said.new.book c.pass_to.new.self judging is
-    (comes-same _ _ _ _ _ _ _ same (c.in-Snap.is ∙ ap (λ (shown : Shown). outs.Snap shown) (sym c.keep.ensures)) c.in-Ok.ensures.ok) refl later c.pass_to.ensures
+    (comes-same _ _ _ _ _ _ _ same (c.in-Snap.is ∙ ap (λ (shown : SnapshotState). outs.Snap shown) (sym c.keep.ensures)) c.in-Ok.ensures.ok) refl later c.pass_to.ensures
 
 pub returns-in-Err-clause-answers : goal.returns-in-Err-clause-answers
 returns-in-Err-clause-answers c = λ words is.

@@ -1,6 +1,6 @@
 use Rattle.std.proofs.Common.{◌≡◌, ◌++◌, length, map, take}
 use Rattle.std.specs.List.{flat_map}
-use Rattle.sr_peer.specs.Reply.{Array, Bulk, part_text}
+use Rattle.sr_peer.specs.{Array, Bulk, part_text}
 use Rattle.sr_live.proofs.looking.append_request.Given as goal
 
 abbrev pub invariant-loop-word : goal.invariant-loop-word

@@ -1,7 +1,7 @@
 use Rattle.std.proofs.Common.{[]}
 use Rattle.sr_ids.specs.declared.id.Id.{Id}
-use Rattle.sr_policy.specs.Rules.{Text}
-use Rattle.sr_peer.specs.Reply.{request_text}
+use Rattle.sr_policy.specs.{Text}
+use Rattle.sr_peer.specs.{request_text}
 use Rattle.sr_live.specs.Looking.{entry_call}
 use Rattle.sr_live.proofs.LookingLemmas.{written-all, written-next}
 use Rattle.sr_live.proofs.looking.entry_requests.Goals as goal

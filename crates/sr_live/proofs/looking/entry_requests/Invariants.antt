@@ -1,6 +1,6 @@
 use Rattle.std.proofs.Common.{◌≡◌, take}
 use Rattle.std.specs.List.{flat_map}
-use Rattle.sr_peer.specs.Reply.{request_text}
+use Rattle.sr_peer.specs.{request_text}
 use Rattle.sr_live.specs.Looking.{entry_call}
 use Rattle.sr_live.proofs.looking.entry_requests.Given as goal
 

@@ -1,7 +1,7 @@
 use Rattle.std.proofs.Common.{rules, ◌≡◌, List, sym, subst}
 use Rattle.std.specs.List.Sorted.{IsPermutation}
 use Rattle.sr_ids.specs.declared.id.Id.{Id}
-use Rattle.sr_policy.specs.Rules.{Text}
+use Rattle.sr_policy.specs.{Text}
 use Rattle.sr_live.proofs.TalkLemmas.{looked-from}
 use Rattle.sr_live.proofs.looking.look.Goals as goal
 

@@ -1,6 +1,6 @@
 use Rattle.std.proofs.Common.{rules, ◌≡◌, ◌++◌, ◌∷◌, [], ap}
 use Rattle.std.proofs.lemmas.Result.{on_ok_weaker}
-use Rattle.sr_policy.specs.Rules.{Text}
+use Rattle.sr_policy.specs.{Text}
 use Rattle.sr_live.specs.declared.looked.Row.{Row}
 use Rattle.sr_live.proofs.LookingLemmas.{AreSaid-all, AreSaid-next, AreSaid-none, listed_of}
 use Rattle.sr_live.proofs.looking.rows_said.Goals as goal

@@ -1,7 +1,7 @@
 use Rattle.std.proofs.Common.{◌≡◌, ◌++◌, ℕ, List, codes, length, option_map}
 use Rattle.sr_policy.specs.Rules.{value_at}
 use Rattle.sr_peer.specs.Reply as wire
-use Rattle.sr_peer.specs.Shown.{part_of}
+use Rattle.sr_peer.specs.{part_of}
 use Rattle.sr_live.specs.Said.{fields_parts}
 use Rattle.sr_live.proofs.said.fields_found.Given as goal
 

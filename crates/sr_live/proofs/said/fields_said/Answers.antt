@@ -1,7 +1,7 @@
 use Rattle.std.proofs.Common.{rules, ◌≡◌, subst, arith}
 use Rattle.std.proofs.lemmas.Result.{IfOk-weaker}
 use Rattle.sr_ids.specs.declared.id.Id.{Id}
-use Rattle.sr_ids.specs.Spelling.{SpellsId}
+use Rattle.sr_ids.specs.{SpellsId}
 use Rattle.sr_live.proofs.SaidLemmas.{fields-spelled}
 use Rattle.sr_live.proofs.said.fields_said.Goals as goal
 

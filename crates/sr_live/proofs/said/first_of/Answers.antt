@@ -1,7 +1,7 @@
 use Rattle.std.proofs.Common.{◌≡◌, Option, Some, None, option_map, refl, sym, ap, ◌∙◌}
 use Rattle.std.specs.Option.{option_or}
 use Rattle.sr_peer.specs.declared.part.Part as declared
-use Rattle.sr_peer.specs.Shown.{part_of}
+use Rattle.sr_peer.specs.{part_of}
 use Rattle.sr_live.proofs.SaidLemmas.{first-named, first-other}
 use Rattle.sr_live.proofs.said.first_of.Goals as goal
 

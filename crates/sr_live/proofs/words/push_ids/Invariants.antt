@@ -1,5 +1,5 @@
 use Rattle.std.proofs.Common.{◌≡◌, ◌++◌, map, take}
-use Rattle.sr_ids.specs.Spelling.{spelling}
+use Rattle.sr_ids.specs.{spelling}
 use Rattle.sr_live.proofs.words.push_ids.Given as goal
 
 abbrev pub invariant-loop-id : goal.invariant-loop-id

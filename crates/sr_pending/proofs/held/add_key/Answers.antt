@@ -3,7 +3,7 @@ use Rattle.std.specs.HashMap.{Updates, get}
 use Rattle.std.specs.Option.{is_some}
 use Rattle.sr_pending.specs.steps.Blocks.{Laid}
 use Rattle.sr_pending.specs.Pending.{is_same_name}
-use Rattle.sr_pending.specs.steps.Held.{slots_in, spare_in}
+use Rattle.sr_pending.specs.steps.OwnedSlots.{slots_in, spare_in}
 use Rattle.sr_pending.proofs.HeldLemmas.{KeepsSlots-update}
 use Rattle.sr_pending.proofs.held.add_key.Goals as goal
 

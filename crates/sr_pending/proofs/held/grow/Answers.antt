@@ -2,7 +2,7 @@ use Rattle.std.proofs.Common.{◌≡◌, Some, ap, sym, ◌∙◌, arith}
 use Rattle.std.specs.HashMap.{Updates}
 use Rattle.sr_pending.specs.steps.Blocks.{items_of}
 use Rattle.sr_pending.specs.Pending.{is_same_name}
-use Rattle.sr_pending.specs.steps.Held.{slots_by, slots_in, spare_by, spare_in}
+use Rattle.sr_pending.specs.steps.OwnedSlots.{slots_by, slots_in, spare_by, spare_in}
 use Rattle.sr_pending.proofs.HeldLemmas.{KeepsSlots-update}
 use Rattle.sr_pending.proofs.held.grow.Goals as goal
 

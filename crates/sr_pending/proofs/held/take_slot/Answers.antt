@@ -2,7 +2,7 @@ use Rattle.std.proofs.Common.{◌≡◌, List, ap, subst, sym, ◌∙◌, ℕ}
 use Rattle.sr_pending.specs.declared.nack.Nack.{Nack}
 use Rattle.sr_pending.specs.Pending.{AreRising}
 use Rattle.sr_pending.specs.steps.Blocks.{items_of}
-use Rattle.sr_pending.specs.steps.Held.{slots_by, slots_in}
+use Rattle.sr_pending.specs.steps.OwnedSlots.{slots_by, slots_in}
 use Rattle.sr_pending.specs.steps.Slots.{nack_at, nacks_at}
 use Rattle.sr_pending.proofs.held.take_slot.Goals as goal
 

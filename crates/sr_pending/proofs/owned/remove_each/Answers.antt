@@ -4,7 +4,7 @@ use Rattle.slab.specs.Slab.{Slab}
 use Rattle.sr_pending.specs.declared.nack.Nack.{Nack}
 use Rattle.sr_pending.specs.Pending.{AreRising, is_same_name}
 use Rattle.sr_pending.specs.steps.Blocks.{items_of}
-use Rattle.sr_pending.specs.steps.Held.{slots_in}
+use Rattle.sr_pending.specs.steps.OwnedSlots.{slots_in}
 use Rattle.sr_pending.specs.steps.Slots.{nack_at, nacks_at, slots_of, slots_without, slots_without_owner}
 use Rattle.sr_pending.proofs.Dropping.{others_all, others_left, rest_left}
 use Rattle.sr_pending.proofs.NackLemmas.{AreRising-filter}

@@ -1,5 +1,5 @@
 use Rattle.std.proofs.Common.{◌≡◌, ℕ, true, false, Some, None, slice_get, ap, subst, sym, ◌∙◌}
-use Rattle.sr_pending.specs.Pending.{is_same_id}
+use Rattle.sr_ids.specs.{is_same_id}
 use Rattle.sr_pending.specs.steps.Blocks.{items_of}
 use Rattle.sr_pending.specs.steps.Search.{number_before}
 use Rattle.sr_pending.specs.steps.Slots.{nack_at}

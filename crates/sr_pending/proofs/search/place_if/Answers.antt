@@ -2,7 +2,7 @@ use Rattle.std.proofs.Common.{◌≡◌, ℕ, Bool, false, ◌<◌, ◌≤◌, L
 use Rattle.std.proofs.lemmas.List.{length-map}
 use Rattle.std.proofs.lemmas.Option.{slice_get_within}
 use Rattle.std.specs.VecDeque.{deque_items}
-use Rattle.sr_pending.specs.Pending.{is_below, is_same_id}
+use Rattle.sr_ids.specs.{is_below, is_same_id}
 use Rattle.sr_pending.specs.steps.Blocks.{at_of, items_of}
 use Rattle.sr_pending.specs.steps.Search.{IsEdge}
 use Rattle.sr_pending.specs.steps.Slots.{nack_at}

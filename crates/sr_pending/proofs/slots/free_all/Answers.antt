@@ -4,7 +4,7 @@ use Rattle.std.proofs.lemmas.List.Elements.{All-head, All-rest, All-tail}
 use Rattle.slab.specs.Slab.{Slab, ContainsKey, Updates, get, slab_len}
 use Rattle.sr_pending.specs.declared.nack.Nack.{Nack}
 use Rattle.sr_pending.specs.steps.Blocks.{items_of}
-use Rattle.sr_pending.specs.steps.Held.{slots_by, slots_in}
+use Rattle.sr_pending.specs.steps.OwnedSlots.{slots_by, slots_in}
 use Rattle.sr_pending.specs.steps.Slots.{AreDistinct, AreTaken, Frees}
 use Rattle.sr_pending.proofs.SlotLemmas.{AreSame-updated, AreTaken-same}
 use Rattle.sr_pending.proofs.slots.free_all.Goals as goal

@@ -1,7 +1,7 @@
 use Rattle.std.proofs.Common.{length}
 use Rattle.slab.specs.Slab.{Slab}
 use Rattle.sr_pending.specs.declared.nack.Nack.{Nack}
-use Rattle.sr_pending.specs.steps.Held.{slots_by}
+use Rattle.sr_pending.specs.steps.OwnedSlots.{slots_by}
 use Rattle.sr_pending.specs.steps.Slots.{AreDistinct, AreTaken, Frees}
 use Rattle.sr_pending.proofs.slots.free_all.Given as goal
 

@@ -1,7 +1,7 @@
 use Rattle.std.proofs.Common.{◌∙◌}
 use Rattle.sr_ids.specs.declared.id.Id.{Id}
-use Rattle.sr_policy.specs.Rules.{Text}
-use Rattle.sr_check.specs.PlanReply.{id_answer}
+use Rattle.sr_policy.specs.{Text}
+use Rattle.sr_check.specs.{id_answer}
 use Rattle.sr_plan.proofs.PlanReplyLemmas.{IsReply-gone, list-written}
 use Rattle.sr_plan.proofs.reply.gone_reply.Goals as goal
 

@@ -1,5 +1,5 @@
 use Rattle.std.proofs.Common.{◌∙◌}
-use Rattle.sr_check.specs.PlanReply.{id_answer}
+use Rattle.sr_check.specs.{id_answer}
 use Rattle.sr_plan.proofs.ArrayLemmas.{map-written}
 use Rattle.sr_plan.proofs.PlanReplyLemmas.{IsReply-ids}
 use Rattle.sr_plan.proofs.reply.ids_reply.Goals as goal

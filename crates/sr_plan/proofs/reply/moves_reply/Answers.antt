@@ -1,5 +1,5 @@
 use Rattle.std.proofs.Common.{◌∙◌}
-use Rattle.sr_check.specs.PlanReply.{move_answer}
+use Rattle.sr_check.specs.{move_answer}
 use Rattle.sr_plan.proofs.ArrayLemmas.{map-written}
 use Rattle.sr_plan.proofs.PlanReplyLemmas.{IsReply-moves}
 use Rattle.sr_plan.proofs.reply.moves_reply.Goals as goal

@@ -1,7 +1,7 @@
 use Rattle.std.proofs.Common.{◌≡◌, ◌++◌, length}
 use Rattle.std.specs.List.{flat_map}
-use Rattle.sr_resp.specs.Reply.{array_header}
-use Rattle.sr_check.specs.PlanReply.{move_answer}
+use Rattle.sr_resp.specs.{array_header}
+use Rattle.sr_check.specs.{move_answer}
 use Rattle.sr_plan.proofs.reply.moves_reply.Given as goal
 
 abbrev pub invariant-loop-id : goal.invariant-loop-id

@@ -4,9 +4,9 @@ use Rattle.std.proofs.lemmas.Result.{IfOk-from_err, IfOk-weaker}
 use Rattle.sr_ids.specs.declared.id.Id.{Id}
 use Rattle.sr_policy.specs.declared.live.Live.{Live}
 use Rattle.sr_policy.specs.declared.stranded.Stranded.{Stranded}
-use Rattle.sr_policy.specs.Rules.{Text}
-use Rattle.sr_resp.specs.Reply.{array_of, bulk_string}
-use Rattle.sr_check.specs.PlanReply.{id_answer, move_answer, price_answer}
+use Rattle.sr_policy.specs.{Text}
+use Rattle.sr_resp.specs.{array_of, bulk_string}
+use Rattle.sr_check.specs.{id_answer, move_answer, price_answer}
 use Rattle.sr_plan.specs.Verdict.{name_at, prices_by}
 use Rattle.sr_plan.proofs.BestLemmas.{AreMoves-best, ArePrices-best}
 use Rattle.sr_plan.proofs.MovesLemmas.{prices-told}

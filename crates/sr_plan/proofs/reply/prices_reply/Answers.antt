@@ -1,8 +1,7 @@
 use Rattle.std.proofs.Common.{◌∷◌, ◌∙◌}
 use Rattle.std.specs.List.{All}
 use Rattle.std.proofs.lemmas.List.Elements.{All-head, All-tail}
-use Rattle.sr_check.specs.Answer.{AreTold}
-use Rattle.sr_check.specs.PlanReply.{price_answer}
+use Rattle.sr_check.specs.{AreTold, price_answer}
 use Rattle.sr_plan.proofs.ArrayLemmas.{map-written}
 use Rattle.sr_plan.proofs.PlanReplyLemmas.{IsReply-prices, prices-more}
 use Rattle.sr_plan.proofs.reply.prices_reply.Goals as goal

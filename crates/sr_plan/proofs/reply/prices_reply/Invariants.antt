@@ -1,8 +1,7 @@
 use Rattle.std.proofs.Common.{◌≡◌, ◌++◌, length}
 use Rattle.std.specs.List.{All, flat_map}
-use Rattle.sr_resp.specs.Reply.{array_header}
-use Rattle.sr_check.specs.Answer.{AreTold}
-use Rattle.sr_check.specs.PlanReply.{price_answer}
+use Rattle.sr_resp.specs.{array_header}
+use Rattle.sr_check.specs.{AreTold, price_answer}
 use Rattle.sr_plan.proofs.reply.prices_reply.Given as goal
 
 abbrev pub invariant-loop-consumer : goal.invariant-loop-consumer

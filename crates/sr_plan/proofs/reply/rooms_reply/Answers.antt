@@ -2,8 +2,8 @@ use Rattle.std.proofs.Common.{List, [], ◌∙◌, map, refl, ap, sym}
 use Rattle.std.proofs.lemmas.List.{drop_all}
 use Rattle.std.proofs.lemmas.Result.{IfOk-from_err}
 use Rattle.sr_policy.specs.declared.live.Live.{Live}
-use Rattle.sr_resp.specs.Reply.{Answer, array_of}
-use Rattle.sr_check.specs.PlanReply.{share_answer, reached_from}
+use Rattle.sr_resp.specs.{ReplyParts, array_of}
+use Rattle.sr_check.specs.{share_answer, reached_from}
 use Rattle.sr_plan.proofs.ArrayLemmas.{left-none}
 use Rattle.sr_plan.proofs.PlanReplyLemmas.{room_added, room_passed}
 use Rattle.sr_plan.proofs.reply.rooms_reply.Goals as goal
@@ -44,7 +44,7 @@ pub returns : goal.returns
 returns c =
     let p = c.args.problem.now in
     let set = c.args.set.now in
-    let from : List Live → List Answer = λ live. map share_answer (reached_from p set c.loop-number.number live) in
+    let from : List Live → List ReplyParts = λ live. map share_answer (reached_from p set c.loop-number.number live) in
     left-none c.loop-number.reply _ _ c.loop-number.invariant
     (ap from (drop_all c.loop-number.number c.live-live.result.now c.loop-number-test.false))
     ∙ ap (λ (live : List Live). array_of (map share_answer (reached_from p set 0 live))) c.live-live.ensures

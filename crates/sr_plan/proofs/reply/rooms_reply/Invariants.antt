@@ -1,5 +1,5 @@
 use Rattle.std.proofs.Common.{drop, map}
-use Rattle.sr_check.specs.PlanReply.{share_answer, reached_from}
+use Rattle.sr_check.specs.{share_answer, reached_from}
 use Rattle.sr_plan.proofs.ArrayLemmas.{HasLeft}
 use Rattle.sr_plan.proofs.reply.rooms_reply.Given as goal
 

@@ -2,8 +2,8 @@ use Rattle.std.proofs.Common.{List, ◌∙◌, ap, map}
 use Rattle.std.proofs.lemmas.Result.{IfOk-weaker}
 use Rattle.sr_ids.specs.declared.id.Id.{Id}
 use Rattle.sr_policy.specs.declared.stranded.Stranded.{Stranded}
-use Rattle.sr_resp.specs.Reply.{array_of}
-use Rattle.sr_check.specs.PlanReply.{id_answer}
+use Rattle.sr_resp.specs.{array_of}
+use Rattle.sr_check.specs.{id_answer}
 use Rattle.sr_plan.specs.Verdict.{id_at}
 use Rattle.sr_plan.proofs.PlanReplyLemmas.{shortage-written}
 use Rattle.sr_plan.proofs.reply.shortage_reply.Goals as goal

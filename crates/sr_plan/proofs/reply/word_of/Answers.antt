@@ -1,5 +1,5 @@
 use Rattle.std.proofs.Common.{sym, ap}
-use Rattle.sr_check.specs.PlanReply.{plan_word}
+use Rattle.sr_check.specs.{plan_word}
 use Rattle.sr_plan.proofs.reply.word_of.Goals as goal
 
 pub returns-then-applied : goal.returns-then-applied

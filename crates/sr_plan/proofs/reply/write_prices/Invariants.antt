@@ -1,6 +1,6 @@
 use Rattle.std.proofs.Common.{◌≡◌, ◌++◌, take, pos}
 use Rattle.std.specs.List.{flat_map}
-use Rattle.sr_resp.specs.Reply.{integer}
+use Rattle.sr_resp.specs.{integer}
 use Rattle.sr_plan.proofs.reply.write_prices.Given as goal
 
 abbrev pub invariant-loop-price : goal.invariant-loop-price

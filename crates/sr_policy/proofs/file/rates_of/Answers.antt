@@ -2,7 +2,7 @@ use Rattle.std.proofs.Common.{◌≡◌, ◌∙◌, ap, map, subst, sym, unwrap_
 use Rattle.std.proofs.lemmas.Result.{IfOk-from_err}
 use Rattle.toml.specs.Data.{no_members, as_table}
 use Rattle.toml.specs.View.{view}
-use Rattle.sr_bytes.specs.Order.{AreInOrder, ComesBefore}
+use Rattle.sr_bytes.specs.{AreInOrder, ComesBefore}
 use Rattle.sr_policy.specs.File.{numbers_of}
 use Rattle.sr_policy.proofs.FileLemmas.{classes_in_order, table_found, no_table, rates_more, rates_all}
 use Rattle.sr_policy.proofs.file.rates_of.Goals as goal

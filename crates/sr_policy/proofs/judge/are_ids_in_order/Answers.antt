@@ -1,14 +1,14 @@
 use Rattle.std.proofs.Common.{◌≡◌, ◌↔◌, Bool, true, false, List, IsTrue, sym, ◌∙◌}
 use Rattle.std.proofs.lemmas.Bool.{false≢true}
 use Rattle.sr_ids.specs.declared.id.Id.{Id}
-use Rattle.sr_ids.specs.Id.{IsBelow}
+use Rattle.sr_ids.specs.{IsBelow}
 use Rattle.sr_policy.specs.declared.stranded.Stranded.{Stranded}
 use Rattle.sr_policy.specs.Rules.{Text}
-use Rattle.sr_policy.specs.Snapshot.{Shown, AreIdsInOrder, AreInOrder}
+use Rattle.sr_policy.specs.Snapshot.{SnapshotState, AreIdsInOrder, AreInOrder}
 use Rattle.sr_policy.proofs.judge.are_ids_in_order.Goals as goal
 
 -- where the ids of the stranded entries rise, those of the gone ones decide
-gone_decide : (s : Shown) (a b : Bool) (stranded : List Stranded) (gone : List (Id × Text)) → stranded ≡ s.stranded
+gone_decide : (s : SnapshotState) (a b : Bool) (stranded : List Stranded) (gone : List (Id × Text)) → stranded ≡ s.stranded
     → gone ≡ s.gone
     → a ≡ true → (IsTrue a ↔ AreInOrder (λ x y. IsBelow x.id y.id) stranded)
     → (IsTrue b ↔ AreInOrder (λ x y. IsBelow x.0 y.0) gone)
@@ -18,7 +18,7 @@ gone_decide s a b stranded gone same_stranded same_gone holds first second =
     let second_here = rw same_gone at second in
     (λ h. record { stranded = first_here.0 holds; gone = second_here.0 h }, λ all. second_here.1 all.gone)
 
-none_rise : (s : Shown) (a : Bool) (stranded : List Stranded) → stranded ≡ s.stranded → a ≡ false
+none_rise : (s : SnapshotState) (a : Bool) (stranded : List Stranded) → stranded ≡ s.stranded → a ≡ false
     → (IsTrue a ↔ AreInOrder (λ x y. IsBelow x.id y.id) stranded) → (IsTrue a ↔ AreIdsInOrder s)
 none_rise s a stranded same fails first =
     let first_here = rw same at first in

@@ -2,11 +2,11 @@ use Rattle.std.proofs.Common.{◌≡◌, ◌↔◌, Bool, true, List, All, IsTru
 use Rattle.sr_ids.specs.declared.id.Id.{Id}
 use Rattle.sr_policy.specs.declared.stranded.Stranded.{Stranded}
 use Rattle.sr_policy.specs.Rules.{Text}
-use Rattle.sr_policy.specs.Snapshot.{Shown, AreOwnersDead, is_among}
+use Rattle.sr_policy.specs.Snapshot.{SnapshotState, AreOwnersDead, is_among}
 use Rattle.sr_policy.proofs.judge.are_owners_dead.Goals as goal
 
 -- where the owners of the stranded entries are dead, those of the gone ones decide
-gone_decide : (s : Shown) (a b : Bool) (names others : List Text) (stranded : List Stranded) (gone : List (Id × Text))
+gone_decide : (s : SnapshotState) (a b : Bool) (names others : List Text) (stranded : List Stranded) (gone : List (Id × Text))
     → names ≡ s.dead → others ≡ s.dead → stranded ≡ s.stranded → gone ≡ s.gone → a ≡ true
     → (IsTrue a ↔ All (λ entry. IsTrue (is_among names entry.owner)) stranded)
     → (IsTrue b ↔ All (λ entry. IsTrue (is_among others entry.1)) gone)

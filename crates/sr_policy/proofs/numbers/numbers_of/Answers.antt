@@ -1,5 +1,5 @@
 use Rattle.std.proofs.Common.{◌∙◌, ap, map, subst, sym, unwrap_or}
-use Rattle.sr_bytes.specs.Order.{AreInOrder, ComesBefore}
+use Rattle.sr_bytes.specs.{AreInOrder, ComesBefore}
 use Rattle.sr_policy.proofs.FileLemmas.{names_in_order, numbers_more, numbers_all}
 use Rattle.sr_policy.proofs.numbers.numbers_of.Goals as goal
 

@@ -1,7 +1,7 @@
 use Rattle.std.proofs.Common.{[], ◌++◌, refl, ap, ◌∙◌, subst}
 use Rattle.std.proofs.lemmas.Result.{on_ok_weaker, IfErr-weaker}
 use Rattle.std.proofs.KnownBytes.{Appends-nil}
-use Rattle.sr_resp.specs.Reply.{reply_text, error_reply}
+use Rattle.sr_resp.specs.{reply_text, error_reply}
 use Rattle.sr_session.specs.Answered.{refuses}
 use Rattle.sr_session.specs.steps.Asked.{IsAsked}
 use Rattle.sr_session.specs.steps.Gathered.{stay, silent}

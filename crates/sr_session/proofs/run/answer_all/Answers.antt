@@ -1,8 +1,7 @@
 use Rattle.std.proofs.Common.{rules, ◌≡◌, ℕ, List, [], ◌∷◌, ◌++◌, refl, sym, ◌∙◌, subst}
 use Rattle.std.proofs.KnownBytes.{Appends-nil, Appends-trans}
 use Rattle.std.specs.Vec.Iter.{into_iter_items}
-use Rattle.sr_resp.specs.Request.{Words}
-use Rattle.sr_resp.specs.Stream.{Progress}
+use Rattle.sr_resp.specs.{Words, Progress}
 use Rattle.sr_session.specs.Desk.{IsIdle}
 use Rattle.sr_session.specs.steps.Asked.{AreAsked}
 use Rattle.sr_session.specs.steps.Underway.{IsAnswering}

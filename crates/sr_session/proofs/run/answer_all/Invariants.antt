@@ -1,9 +1,8 @@
 use Rattle.std.proofs.Common.{◌≡◌, ◌++◌, ℕ, List, Option, length}
 use Rattle.std.specs.Io.KnownBytes.{Appends}
 use Rattle.std.specs.Vec.Iter.{into_iter_items, into_iter_len}
-use Rattle.sr_resp.specs.Request.{Words}
-use Rattle.sr_resp.specs.Stream.{Progress}
-use Rattle.sr_book.specs.Records.{BookState}
+use Rattle.sr_resp.specs.{Words, Progress}
+use Rattle.sr_book.specs.{BookState}
 use Rattle.sr_session.specs.Answered.{Answers}
 use Rattle.sr_session.specs.Desk.{IsIdle}
 use Rattle.sr_session.specs.steps.Asked.{AreAsked}

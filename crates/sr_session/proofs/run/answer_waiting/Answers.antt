@@ -1,6 +1,6 @@
 use Rattle.std.proofs.Common.{[], ◌++◌, refl, sym, ap, ◌∙◌, subst}
 use Rattle.std.proofs.KnownBytes.{Appends-nil}
-use Rattle.sr_resp.specs.Stream.{Progress}
+use Rattle.sr_resp.specs.{Progress}
 use Rattle.sr_session.specs.Desk.{IsIdle}
 use Rattle.sr_session.proofs.RunLemmas.{IsNoted-err, err_as, on_ok_none}
 use Rattle.sr_session.proofs.UnderwayLemmas.{IsAnswering-start, IsCutOff-from_answering}

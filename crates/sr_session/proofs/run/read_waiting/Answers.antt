@@ -1,6 +1,5 @@
 use Rattle.std.proofs.Common.{[], ◌∷◌, ◌++◌, List, sym, ap, ◌∙◌, subst, append_assoc}
-use Rattle.sr_resp.specs.Request.{Words}
-use Rattle.sr_resp.specs.Stream.{Progress}
+use Rattle.sr_resp.specs.{Words, Progress}
 use Rattle.sr_session.specs.steps.Asked.{AreAsked}
 use Rattle.sr_session.proofs.AskedLemmas.{AreAsked-push, IsAsked-read, with_waiting}
 use Rattle.sr_session.proofs.run.read_waiting.Goals as goal

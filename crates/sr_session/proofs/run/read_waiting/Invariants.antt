@@ -1,5 +1,5 @@
 use Rattle.std.proofs.Common.{◌≡◌, List, ◌++◌, length}
-use Rattle.sr_resp.specs.Request.{Words}
+use Rattle.sr_resp.specs.{Words}
 use Rattle.sr_session.specs.steps.Asked.{AreAsked}
 use Rattle.sr_session.proofs.AskedLemmas.{with_waiting}
 use Rattle.sr_session.proofs.run.read_waiting.Given as goal

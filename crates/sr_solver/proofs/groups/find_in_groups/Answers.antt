@@ -1,7 +1,8 @@
 use Rattle.std.proofs.Common.{◌≡◌, ℕ, ◌+◌, ◌*◌, ◌<◌, List, length, get_or, ap, ◌∙◌, arith}
 use Rattle.std.proofs.Math.ListN.{set, length-set}
 use Rattle.std.proofs.lemmas.List.{get_or-set_same}
-use Rattle.sr_transport.specs.plain.Problem.{Transport, IsWithinLimits, consumers}
+use Rattle.sr_transport.specs.{Transport, consumers}
+use Rattle.sr_transport.specs.plain.Problem.{IsWithinLimits}
 use Rattle.sr_solver.specs.Groups.{IsAt, IsAtIn, AreLowsOf}
 use Rattle.sr_solver.specs.Table.{IsKnown}
 use Rattle.sr_solver.proofs.GroupLemmas.{IsLowRow, low_row, lows_noted, least_of_all}

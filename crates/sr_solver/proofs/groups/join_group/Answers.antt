@@ -1,5 +1,5 @@
 use Rattle.std.proofs.Common.{◌+◌, ◌*◌, ◌/◌, ◌<◌, ap, ◌∙◌, arith}
-use Rattle.sr_transport.specs.plain.Problem.{consumers}
+use Rattle.sr_transport.specs.{consumers}
 use Rattle.sr_solver.proofs.GroupLemmas.{low_row, group_below}
 use Rattle.sr_solver.proofs.groups.join_group.Goals as goal
 

@@ -1,6 +1,6 @@
 use Rattle.std.proofs.Common.{◌≡◌, ℕ, ◌+◌, ◌*◌, ◌<◌, ◌≤◌, length, slice_index}
-use Rattle.sr_transport.specs.Limits.{greatest_charge}
-use Rattle.sr_transport.specs.plain.Problem.{consumers, cost_of, IsAllowed}
+use Rattle.sr_transport.specs.{greatest_charge, consumers}
+use Rattle.sr_transport.specs.plain.Problem.{cost_of, IsAllowed}
 use Rattle.sr_solver.proofs.groups.join_group.Given as goal
 
 abbrev pub invariant-loop-next : goal.invariant-loop-next

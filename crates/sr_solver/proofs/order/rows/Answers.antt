@@ -1,5 +1,5 @@
 use Rattle.std.proofs.Common.{◌≡◌, sym, get_or}
-use Rattle.sr_transport.specs.plain.Problem.{consumers}
+use Rattle.sr_transport.specs.{consumers}
 use Rattle.sr_solver.specs.Order.{row_below}
 use Rattle.sr_solver.proofs.OrderLemmas.{row_is, rows_more}
 use Rattle.sr_solver.proofs.order.rows.Goals as goal

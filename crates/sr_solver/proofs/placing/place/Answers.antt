@@ -1,7 +1,7 @@
 use Rattle.std.proofs.Common.{◌≡◌, ℕ, ◌<◌, length, get_or, sym, ap, ◌∙◌, arith}
 use Rattle.std.proofs.lemmas.Bool.{false≢true}
 use Rattle.std.proofs.lemmas.List.{get_or_default, with_items_is}
-use Rattle.sr_transport.specs.plain.Problem.{consumers}
+use Rattle.sr_transport.specs.{consumers}
 use Rattle.sr_transport.proofs.PlainLimitLemmas.{room_small}
 use Rattle.sr_solver.proofs.PlaceLemmas.{are_paths, end_in_room, placed_more, loads_more, end_near, closed_near}
 use Rattle.sr_solver.proofs.OfferLemmas.{prices_low}

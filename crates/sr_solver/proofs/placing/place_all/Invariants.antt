@@ -1,5 +1,5 @@
 use Rattle.std.proofs.Common.{◌≡◌, length}
-use Rattle.sr_transport.specs.plain.Problem.{consumers}
+use Rattle.sr_transport.specs.{consumers}
 use Rattle.sr_solver.specs.Placed.{IsStanding}
 use Rattle.sr_solver.specs.Table.{IsTable}
 use Rattle.sr_solver.proofs.placing.place_all.Given as goal

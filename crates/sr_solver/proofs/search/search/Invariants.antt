@@ -1,4 +1,4 @@
-use Rattle.sr_transport.specs.plain.Problem.{consumers}
+use Rattle.sr_transport.specs.{consumers}
 use Rattle.sr_solver.specs.Labels.{open_count}
 use Rattle.sr_solver.specs.Table.{IsTable}
 use Rattle.sr_solver.specs.Cutoff.{IsCutoff}

@@ -1,5 +1,6 @@
 use Rattle.std.proofs.Common.{◌≡◌, ℕ, ◌<◌, List, length, get_or, ap, ◌∙◌, arith}
-use Rattle.sr_transport.specs.plain.Problem.{consumers, cost_at}
+use Rattle.sr_transport.specs.{consumers}
+use Rattle.sr_transport.specs.plain.Problem.{cost_at}
 use Rattle.sr_solver.specs.Labels.{no_label}
 use Rattle.sr_solver.specs.Offers.{IsOffered}
 use Rattle.sr_solver.specs.Search.{first_offer}

@@ -1,6 +1,6 @@
 use Rattle.std.proofs.Common.{◌≡◌, ℕ, suc, ◌+◌, Option, get_or, sym, ap, ◌∙◌, arith}
 use Rattle.std.specs.Prelude.{length, unwrap_or}
-use Rattle.sr_transport.specs.Sum.{sum_below}
+use Rattle.sr_transport.specs.{sum_below}
 use Rattle.sr_transport.specs.plain.Problem.{cost_of}
 use Rattle.sr_transport.proofs.PlainLimitLemmas.{cost_small}
 use Rattle.sr_solver.proofs.solution.sum_of_costs.Goals as goal

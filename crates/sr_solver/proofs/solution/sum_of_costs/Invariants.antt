@@ -1,6 +1,5 @@
 use Rattle.std.proofs.Common.{◌≡◌, ◌*◌, ◌≤◌, get_or}
-use Rattle.sr_transport.specs.Limits.{most_entries, greatest_charge}
-use Rattle.sr_transport.specs.Sum.{sum_below}
+use Rattle.sr_transport.specs.{most_entries, greatest_charge, sum_below}
 use Rattle.sr_transport.specs.plain.Problem.{cost_of}
 use Rattle.sr_solver.proofs.solution.sum_of_costs.Given as goal
 

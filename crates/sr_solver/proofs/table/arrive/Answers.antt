@@ -2,7 +2,8 @@ use Rattle.std.proofs.Common.{◌≡◌, ℕ, ◌+◌, ◌*◌, ◌<◌, Option,
 use Rattle.std.specs.Prelude.{unwrap_or}
 use Rattle.std.proofs.lemmas.Nat.{mul-add-lt}
 use Rattle.sr_transport.proofs.PlainLimitLemmas.{cost_at_small, cost_small}
-use Rattle.sr_transport.specs.plain.Problem.{consumers, cost_at, cost_of}
+use Rattle.sr_transport.specs.{consumers}
+use Rattle.sr_transport.specs.plain.Problem.{cost_at, cost_of}
 use Rattle.sr_solver.proofs.TableLemmas.{row_more, row_stays, lowered_is, lowered_not}
 use Rattle.sr_solver.proofs.table.arrive.Goals as goal
 use Rattle.sr_solver.proofs.table.arrive.Goals.{then-is_some, else-is_some}

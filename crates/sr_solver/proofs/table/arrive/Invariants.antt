@@ -1,4 +1,5 @@
-use Rattle.sr_transport.specs.plain.Problem.{consumers, cost_at, cost_of}
+use Rattle.sr_transport.specs.{consumers}
+use Rattle.sr_transport.specs.plain.Problem.{cost_at, cost_of}
 use Rattle.sr_solver.specs.Table.{IsLowered, IsRowChanged}
 use Rattle.sr_solver.proofs.table.arrive.Given as goal
 

@@ -1,6 +1,7 @@
 use Rattle.std.proofs.Common.{◌≡◌, ℕ, ◌+◌, ◌*◌, ◌<◌, Option, List, Fits, w64, length, get_or, refl, sym, ap, ◌∙◌, arith}
 use Rattle.std.specs.Prelude.{unwrap_or}
-use Rattle.sr_transport.specs.plain.Problem.{Transport, IsWithinLimits, consumers, cost_of}
+use Rattle.sr_transport.specs.{Transport, consumers}
+use Rattle.sr_transport.specs.plain.Problem.{IsWithinLimits, cost_of}
 use Rattle.sr_transport.specs.plain.Assignment.{load}
 use Rattle.sr_transport.proofs.PlainLimitLemmas.{cost_at_small, cost_small}
 use Rattle.sr_solver.specs.Members.{AreMembers}

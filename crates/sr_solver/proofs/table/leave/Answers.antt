@@ -1,6 +1,6 @@
 use Rattle.std.proofs.Common.{◌≡◌, ◌+◌, ◌*◌, refl, ap, arith}
 use Rattle.std.proofs.lemmas.Nat.{mul-add-lt}
-use Rattle.sr_transport.specs.plain.Problem.{consumers}
+use Rattle.sr_transport.specs.{consumers}
 use Rattle.sr_solver.proofs.TableLemmas.{row_more}
 use Rattle.sr_solver.proofs.table.leave.Goals as goal
 

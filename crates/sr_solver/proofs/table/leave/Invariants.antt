@@ -1,4 +1,4 @@
-use Rattle.sr_transport.specs.plain.Problem.{consumers}
+use Rattle.sr_transport.specs.{consumers}
 use Rattle.sr_solver.specs.Table.{IsWithout, IsRowChanged}
 use Rattle.sr_solver.proofs.table.leave.Given as goal
 

@@ -1,6 +1,6 @@
 use Rattle.std.proofs.Common.{ℕ, ◌*◌, ◌<◌, get_or, refl, arith}
 use Rattle.std.proofs.lemmas.List.{with_items_is}
-use Rattle.sr_transport.specs.plain.Problem.{consumers}
+use Rattle.sr_transport.specs.{consumers}
 use Rattle.sr_solver.specs.Groups.{IsAt}
 use Rattle.sr_solver.proofs.GroupLemmas.{lows_fewer}
 use Rattle.sr_solver.proofs.TableLemmas.{table_left, table_waiting}

@@ -1,7 +1,8 @@
 use Rattle.std.proofs.Common.{◌≡◌, ℕ, ◌<◌, true, Option, get_or, nat_lt, refl, sym, ap, ◌∙◌, arith}
 use Rattle.std.proofs.lemmas.Bool.{false≢true, ltb-true, lt-ltb}
 use Rattle.std.specs.Option.{IsSome, is_some}
-use Rattle.sr_transport.specs.plain.Problem.{consumers, cost_at, room_of}
+use Rattle.sr_transport.specs.{consumers}
+use Rattle.sr_transport.specs.plain.Problem.{cost_at, room_of}
 use Rattle.sr_transport.proofs.PlainLimitLemmas.{cost_at_small, cost_small}
 use Rattle.sr_solver.proofs.TakerLemmas.{compared_next, compared_not, none_compared, free_takes, none_takes}
 use Rattle.sr_solver.proofs.taker.taker.Goals as goal

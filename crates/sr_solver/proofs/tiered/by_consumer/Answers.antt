@@ -1,6 +1,6 @@
 use Rattle.std.proofs.Common.{◌≡◌, length, ap, ◌∙◌, arith}
 use Rattle.std.proofs.lemmas.List.{take_at, length-map}
-use Rattle.sr_transport.specs.Problem.{tier_at}
+use Rattle.sr_transport.specs.{tier_at}
 use Rattle.sr_transport.proofs.CallerLemmas.{prices_show_cheapest, shortage_excludes}
 use Rattle.sr_solver.specs.Takers.{takers_of}
 use Rattle.sr_solver.proofs.TierLemmas.{takers_best, short_by_tier}

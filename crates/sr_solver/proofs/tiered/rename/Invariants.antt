@@ -1,5 +1,5 @@
 use Rattle.std.proofs.Common.{◌≡◌, ℕ, ◌<◌, ◌≤◌, length, get_or}
-use Rattle.sr_transport.specs.Problem.{tier_at}
+use Rattle.sr_transport.specs.{tier_at}
 use Rattle.sr_solver.proofs.tiered.rename.Given as goal
 
 abbrev pub invariant-loop-entry : goal.invariant-loop-entry

@@ -1,5 +1,5 @@
 use Rattle.std.proofs.Common.{◌≡◌, length}
-use Rattle.sr_transport.specs.plain.Problem.{consumers}
+use Rattle.sr_transport.specs.{consumers}
 use Rattle.sr_solver.proofs.wanted.crowds.Given as goal
 
 abbrev pub invariant-loop-entry : goal.invariant-loop-entry

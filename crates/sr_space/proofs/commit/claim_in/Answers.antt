@@ -1,9 +1,7 @@
 use Rattle.std.proofs.Common.{◌≡◌, ℕ, ap, sym, ◌∙◌, map}
 use Rattle.std.proofs.lemmas.Result.{on_ok_weaker, on_err_weaker}
-use Rattle.sr_group.specs.Claim.{after_moves}
-use Rattle.sr_group.specs.Group.{GroupState}
-use Rattle.sr_stream.specs.Groups.{ByName, with_group}
-use Rattle.sr_stream.specs.Stream.{with_groups}
+use Rattle.sr_group.specs.{after_moves, GroupState}
+use Rattle.sr_stream.specs.{ByName, with_group, with_groups}
 use Rattle.sr_stream.proofs.GroupsLemmas.{with_group-same}
 use Rattle.sr_space.specs.steps.Claiming.{move_for}
 use Rattle.sr_space.proofs.CommitLemmas.{moves-counts, stream_after-found, stream_after-missing}

@@ -1,6 +1,6 @@
 use Rattle.std.proofs.Common.{◌≡◌, ◌++◌, length}
 use Rattle.std.specs.List.{flat_map}
-use Rattle.sr_resp.specs.Reply.{array_header}
+use Rattle.sr_resp.specs.{array_header}
 use Rattle.sr_space.specs.EntryReply.{entry_answer}
 use Rattle.sr_space.proofs.reply.entries_reply.Given as goal
 

@@ -1,7 +1,8 @@
 use Rattle.std.proofs.Common.{◌≡◌, ℕ, List, [], ◌++◌, length, map, reverse, refl, ap, ◌∙◌, append-nil, sym}
 use Rattle.std.specs.List.{flat_map}
 use Rattle.std.proofs.lemmas.List.{length-reverse}
-use Rattle.sr_resp.specs.Reply.{Part, array_header, array_of}
+use Rattle.sr_resp.specs.{array_header, array_of}
+use Rattle.sr_resp.specs.Reply.{Part}
 use Rattle.sr_entries.specs.declared.entry.Entry.{Entry}
 use Rattle.sr_space.specs.EntryReply.{entry_answer}
 use Rattle.sr_space.proofs.ReplyLemmas.{IsReply-entries, entries-written}

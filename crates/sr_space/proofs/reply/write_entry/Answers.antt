@@ -1,7 +1,7 @@
 use Rattle.std.proofs.Common.{◌≡◌, ap, ◌∙◌}
 use Rattle.std.proofs.lemmas.Result.{on_ok_weaker}
 use Rattle.sr_ids.specs.declared.id.Id.{Id}
-use Rattle.sr_ids.specs.Spelling.{spelling}
+use Rattle.sr_ids.specs.{spelling}
 use Rattle.sr_space.proofs.ReplyLemmas.{entry-written}
 use Rattle.sr_space.proofs.reply.write_entry.Goals as goal
 

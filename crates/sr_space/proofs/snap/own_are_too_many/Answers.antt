@@ -1,6 +1,6 @@
 use Rattle.std.proofs.Common.{ℕ, ◌+◌, ap, sym}
 use Rattle.sr_pending.specs.declared.nack.Nack.{Nack}
-use Rattle.sr_entries.specs.Entries.{has_id}
+use Rattle.sr_entries.specs.{has_id}
 use Rattle.sr_space.proofs.NameOrderLemmas.{names_rise}
 use Rattle.sr_space.proofs.OwnLemmas.{length-own_of}
 use Rattle.sr_space.proofs.snap.own_are_too_many.Goals as goal

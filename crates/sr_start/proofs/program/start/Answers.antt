@@ -1,7 +1,7 @@
 use Rattle.std.proofs.Common.{[], ◌∙◌, Err, arith, inl, inr, refl, subst, sym, true≢false}
 use Rattle.std.proofs.KnownBytes.{Consumes-nil, Appends-nil}
 use Rattle.sr_start.specs.declared.fault.Fault.TheVariants.{StartMemory}
-use Rattle.sr_options.specs.Command.{AsksForNothing, AsksForStdio, AsksToListen}
+use Rattle.sr_options.specs.{AsksForNothing, AsksForStdio, AsksToListen}
 use Rattle.sr_start.specs.Fault.{Runs, starts_not}
 use Rattle.sr_start.specs.Moment.{any_moment}
 use Rattle.sr_start.specs.Listening.{Listens, starts_not as listens_not}

@@ -1,7 +1,7 @@
 use Rattle.std.proofs.Common.{rules, ℕ, List, Bool, sym}
 use Rattle.std.proofs.lemmas.List.Sorted.{IsPartitionPoint-from_clause}
-use Rattle.sr_bytes.specs.Order.{comes_before}
-use Rattle.sr_group.specs.Group.{KeptGroup}
+use Rattle.sr_bytes.specs.{comes_before}
+use Rattle.sr_group.specs.{KeptGroup}
 use Rattle.sr_pending.proofs.Splitting.{Splits-point, Splits-count}
 use Rattle.sr_stream.proofs.GroupsLemmas.{before_first}
 use Rattle.sr_stream.proofs.places.count_before.Goals as goal

@@ -1,8 +1,8 @@
 use Rattle.std.proofs.Common.{rules, ◌≡◌, ℕ, ◌≤◌, ◌<◌, Bool, true, false, List, Some, None, length, slice_get, get_or, sym, ap, ◌∙◌, refl}
 use Rattle.std.proofs.lemmas.Option.{slice_get_past, slice_get_read}
-use Rattle.sr_bytes.specs.Order.{comes_before}
-use Rattle.sr_group.specs.Group.{KeptGroup}
-use Rattle.sr_pending.specs.Pending.{is_same_name}
+use Rattle.sr_bytes.specs.{comes_before}
+use Rattle.sr_group.specs.{KeptGroup}
+use Rattle.sr_pending.specs.{is_same_name}
 use Rattle.sr_pending.proofs.Splitting.{Splits-counted}
 use Rattle.sr_group.proofs.NameLemmas.{is_same_name-refl, is_same_name-true}
 use Rattle.sr_stream.specs.steps.Places.{before}

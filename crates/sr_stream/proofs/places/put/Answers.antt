@@ -1,6 +1,6 @@
 use Rattle.std.proofs.Common.{◌≡◌, ℕ, List, ap, ◌∙◌}
 use Rattle.std.specs.List.{insert}
-use Rattle.sr_group.specs.Group.{KeptGroup}
+use Rattle.sr_group.specs.{KeptGroup}
 use Rattle.sr_stream.specs.steps.Places.{before}
 use Rattle.sr_stream.proofs.GroupsLemmas.{with_group-insert}
 use Rattle.sr_stream.proofs.places.put.Goals as goal

@@ -1,7 +1,7 @@
 use Rattle.std.proofs.Common.{◌≡◌, List, [], ◌∷◌, refl}
 use Rattle.std.proofs.lemmas.Result.{err_from_is_err_and}
 use Rattle.sr_args.specs.declared.commands.named.ConsumerNamed.{ConsumerNamed}
-use Rattle.sr_args.specs.Place.{Word}
+use Rattle.sr_args.specs.FormWord.{Word}
 use Rattle.sr_args.specs.steps.Gives.{GivesCall}
 use Rattle.sr_args.specs.steps.Named.{consumer_form, consumer_of}
 use Rattle.sr_args.proofs.NamedLemmas.{consumer-none}

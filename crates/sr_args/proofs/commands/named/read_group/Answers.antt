@@ -1,6 +1,6 @@
 use Rattle.std.proofs.Common.{◌≡◌, List, [], ◌∷◌, refl}
 use Rattle.std.proofs.lemmas.Result.{err_from_is_err_and}
-use Rattle.sr_args.specs.Place.{Word}
+use Rattle.sr_args.specs.FormWord.{Word}
 use Rattle.sr_args.specs.steps.Gives.{GivesCall}
 use Rattle.sr_args.specs.steps.Named.{group_form, group_of}
 use Rattle.sr_args.proofs.commands.named.read_group.Goals as goal

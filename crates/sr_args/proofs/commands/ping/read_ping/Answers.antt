@@ -1,7 +1,7 @@
 use Rattle.std.proofs.Common.{◌≡◌, List, [], ◌∷◌, Some, refl, ap}
 use Rattle.std.proofs.lemmas.Result.{err_from_is_err_and}
 use Rattle.sr_args.specs.declared.call.Call.TheVariants.{Ping}
-use Rattle.sr_args.specs.Place.{Word}
+use Rattle.sr_args.specs.FormWord.{Word}
 use Rattle.sr_args.specs.commands.Ping.{form, call}
 use Rattle.sr_args.specs.steps.Gives.{GivesCall}
 use Rattle.sr_args.proofs.commands.ping.read_ping.Goals as goal

@@ -2,7 +2,7 @@ use Rattle.std.proofs.Common.{◌≡◌, List, false, refl}
 use Rattle.std.proofs.lemmas.Result.{err_from_is_err_and}
 use Rattle.sr_args.specs.declared.call.Command.{Command}
 use Rattle.sr_args.specs.declared.call.Command.TheVariants.{Recover}
-use Rattle.sr_args.specs.Place.{Word}
+use Rattle.sr_args.specs.FormWord.{Word}
 use Rattle.sr_args.specs.Form.{Values}
 use Rattle.sr_args.specs.commands.RecoverPlan.{command}
 use Rattle.sr_args.specs.commands.RecoverRun.{usual_tries}

@@ -3,7 +3,7 @@ use Rattle.std.proofs.lemmas.Result.{err_from_is_err_and}
 use Rattle.sr_args.specs.declared.call.Command.{Command}
 use Rattle.sr_args.specs.declared.call.Command.TheVariants.{Recover}
 use Rattle.sr_args.specs.declared.commands.recover.Rounds.{Rounds}
-use Rattle.sr_args.specs.Place.{Word}
+use Rattle.sr_args.specs.FormWord.{Word}
 use Rattle.sr_args.specs.Form.{Values}
 use Rattle.sr_args.specs.commands.RecoverRun.{command}
 use Rattle.sr_args.specs.steps.Rounds.{rounds_form, rounds_of}

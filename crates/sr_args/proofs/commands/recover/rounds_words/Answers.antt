@@ -1,5 +1,5 @@
 use Rattle.std.specs.Option.{option_copied}
-use Rattle.sr_args.specs.Place.{tries}
+use Rattle.sr_args.specs.FormWord.{tries}
 use Rattle.sr_args.proofs.RoundsLemmas.{rounds-reads, rounds-none}
 use Rattle.sr_args.proofs.commands.recover.rounds_words.Goals as goal
 

@@ -3,7 +3,7 @@ use Rattle.std.proofs.lemmas.Result.{err_from_is_err_and}
 use Rattle.sr_ids.specs.declared.id.Id.{Id}
 use Rattle.std.proofs.lemmas.Bool.{false≢true}
 use Rattle.sr_args.specs.declared.call.Call.TheVariants.{Xack}
-use Rattle.sr_args.specs.Place.{Word, HasIds, strict_id, spelled}
+use Rattle.sr_args.specs.FormWord.{Word, HasIds, strict_id, spelled}
 use Rattle.sr_args.specs.Form.{Reading, Reads, AreIds}
 use Rattle.sr_args.specs.commands.Xack.{form, call}
 use Rattle.sr_args.specs.steps.Gives.{GivesCall}

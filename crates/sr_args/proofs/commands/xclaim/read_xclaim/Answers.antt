@@ -1,7 +1,7 @@
 use Rattle.std.proofs.Common.{Ok, Err, map, take, refl}
 use Rattle.std.proofs.lemmas.Result.{err_from_is_err_and}
 use Rattle.std.proofs.lemmas.Bool.{false≢true}
-use Rattle.sr_args.specs.Place.{HasIds, strict_id, spelled}
+use Rattle.sr_args.specs.FormWord.{HasIds, strict_id, spelled}
 use Rattle.sr_args.specs.steps.Claims.{claim_reading}
 use Rattle.sr_args.specs.steps.Options.{AreJudged}
 use Rattle.sr_args.proofs.ClaimLemmas.{claim-fault, claim-numbers, claim-ids, claim-gives}

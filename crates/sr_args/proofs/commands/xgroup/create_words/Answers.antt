@@ -1,6 +1,6 @@
 use Rattle.std.proofs.Common.{◌≡◌, List, [], ◌∷◌, refl}
 use Rattle.sr_args.specs.declared.options.OptionSet.TheVariants as sets
-use Rattle.sr_args.specs.Place.{Word}
+use Rattle.sr_args.specs.FormWord.{Word}
 use Rattle.sr_args.specs.Options.{Written}
 use Rattle.sr_args.specs.Form.{Reading, Reads}
 use Rattle.sr_args.specs.commands.XgroupCreate.{form}

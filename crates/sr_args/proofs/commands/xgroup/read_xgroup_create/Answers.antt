@@ -4,7 +4,7 @@ use Rattle.std.proofs.lemmas.Result.{err_from_is_err_and}
 use Rattle.sr_args.specs.declared.call.Call.TheVariants.{XgroupCreate}
 use Rattle.sr_args.specs.declared.call.Position.{Position}
 use Rattle.sr_args.specs.declared.options.Choice.{Choice}
-use Rattle.sr_args.specs.Place.{Word, HasNumbers}
+use Rattle.sr_args.specs.FormWord.{Word, HasNumbers}
 use Rattle.sr_args.specs.Options.{Written, option_places, nothing}
 use Rattle.sr_args.specs.Position.{SpellsPosition}
 use Rattle.sr_args.specs.Form.{Reads}

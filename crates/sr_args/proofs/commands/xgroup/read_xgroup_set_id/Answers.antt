@@ -2,7 +2,7 @@ use Rattle.std.proofs.Common.{◌≡◌, List, [], ◌∷◌, refl}
 use Rattle.std.proofs.lemmas.Result.{err_from_is_err_and}
 use Rattle.sr_args.specs.declared.call.Call.TheVariants.{XgroupSetId}
 use Rattle.sr_args.specs.declared.call.Position.{Position}
-use Rattle.sr_args.specs.Place.{Word}
+use Rattle.sr_args.specs.FormWord.{Word}
 use Rattle.sr_args.specs.Position.{SpellsPosition}
 use Rattle.sr_args.specs.Form.{Reads}
 use Rattle.sr_args.specs.commands.XgroupSetId.{form, call}

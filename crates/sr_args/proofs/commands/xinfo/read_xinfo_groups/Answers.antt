@@ -2,7 +2,7 @@ use Rattle.std.proofs.Common.{◌≡◌, refl}
 use Rattle.std.proofs.lemmas.Result.{err_from_is_err_and}
 use Rattle.sr_args.specs.declared.call.Call.{Call}
 use Rattle.sr_args.specs.declared.call.Call.TheVariants.{XinfoGroups}
-use Rattle.sr_args.specs.Place.{Word}
+use Rattle.sr_args.specs.FormWord.{Word}
 use Rattle.sr_args.specs.Form.{Values}
 use Rattle.sr_args.specs.commands.XinfoGroups.{form, call}
 use Rattle.sr_args.specs.steps.Named.{key_of}

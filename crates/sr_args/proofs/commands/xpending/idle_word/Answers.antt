@@ -1,5 +1,5 @@
 use Rattle.std.proofs.Common.{Option, Some, None, IfSome}
-use Rattle.sr_args.specs.Place.{int}
+use Rattle.sr_args.specs.FormWord.{int}
 use Rattle.sr_args.proofs.commands.xpending.idle_word.Goals as goal
 
 -- what is found of every range is found of numbers with a sign

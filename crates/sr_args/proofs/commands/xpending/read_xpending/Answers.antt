@@ -3,7 +3,7 @@ use Rattle.std.proofs.lemmas.Result.{err_from_is_err_and}
 use Rattle.sr_args.specs.declared.call.Call.{Call}
 use Rattle.sr_args.specs.declared.call.Call.TheVariants.{Xpending}
 use Rattle.sr_args.specs.declared.commands.xpending.PendingAsked.{PendingAsked}
-use Rattle.sr_args.specs.Place.{Word}
+use Rattle.sr_args.specs.FormWord.{Word}
 use Rattle.sr_args.specs.Form.{maybe, Values}
 use Rattle.sr_args.specs.commands.Xpending.{listing, asked_if, call}
 use Rattle.sr_args.proofs.GivesLemmas.{in_group_call, in_group_fault}

@@ -3,7 +3,7 @@ use Rattle.std.proofs.lemmas.Result.{err_from_is_err_and}
 use Rattle.sr_ids.specs.declared.id.Id.{Id}
 use Rattle.sr_args.specs.declared.commands.xrange.Bound.{Bound}
 use Rattle.sr_args.specs.declared.options.Choice.{Choice}
-use Rattle.sr_args.specs.Place.{Word, IdOf, Spells}
+use Rattle.sr_args.specs.FormWord.{Word, IdOf, Spells}
 use Rattle.sr_args.specs.Options.{Written}
 use Rattle.sr_args.specs.Form.{Reads}
 use Rattle.sr_args.specs.steps.Gives.{GivesCall}

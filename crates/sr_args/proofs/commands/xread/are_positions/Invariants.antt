@@ -1,5 +1,5 @@
 use Rattle.std.proofs.Common.{length, map}
-use Rattle.sr_args.specs.Place.{position, spelled, HasIds}
+use Rattle.sr_args.specs.FormWord.{position, spelled, HasIds}
 use Rattle.sr_args.proofs.commands.xread.are_positions.Given as goal
 
 abbrev pub invariant-loop-word : goal.invariant-loop-word

@@ -1,6 +1,6 @@
 use Rattle.std.proofs.lemmas.Result.{IfOk-from_err}
 use Rattle.std.proofs.Common.{[], append-nil}
-use Rattle.sr_args.specs.Place.{position}
+use Rattle.sr_args.specs.FormWord.{position}
 use Rattle.sr_args.proofs.StreamsLemmas.{AreStreams-more, next-enough}
 use Rattle.sr_args.proofs.commands.xread.copy_streams.Goals as goal
 

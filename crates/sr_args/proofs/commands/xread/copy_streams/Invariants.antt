@@ -1,6 +1,6 @@
 use Rattle.std.proofs.Common.{◌≤◌, ◌++◌, List, length, map}
 use Rattle.sr_args.specs.declared.call.Position.{Position}
-use Rattle.sr_args.specs.Place.{Word, position, spelled, HasIds}
+use Rattle.sr_args.specs.FormWord.{Word, position, spelled, HasIds}
 use Rattle.sr_args.specs.steps.Streams.{AreStreams}
 use Rattle.sr_args.proofs.commands.xread.copy_streams.Given as goal
 

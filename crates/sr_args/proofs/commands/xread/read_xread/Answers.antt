@@ -6,7 +6,7 @@ use Rattle.sr_args.specs.declared.call.Call.TheVariants.{Xread}
 use Rattle.sr_args.specs.declared.call.Position.{Position}
 use Rattle.sr_args.specs.declared.options.Choice.{Choice}
 use Rattle.sr_args.specs.declared.options.OptionSet.TheVariants as sets
-use Rattle.sr_args.specs.Place.{Word, HasIds, position, spelled}
+use Rattle.sr_args.specs.FormWord.{Word, HasIds, position, spelled}
 use Rattle.sr_args.specs.Options.{Written}
 use Rattle.sr_args.specs.Form.{Reads, AreIds}
 use Rattle.sr_args.specs.commands.Xread.{form, call}

@@ -1,5 +1,5 @@
 use Rattle.std.proofs.Common.{length, map}
-use Rattle.sr_args.specs.Place.{read_id, spelled, HasIds}
+use Rattle.sr_args.specs.FormWord.{read_id, spelled, HasIds}
 use Rattle.sr_args.proofs.commands.xreadgroup.are_asked.Given as goal
 
 abbrev pub invariant-loop-word : goal.invariant-loop-word

@@ -1,6 +1,6 @@
 use Rattle.std.proofs.lemmas.Result.{IfOk-from_err}
 use Rattle.std.proofs.Common.{[], append-nil}
-use Rattle.sr_args.specs.Place.{read_id}
+use Rattle.sr_args.specs.FormWord.{read_id}
 use Rattle.sr_args.proofs.StreamsLemmas.{AreStreams-more, next-enough}
 use Rattle.sr_args.proofs.commands.xreadgroup.copy_streams.Goals as goal
 

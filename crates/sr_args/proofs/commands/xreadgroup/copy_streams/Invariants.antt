@@ -1,6 +1,6 @@
 use Rattle.std.proofs.Common.{◌≤◌, ◌++◌, List, length, map}
 use Rattle.sr_args.specs.declared.reads.ReadAsked.{ReadAsked}
-use Rattle.sr_args.specs.Place.{Word, read_id, spelled, HasIds}
+use Rattle.sr_args.specs.FormWord.{Word, read_id, spelled, HasIds}
 use Rattle.sr_args.specs.steps.Streams.{AreStreams}
 use Rattle.sr_args.proofs.commands.xreadgroup.copy_streams.Given as goal
 

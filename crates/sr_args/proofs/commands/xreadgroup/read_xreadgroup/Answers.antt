@@ -7,7 +7,7 @@ use Rattle.sr_args.specs.declared.call.Call.TheVariants.{Xreadgroup}
 use Rattle.sr_args.specs.declared.options.Choice.{Choice}
 use Rattle.sr_args.specs.declared.options.OptionSet.TheVariants as sets
 use Rattle.sr_args.specs.declared.reads.ReadAsked.{ReadAsked}
-use Rattle.sr_args.specs.Place.{Word, HasIds, read_id, spelled}
+use Rattle.sr_args.specs.FormWord.{Word, HasIds, read_id, spelled}
 use Rattle.sr_args.specs.Options.{Written, group_in}
 use Rattle.sr_args.specs.Form.{Reads, AreIds}
 use Rattle.sr_args.specs.commands.Xreadgroup.{form, call}

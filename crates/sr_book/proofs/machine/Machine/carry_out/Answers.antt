@@ -1,9 +1,8 @@
 use Rattle.std.proofs.Common.{◌≡◌, ℕ, Bool, true, false, refl, ap, sym, ◌∙◌}
 use Rattle.std.proofs.lemmas.Result.{IfOk-from_err}
-use Rattle.sr_resp.specs.Reply.{Answer}
-use Rattle.sr_plan.specs.Calls.{claim_calls}
-use Rattle.sr_plan.specs.Verdict.{Judged}
-use Rattle.sr_space.specs.Commit.{after_calls}
+use Rattle.sr_resp.specs.{ReplyParts}
+use Rattle.sr_plan.specs.{claim_calls, Judged}
+use Rattle.sr_space.specs.{after_calls}
 use Rattle.sr_space.specs.Keys.{Keys}
 use Rattle.sr_book.specs.declared.event.Out.TheVariants as outs
 use Rattle.sr_book.specs.Server.{Server, after_call, is_open, keys_after}
@@ -80,7 +79,7 @@ returns c =
     ] in
     record {
       server = c.hear.ensures ∙ heard;
-      out = ap (λ (r : Answer). outs.Reply r) c.in_ok-reply.ensures;
+      out = ap (λ (r : ReplyParts). outs.Reply r) c.in_ok-reply.ensures;
       sent = one_sent a.session _ _ _ (c.in_ok-keep.ensures ∙ c.in_ok-reply.ensures) c.one.ensures;
       err = tt;
     }

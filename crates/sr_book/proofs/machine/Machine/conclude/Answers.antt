@@ -1,7 +1,6 @@
 use Rattle.std.proofs.Common.{◌≡◌, true, false, Ok, Err, refl, ap, sym, ◌∙◌}
 use Rattle.std.proofs.lemmas.Result.{IfOk-from_err}
-use Rattle.sr_policy.specs.Same.{same}
-use Rattle.sr_policy.specs.Snapshot.{Shown}
+use Rattle.sr_policy.specs.{same, SnapshotState}
 use Rattle.sr_book.specs.Server.{fresh_snapshot}
 use Rattle.sr_book.proofs.SnapLemmas.{concluded-again, concluded-failed, concluded-holds, concluded-stale, fresh-found, on_err_always, on_ok_none, snap-failed}
 use Rattle.sr_book.proofs.machine.Machine.conclude.Goals as goal
@@ -10,7 +9,7 @@ pub returns-then-still_holds : goal.returns-then-still_holds
 returns-then-still_holds c =
     let a = c.args in
     let found : fresh_snapshot a.self.now a.verdict.now.snapshot ≡ Ok c.in-Ok.fresh = fresh-found _ _ _ _ _ _ _ _ c.self.view_is c.snapshot-made.ensures c.key.ensures c.group.ensures c.dead.ensures c.in-Ok.ensures.ok in
-    let holds : same c.in-Ok.fresh a.verdict.now.snapshot ≡ true = ap (λ (m : Shown). same c.in-Ok.fresh m) (sym c.snapshot-made.ensures) ∙ sym c.still_holds.ensures ∙ c.if-still_holds.true in
+    let holds : same c.in-Ok.fresh a.verdict.now.snapshot ≡ true = ap (λ (m : SnapshotState). same c.in-Ok.fresh m) (sym c.snapshot-made.ensures) ∙ sym c.still_holds.ensures ∙ c.if-still_holds.true in
     let is = concluded-holds a.session a.moment a.apply a.last a.verdict.now a.self.now _ c.in-Ok.fresh found holds in
     record {
       server = rw is c.carry_out.ensures.server;
@@ -23,7 +22,7 @@ pub returns-then-last : goal.returns-then-last
 returns-then-last c =
     let a = c.args in
     let found : fresh_snapshot a.self.now a.verdict.now.snapshot ≡ Ok c.in-Ok.fresh = fresh-found _ _ _ _ _ _ _ _ c.self.view_is c.snapshot-made.ensures c.key.ensures c.group.ensures c.dead.ensures c.in-Ok.ensures.ok in
-    let fails : same c.in-Ok.fresh a.verdict.now.snapshot ≡ false = ap (λ (m : Shown). same c.in-Ok.fresh m) (sym c.snapshot-made.ensures) ∙ sym c.still_holds.ensures ∙ c.if-still_holds.false in
+    let fails : same c.in-Ok.fresh a.verdict.now.snapshot ≡ false = ap (λ (m : SnapshotState). same c.in-Ok.fresh m) (sym c.snapshot-made.ensures) ∙ sym c.still_holds.ensures ∙ c.if-still_holds.false in
     let is = concluded-stale a.session a.moment a.apply a.last a.verdict.now a.self.now _ c.in-Ok.fresh found fails c.if-last.true in
     record {
       server = rw is c.reply.ensures.server;
@@ -36,7 +35,7 @@ pub returns-else-last : goal.returns-else-last
 returns-else-last c =
     let a = c.args in
     let found : fresh_snapshot a.self.now a.verdict.now.snapshot ≡ Ok c.in-Ok.fresh = fresh-found _ _ _ _ _ _ _ _ c.self.view_is c.snapshot-made.ensures c.key.ensures c.group.ensures c.dead.ensures c.in-Ok.ensures.ok in
-    let fails : same c.in-Ok.fresh a.verdict.now.snapshot ≡ false = ap (λ (m : Shown). same c.in-Ok.fresh m) (sym c.snapshot-made.ensures) ∙ sym c.still_holds.ensures ∙ c.if-still_holds.false in
+    let fails : same c.in-Ok.fresh a.verdict.now.snapshot ≡ false = ap (λ (m : SnapshotState). same c.in-Ok.fresh m) (sym c.snapshot-made.ensures) ∙ sym c.still_holds.ensures ∙ c.if-still_holds.false in
     let is = concluded-again a.session a.moment a.apply a.last a.verdict.now a.self.now _ c.in-Ok.fresh found fails c.if-last.false in
     record {
       server = rw is c.unreplied.ensures.server;

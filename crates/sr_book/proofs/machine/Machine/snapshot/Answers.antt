@@ -1,6 +1,6 @@
 use Rattle.std.proofs.Common.{◌≡◌, Ok, Err, refl}
 use Rattle.std.proofs.lemmas.Result.{IfOk-from_err}
-use Rattle.sr_space.specs.Snap.{snapped}
+use Rattle.sr_space.specs.{snapped}
 use Rattle.sr_book.proofs.SnapLemmas.{found-in, on_err_always, on_ok_none, snap-failed}
 use Rattle.sr_book.proofs.machine.Machine.snapshot.Goals as goal
 

@@ -1,5 +1,6 @@
 use Rattle.std.proofs.Common.{◌≡◌, ◌-◌, not, length, ap, ◌∙◌, arith}
-use Rattle.sr_group.specs.Group.{KeptGroup, is_among, with_ids}
+use Rattle.sr_ids.specs.{is_one_of}
+use Rattle.sr_group.specs.Group.{KeptGroup, with_ids}
 use Rattle.sr_group.proofs.GroupLemmas.{IsGroup-filter, with_ids-count, without_ids-fewer}
 use Rattle.sr_group.proofs.group.Group.ack.Goals as goal
 
@@ -11,7 +12,7 @@ overflow_sub-result c =
 pub invariant_of-self : goal.invariant_of-self
 invariant_of-self c =
     let group = c.self.inside in
-    IsGroup-filter (λ n. not (is_among c.args.ids.now n.id)) group.last group.consumers.items group.pending.nacks c.remove_all.new.pending.nacks c.self.invariant c.remove_all.ensures
+    IsGroup-filter (λ n. not (is_one_of c.args.ids.now n.id)) group.last group.consumers.items group.pending.nacks c.remove_all.new.pending.nacks c.self.invariant c.remove_all.ensures
 
 pub returns-clause-count : goal.returns-clause-count
 returns-clause-count c =

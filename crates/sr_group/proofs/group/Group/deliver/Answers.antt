@@ -3,7 +3,7 @@ use Rattle.std.proofs.lemmas.Result.{IfOk-weaker}
 use Rattle.std.proofs.lemmas.List.Elements.{All-same}
 use Rattle.sr_ids.specs.declared.id.Id.{Id}
 use Rattle.sr_entries.specs.declared.entry.Entry.{Entry}
-use Rattle.sr_entries.specs.Entries.{last_id_or}
+use Rattle.sr_entries.specs.{last_id_or}
 use Rattle.sr_group.specs.declared.shown.Act.{Act}
 use Rattle.sr_group.specs.Group.{KeptGroup}
 use Rattle.sr_group.specs.Delivery.{after_delivery, found_entry, new_entries}

@@ -2,7 +2,7 @@ use Rattle.std.proofs.Common.{◌≡◌, List, map, ap, ◌∙◌}
 use Rattle.std.proofs.lemmas.Result.{IfOk-weaker}
 use Rattle.std.proofs.lemmas.List.Elements.{All-same}
 use Rattle.sr_pending.specs.declared.nack.Nack.{Nack}
-use Rattle.sr_pending.specs.Pending.{AreRising}
+use Rattle.sr_pending.specs.{AreRising}
 use Rattle.sr_group.specs.declared.shown.Act.{Act}
 use Rattle.sr_group.specs.Group.{KeptGroup}
 use Rattle.sr_group.specs.Delivery.{after_history, history_of, listed_in}

@@ -1,5 +1,5 @@
 use Rattle.std.proofs.Common.{ap, subst}
-use Rattle.sr_resp.specs.Stream.{Progress}
+use Rattle.sr_resp.specs.{Progress}
 use Rattle.sr_hub.specs.Line.{ConnectionState}
 use Rattle.sr_hub.specs.steps.Telling.{FeedsNot}
 use Rattle.sr_hub.proofs.connection.Connection.feed.Goals as goal

@@ -2,8 +2,8 @@ use Rattle.std.proofs.Common.{ℕ, List, [], ap, subst, sym, ◌∙◌, arith}
 use Rattle.std.proofs.lemmas.List.Elements.{All-filter}
 use Rattle.slab.specs.Slab.{ContainsKey}
 use Rattle.sr_pending.specs.steps.Blocks.{items_of}
-use Rattle.sr_pending.specs.Pending.{PendingState, is_same_name, room_of, without_owner}
-use Rattle.sr_pending.specs.steps.Held.{Gives, slots_by}
+use Rattle.sr_pending.specs.Pending.{PendingState, is_same_name, room_left, without_owner}
+use Rattle.sr_pending.specs.steps.OwnedSlots.{Gives, slots_by}
 use Rattle.sr_pending.specs.steps.Slots.{AreTaken, nack_at}
 use Rattle.sr_pending.proofs.HeldLemmas.{AreRising-by, HasSpare-given}
 use Rattle.sr_pending.proofs.SlotLemmas.{AreDistinct-rising}
@@ -29,9 +29,9 @@ invariant_of-self c =
     let rooms = p.rooms.items in
     let now = c.clear.new.held in
     let new = c.remove_owned.new.slots in
-    let gives : Gives owner [] (room_of owner rooms) p.held now = rw (c.room_for.ensures, c.as_slice.ensures.value) at c.clear.ensures in
-    let spared = HasSpare-given p.held now owner [] rooms c.self.invariant.spared (room_of owner rooms) gives (omega arith) in
-    IsSound-dropped p.slab c.free_all.new.slab (items_of p.slots) (items_of new) rooms p.held p.slots.room owner c.self.invariant c.remove_owned.ensures.items c.free_all.ensures now new.room (room_of owner rooms) c.remove_owned.ensures.room gives spared
+    let gives : Gives owner [] (room_left owner rooms) p.held now = rw (c.room_for.ensures, c.as_slice.ensures.value) at c.clear.ensures in
+    let spared = HasSpare-given p.held now owner [] rooms c.self.invariant.spared (room_left owner rooms) gives (omega arith) in
+    IsSound-dropped p.slab c.free_all.new.slab (items_of p.slots) (items_of new) rooms p.held p.slots.room owner c.self.invariant c.remove_owned.ensures.items c.free_all.ensures now new.room (room_left owner rooms) c.remove_owned.ensures.room gives spared
 
 pub returns-clause-nacks : goal.returns-clause-nacks
 returns-clause-nacks c =

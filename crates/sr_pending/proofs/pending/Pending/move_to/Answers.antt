@@ -3,7 +3,7 @@ use Rattle.std.specs.HashMap.{HashMap}
 use Rattle.sr_pending.specs.steps.Blocks.{items_of}
 use Rattle.sr_pending.specs.declared.nack.Nack.{Nack}
 use Rattle.sr_pending.specs.Pending.{PendingState, UsesRoom, moved}
-use Rattle.sr_pending.specs.steps.Held.{HasSpare, spare_by}
+use Rattle.sr_pending.specs.steps.OwnedSlots.{HasSpare, spare_by}
 use Rattle.sr_pending.specs.steps.Room.{rooms_in_all}
 use Rattle.sr_pending.specs.steps.Slots.{nack_at, nack_or, slots_without}
 use Rattle.sr_pending.proofs.HeldLemmas.{AreRising-by, HasSpare-given, HasSpare-used, has_id-by}

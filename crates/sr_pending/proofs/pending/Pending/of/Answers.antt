@@ -2,8 +2,9 @@ use Rattle.std.proofs.Common.{◌≡◌, ℕ, [], Bool, true, not, List, filter,
 use Rattle.sr_ids.specs.declared.id.Id.{Id}
 use Rattle.sr_pending.specs.steps.Blocks.{items_of}
 use Rattle.sr_pending.specs.declared.nack.Nack.{Nack}
-use Rattle.sr_pending.specs.Pending.{PendingState, first_of, is_below, is_between, owned_by, pending_above, pending_between}
-use Rattle.sr_pending.specs.steps.Held.{slots_by, slots_in}
+use Rattle.sr_ids.specs.{is_below}
+use Rattle.sr_pending.specs.Pending.{PendingState, first_of, is_between, owned_by, pending_above, pending_between}
+use Rattle.sr_pending.specs.steps.OwnedSlots.{slots_by, slots_in}
 use Rattle.sr_pending.specs.steps.Slots.{nacks_at}
 use Rattle.sr_pending.proofs.FilterLemmas.{filter-all}
 use Rattle.sr_pending.proofs.ListingLemmas.{listed-by, taken-by}

@@ -1,6 +1,6 @@
 use Rattle.std.proofs.Common.{List, ℕ, ◌∙◌, ap}
 use Rattle.std.proofs.lemmas.Result.{IfOk-weaker}
-use Rattle.sr_check.specs.PlanReply.{verdict_answer}
+use Rattle.sr_check.specs.{verdict_answer}
 use Rattle.sr_plan.specs.Verdict.{short}
 use Rattle.sr_plan.proofs.judgement.Judgement.reply.Goals as goal
 

@@ -3,7 +3,7 @@ use Rattle.std.proofs.lemmas.List.{take_all}
 use Rattle.std.proofs.lemmas.Result.{IfOk-from_err}
 use Rattle.sr_group.specs.declared.consumer.Consumer.{Consumer}
 use Rattle.sr_pending.specs.declared.nack.Nack.{Nack}
-use Rattle.sr_resp.specs.Reply.{array_of}
+use Rattle.sr_resp.specs.{array_of}
 use Rattle.sr_space.specs.commands.Xinfo.{consumer_answer, consumer_line}
 use Rattle.sr_space.proofs.InfoLemmas.{counts_of-few, counts_of-read}
 use Rattle.sr_space.proofs.LoopLemmas.{lines-next}

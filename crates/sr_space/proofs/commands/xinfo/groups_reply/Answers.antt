@@ -1,9 +1,9 @@
 use Rattle.std.proofs.Common.{map, ap, ◌∙◌}
 use Rattle.std.proofs.lemmas.List.{take_all}
 use Rattle.std.proofs.lemmas.Result.{IfOk-from_err}
-use Rattle.sr_resp.specs.Reply.{array_of}
-use Rattle.sr_group.specs.Group.{KeptGroup}
-use Rattle.sr_stream.specs.Groups.{ByName}
+use Rattle.sr_resp.specs.{array_of}
+use Rattle.sr_group.specs.{KeptGroup}
+use Rattle.sr_stream.specs.{ByName}
 use Rattle.sr_space.specs.commands.Xinfo.{group_answer}
 use Rattle.sr_space.proofs.LoopLemmas.{lines-next}
 use Rattle.sr_space.proofs.commands.xinfo.groups_reply.Goals as goal

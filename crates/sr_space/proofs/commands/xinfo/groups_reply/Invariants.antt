@@ -1,5 +1,5 @@
 use Rattle.std.proofs.Common.{◌≡◌, map, take}
-use Rattle.sr_resp.specs.Reply.{array_of}
+use Rattle.sr_resp.specs.{array_of}
 use Rattle.sr_space.specs.commands.Xinfo.{group_answer}
 use Rattle.sr_space.proofs.commands.xinfo.groups_reply.Given as goal
 

@@ -3,8 +3,8 @@ use Rattle.std.specs.Prelude.{◌-◌, length, slice_get}
 use Rattle.std.proofs.lemmas.Result.{IfOk-weaker}
 use Rattle.sr_entries.specs.declared.entry.Entry.{Entry}
 use Rattle.sr_ids.specs.declared.id.Id.{Id}
-use Rattle.sr_ids.specs.Spelling.{spelling}
-use Rattle.sr_resp.specs.Reply.{bulk_string}
+use Rattle.sr_ids.specs.{spelling}
+use Rattle.sr_resp.specs.{bulk_string}
 use Rattle.sr_space.specs.commands.Xinfo.{entry_or_null, number}
 use Rattle.sr_space.proofs.InfoLemmas.{stream_told}
 use Rattle.sr_space.proofs.commands.xinfo.stream_reply.Goals as goal

@@ -1,8 +1,8 @@
 use Rattle.std.proofs.Common.{List, map, ap, ◌∙◌}
 use Rattle.std.specs.List.{All}
-use Rattle.sr_pending.specs.Pending.{IsCountable}
+use Rattle.sr_pending.specs.{IsCountable}
 use Rattle.sr_pending.specs.declared.nack.Nack.{Nack}
-use Rattle.sr_resp.specs.Reply.{array_of}
+use Rattle.sr_resp.specs.{array_of}
 use Rattle.sr_space.specs.commands.Xpending.{nack_answer}
 use Rattle.sr_space.proofs.PendingLemmas.{All-listing, IsReply-listing, listing-begun, listing-count, listing-ended, listing-next}
 use Rattle.sr_space.proofs.commands.xpending.listing_reply.Goals as goal

@@ -1,9 +1,9 @@
 use Rattle.std.proofs.Common.{◌≤◌, ◌∙◌, List, length, ap, arith, sym}
 use Rattle.std.specs.List.{flat_map}
 use Rattle.sr_group.specs.declared.consumer.Consumer.{Consumer}
-use Rattle.sr_group.specs.Group.{counts_of}
+use Rattle.sr_group.specs.{counts_of}
 use Rattle.sr_pending.specs.declared.nack.Nack.{Nack}
-use Rattle.sr_resp.specs.Reply.{array_of}
+use Rattle.sr_resp.specs.{array_of}
 use Rattle.sr_space.proofs.PendingLemmas.{share_in, shares-ended, shares-next, shares_of-some}
 use Rattle.sr_space.proofs.commands.xpending.shares_reply.Goals as goal
 

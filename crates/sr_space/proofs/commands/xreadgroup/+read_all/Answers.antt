@@ -1,6 +1,6 @@
 use Rattle.std.proofs.Common.{◌≡◌, ◌≢◌, Bool, true, false, ◌&&◌, List, ◌∷◌, Result, Ok, Err, OnErr, ◌++◌, [], length, append-nil, inl, arith, refl, ap, sym, subst, ◌∙◌, true≢false, rules}
 use Rattle.std.proofs.lemmas.Result.{IfOk-from_err, MatchResult-from_err}
-use Rattle.sr_args.specs.Different.{AreDifferent, IsAmong}
+use Rattle.sr_args.specs.{AreDifferent, IsAmong}
 use Rattle.sr_args.specs.declared.reads.ReadAsked.{ReadAsked}
 use Rattle.sr_space.specs.Keys.{Key, Keys, shown_keys}
 use Rattle.sr_space.specs.steps.Reading.{StayBesideAll, keys_after, listed_by, named_by}

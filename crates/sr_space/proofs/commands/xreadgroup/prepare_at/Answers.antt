@@ -2,8 +2,8 @@ use Rattle.std.proofs.Common.{◌≡◌, ◌++◌, Option, Some, None, nat_eq, a
 use Rattle.std.proofs.lemmas.Result.{IfOk-weaker, on_ok_weaker}
 use Rattle.std.specs.Cmp.Lexicographic.{pointwise}
 use Rattle.std.specs.Map.{set_value}
-use Rattle.sr_resp.specs.Reply.{array_of}
-use Rattle.sr_stream.specs.Stream.{StreamState}
+use Rattle.sr_resp.specs.{array_of}
+use Rattle.sr_stream.specs.{StreamState}
 use Rattle.sr_space.specs.Keys.{shown_keys, shown_of}
 use Rattle.sr_space.specs.commands.Xreadgroup.{has_group_in}
 use Rattle.sr_space.specs.steps.Reading.{Stored, in_stream, kept_at}

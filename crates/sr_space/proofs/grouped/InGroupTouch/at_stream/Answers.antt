@@ -1,8 +1,7 @@
 use Rattle.std.proofs.Common.{◌≡◌, Some, false, ap, sym, ◌∙◌}
 use Rattle.std.proofs.lemmas.Result.{on_ok_weaker, on_err_weaker}
-use Rattle.sr_group.specs.Group.{GroupState}
-use Rattle.sr_stream.specs.Groups.{group_with, has_group, with_group}
-use Rattle.sr_stream.specs.Stream.{with_groups}
+use Rattle.sr_group.specs.{GroupState}
+use Rattle.sr_stream.specs.{group_with, has_group, with_group, with_groups}
 use Rattle.sr_stream.proofs.GroupsLemmas.{group_with-none}
 use Rattle.sr_space.proofs.GroupedLemmas.{group-stays, stream-left}
 use Rattle.sr_space.proofs.grouped.InGroupTouch.at_stream.Goals as goal

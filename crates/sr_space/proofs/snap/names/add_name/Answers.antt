@@ -1,8 +1,8 @@
 use Rattle.std.proofs.Common.{◌≡◌, ℕ, List, true, false, ap, sym, ◌∙◌}
 use Rattle.std.proofs.lemmas.Result.{on_ok_weaker}
 use Rattle.std.specs.List.{insert}
-use Rattle.sr_policy.specs.Snapshot.{is_among}
-use Rattle.sr_space.specs.Snap.{with_name}
+use Rattle.sr_policy.specs.{is_among}
+use Rattle.sr_bytes.specs.{with_name}
 use Rattle.sr_space.specs.steps.Snapping.{count_before}
 use Rattle.sr_space.proofs.NameOrderLemmas.{names_rise, with_name-among, with_name-insert}
 use Rattle.sr_space.proofs.snap.names.add_name.Goals as goal

@@ -1,7 +1,8 @@
 use Rattle.std.proofs.Common.{List, drop, map, ap, sym, ◌∙◌}
 use Rattle.sr_policy.specs.declared.stranded.Stranded.{Stranded}
-use Rattle.sr_policy.specs.Rules.{Text}
-use Rattle.sr_space.specs.Snap.{in_order, with_name}
+use Rattle.sr_policy.specs.{Text}
+use Rattle.sr_bytes.specs.{with_name}
+use Rattle.sr_space.specs.Snap.{in_order}
 use Rattle.sr_space.proofs.LoopLemmas.{within-behind, behind-init, behind-next, behind-end}
 use Rattle.sr_space.proofs.NameOrderLemmas.{in_order-same}
 use Rattle.sr_space.proofs.snap.names.classes_of.Goals as goal

@@ -1,6 +1,6 @@
 use Rattle.std.proofs.Common.{rules, ◌≡◌, ◌≤◌, ◌<◌, Bool, List, ℕ, None, length, slice_get, get_or, sym, ◌∙◌, refl, subst}
 use Rattle.std.proofs.lemmas.Option.{slice_get_past, slice_get_read}
-use Rattle.sr_bytes.specs.Order.{comes_before}
+use Rattle.sr_bytes.specs.{comes_before}
 use Rattle.sr_pending.proofs.Splitting.{Splits}
 use Rattle.sr_space.proofs.NameOrderLemmas.{among-place, names_rise, not_among-no_place, splits_before}
 use Rattle.sr_space.proofs.snap.names.is_at.Goals as goal

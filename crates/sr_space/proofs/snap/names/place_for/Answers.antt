@@ -1,6 +1,6 @@
 use Rattle.std.proofs.Common.{rules, Bool, List, ℕ, sym}
 use Rattle.std.proofs.lemmas.List.Sorted.{IsPartitionPoint-from_clause}
-use Rattle.sr_bytes.specs.Order.{comes_before}
+use Rattle.sr_bytes.specs.{comes_before}
 use Rattle.sr_pending.proofs.Splitting.{Splits-point, Splits-count}
 use Rattle.sr_space.proofs.NameOrderLemmas.{before_first, names_rise}
 use Rattle.sr_space.proofs.snap.names.place_for.Goals as goal

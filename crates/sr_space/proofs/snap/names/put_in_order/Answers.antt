@@ -6,7 +6,7 @@ use Rattle.std.proofs.lemmas.Cmp.{nat_list_cmp_total}
 use Rattle.std.proofs.lemmas.Fn.{always_returns_same}
 use Rattle.std.proofs.lemmas.List.Filters.{dedup_is}
 use Rattle.std.proofs.lemmas.List.Sorted.{ranks_by}
-use Rattle.sr_bytes.specs.Order.{AreInOrder, ComesBefore}
+use Rattle.sr_bytes.specs.{AreInOrder, ComesBefore}
 use Rattle.sr_space.proofs.SortedNameLemmas.{in_order-already, in_order-sorted}
 use Rattle.sr_space.proofs.snap.names.put_in_order.Goals as goal
 

@@ -1,5 +1,5 @@
 use Rattle.std.proofs.Common.{List, sym, ap, ◌∙◌}
-use Rattle.sr_entries.specs.Entries.{entry_with}
+use Rattle.sr_entries.specs.{entry_with}
 use Rattle.sr_entries.specs.declared.entry.Entry.{Entry}
 use Rattle.sr_group.proofs.FoundLemmas.{has_id-found, has_id-not_found}
 use Rattle.sr_space.proofs.snap.parts.is_there.Goals as goal

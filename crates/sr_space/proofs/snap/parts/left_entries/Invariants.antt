@@ -1,6 +1,6 @@
 use Rattle.std.proofs.Common.{◌≡◌, map}
 use Rattle.std.specs.List.{flat_map}
-use Rattle.sr_entries.specs.Entries.{entry_with}
+use Rattle.sr_entries.specs.{entry_with}
 use Rattle.sr_space.specs.Snap.{stranded_as}
 use Rattle.sr_space.specs.steps.Snapping.{gone_as}
 use Rattle.sr_space.proofs.snap.parts.left_entries.Given as goal

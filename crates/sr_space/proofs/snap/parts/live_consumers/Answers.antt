@@ -2,10 +2,10 @@ use Rattle.std.proofs.Common.{◌≡◌, ℕ, suc, ◌+◌, ◌<◌, true, false
 use Rattle.std.proofs.lemmas.List.{drop_all}
 use Rattle.std.proofs.lemmas.Result.{IfOk-from_err}
 use Rattle.sr_pending.specs.declared.nack.Nack.{Nack}
-use Rattle.sr_pending.specs.Pending.{owned_by}
+use Rattle.sr_pending.specs.{owned_by}
 use Rattle.sr_policy.specs.declared.live.Live.{Live}
-use Rattle.sr_policy.specs.Rules.{Rules, Text, live_of}
-use Rattle.sr_policy.specs.Snapshot.{is_among}
+use Rattle.sr_policy.specs.{Text, live_of, is_among}
+use Rattle.sr_policy.specs.Rules.{Rules}
 use Rattle.sr_space.specs.Snap.{listed}
 use Rattle.sr_space.specs.steps.Snapping.{live_among}
 use Rattle.sr_space.proofs.LoopLemmas.{left-ended}

@@ -1,5 +1,5 @@
 use Rattle.std.proofs.Common.{◌≡◌, ◌++◌, drop}
-use Rattle.sr_policy.specs.Rules.{consumers_of}
+use Rattle.sr_policy.specs.{consumers_of}
 use Rattle.sr_space.specs.steps.Snapping.{live_among}
 use Rattle.sr_space.proofs.snap.parts.live_consumers.Given as goal
 

@@ -1,6 +1,6 @@
 use Rattle.std.proofs.Common.{List, ap, ◌∙◌}
 use Rattle.sr_pending.specs.declared.nack.Nack.{Nack}
-use Rattle.sr_pending.specs.Pending.{owned_by}
+use Rattle.sr_pending.specs.{owned_by}
 use Rattle.sr_space.proofs.DeadLemmas.{of_dead-only}
 use Rattle.sr_space.proofs.snap.parts.pending_for.Goals as goal
 

@@ -3,7 +3,7 @@ use Rattle.std.specs.List.Sorted.{IsSortedBy}
 use Rattle.std.proofs.lemmas.Fn.{always_returns_same}
 use Rattle.std.proofs.lemmas.List.{take_all}
 use Rattle.sr_pending.specs.declared.nack.Nack.{Nack}
-use Rattle.sr_policy.specs.Rules.{Text}
+use Rattle.sr_policy.specs.{Text}
 use Rattle.sr_space.specs.steps.Snapping.{own_of}
 use Rattle.sr_space.proofs.NameOrderLemmas.{names_rise}
 use Rattle.sr_space.proofs.OwnLemmas.{NacksRise-rising, is_less, of_dead-sorted}

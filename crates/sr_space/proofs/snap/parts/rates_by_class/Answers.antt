@@ -2,7 +2,8 @@ use Rattle.std.proofs.Common.{List, Option, ℕ, [], ◌∷◌, ◌++◌, map, a
 use Rattle.std.proofs.lemmas.List.{map_push}
 use Rattle.std.proofs.lemmas.Result.{IfOk-from_err}
 use Rattle.sr_policy.specs.declared.live.Live.{Live}
-use Rattle.sr_policy.specs.Rules.{Text, rate_of}
+use Rattle.sr_policy.specs.{Text}
+use Rattle.sr_policy.specs.Rules.{rate_of}
 use Rattle.sr_space.proofs.LoopLemmas.{one-less}
 use Rattle.sr_space.proofs.snap.parts.rates_by_class.Goals as goal
 

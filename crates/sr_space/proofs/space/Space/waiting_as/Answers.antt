@@ -1,6 +1,6 @@
 use Rattle.std.proofs.Common.{None, List, ap, map, ◌∙◌}
 use Rattle.std.proofs.lemmas.Result.{IfOk-from_err}
-use Rattle.sr_args.specs.Blocking.{without_block}
+use Rattle.sr_args.specs.{without_block}
 use Rattle.sr_args.specs.declared.call.Call.TheVariants as calls
 use Rattle.sr_args.specs.declared.call.Position.{Position}
 use Rattle.sr_space.specs.Keys.{Key}

@@ -1,5 +1,5 @@
 use Rattle.std.proofs.Common.{◌≡◌, false, ap, sym, ◌∙◌, rules}
-use Rattle.sr_group.specs.Group.{GroupState, new_group}
+use Rattle.sr_group.specs.{GroupState, new_group}
 use Rattle.sr_stream.specs.Groups.{ByName, has_group, shown_groups, with_group}
 use Rattle.sr_stream.specs.Stream.{StreamState, KeptStream, with_groups}
 use Rattle.sr_stream.proofs.GroupsLemmas.{AreInOrder-kept, AreInOrder-with_group, has_group-shown, shown-with_group}

@@ -1,5 +1,5 @@
 use Rattle.std.proofs.Common.{ap, ◌∙◌}
-use Rattle.sr_group.specs.Group.{GroupState}
+use Rattle.sr_group.specs.{GroupState}
 use Rattle.sr_stream.specs.Groups.{ByName, shown_groups, without_group}
 use Rattle.sr_stream.specs.Stream.{StreamState, KeptStream, with_groups}
 use Rattle.sr_stream.proofs.GroupsLemmas.{AreInOrder-kept, AreInOrder-without_group, shown-without_group, without_group-none}

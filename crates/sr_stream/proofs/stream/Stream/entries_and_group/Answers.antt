@@ -1,6 +1,6 @@
 use Rattle.std.proofs.Common.{rules, ◌<◌, length, Option, refl, ap, ◌∙◌}
 use Rattle.std.specs.Option.{option_map}
-use Rattle.sr_group.specs.Group.{KeptGroup}
+use Rattle.sr_group.specs.{KeptGroup}
 use Rattle.sr_stream.specs.Stream.{KeptStream, kept_with_group}
 use Rattle.sr_stream.proofs.GroupsLemmas.{IsPlace-within, IsPlace-group, group_with-shown}
 use Rattle.sr_stream.proofs.LendingLemmas.{lent-sound, lent-view}

@@ -1,6 +1,6 @@
 use Rattle.std.proofs.Common.{rules, ◌<◌, Option, length, ap, sym, ◌∙◌}
 use Rattle.std.specs.Option.{option_map}
-use Rattle.sr_group.specs.Group.{KeptGroup}
+use Rattle.sr_group.specs.{KeptGroup}
 use Rattle.sr_stream.specs.steps.Places.{IsPlace}
 use Rattle.sr_stream.proofs.GroupsLemmas.{IsPlace-within, IsPlace-group, group_with-none, group_with-shown}
 use Rattle.sr_stream.proofs.stream.Stream.group.Goals as goal

@@ -1,7 +1,7 @@
 use Rattle.std.proofs.Common.{rules, ◌<◌, length, Option, inl, inr, ap, sym, ◌∙◌}
 use Rattle.std.proofs.Math.Path.{fun_ext}
 use Rattle.std.specs.Option.{option_map}
-use Rattle.sr_group.specs.Group.{KeptGroup}
+use Rattle.sr_group.specs.{KeptGroup}
 use Rattle.sr_stream.specs.Stream.{KeptStream, kept_with_group}
 use Rattle.sr_stream.proofs.GroupsLemmas.{IsPlace-within, IsPlace-group, group_with-missing, group_with-shown, has_group-there}
 use Rattle.sr_stream.proofs.LendingLemmas.{lent-sound, lent-view}

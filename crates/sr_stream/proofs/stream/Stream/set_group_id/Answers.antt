@@ -1,5 +1,5 @@
 use Rattle.std.proofs.Common.{◌≡◌, false, Some, ap, sym, ◌∙◌}
-use Rattle.sr_group.specs.Group.{GroupState}
+use Rattle.sr_group.specs.{GroupState}
 use Rattle.sr_stream.specs.Groups.{ByName, AreInOrder, has_group, group_with, with_group}
 use Rattle.sr_stream.specs.Stream.{with_groups}
 use Rattle.sr_stream.proofs.GroupsLemmas.{with_last-with_group, with_last-none}

@@ -3,10 +3,10 @@ use Rattle.std.proofs.lemmas.Result.{IfOk-from_err, MatchResult-from_err}
 use Rattle.sr_entries.specs.declared.entry.Entry.{Entry}
 use Rattle.sr_group.specs.declared.claim.Claim.{Claim}
 use Rattle.sr_group.specs.declared.shown.Listed.{Listed}
-use Rattle.sr_group.specs.Shown.{after_showing}
+use Rattle.sr_group.specs.{after_showing}
 use Rattle.sr_ids.specs.declared.id.Id.{Id}
-use Rattle.sr_ids.specs.Spelling.{spelling}
-use Rattle.sr_resp.specs.Reply.{Answer, array_of, bulk_string}
+use Rattle.sr_ids.specs.{spelling}
+use Rattle.sr_resp.specs.{ReplyParts, array_of, bulk_string}
 use Rattle.sr_space.specs.Bounds.{in_63_bits}
 use Rattle.sr_space.specs.Grouped.{group_left}
 use Rattle.sr_space.specs.Touched.{reply_of}
@@ -15,15 +15,15 @@ use Rattle.sr_space.specs.declared.outcome.Answered.{Answered}
 use Rattle.sr_space.proofs.commands.xclaim.ScanEntriesTouchGroup.at_group.Goals as goal
 
 -- what is replied, part by part
-scan-replied : (just_ids : Bool) (entries : List Entry) (acts listed : List Listed) (next behind : Id) (reply next_reply claimed deleted : Answer) (outcome : Answered)
+scan-replied : (just_ids : Bool) (entries : List Entry) (acts listed : List Listed) (next behind : Id) (reply next_reply claimed deleted : ReplyParts) (outcome : Answered)
     → outcome ≡ reply_of reply → reply ≡ array_of (next_reply ∷ claimed ∷ deleted ∷ []) → next_reply ≡ bulk_string (spelling next)
     → claimed ≡ claimed_answer just_ids entries acts → deleted ≡ deleted_answer acts → acts ≡ listed → next ≡ behind
     → outcome ≡ reply_of (array_of (bulk_string (spelling behind) ∷ claimed_answer just_ids entries listed ∷ deleted_answer listed ∷ []))
 scan-replied just_ids entries acts listed next behind reply next_reply claimed deleted outcome out is first second third are at =
     out ∙ ap reply_of (is
-    ∙ ap (λ (a : Answer). array_of (a ∷ claimed ∷ deleted ∷ [])) (first ∙ ap (λ (id : Id). bulk_string (spelling id)) at)
-    ∙ ap (λ (a : Answer). array_of (bulk_string (spelling behind) ∷ a ∷ deleted ∷ [])) (second ∙ ap (claimed_answer just_ids entries) are)
-    ∙ ap (λ (a : Answer). array_of (bulk_string (spelling behind) ∷ claimed_answer just_ids entries listed ∷ a ∷ [])) (third ∙ ap deleted_answer are))
+    ∙ ap (λ (a : ReplyParts). array_of (a ∷ claimed ∷ deleted ∷ [])) (first ∙ ap (λ (id : Id). bulk_string (spelling id)) at)
+    ∙ ap (λ (a : ReplyParts). array_of (bulk_string (spelling behind) ∷ a ∷ deleted ∷ [])) (second ∙ ap (claimed_answer just_ids entries) are)
+    ∙ ap (λ (a : ReplyParts). array_of (bulk_string (spelling behind) ∷ claimed_answer just_ids entries listed ∷ a ∷ [])) (third ∙ ap deleted_answer are))
 
 pub returns-clause-group : goal.returns-clause-group
 returns-clause-group c =

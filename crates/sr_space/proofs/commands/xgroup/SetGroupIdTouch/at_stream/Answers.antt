@@ -1,7 +1,6 @@
 use Rattle.std.proofs.Common.{◌≡◌, false, ap, sym, ◌∙◌}
-use Rattle.sr_group.specs.Group.{GroupState}
-use Rattle.sr_stream.specs.Groups.{ByName, has_group}
-use Rattle.sr_stream.specs.Stream.{with_groups}
+use Rattle.sr_group.specs.{GroupState}
+use Rattle.sr_stream.specs.{ByName, has_group, with_groups}
 use Rattle.sr_stream.proofs.GroupsLemmas.{with_last-none}
 use Rattle.sr_space.proofs.commands.xgroup.SetGroupIdTouch.at_stream.Goals as goal
 

@@ -9,7 +9,7 @@ use Rattle.sr_pending.specs.declared.nack.Nack.{Nack}
 use Rattle.sr_pending.specs.declared.room.Room.{Room}
 use Rattle.sr_pending.specs.steps.Blocks.{Laid, items_of}
 use Rattle.sr_pending.specs.steps.Slots.{nack_at, slots_of, slots_with, slots_without}
-use Rattle.sr_pending.specs.Pending.{is_same_name, room_of}
+use Rattle.sr_pending.specs.Pending.{is_same_name, room_left}
 
 -- the slots of a list in blocks: none if there is no list
 abbrev pub slots_in : Option (Laid ℕ) → List ℕ
@@ -40,7 +40,7 @@ module _ {S : Type 0} where
 
   -- each owner's slots find the room that was reserved for it
   abbrev pub HasSpare : HashMap (List ℕ) (Laid ℕ) S → List Room → Type 0
-  HasSpare held rooms = (owner : List ℕ) → room_of owner rooms ≤ spare_by held owner
+  HasSpare held rooms = (owner : List ℕ) → room_left owner rooms ≤ spare_by held owner
 
   -- each owner's slots stay, and the memory for more
   pub record KeepsSlots (old new : HashMap (List ℕ) (Laid ℕ) S) : Type 0 where

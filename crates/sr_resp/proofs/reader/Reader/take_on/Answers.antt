@@ -2,7 +2,7 @@ use Rattle.std.proofs.Common.{◌≡◌, drop, arith, refl, sym, ap, ◌∙◌}
 use Rattle.std.proofs.lemmas.Result.{err_from_is_err_and}
 use Rattle.sr_resp.specs.Stream.{Progress}
 use Rattle.sr_resp.proofs.TakeLemmas.{reader_stands, sorts_out, reader_still, view_still, looks_once, cut_back, piece_cut}
-use Rattle.sr_resp.proofs.reader.Reader.take_in.Goals as goal
+use Rattle.sr_resp.proofs.reader.Reader.take_on.Goals as goal
 
 pub invariant_of-self : goal.invariant_of-self
 invariant_of-self c = reader_still _ _ _ _ _ _ c.in_err-extend_from_slice.ensures.items refl c.self.invariant

@@ -4,8 +4,8 @@
 use Rattle.std.specs.Prelude.{◌≡◌, ℕ, ℤ, List, [], ◌∷◌, ⊤}
 use Rattle.sr_ids.specs.declared.id.Id.{Id}
 use Rattle.sr_ids.specs.declared.spec.Spec.{Spec}
-use Rattle.sr_ids.specs.Spec.{IsSpec}
-use Rattle.sr_ids.specs.Spelling.{SpellsId, IsStart, IsEnd}
+use Rattle.sr_ids.specs.{IsSpec, SpellsId, IsStart}
+use Rattle.sr_ids.specs.Spelling.{IsEnd}
 use Rattle.sr_args.specs.declared.call.Position.{Position}
 use Rattle.sr_args.specs.declared.reads.ReadAsked.{ReadAsked}
 use Rattle.sr_args.specs.declared.name.OptionName.{OptionName}
@@ -65,46 +65,46 @@ Spells position word from = SpellsPosition word from
 Spells read_id word asked = SpellsRead word asked
 
 -- a place in a form: the name of an option, any word, a word that is to write a number, or one that is to spell an id
-pub data Place : Type 0 where
-  option : OptionName → Place
-  any : Word → Place
-  numeric : Range → Word → Place
-  spelled : IdForm → Word → Place
+pub data FormWord : Type 0 where
+  option : OptionName → FormWord
+  any : Word → FormWord
+  numeric : Range → Word → FormWord
+  spelled : IdForm → Word → FormWord
 
 -- the word stands in the place; the name of an option in any case
-abbrev pub Stands : Word → Place → Type 0
+abbrev pub Stands : Word → FormWord → Type 0
 Stands word (option name) = IsSameName word (option_text name)
 Stands word (any other) = word ≡ other
 Stands word (numeric range other) = word ≡ other
 Stands word (spelled form other) = word ≡ other
 
 -- the words stand in these places, one in each
-abbrev pub Fits : List Word → List Place → Type 0
+abbrev pub Fits : List Word → List FormWord → Type 0
 Fits [] [] = ⊤
 Fits (word ∷ words) (place ∷ places) = Stands word place × Fits words places
 Fits [] (place ∷ places) = ⊥
 Fits (word ∷ words) [] = ⊥
 
 -- if the place is a number's, its word writes one in its range
-abbrev pub HasNumber : Place → Type 0
+abbrev pub HasNumber : FormWord → Type 0
 HasNumber (option name) = ⊤
 HasNumber (any word) = ⊤
 HasNumber (numeric range word) = (n : Number range) × Writes range word n
 HasNumber (spelled form word) = ⊤
 
 -- if the place is an id's, its word spells one
-abbrev pub HasId : Place → Type 0
+abbrev pub HasId : FormWord → Type 0
 HasId (option name) = ⊤
 HasId (any word) = ⊤
 HasId (numeric range word) = ⊤
 HasId (spelled form word) = (id : IdOf form) × Spells form word id
 
 -- each place of a number holds one
-abbrev pub HasNumbers : List Place → Type 0
+abbrev pub HasNumbers : List FormWord → Type 0
 HasNumbers [] = ⊤
 HasNumbers (place ∷ places) = HasNumber place × HasNumbers places
 
 -- each place of an id holds one
-abbrev pub HasIds : List Place → Type 0
+abbrev pub HasIds : List FormWord → Type 0
 HasIds [] = ⊤
 HasIds (place ∷ places) = HasId place × HasIds places

@@ -7,32 +7,30 @@ use Rattle.std.specs.List.{zip}
 use Rattle.sr_ids.specs.declared.id.Id.{Id}
 use Rattle.sr_policy.specs.declared.live.Live.{Live}
 use Rattle.sr_policy.specs.declared.stranded.Stranded.{Stranded}
-use Rattle.sr_policy.specs.Problem.{tier_count}
-use Rattle.sr_policy.specs.Rules.{Text}
-use Rattle.sr_policy.specs.Snapshot.{Shown}
+use Rattle.sr_policy.specs.{tier_count, Text, SnapshotState}
 use Rattle.sr_transport.specs.Assignment.{IsAssignment, IsCheapest, HasNoAssignment}
 use Rattle.sr_transport.specs.Certificate.{IsShortage}
-use Rattle.sr_transport.specs.Problem.{Tiered}
+use Rattle.sr_transport.specs.{Tiered}
 use Rattle.sr_transport.specs.Solved.{IsBest}
 
 -- what is answered to a snapshot's problem: which consumer each entry goes to, with a price for each tier and the total
 -- cost; or entries for which there are too few places. Entries and consumers are counted from 0, as the snapshot lists
 -- them.
-pub data Answer : Type 0 where
-  best : (assign prices : List ℕ) (total : ℕ) → Answer
-  short : (set : List ℕ) → Answer
+pub data PlanAnswer : Type 0 where
+  best : (assign prices : List ℕ) (total : ℕ) → PlanAnswer
+  short : (set : List ℕ) → PlanAnswer
 
 -- a reply can tell these prices: an integer of the protocol is below 2 ^ 63
 abbrev pub AreTold : List ℕ → Type 0
 AreTold prices = All (λ price. price < 2 ^ 63) prices
 
 -- the answer shows that it is right: the prices that no assignment costs less, or the entries that there is none
-abbrev pub IsShown : Tiered → Answer → Type 0
+abbrev pub IsShown : Tiered → PlanAnswer → Type 0
 IsShown p (best assign prices total) = IsBest p assign prices total × AreTold prices
 IsShown p (short set) = IsShortage p set
 
 -- what the answer is worth: no assignment costs less, or none exists
-abbrev pub IsWorth : Tiered → Answer → Type 0
+abbrev pub IsWorth : Tiered → PlanAnswer → Type 0
 IsWorth p (best assign prices total) = IsAssignment p assign × IsCheapest p assign
 IsWorth p (short set) = HasNoAssignment p
 
@@ -51,5 +49,5 @@ prices_by (consumer ∷ live) prices =
     (consumer.name, take (tier_count consumer) prices) ∷ prices_by live (drop (tier_count consumer) prices)
 
 -- each stranded entry with the consumer that it goes to, by id
-abbrev pub moves_of : Shown → List ℕ → List (Id × Text)
+abbrev pub moves_of : SnapshotState → List ℕ → List (Id × Text)
 moves_of shown assign = zip (map (λ entry. entry.id) shown.stranded) (map (name_at shown.live) assign)
