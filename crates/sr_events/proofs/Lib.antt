@@ -1,2 +1,3 @@
 pub mod ConnectionsLemmas
 pub mod RingLemmas
+pub mod SocketsLemmas

@@ -108,14 +108,13 @@ impl Acceptor {
         self.waiting == Waiting::Later
     }
 
-    /// The next connection, until the pass is over. While there is no place for one, those that come are turned away.
-    pub fn next(&mut self, is_full: bool) -> Accepted
+    /// The next connection, until the pass is over.
+    pub fn next(&mut self) -> Accepted
         ensures { Accepts self.old result self.new }
     {
         while self.left > 0 && self.waiting == Waiting::Maybe {
             self.left -= 1;
             match self.listener.accept() {
-                Ok((stream, _)) if is_full => turn_away(stream),
                 Ok((stream, _)) => {
                     // Without it replies may come late, and nothing else changes.
                     let _ = stream.set_nodelay(true);

@@ -1,4 +1,4 @@
-ghost use Rattle.std.specs.Prelude.{◌≡◌, ◌==◌, ◌*◌, ◌<◌, ◌≤◌, ℕ, true, false, length, Some, None};
+ghost use Rattle.std.specs.Prelude.{◌≡◌, ◌==◌, ◌*◌, ◌<◌, ◌≤◌, ◌⊎◌, ℕ, true, false, length, Some, None};
 ghost use Rattle.std.specs.Prelude.{IfOk, IfSome, IfNone, IsSomeAnd, IsTrue};
 ghost use Rattle.std.specs.Duration.{as_nanos};
 ghost use Rattle.std.specs.List.{list_any};
@@ -6,7 +6,7 @@ ghost use Rattle.mio.specs.Event.{event_token};
 ghost use Rattle.mio.specs.Events.{items};
 ghost use Rattle.sr_hub.specs.Heard.{count_of};
 ghost use Rattle.sr_events.specs.Connections.{slot_at};
-ghost use Rattle.sr_events.specs.Sockets.{Tells, new_sockets};
+ghost use Rattle.sr_events.specs.Sockets.{HasCome, Tells, new_sockets};
 
 use crate::acceptor::{Accepted, Acceptor, Waiting, turn_away};
 use crate::connections::Connections;
@@ -39,6 +39,8 @@ pub struct EventSockets<P: Planner> {
     connections: Connections,
     /// The connection that came last, until it has a token.
     latest: Option<TcpStream>,
+    /// Whether the sockets were polled since it came.
+    looked: bool,
     /// A token that was given to a connection which could not have it.
     lost: Option<usize>,
     /// The waker was used.
@@ -56,6 +58,7 @@ impl<P: Planner> Model for EventSockets<P> {
       kept = sockets.connections;
       waiting = sockets.acceptor.waiting;
       came = is_some sockets.latest;
+      looked = sockets.looked;
       lost = sockets.lost;
       woken = sockets.woken;
     } };
@@ -82,6 +85,7 @@ impl<P: Planner + Drop> EventSockets<P> {
             acceptor: Acceptor::new(listener),
             connections,
             latest: None,
+            looked: false,
             lost: None,
             woken: false,
             planner,
@@ -93,6 +97,7 @@ impl<P: Planner + Drop> EventSockets<P> {
         ensures told { IfSome result (λ heard. Tells (length buffer.new) self.old heard self.new) }
         ensures lost { (token : ℕ) → self.old.lost ≡ Some token → result ≡ Some (Heard.Over token) }
         ensures none { IfNone result ((self.new.lost ≡ None) × (self.new.woken ≡ false)) }
+        ensures held { self.old.came ≡ true → self.new.came ≡ true }
     {
         if let Some(token) = self.lost.take() {
             return Some(Heard::Over { token });
@@ -104,20 +109,39 @@ impl<P: Planner + Drop> EventSockets<P> {
         if let Some(heard) = self.connections.next(buffer) {
             return Some(heard);
         }
-        match self.acceptor.next(self.connections.is_full()) {
-            Accepted::Stream(stream) => {
-                self.latest = Some(stream);
-                Some(Heard::Came)
+        self.comer()
+    }
+
+    /// Whether a connection comes, or none ever again. If each place is taken, one comes only once the sockets were
+    /// polled since it was accepted, so that one who closed and connected again finds its place free.
+    fn comer(&mut self) -> Option<Heard>
+        ensures came { IfSome result (λ heard. (heard ≡ Heard.End) ⊎ ((heard ≡ Heard.Came) × HasCome self.new)) }
+        ensures fresh { self.old.came ≡ false → self.new.came ≡ true → self.new.looked ≡ false }
+        ensures kept { (self.old.came ≡ true → self.new.came ≡ true) × (self.new.kept ≡ self.old.kept) }
+        ensures others { (self.new.lost ≡ self.old.lost) × (self.new.woken ≡ self.old.woken) }
+    {
+        if self.latest.is_none() {
+            match self.acceptor.next() {
+                Accepted::Stream(stream) => {
+                    self.latest = Some(stream);
+                    self.looked = false;
+                }
+                Accepted::End => return Some(Heard::End),
+                Accepted::Nobody => return None,
             }
-            Accepted::End => Some(Heard::End),
-            Accepted::Nobody => None,
         }
+        if self.connections.is_full() && !self.looked {
+            return None;
+        }
+        Some(Heard::Came)
     }
 
     /// Polls the sockets, notes what is reported and begins a pass. Answers whether it can be done again.
     fn look(&mut self, wait: Option<u64>) -> bool
         ensures lost { self.new.lost ≡ self.old.lost }
         ensures pass { IsTrue result → self.new.kept.left ≡ length self.new.kept.turns.tokens }
+        ensures came { self.new.came ≡ self.old.came }
+        ensures looked { IsTrue result → self.new.looked ≡ true }
     {
         let timeout = self.timeout(wait);
         if let Err(error) = self.poll.poll(&mut self.events, timeout)
@@ -127,6 +151,7 @@ impl<P: Planner + Drop> EventSockets<P> {
         }
         let woken = note_all(&self.events, &mut self.acceptor, &mut self.connections);
         self.woken |= woken;
+        self.looked = true;
         self.acceptor.begin_pass();
         self.connections.begin_pass();
         true
@@ -137,10 +162,11 @@ impl<P: Planner + Drop> EventSockets<P> {
     fn timeout(&self, wait: Option<u64>) -> Option<Duration>
         ensures turns { 0 < length self.now.kept.turns.tokens → result ≡ Some Duration.ZERO }
         ensures ready { self.now.waiting ≡ Waiting.Maybe → result ≡ Some Duration.ZERO }
+        ensures came { self.now.came ≡ true → result ≡ Some Duration.ZERO }
         ensures put_off { self.now.waiting ≡ Waiting.Later
             → IsSomeAnd result (λ timeout. as_nanos timeout ≤ 10 * 1000000) }
     {
-        if self.acceptor.is_ready() || self.connections.has_turns() {
+        if self.acceptor.is_ready() || self.connections.has_turns() || self.latest.is_some() {
             return Some(Duration::ZERO);
         }
         let wait = if self.acceptor.is_put_off() {
@@ -179,6 +205,7 @@ impl<P: Planner + Drop> Sockets for EventSockets<P> {
         ensures bound { count_of result ≤ length buffer.new }
         ensures told { Tells (length buffer.new) self.old result self.new }
         ensures lost { (token : ℕ) → self.old.lost ≡ Some token → result ≡ Heard.Over token }
+        ensures held { self.old.came ≡ true → self.new.came ≡ true }
     {
         match self.at_hand(buffer) {
             Some(heard) => heard,
