@@ -23,6 +23,7 @@ name of one in the table; all if none is named.
 | `few_descriptors` | begins, and fails when connections come |
 | `half_closed` | ends a connection that says no more, before its replies are written |
 | `long_pipelines` | loses or repeats bytes after a write that came short |
+| `long_replies` | answers all that one client asked for at once before it answers others |
 | `cut` | reads a request otherwise that comes in two pieces, or byte by byte |
 | `unread` | goes on to read of a client that does not read |
 | `busy_recoveries` | solves a small recovery beside the loop, so that it is stale |
@@ -65,6 +66,7 @@ PARTS = [
     (bounds.few_descriptors, None, {}, False),
     (streams.half_closed, MANY, {}, False),
     (streams.long_pipelines, MANY, {}, True),
+    (streams.long_replies, MANY, {}, True),
     (streams.cut, MANY, {}, True),
     (streams.unread, MANY, {}, False),
     (recovery.busy_recoveries, MANY, {}, False),

@@ -15,6 +15,7 @@ LATE = 0.3  # seconds in which such a connection sends and does not read
 SENT, BUFFERED = 96 << 20, 40 << 20  # bytes that a client sends without reading, and that may be in buffers: the system's, of both ends, and
 # those of the server, which grow by doubling
 WORD = b"w" * 4_000
+LONG, TIMES = 20_000, 60  # entries of a long reply, and how many such replies are asked for at once
 
 
 def entry(number):
@@ -89,6 +90,27 @@ def long_pipelines(tally, server):
             each.join()
             tally.compare(f"bytes of {DEPTH:,} replies that are right", len(each.wanted), each.place)
         crowd.pinged(maker.socket)
+
+
+def long_replies(tally, server):
+    """A client that asks for many long replies at once, and reads them, holds up others for one of them or two, not for all."""
+    with server.connect() as maker, server.connect() as other, crowd.opened(server.port, servers.SECONDS) as reader:
+        maker.socket.sendall(spelled_all(["XADD", "long", f"{number}-1", "f", "v"] for number in range(1, LONG + 1)))
+        for _ in range(LONG):
+            maker.reply()
+        one = len(array([array([bulk(b"%d-1" % number), spelled("f", "v")]) for number in range(1, LONG + 1)]))
+        reader.sendall(spelled("XRANGE", "long", "-", "+") * TIMES)
+        found = len(crowd.received(reader))
+        other.socket.sendall(PING)
+        answers = threading.Thread(target=other.reply)
+        answers.start()
+        while answers.is_alive() and found < one * TIMES:
+            found += len(crowd.received(reader))
+        tally.holds(f"a PING is answered after {found / one:.1f} of {TIMES} long replies", found < one * TIMES / 2)
+        while found < one * TIMES and (piece := crowd.received(reader)):
+            found += len(piece)
+        answers.join()
+        tally.compare("bytes of long replies", one * TIMES, found)
 
 
 def cut_at(key):

@@ -6,12 +6,16 @@ use crate::{Heard, Hub};
 use sr_book::Record;
 use sr_session::Clock;
 use std::alloc::Global;
+use std::collections::VecDeque;
 
 /// While a read with a deadline waits, its deadline is looked at this often, in milliseconds.
 const TICK: u64 = 10;
 
 /// How often all connections are looked at, in milliseconds.
 const SWEEP: u64 = 1_000;
+
+/// After how long others have their turn while a connection has more to be answered, in milliseconds.
+const LONG: u64 = 5;
 
 /// How many records that are kept no longer are let go after one turn. One turn adds fewer.
 const PART: usize = 1_000;
@@ -47,6 +51,10 @@ pub(crate) struct Keeper<'a, C> {
     swept: u64,
     /// Whether nothing came since then, and no read with a deadline waits.
     quiet: bool,
+    /// When the turn of a connection began.
+    began: u64,
+    /// Connections that had a long turn and have more to be answered.
+    later: VecDeque<usize>,
     /// Records that are kept no longer.
     dropped: Vec<Record>,
 }
@@ -63,6 +71,8 @@ impl<'a, C: Clock> Keeper<'a, C> {
             ticked: 0,
             swept: 0,
             quiet: false,
+            began: 0,
+            later: VecDeque::new(alloc),
             dropped: Vec::new(alloc),
         }
     }
@@ -84,15 +94,34 @@ impl<'a, C: Clock> Keeper<'a, C> {
 
     /// How long the loop may wait for what comes next, in milliseconds.
     pub(crate) fn patience(&self) -> Option<u64> {
+        if !self.later.is_empty() {
+            return Some(0);
+        }
         Some(if self.quiet { SWEEP } else { TICK })
     }
 
     /// This came just now.
     pub(crate) fn hears(&mut self, heard: Heard) {
         self.looks_up();
+        self.began = self.moment;
         if heard != Heard::Nothing {
             self.quiet = false;
         }
+    }
+
+    /// Whether a connection that has more to be answered goes on later, since its turn is long already. If memory is
+    /// refused for that it goes on now.
+    pub(crate) fn puts_off(&mut self, token: usize) -> bool {
+        let long = self.clock.now().saturating_sub(self.began) >= LONG;
+        long && self.later.push_back(token).is_ok()
+    }
+
+    /// A connection that goes on now since it was put off, the one that has waited longest.
+    pub(crate) fn goes_on(&mut self) -> Option<usize> {
+        let token = self.later.pop_front()?;
+        self.looks_up();
+        self.began = self.moment;
+        Some(token)
     }
 
     /// Whether deadlines are to be looked at: not since a while.

@@ -178,7 +178,8 @@ fn attend<S: Sockets, C: Clock>(
     }
 }
 
-/// Makes the plans that a connection wants, writes what there is for it and goes on with it, as long as all is written.
+/// Makes the plans that a connection wants, writes what there is for it and goes on with it, as long as all is written
+/// and its turn is not long.
 fn advance<S: Sockets, C: Clock>(
     hub: &mut Hub,
     sockets: &mut S,
@@ -189,6 +190,9 @@ fn advance<S: Sockets, C: Clock>(
 {
     for _round in 0..u64::MAX {
         if !go_on(hub, sockets, keeper, token) {
+            return;
+        }
+        if keeper.puts_off(token) {
             return;
         }
     }
@@ -328,12 +332,14 @@ fn verdict_on(wanted: &Snapshot, verdict: Option<Verdict>) -> Option<Verdict>
     }
 }
 
-/// Answers the reads whose deadline is reached, serves each connection that has a letter, and drops old records.
+/// Answers the reads whose deadline is reached, serves each connection that has a letter, goes on with one that was put
+/// off, and drops old records.
 fn settle<S: Sockets, C: Clock>(hub: &mut Hub, sockets: &mut S, keeper: &mut Keeper<'_, C>)
     ensures { Serves (state_of hub.old) (S.may_have sockets.old) (state_of hub.new) (S.may_have sockets.new) }
 {
     tick(hub, keeper);
     hand_letters(hub, sockets, keeper);
+    resume(hub, sockets, keeper);
     sweep(hub, sockets, keeper);
     keeper.forget(hub);
 }
@@ -359,6 +365,15 @@ fn hand_letters<S: Sockets, C: Clock>(hub: &mut Hub, sockets: &mut S, keeper: &m
         };
         hub.go_on(keeper.alloc, token, keeper.now());
         keeper.hands(token);
+        attend(hub, sockets, keeper, token);
+    }
+}
+
+/// Goes on with the connection that was put off first, if one was.
+fn resume<S: Sockets, C: Clock>(hub: &mut Hub, sockets: &mut S, keeper: &mut Keeper<'_, C>)
+    ensures { Serves (state_of hub.old) (S.may_have sockets.old) (state_of hub.new) (S.may_have sockets.new) }
+{
+    if let Some(token) = keeper.goes_on() {
         attend(hub, sockets, keeper, token);
     }
 }

@@ -8,6 +8,8 @@ returns g c =
     (serves-keeps (state_of c.args.hub.now) (state_of c.tick.new.hub) (g.S.Sockets.may_have c.args.sockets.now) c.tick.ensures)
     (serves-then (state_of c.tick.new.hub) (state_of c.hand_letters.new.hub) (state_of c.forget.new.hub) (g.S.Sockets.may_have c.args.sockets.now) (g.S.Sockets.may_have c.hand_letters.new.sockets) (g.S.Sockets.may_have c.sweep.new.sockets)
     c.hand_letters.ensures
-    (serves-then (state_of c.hand_letters.new.hub) (state_of c.sweep.new.hub) (state_of c.forget.new.hub) (g.S.Sockets.may_have c.hand_letters.new.sockets) (g.S.Sockets.may_have c.sweep.new.sockets) (g.S.Sockets.may_have c.sweep.new.sockets)
+    (serves-then (state_of c.hand_letters.new.hub) (state_of c.resume.new.hub) (state_of c.forget.new.hub) (g.S.Sockets.may_have c.hand_letters.new.sockets) (g.S.Sockets.may_have c.resume.new.sockets) (g.S.Sockets.may_have c.sweep.new.sockets)
+    c.resume.ensures
+    (serves-then (state_of c.resume.new.hub) (state_of c.sweep.new.hub) (state_of c.forget.new.hub) (g.S.Sockets.may_have c.resume.new.sockets) (g.S.Sockets.may_have c.sweep.new.sockets) (g.S.Sockets.may_have c.sweep.new.sockets)
     c.sweep.ensures
-    (serves-keeps (state_of c.sweep.new.hub) (state_of c.forget.new.hub) (g.S.Sockets.may_have c.sweep.new.sockets) c.forget.ensures)))
+    (serves-keeps (state_of c.sweep.new.hub) (state_of c.forget.new.hub) (g.S.Sockets.may_have c.sweep.new.sockets) c.forget.ensures))))
