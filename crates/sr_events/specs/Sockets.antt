@@ -35,8 +35,8 @@ new_sockets most = record {
 abbrev pub IsFull : Kept → Type 0
 IsFull kept = open_count kept.slots ≡ length kept.slots
 
--- one that is told to come is there; and if each place is taken, the sockets were polled since it came: whoever had gone
--- by then was told of
+-- one that is told to come is there; and if each place is taken, the sockets were polled since it came: whoever had
+-- gone by then was told of
 abbrev pub HasCome : SocketsState → Type 0
 HasCome sockets = (sockets.came ≡ true) × (IsFull sockets.kept → sockets.looked ≡ true)
 
