@@ -9,13 +9,13 @@ use Rattle.sr_args.specs.declared.call.TrimBy.TheVariants as bounds
 use Rattle.sr_args.specs.declared.name.Measure.{Measure}
 use Rattle.sr_args.specs.declared.name.Measure.TheVariants as measures
 use Rattle.sr_args.specs.declared.name.Sign.{Sign}
-use Rattle.sr_args.specs.declared.options.Choice.{Choice}
+use Rattle.sr_args.specs.declared.name.Choice.{Choice}
 use Rattle.sr_args.specs.declared.options.ValueFault.{ValueFault}
 use Rattle.sr_args.specs.declared.options.ValueFault.TheVariants as faults
 use Rattle.sr_args.specs.FormWord.{Word, FormWord, HasNumber, HasId, HasNumbers, HasIds}
-use Rattle.sr_args.specs.Options.{TrimReading, Written, count, idle, since, deliveries, named_group, block, trimming, count_place, sign_places, bound_place, limit_places, option_places, Chosen, nothing, IsBound, IsLimit, IsTrim, Sets, Choose}
-use Rattle.sr_args.specs.steps.Options.{AreJudged, IsJudged, GivesBound, GivesTrim, chosen_of, trim_operands}
-use Rattle.sr_args.specs.declared.commands.xclaim.TimeAsked.TheVariants as times
+use Rattle.sr_args.specs.Name.{nothing, with_number}
+use Rattle.sr_args.specs.Options.{TrimReading, Written, flag, numbered, count, named_group, trimming, count_place, sign_places, bound_place, limit_places, option_places, IsBound, IsLimit, IsTrim, Sets, Choose}
+use Rattle.sr_args.specs.steps.Options.{AreJudged, IsJudged, GivesBound, GivesTrim, trim_operands}
 use Rattle.sr_args.specs.declared.number.CountRange.{CountRange}
 use Rattle.sr_args.specs.declared.number.CountRange.TheVariants.{Any, FromOne}
 use Rattle.sr_args.specs.Number.{IsInt, IsCount}
@@ -134,45 +134,37 @@ count-int Any word z i = i
 count-int FromOne word z i = i.0
 
 -- one option
-pub Sets-numbers : (o : Written) (a b : Chosen) → Sets o a b → HasNumbers (option_places o)
+pub Sets-numbers : (o : Written) (a b : Choice) → Sets o a b → HasNumbers (option_places o)
+Sets-numbers (flag f) a b s = (tt, tt)
+Sets-numbers (numbered which word) a b s = (tt, ((s.0, s.1), tt))
 Sets-numbers (count range most) a b s = (tt, (count-number range most s.0 s.1, tt))
-Sets-numbers (idle word) a b s = (tt, ((s.0, s.1), tt))
-Sets-numbers (since word) a b s = (tt, ((s.0, s.1), tt))
-Sets-numbers (deliveries word) a b s = (tt, ((s.0, s.1), tt))
-Sets-numbers (block wait) a b s = (tt, ((s.0, s.1), tt))
 Sets-numbers (named_group group consumer) a b s = (tt, (tt, (tt, tt)))
 Sets-numbers (trimming t) a b s = trim-numbers t s.0 s.1
-Sets-numbers o a b s = (tt, tt)
 
-pub Sets-ids : (o : Written) (a b : Chosen) → Sets o a b → HasIds (option_places o)
+pub Sets-ids : (o : Written) (a b : Choice) → Sets o a b → HasIds (option_places o)
+Sets-ids (flag f) a b s = (tt, tt)
+Sets-ids (numbered which word) a b s = (tt, (tt, tt))
 Sets-ids (count range most) a b s = (tt, (count-id range most, tt))
-Sets-ids (idle word) a b s = (tt, (tt, tt))
-Sets-ids (since word) a b s = (tt, (tt, tt))
-Sets-ids (deliveries word) a b s = (tt, (tt, tt))
-Sets-ids (block wait) a b s = (tt, (tt, tt))
 Sets-ids (named_group group consumer) a b s = (tt, (tt, (tt, tt)))
 Sets-ids (trimming t) a b s = trim-ids t s.0 s.1
-Sets-ids o a b s = (tt, tt)
 
-pub Sets-one : (o : Written) (a b c : Chosen) → Sets o a b → Sets o a c → b ≡ c
+pub Sets-one : (o : Written) (a b c : Choice) → Sets o a b → Sets o a c → b ≡ c
+Sets-one (flag f) a b c s t = s ∙ sym t
+Sets-one (numbered which word) a b c s t = s.2 ∙ ap (λ (n : ℕ). with_number which n a) (IsNat-one word s.0 t.0 s.1 t.1) ∙ sym t.2
 Sets-one (count range most) a b c s t = s.2 ∙ ap (λ (z : ℤ). record a { count = Some z }) (IsCount-one range most s.0 t.0 s.1 t.1) ∙ sym t.2
-Sets-one (idle word) a b c s t = s.2 ∙ ap (λ (n : ℕ). record a { time = times.Idle n }) (IsNat-one word s.0 t.0 s.1 t.1) ∙ sym t.2
-Sets-one (since word) a b c s t = s.2 ∙ ap (λ (n : ℕ). record a { time = times.At n }) (IsNat-one word s.0 t.0 s.1 t.1) ∙ sym t.2
-Sets-one (deliveries word) a b c s t = s.2 ∙ ap (λ (n : ℕ). record a { delivered = Some n }) (IsNat-one word s.0 t.0 s.1 t.1) ∙ sym t.2
-Sets-one (block wait) a b c s t = s.2 ∙ ap (λ (n : ℕ). record a { block = Some n }) (IsNat-one wait s.0 t.0 s.1 t.1) ∙ sym t.2
+Sets-one (named_group group consumer) a b c s t = s ∙ sym t
 Sets-one (trimming r) a b c s t = s.2 ∙ ap (λ (trim : Trim). record a { trim = Some trim }) (IsTrim-one r s.0 t.0 s.1 t.1) ∙ sym t.2
-Sets-one o a b c s t = s ∙ sym t
 
 -- all of them
-pub Choose-numbers : (os : List Written) (a b : Chosen) → Choose os a b → HasNumbers (flat_map option_places os)
+pub Choose-numbers : (os : List Written) (a b : Choice) → Choose os a b → HasNumbers (flat_map option_places os)
 Choose-numbers [] a b p = tt
 Choose-numbers (o ∷ os) a b p = HasNumbers-append (option_places o) (flat_map option_places os) (Sets-numbers o a p.0 p.1) (Choose-numbers os p.0 b p.2)
 
-pub Choose-ids : (os : List Written) (a b : Chosen) → Choose os a b → HasIds (flat_map option_places os)
+pub Choose-ids : (os : List Written) (a b : Choice) → Choose os a b → HasIds (flat_map option_places os)
 Choose-ids [] a b p = tt
 Choose-ids (o ∷ os) a b p = HasIds-append (option_places o) (flat_map option_places os) (Sets-ids o a p.0 p.1) (Choose-ids os p.0 b p.2)
 
-pub Choose-one : (os : List Written) (a b c : Chosen) → Choose os a b → Choose os a c → b ≡ c
+pub Choose-one : (os : List Written) (a b c : Choice) → Choose os a b → Choose os a c → b ≡ c
 Choose-one [] a b c p q = p ∙ sym q
 Choose-one (o ∷ os) a b c p q =
     let same : q.0 ≡ p.0 = Sets-one o a q.0 p.0 q.1 p.1 in
@@ -196,23 +188,23 @@ last-ids (p ∷ os) o n =
     let rest = last-ids os o (HasIds-back (option_places p) (flat_map option_places (os ++ o ∷ [])) n) in
     (HasIds-append (option_places p) (flat_map option_places os) (HasIds-front (option_places p) (flat_map option_places (os ++ o ∷ [])) n) rest.0, rest.1)
 
-Choose-last : (os : List Written) (o : Written) (a b c : Chosen) → Choose os a b → Sets o b c → Choose (os ++ o ∷ []) a c
+Choose-last : (os : List Written) (o : Written) (a b c : Choice) → Choose os a b → Sets o b c → Choose (os ++ o ∷ []) a c
 Choose-last [] o a b c p s = let same : b ≡ a = p in (c, rw same at s, refl)
 Choose-last (q ∷ os) o a b c p s = (p.0, p.1, Choose-last os o p.0 b c p.2 s)
 
 -- what options ask for, judged one after the other
-pub AreJudged-after : (os : List Written) (o : Written) (before : Chosen) (result : Result Choice ValueFault) → Choose os nothing before → IsJudged o before result → AreJudged (os ++ o ∷ []) result
-AreJudged-after os o before (Ok after) p j = Choose-last os o nothing before (chosen_of after) p j
+pub AreJudged-after : (os : List Written) (o : Written) (before : Choice) (result : Result Choice ValueFault) → Choose os nothing before → IsJudged o before result → AreJudged (os ++ o ∷ []) result
+AreJudged-after os o before (Ok after) p j = Choose-last os o nothing before after p j
 AreJudged-after os o before (Err faults.Number) p j = λ n. j (last-numbers os o n).1
 AreJudged-after os o before (Err faults.BadId) p j = (with_last-numbers os o (Choose-numbers os nothing before p) j.0, λ i. j.1 (last-ids os o i).1)
 
 pub AreJudged-number : (os : List Written) (o : Written) → AreJudged os (Err faults.Number) → AreJudged (os ++ o ∷ []) (Err faults.Number)
 AreJudged-number os o p = λ n. p (last-numbers os o n).0
 
-pub AreJudged-id : (os : List Written) (o : Written) (before : Chosen) (after : Choice) → AreJudged os (Err faults.BadId) → IsJudged o before (Ok after) → AreJudged (os ++ o ∷ []) (Err faults.BadId)
-AreJudged-id os o before after p j = (with_last-numbers os o p.0 (Sets-numbers o before (chosen_of after) j), λ i. p.1 (last-ids os o i).0)
+pub AreJudged-id : (os : List Written) (o : Written) (before : Choice) (after : Choice) → AreJudged os (Err faults.BadId) → IsJudged o before (Ok after) → AreJudged (os ++ o ∷ []) (Err faults.BadId)
+AreJudged-id os o before after p j = (with_last-numbers os o p.0 (Sets-numbers o before after j), λ i. p.1 (last-ids os o i).0)
 
-pub AreJudged-fault : (os : List Written) (o : Written) (before : Chosen) (fault : ValueFault) → AreJudged os (Err faults.BadId) → IsJudged o before (Err fault) → AreJudged (os ++ o ∷ []) (Err fault)
+pub AreJudged-fault : (os : List Written) (o : Written) (before : Choice) (fault : ValueFault) → AreJudged os (Err faults.BadId) → IsJudged o before (Err fault) → AreJudged (os ++ o ∷ []) (Err fault)
 AreJudged-fault os o before faults.Number p j = λ n. j (last-numbers os o n).1
 AreJudged-fault os o before faults.BadId p j = (with_last-numbers os o p.0 j.0, λ i. p.1 (last-ids os o i).0)
 
@@ -227,7 +219,7 @@ GivesTrim-from_bound t limit faults.BadId l g =
     (HasNumbers-append (sign_places t.sign) (after_sign t) (sign-numbers t.sign) (g.0, limit-numbers t.limit limit l), λ i. g.1 (HasIds-back (sign_places t.sign) (after_sign t) i).0)
 
 -- and the fault of a trim is that of its option
-pub IsJudged-from_trim : (t : TrimReading) (before : Chosen) (fault : ValueFault) → GivesTrim t (Err fault) → IsJudged (trimming t) before (Err fault)
+pub IsJudged-from_trim : (t : TrimReading) (before : Choice) (fault : ValueFault) → GivesTrim t (Err fault) → IsJudged (trimming t) before (Err fault)
 IsJudged-from_trim t before faults.Number g = λ n. g n.1
 IsJudged-from_trim t before faults.BadId g = ((tt, g.0), λ i. g.1 i.1)
 
@@ -236,7 +228,7 @@ pub count-back : (word : Word) (z : ℤ) → IsInt word z → to_z w64 (of_z w64
 count-back word z (positive n d lt e) = let fits : FitsSigned w64 z = omega (arith, ints) in to_z-of_z w64 z fits
 count-back word z (negative digits n w d le e) = let fits : FitsSigned w64 z = omega (arith, ints) in to_z-of_z w64 z fits
 
-pub Sets-count : (range : CountRange) (word : Word) (z : ℤ) (before : Chosen) → IsCount range word z → Sets (count range word) before (record before { count = Some (to_z w64 (of_z w64 z)) })
+pub Sets-count : (range : CountRange) (word : Word) (z : ℤ) (before : Choice) → IsCount range word z → Sets (count range word) before (record before { count = Some (to_z w64 (of_z w64 z)) })
 Sets-count range word z before i = (z, i, ap (λ (y : ℤ). record before { count = Some y }) (count-back word z (count-int range word z i)))
 
 pub no_count-no_numbers : (range : CountRange) (word : Word) → ((z : ℤ) → IsCount range word z → ⊥) → HasNumbers (option_places (count range word)) → ⊥

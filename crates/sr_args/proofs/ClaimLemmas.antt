@@ -7,19 +7,20 @@ use Rattle.sr_ids.specs.declared.id.Id.{Id}
 use Rattle.sr_args.specs.declared.call.Call.TheVariants.{Xclaim}
 use Rattle.sr_args.specs.declared.commands.named.ConsumerNamed.{ConsumerNamed}
 use Rattle.sr_args.specs.declared.name.OptionName.{OptionName}
-use Rattle.sr_args.specs.declared.options.Choice.{Choice}
-use Rattle.sr_args.specs.declared.options.OptionSet.{OptionSet}
-use Rattle.sr_args.specs.declared.options.OptionSet.TheVariants as sets
+use Rattle.sr_args.specs.declared.name.Choice.{Choice}
+use Rattle.sr_args.specs.declared.name.OptionSet.{OptionSet}
+use Rattle.sr_args.specs.declared.name.OptionSet.TheVariants as sets
 use Rattle.sr_args.specs.declared.options.ValueFault.{ValueFault}
 use Rattle.sr_args.specs.declared.options.ValueFault.TheVariants as faults
 use Rattle.sr_args.specs.Number.{IsInt}
 use Rattle.sr_args.specs.FormWord.{Word, FormWord, Stands, Fits, option, any, numeric, spelled, strict_id, HasNumbers, HasIds}
-use Rattle.sr_args.specs.Options.{Written, option_places, AreOptionsFit, IsUnnamed, nothing}
+use Rattle.sr_args.specs.Name.{nothing}
+use Rattle.sr_args.specs.Options.{Written, option_places, AreOptionsFit, IsUnnamed}
 use Rattle.sr_args.specs.Form.{Reading, Reads, places, AreUnnamed, IsNoneOf, AreNoneOf, AreBarred, AreIds}
 use Rattle.sr_args.specs.commands.Xclaim.{form, call, unsupported}
 use Rattle.sr_args.specs.steps.Claims.{IsSkipped, claim_reading}
 use Rattle.sr_args.specs.steps.Gives.{Gives, GivesCall}
-use Rattle.sr_args.specs.steps.Options.{AreJudged, BeginsNoOptions, EndsOptions, chosen_of, fault_of}
+use Rattle.sr_args.specs.steps.Options.{AreJudged, BeginsNoOptions, EndsOptions, fault_of}
 use Rattle.sr_args.proofs.ChoiceLemmas.{HasNumbers-append, HasNumbers-back, HasIds-back, HasIds-front, Choose-numbers, count-back}
 use Rattle.sr_args.proofs.FormLemmas.{named-option, ids-numbers}
 use Rattle.sr_args.proofs.OptionLemmas.{IsPast-end}
@@ -153,7 +154,7 @@ claim-fault words key group consumer least_idle ids written z faults.BadId reads
 
 pub claim-numbers : (key group consumer least_idle : Word) (ids : List Word) (written : List Written) (z : ℤ) (choice : Choice) → IsInt least_idle z → AreJudged written (Ok choice) → HasNumbers (places form (claim_reading key group consumer least_idle ids written))
 claim-numbers key group consumer least_idle ids written z choice i judged =
-    (tt, (tt, (tt, ((z, i), HasNumbers-append (map (spelled strict_id) ids) (flat_map option_places written) (ids-numbers strict_id ids) (Choose-numbers written nothing (chosen_of choice) judged)))))
+    (tt, (tt, (tt, ((z, i), HasNumbers-append (map (spelled strict_id) ids) (flat_map option_places written) (ids-numbers strict_id ids) (Choose-numbers written nothing choice judged)))))
 
 pub claim-ids : (key group consumer least_idle : Word) (ids : List Word) (written : List Written) → HasIds (places form (claim_reading key group consumer least_idle ids written)) → HasIds (map (spelled strict_id) ids)
 claim-ids key group consumer least_idle ids written h = HasIds-front (map (spelled strict_id) ids) (flat_map option_places written) h.1.1.1.1
@@ -163,7 +164,7 @@ pub claim-gives : (words : List Word) (key group consumer least_idle : Word) (id
 claim-gives words key group consumer least_idle ids written named z list choice reads same_key same_group same_consumer i are judged = record {
   reading = claim_reading key group consumer least_idle ids written;
   reads = reads;
-  values = (named.key, (named.group, (named.consumer, (z, (list, chosen_of choice)))));
+  values = (named.key, (named.group, (named.consumer, (z, (list, choice)))));
   means = (same_key, (same_group, (same_consumer, (i, (are, judged)))));
   is = ap (λ (n : ℤ). Xclaim (record { key = named.key; group = named.group; consumer = named.consumer; least_idle = n; ids = list; time = choice.time; count = choice.delivered; just_ids = choice.just_ids })) (count-back least_idle z i);
 }

@@ -6,9 +6,10 @@ use Rattle.sr_ids.proofs.SpellingLemmas.{SpellsId-one}
 use Rattle.sr_ids.proofs.SpecLemmas.{IsSpec-one}
 use Rattle.sr_ids.proofs.StartLemmas.{IsStart-one}
 use Rattle.sr_ids.proofs.EndLemmas.{IsEnd-one}
-use Rattle.sr_args.specs.Options.{Written, AreOptionsFit, IsUnnamed, is_of, first_name, nothing, option_places}
+use Rattle.sr_args.specs.Name.{is_of, nothing}
+use Rattle.sr_args.specs.Options.{Written, AreOptionsFit, IsUnnamed, first_name, option_places}
 use Rattle.sr_args.specs.declared.name.OptionName.{OptionName}
-use Rattle.sr_args.specs.declared.options.OptionSet.{OptionSet}
+use Rattle.sr_args.specs.declared.name.OptionSet.{OptionSet}
 use Rattle.sr_args.specs.FormWord.{Word, FormWord, Range, int, nat, from_one, tries, Number, Writes, IdForm, strict_id, range_start, range_end, new_id, position, read_id, IdOf, Spells, Fits, HasNumbers, HasIds, any, spelled}
 use Rattle.sr_args.specs.Form.{Form, end, text, id, number, optional_text, ids, pairs, options, grouped, trim, before, maybe, ids_before, streams, texts_after, barring, named_places, IsNamedFirst, AreUnnamed, IsMaybeNumber, Reading, Values, places, pair_places, IsFit, Reads, AreIds, Means}
 use Rattle.sr_args.proofs.ChoiceLemmas.{HasNumbers-append, HasIds-append, Choose-one, Choose-numbers, Choose-ids, IsTrim-one, trim-numbers, trim-ids}

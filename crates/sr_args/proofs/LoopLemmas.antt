@@ -1,51 +1,69 @@
 -- How the loop over options goes on: one option more, none that fits, one that is written twice, and the end.
-use Rattle.std.proofs.Common.{◌≡◌, ◌≢◌, ◌⊎◌, inl, inr, ℕ, zero, suc, ◌<◌, List, [], ◌∷◌, ◌++◌, length, get_or, map, Bool, true, false, Option, Some, None, All, Ok, refl, sym, ap, ◌∙◌, arith, append_assoc, append-nil, subst}
+use Rattle.std.proofs.Common.{◌≡◌, ◌≢◌, ◌⊎◌, inl, inr, ℕ, ◌<◌, List, [], ◌∷◌, ◌++◌, length, replicate, get_or, map, Bool, true, false, Option, Some, None, All, Ok, refl, sym, ap, ◌∙◌, arith, append_assoc, append-nil, subst}
 use Rattle.std.specs.List.{flat_map}
 use Rattle.std.specs.Option.{option_or}
 use Rattle.std.proofs.Math.ListN.{set}
 use Rattle.std.proofs.lemmas.Bool.Decides.{eqb_tells}
-use Rattle.std.proofs.lemmas.List.{get_or-set_same, get_or-set_other, length-set}
+use Rattle.std.proofs.lemmas.List.{get_or-replicate, get_or-set_same, get_or-set_other, length-replicate, length-set}
 use Rattle.std.proofs.lemmas.List.Elements.{All-nil, All-cons, All-append, All-tail}
+use denote.Enum.Bare.{tag_one}
+use denote.Enum.Declared.{tag_of}
+use Rattle.sr_args.specs.contracts.name.Flag as flags
+use Rattle.sr_args.specs.contracts.name.Numbered as numbers
+use Rattle.sr_args.specs.declared.name.Choice.{Choice}
+use Rattle.sr_args.specs.declared.name.Flag.{Flag}
+use Rattle.sr_args.specs.declared.name.Flag.TheVariants.{MkStream}
+use Rattle.sr_args.specs.declared.name.Numbered.{Numbered}
+use Rattle.sr_args.specs.declared.name.Numbered.TheVariants.{Idle}
 use Rattle.sr_args.specs.declared.name.OptionName.{OptionName}
+use Rattle.sr_args.specs.declared.name.TheConstants.{FLAGS, NUMBERED}
+use Rattle.sr_args.specs.declared.options.TheConstants.{KINDS}
 use Rattle.sr_args.specs.declared.options.OptionKind.{OptionKind}
 use Rattle.sr_args.specs.declared.options.OptionKind.TheVariants as kinds
-use Rattle.sr_args.specs.declared.options.OptionSet.{OptionSet}
-use Rattle.sr_args.specs.Name.{IsSameName, option_text}
+use Rattle.sr_args.specs.declared.name.OptionSet.{OptionSet}
+use Rattle.sr_args.specs.Name.{IsSameName, option_text, is_of, nothing}
 use Rattle.sr_args.specs.FormWord.{Word, FormWord, Fits, option}
-use Rattle.sr_args.specs.Options.{Written, first_name, operand_places, option_places, is_of, kind, IsOptionFit, IsIn, AreDistinct, AreOptionsFit, IsUnnamed, IsPast, nothing, group_in, group_in_one}
-use Rattle.sr_args.specs.declared.options.Choice.{Choice}
-use Rattle.sr_args.specs.steps.Options.{Begins, BeginsNone, IsOptionNamed, IsOptionEnd, GoesOn, BeginsOptions, BeginsNoOptions, EndsOptions, AreSeen, IsUnderway, chosen_of, index_of}
+use Rattle.sr_args.specs.Options.{Written, first_name, operand_places, option_places, kind, IsOptionFit, IsIn, AreDistinct, AreOptionsFit, IsUnnamed, IsPast, group_in, group_in_one}
+use Rattle.sr_args.specs.steps.Options.{Begins, BeginsNone, IsOptionNamed, IsOptionEnd, GoesOn, BeginsOptions, BeginsNoOptions, EndsOptions, AreSeen, IsUnderway, index_of}
 use Rattle.sr_args.proofs.OptionLemmas.{name-one, then_places, then-cons, end-after, head-fit, head-of_set}
 
 -- kinds: each has its own place among them, and two are one or not
-abbrev kind_at : ℕ → OptionKind
-kind_at zero = kinds.Count
-kind_at (suc zero) = kinds.NoMkStream
-kind_at (suc (suc zero)) = kinds.Trim
-kind_at (suc (suc (suc zero))) = kinds.MkStream
-kind_at (suc (suc (suc (suc zero)))) = kinds.JustId
-kind_at (suc (suc (suc (suc (suc zero))))) = kinds.Idle
-kind_at (suc (suc (suc (suc (suc (suc zero)))))) = kinds.Time
-kind_at (suc (suc (suc (suc (suc (suc (suc zero))))))) = kinds.RetryCount
-kind_at (suc (suc (suc (suc (suc (suc (suc (suc zero)))))))) = kinds.Group
-kind_at (suc (suc (suc (suc (suc (suc (suc (suc (suc zero))))))))) = kinds.NoAck
-kind_at (suc (suc (suc (suc (suc (suc (suc (suc (suc (suc n)))))))))) = kinds.Block
+flag-one : (a b : Flag) → tag_of flags.the_type a ≡ tag_of flags.the_type b → a ≡ b
+flag-one a b e = tag_one flags.the_type tt a b e
 
-kind_at-index : (k : OptionKind) → kind_at (index_of k) ≡ k
-kind_at-index kinds.Count = refl
-kind_at-index k = refl
+numbered-one : (a b : Numbered) → tag_of numbers.the_type a ≡ tag_of numbers.the_type b → a ≡ b
+numbered-one a b e = tag_one numbers.the_type tt a b e
+
+flag-within : (f : Flag) → tag_of flags.the_type f < FLAGS
+flag-within MkStream = omega arith
+flag-within f = omega arith
+
+numbered-within : (n : Numbered) → tag_of numbers.the_type n < NUMBERED
+numbered-within Idle = omega arith
+numbered-within n = omega arith
+
+index-one : (a b : OptionKind) → index_of a ≡ index_of b → a ≡ b
+index-one (kinds.Flag a) (kinds.Flag b) e = ap kinds.Flag (flag-one a b (omega arith))
+index-one (kinds.Numbered a) (kinds.Numbered b) e = ap kinds.Numbered (numbered-one a b (omega arith))
+index-one (kinds.Flag a) (kinds.Numbered b) e = absurd (omega (arith, flag-within a))
+index-one (kinds.Numbered a) (kinds.Flag b) e = absurd (omega (arith, flag-within b))
+index-one kinds.Count kinds.Count e = refl
+index-one kinds.Group kinds.Group e = refl
+index-one kinds.Trim kinds.Trim e = refl
+index-one a b e = absurd (omega arith)
 
 kind-is : (a b : OptionKind) → (a ≡ b) ⊎ (a ≢ b)
 kind-is a b = elim (eqb_tells (index_of a) (index_of b)) [
-  | inl same ↦ inl (sym (kind_at-index a) ∙ ap kind_at same.1 ∙ kind_at-index b)
+  | inl same ↦ inl (index-one a b same.1)
   | inr apart ↦ inr (λ e. apart.1 (ap index_of e))
 ]
 
 index-apart : (a b : OptionKind) → a ≢ b → index_of a ≢ index_of b
-index-apart a b differ e = differ (sym (kind_at-index a) ∙ ap kind_at e ∙ kind_at-index b)
+index-apart a b differ e = differ (index-one a b e)
 
-index-within : (k : OptionKind) → index_of k < 11
-index-within kinds.Count = omega arith
+index-within : (k : OptionKind) → index_of k < KINDS
+index-within (kinds.Flag f) = omega (arith, flag-within f)
+index-within (kinds.Numbered n) = omega (arith, numbered-within n)
 index-within k = omega arith
 
 in-last : (os : List Written) (o : Written) → IsIn (kind o) (map kind (os ++ o ∷ []))
@@ -106,13 +124,12 @@ AreSeen-more seen os o s = record {
 
 -- at first no kind was seen, and nothing is asked for
 abbrev unseen : List Bool
-unseen = false ∷ false ∷ false ∷ false ∷ false ∷ false ∷ false ∷ false ∷ false ∷ false ∷ false ∷ []
+unseen = replicate KINDS false
 
 unseen-none : (k : OptionKind) → get_or unseen (index_of k) false ≡ true → ⊥
-unseen-none kinds.Count e = cc
-unseen-none k e = cc
+unseen-none k e = let none = get_or-replicate KINDS (index_of k) false false (index-within k) in cc
 
-pub IsUnderway-start : (set : OptionSet) (words : List Word) (choice : Choice) → chosen_of choice ≡ nothing → IsUnderway set words words unseen (Ok choice) None
+pub IsUnderway-start : (set : OptionSet) (words : List Word) (choice : Choice) → choice ≡ nothing → IsUnderway set words words unseen (Ok choice) None
 IsUnderway-start set words choice e = record {
   written = [];
   begins = record {
@@ -120,7 +137,7 @@ IsUnderway-start set words choice e = record {
     fits = λ places f. f;
     only = λ others places r p f. record { tail = others; are = refl; fits = f };
   };
-  seen_are = record { many = refl; yes = λ k e. absurd (unseen-none k e); no = λ k e i. i };
+  seen_are = record { many = length-replicate KINDS false; yes = λ k e. absurd (unseen-none k e); no = λ k e i. i };
   judged_are = e;
   group_is = refl;
 }

@@ -9,6 +9,9 @@ use Rattle.sr_args.specs.declared.table.CommandName.TheVariants.{Ping}
 use Rattle.sr_args.specs.declared.table.Found.{Found}
 use Rattle.sr_args.specs.declared.table.Found.TheVariants as found
 use Rattle.sr_args.specs.declared.table.TheConstants.{COMMANDS}
+use Rattle.sr_args.specs.declared.name.Flag.TheVariants.{MkStream}
+use Rattle.sr_args.specs.declared.name.Measure.TheVariants.{MaxLen}
+use Rattle.sr_args.specs.declared.name.Numbered.TheVariants.{Idle}
 use Rattle.sr_args.specs.declared.name.OptionName.{OptionName}
 use Rattle.sr_args.specs.declared.name.OptionName.TheVariants as options
 use Rattle.sr_args.specs.declared.name.TheConstants.{OPTIONS}
@@ -121,12 +124,14 @@ AreUnnamed-append : (rest : List OptionName) (option : OptionName) (word : Word)
 AreUnnamed-append [] option word p o = (o, tt)
 AreUnnamed-append (other ∷ rest) option word p o = (p.0, AreUnnamed-append rest option word p.1 o)
 
-pub AreUnnamed-more : (k : ℕ) (name word : Word) → k < length OPTIONS → name ≡ option_text (get_or OPTIONS k options.Count) → AreUnnamed (take k OPTIONS) word → (IsSameName word name → ⊥) → AreUnnamed (take (k + 1) OPTIONS) word
-AreUnnamed-more k name word lt e p o =
-    rw (take_more OPTIONS k options.Count lt) (AreUnnamed-append (take k OPTIONS) (get_or OPTIONS k options.Count) word p (rw e at o))
+pub AreUnnamed-more : (k : ℕ) (word : Word) → k < length OPTIONS → AreUnnamed (take k OPTIONS) word → (IsSameName word (option_text (get_or OPTIONS k options.Count)) → ⊥) → AreUnnamed (take (k + 1) OPTIONS) word
+AreUnnamed-more k word lt p o =
+    rw (take_more OPTIONS k options.Count lt) (AreUnnamed-append (take k OPTIONS) (get_or OPTIONS k options.Count) word p o)
 
 unnamed : (word : Word) → AreUnnamed OPTIONS word → (option : OptionName) → IsSameName word (option_text option) → ⊥
-unnamed word none options.Count = none.0
+unnamed word none (options.Flag MkStream) = assumption none
+unnamed word none (options.Numbered Idle) = assumption none
+unnamed word none (options.Trim MaxLen) = assumption none
 unnamed word none option = assumption none
 
 -- each option stands among them

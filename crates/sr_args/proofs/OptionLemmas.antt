@@ -5,22 +5,22 @@ use Rattle.std.specs.List.{flat_map}
 use Rattle.std.specs.Str.{bytes_eq}
 use Rattle.std.proofs.lemmas.List.Elements.{All-head, All-tail}
 use Rattle.std.proofs.lemmas.Option.{same_Some}
+use Rattle.sr_args.specs.declared.name.Flag.TheVariants.{MkStream}
 use Rattle.sr_args.specs.declared.name.Measure.{Measure}
 use Rattle.sr_args.specs.declared.name.Measure.TheVariants as measures
+use Rattle.sr_args.specs.declared.name.Numbered.TheVariants.{Idle}
 use Rattle.sr_args.specs.declared.name.OptionName.{OptionName}
-use Rattle.sr_args.specs.declared.name.OptionName.TheVariants.{Count, NoMkStream, Limit, MkStream, JustId, Idle, Time, RetryCount, Group, NoAck, Block, Streams}
+use Rattle.sr_args.specs.declared.name.OptionName.TheVariants as options
 use Rattle.sr_args.specs.declared.name.TheConstants.{OPTIONS}
 use Rattle.sr_args.specs.declared.name.Sign.{Sign}
 use Rattle.sr_args.specs.declared.name.Sign.TheVariants.{Exact, Nearly}
-use Rattle.sr_args.specs.declared.options.OptionKind.{OptionKind}
-use Rattle.sr_args.specs.declared.options.OptionKind.TheVariants as kinds
-use Rattle.sr_args.specs.declared.options.OptionSet.{OptionSet}
-use Rattle.sr_args.specs.declared.options.OptionSet.TheVariants as sets
-use Rattle.sr_args.specs.Name.{IsSameName, measure_name, option_text, sign_text}
+use Rattle.sr_args.specs.declared.name.OptionSet.{OptionSet}
+use Rattle.sr_args.specs.declared.name.OptionSet.TheVariants as sets
+use Rattle.sr_args.specs.Name.{IsSameName, option_text, sign_text, is_of}
 use Rattle.sr_args.specs.declared.number.CountRange.{CountRange}
 use Rattle.sr_args.specs.declared.number.CountRange.TheVariants.{Any, FromOne}
 use Rattle.sr_args.specs.FormWord.{Word, FormWord, Range, int, nat, from_one, Stands, Fits, option, any, numeric, spelled, IdForm}
-use Rattle.sr_args.specs.Options.{TrimReading, Written, count, no_make, make_key, ids_only, idle, since, deliveries, named_group, no_ack, block, trimming, sign_places, bound_place, limit_places, count_place, first_name, operand_places, option_places, kind, is_of, IsTrimFit, IsOptionFit, AreOptionsFit, IsUnnamed, IsPast}
+use Rattle.sr_args.specs.Options.{TrimReading, Written, flag, numbered, count, named_group, trimming, sign_places, bound_place, limit_places, count_place, first_name, operand_places, option_places, IsTrimFit, IsOptionFit, AreOptionsFit, IsUnnamed, IsPast}
 use Rattle.sr_args.specs.steps.Options.{IsUnlimited, IsSigned, IsOptionEnd}
 
 -- the first of these options with this name in small letters
@@ -29,7 +29,9 @@ option_among [] text = None
 option_among (name ∷ names) text = cond (bytes_eq (map to_ascii_lowercase (option_text name)) text) (Some name) (option_among names text)
 
 option_among-text : (name : OptionName) → option_among OPTIONS (map to_ascii_lowercase (option_text name)) ≡ Some name
-option_among-text Count = refl
+option_among-text (options.Flag MkStream) = refl
+option_among-text (options.Numbered Idle) = refl
+option_among-text (options.Trim measures.MaxLen) = refl
 option_among-text name = refl
 
 -- no word names two options
@@ -47,11 +49,8 @@ sign_at-text Nearly = refl
 pub sign_text-one : (a b : Sign) → sign_text a ≡ sign_text b → a ≡ b
 sign_text-one a b e = same_Some a b (sym (sign_at-text a) ∙ ap sign_at e ∙ sign_at-text b)
 
-pub measure_name-one : (a b : Measure) → measure_name a ≡ measure_name b → a ≡ b
-measure_name-one measures.MaxLen measures.MaxLen e = refl
-measure_name-one measures.MaxLen measures.MinId e = cc
-measure_name-one measures.MinId measures.MaxLen e = cc
-measure_name-one measures.MinId measures.MinId e = refl
+pub trim_name-one : (a b : Measure) → options.Trim a ≡ options.Trim b → a ≡ b
+trim_name-one a b e = cc
 
 abbrev pub trim_with : Measure → Option Sign → Word → Option Word → TrimReading
 trim_with by sign bound limit = record { by = by; sign = sign; bound = bound; limit = limit }
@@ -149,63 +148,27 @@ count-one range other words x y ps qs e f g =
     let word = one.0 in
     (cc, one.1)
 
--- the kind of an option is seen from its name
-abbrev pub kind_named : OptionName → OptionKind
-kind_named Count = kinds.Count
-kind_named NoMkStream = kinds.NoMkStream
-kind_named MkStream = kinds.MkStream
-kind_named JustId = kinds.JustId
-kind_named Idle = kinds.Idle
-kind_named Time = kinds.Time
-kind_named RetryCount = kinds.RetryCount
-kind_named Group = kinds.Group
-kind_named NoAck = kinds.NoAck
-kind_named Block = kinds.Block
-kind_named name = kinds.Trim
-
-pub measure-kind : (by : Measure) → kind_named (measure_name by) ≡ kinds.Trim
-measure-kind measures.MaxLen = refl
-measure-kind measures.MinId = refl
-
-pub kind-from_name : (o : Written) → kind_named (first_name o) ≡ kind o
-kind-from_name (trimming trim) = measure-kind trim.by
-kind-from_name o = refl
-
-kind-one : (a b : Written) → first_name a ≡ first_name b → kind a ≡ kind b
-kind-one a b e = sym (kind-from_name a) ∙ ap kind_named e ∙ kind-from_name b
-
-operands-one_kind : (set : OptionSet) (words : List Word) (a b : Written) (ps qs : List FormWord) → kind a ≡ kind b → first_name a ≡ first_name b → IsOptionFit set a → IsOptionFit set b → IsOptionEnd a ps → IsOptionEnd b qs → Fits words (operand_places a ++ ps) → Fits words (operand_places b ++ qs) → (a ≡ b) × GoOn ps qs
-operands-one_kind set words (count r x) (count q y) ps qs k e u v m n f g = count-one r q words x y ps qs (u ∙ sym v) f g
-operands-one_kind set words no_make no_make ps qs k e u v m n f g = (refl, record { rest = words; left = f; right = g })
-operands-one_kind set words make_key make_key ps qs k e u v m n f g = (refl, record { rest = words; left = f; right = g })
-operands-one_kind set words ids_only ids_only ps qs k e u v m n f g = (refl, record { rest = words; left = f; right = g })
-operands-one_kind set words (idle x) (idle y) ps qs k e u v m n f g = let one = number-one nat words x y ps qs f g in (ap idle one.0, one.1)
-operands-one_kind set words (since x) (since y) ps qs k e u v m n f g = let one = number-one nat words x y ps qs f g in (ap since one.0, one.1)
-operands-one_kind set words (deliveries x) (deliveries y) ps qs k e u v m n f g = let one = number-one nat words x y ps qs f g in (ap deliveries one.0, one.1)
-operands-one_kind set words (named_group g c) (named_group h d) ps qs k e u v m n f l = group-one words g h c d ps qs f l
-operands-one_kind set words no_ack no_ack ps qs k e u v m n f g = (refl, record { rest = words; left = f; right = g })
-operands-one_kind set words (block x) (block y) ps qs k e u v m n f g = let one = number-one nat words x y ps qs f g in (ap block one.0, one.1)
-operands-one_kind set words (trimming a) (trimming b) ps qs k e u v m n f g =
-    let one = trim_operands-one words a b ps qs (measure_name-one a.by b.by e) u v m n f g in (ap trimming one.0, one.1)
-operands-one_kind set words a b ps qs k e u v m n f g = cc
-
 pub operands-one : (set : OptionSet) (words : List Word) (a b : Written) (ps qs : List FormWord) → first_name a ≡ first_name b → IsOptionFit set a → IsOptionFit set b → IsOptionEnd a ps → IsOptionEnd b qs → Fits words (operand_places a ++ ps) → Fits words (operand_places b ++ qs) → (a ≡ b) × GoOn ps qs
-operands-one set words a b ps qs e u v m n f g = operands-one_kind set words a b ps qs (kind-one a b e) e u v m n f g
+operands-one set words (flag a) (flag b) ps qs e u v m n f g = (cc, record { rest = words; left = f; right = g })
+operands-one set words (numbered a x) (numbered b y) ps qs e u v m n f g =
+    let one = number-one nat words x y ps qs f g in
+    let word = one.0 in
+    (cc, one.1)
+operands-one set words (count r x) (count q y) ps qs e u v m n f g = count-one r q words x y ps qs (u ∙ sym v) f g
+operands-one set words (named_group g c) (named_group h d) ps qs e u v m n f l = group-one words g h c d ps qs f l
+operands-one set words (trimming a) (trimming b) ps qs e u v m n f g =
+    let one = trim_operands-one words a b ps qs (trim_name-one a.by b.by e) u v m n f g in (ap trimming one.0, one.1)
+operands-one set words a b ps qs e u v m n f g = cc
 
 -- LIMIT begins no option
-measure_name-no_limit : (by : Measure) → measure_name by ≢ Limit
-measure_name-no_limit measures.MaxLen = λ e. cc
-measure_name-no_limit measures.MinId = λ e. cc
-
-pub first_name-no_limit : (o : Written) → first_name o ≢ Limit
-first_name-no_limit (trimming trim) = measure_name-no_limit trim.by
+pub first_name-no_limit : (o : Written) → first_name o ≢ options.Limit
+first_name-no_limit (trimming trim) = λ e. cc
 first_name-no_limit o = λ e. cc
 
 -- a set with a trim has LIMIT
-limit-of_set : (set : OptionSet) (by : Measure) → is_of set (measure_name by) ≡ true → is_of set Limit ≡ true
+limit-of_set : (set : OptionSet) (by : Measure) → is_of set (options.Trim by) ≡ true → is_of set options.Limit ≡ true
 limit-of_set sets.Xadd by e = refl
-limit-of_set set measures.MaxLen e = cc
-limit-of_set set measures.MinId e = cc
+limit-of_set set by e = cc
 
 -- the options of a set and what follows them
 abbrev pub then_places : List Written → List FormWord → List FormWord
@@ -214,9 +177,9 @@ then_places os ps = flat_map option_places os ++ ps
 pub then-cons : (o : Written) (os : List Written) (ps : List FormWord) → then_places (o ∷ os) ps ≡ option (first_name o) ∷ (operand_places o ++ then_places os ps)
 then-cons o os ps = ap (λ (rs : List FormWord). option (first_name o) ∷ rs) (append_assoc (operand_places o) (flat_map option_places os) ps)
 
-unlimited-after : (set : OptionSet) (by : Measure) (os : List Written) (ps : List FormWord) → is_of set (measure_name by) ≡ true → IsPast set ps → IsUnlimited (then_places os ps)
-unlimited-after set by [] ps e p = record { unnamed = λ word words same f. p.unnamed word words f Limit (limit-of_set set by e) same }
-unlimited-after set by (o ∷ os) ps e p = record { unnamed = λ word words same f. first_name-no_limit o (name-one word (first_name o) Limit f.0 same) }
+unlimited-after : (set : OptionSet) (by : Measure) (os : List Written) (ps : List FormWord) → is_of set (options.Trim by) ≡ true → IsPast set ps → IsUnlimited (then_places os ps)
+unlimited-after set by [] ps e p = record { unnamed = λ word words same f. p.unnamed word words f options.Limit (limit-of_set set by e) same }
+unlimited-after set by (o ∷ os) ps e p = record { unnamed = λ word words same f. first_name-no_limit o (name-one word (first_name o) options.Limit f.0 same) }
 
 pub end-after : (set : OptionSet) (o : Written) (os : List Written) (ps : List FormWord) → is_of set (first_name o) ≡ true → IsPast set ps → IsOptionEnd o (then_places os ps)
 end-after set (trimming trim) os ps e p = unlimited-after set trim.by os ps e p
@@ -262,10 +225,10 @@ pub trim-one : (words : List Word) (a b : TrimReading) → IsTrimFit a → IsTri
 trim-one [] a b u v f g = absurd f
 trim-one (w ∷ words) a b u v f g =
     let end : IsUnlimited [] = record { unnamed = λ word rest same fits. fits } in
-    let name = name-one w (measure_name a.by) (measure_name b.by) f.0 g.0 in
+    let name = name-one w (options.Trim a.by) (options.Trim b.by) f.0 g.0 in
     let left : Fits words (operand_places (trimming a) ++ []) = rw append-nil f.1 in
     let right : Fits words (operand_places (trimming b) ++ []) = rw append-nil g.1 in
-    (trim_operands-one words a b [] [] (measure_name-one a.by b.by name) u v end end left right).0
+    (trim_operands-one words a b [] [] (trim_name-one a.by b.by name) u v end end left right).0
 
 -- the word after the options is no name of one
 pub IsPast-id : (set : OptionSet) (form : IdForm) (word : Word) (places : List FormWord) → IsUnnamed set word → IsPast set (spelled form word ∷ places)
@@ -275,11 +238,11 @@ pub IsPast-end : (set : OptionSet) → IsPast set []
 IsPast-end set = record { unnamed = λ word words f. absurd f }
 
 -- and STREAMS is the name of none
-streams-no_option : (set : OptionSet) → is_of set Streams ≡ true → ⊥
+streams-no_option : (set : OptionSet) → is_of set options.Streams ≡ true → ⊥
 streams-no_option sets.Range e = cc
 streams-no_option set e = cc
 
-pub IsPast-streams : (set : OptionSet) (places : List FormWord) → IsPast set (option Streams ∷ places)
+pub IsPast-streams : (set : OptionSet) (places : List FormWord) → IsPast set (option options.Streams ∷ places)
 IsPast-streams set places = record {
-  unnamed = λ word words f name of same. streams-no_option set (subst (λ (n : OptionName). is_of set n ≡ true) (name-one word name Streams same f.0) of);
+  unnamed = λ word words f name of same. streams-no_option set (subst (λ (n : OptionName). is_of set n ≡ true) (name-one word name options.Streams same f.0) of);
 }

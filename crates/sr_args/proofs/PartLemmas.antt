@@ -1,19 +1,16 @@
 -- The parts of an option, as they are read one after the other.
-use Rattle.std.proofs.Common.{◌≡◌, ◌≤◌, length, arith, ◌∙◌, List, [], ◌∷◌, ◌++◌, Bool, true, false, Option, Some, None, map, refl, sym, ap, subst}
-use Rattle.std.specs.Prelude.{MatchOption, IsSomeAnd, IfSome, IfNone}
+use Rattle.std.proofs.Common.{◌≡◌, ◌∙◌, List, [], ◌∷◌, ◌++◌, Bool, true, false, Option, Some, None, map, refl, sym, ap, subst}
 use Rattle.sr_args.specs.declared.number.CountRange.{CountRange}
 use Rattle.sr_args.specs.declared.number.CountRange.TheVariants.{Any, FromOne}
 use Rattle.sr_args.specs.declared.name.OptionName.{OptionName}
 use Rattle.sr_args.specs.declared.name.Measure.{Measure}
 use Rattle.sr_args.specs.declared.name.Sign.{Sign}
-use Rattle.sr_args.specs.declared.name.OptionName.TheVariants.{Count, Idle, Time, RetryCount, Group, Block, MaxLen, MinId}
-use Rattle.sr_args.specs.declared.options.OptionKind.TheVariants as kinds
-use Rattle.sr_args.specs.declared.options.OptionSet.{OptionSet}
-use Rattle.sr_args.specs.Name.{measure_name}
+use Rattle.sr_args.specs.declared.name.OptionName.TheVariants as options
+use Rattle.sr_args.specs.declared.name.OptionSet.{OptionSet}
 use Rattle.sr_args.specs.FormWord.{Word, FormWord, Stands, Fits, any}
-use Rattle.sr_args.specs.Options.{TrimReading, Written, count, idle, since, deliveries, named_group, block, trimming, sign_places, bound_place, limit_places, count_place, first_name, operand_places, kind, IsOptionFit}
+use Rattle.sr_args.specs.Options.{TrimReading, Written, flag, named_group, trimming, sign_places, bound_place, limit_places, count_place, first_name, operand_places, IsOptionFit}
 use Rattle.sr_args.specs.steps.Options.{Begins, BeginsNone, IsOptionEnd, IsOptionNamed, IsAny, IsSigned, IsLimitOf, IsUnlimitedAfter, IsTrimBy, IsTrimEnd, signed_places, trim_operands}
-use Rattle.sr_args.proofs.OptionLemmas.{same_trim, trim_with, kind_named, kind-from_name, measure-kind, measure_name-one, operands-one, Fits-texts}
+use Rattle.sr_args.proofs.OptionLemmas.{same_trim, trim_with, trim_name-one, operands-one, Fits-texts}
 
 -- a trim is a signed bound and a limit
 parts : (by : Measure) (sign : Option Sign) (bound : Word) (limit : Option Word) (places : List FormWord) → trim_operands (trim_with by sign bound limit) ++ places ≡ signed_places by (sign, bound) ++ (limit_places limit ++ places)
@@ -57,13 +54,13 @@ no_group-fits [] group consumer places none f = f
 no_group-fits (w ∷ []) group consumer places none f = f.1
 no_group-fits (w ∷ v ∷ words) group consumer places none f = none w v words refl
 
-no_group-at : (words : List Word) (o : Written) (places : List FormWord) → kind o ≡ kinds.Group → ((group consumer : Word) (rest : List Word) → words ≡ group ∷ consumer ∷ rest → ⊥) → Fits words (operand_places o ++ places) → ⊥
+no_group-at : (words : List Word) (o : Written) (places : List FormWord) → first_name o ≡ options.Group → ((group consumer : Word) (rest : List Word) → words ≡ group ∷ consumer ∷ rest → ⊥) → Fits words (operand_places o ++ places) → ⊥
 no_group-at words (named_group group consumer) places e none f = no_group-fits words group consumer places none f
 no_group-at words o places e none f = cc
 
-pub BeginsNone-group : (set : OptionSet) (words : List Word) → ((group consumer : Word) (rest : List Word) → words ≡ group ∷ consumer ∷ rest → ⊥) → BeginsNone operand_places (IsOptionNamed set Group) IsOptionEnd words
+pub BeginsNone-group : (set : OptionSet) (words : List Word) → ((group consumer : Word) (rest : List Word) → words ≡ group ∷ consumer ∷ rest → ⊥) → BeginsNone operand_places (IsOptionNamed set options.Group) IsOptionEnd words
 BeginsNone-group set words none other places r u f =
-    no_group-at words other places (sym (kind-from_name other) ∙ ap kind_named r.name_is) none f
+    no_group-at words other places r.name_is none f
 
 -- an option that its operands alone tell: another one that the words go on with is this one
 Begins-operands : (set : OptionSet) (o : Written) (words rest : List Word) → IsOptionFit set o → ((ps : List FormWord) → IsOptionEnd o ps) → ((ps : List FormWord) → Fits rest ps → Fits words (operand_places o ++ ps)) → ((ps : List FormWord) → Fits words (operand_places o ++ ps) → Fits rest ps) → Begins operand_places (IsOptionNamed set (first_name o)) IsOptionEnd words o rest
@@ -82,7 +79,7 @@ pub Begins-word : (set : OptionSet) (o : Written) (place : FormWord) (words rest
 Begins-word set o place words rest word e fit last are stands =
     Begins-operands set o words rest fit last (λ ps f. rw (e, are) (stands, f)) (λ ps f. (rw (e, are) at f).1)
 
-pub Begins-group : (set : OptionSet) (words rest : List Word) (group consumer : Word) → words ≡ group ∷ consumer ∷ rest → Begins operand_places (IsOptionNamed set Group) IsOptionEnd words (named_group group consumer) rest
+pub Begins-group : (set : OptionSet) (words rest : List Word) (group consumer : Word) → words ≡ group ∷ consumer ∷ rest → Begins operand_places (IsOptionNamed set options.Group) IsOptionEnd words (named_group group consumer) rest
 Begins-group set words rest group consumer e =
     Begins-operands set (named_group group consumer) words rest tt (λ ps. tt) (λ ps f. rw e (refl, (refl, f))) (λ ps f. (rw e at f).1.1)
 
@@ -91,68 +88,35 @@ count-stands Any word = refl
 count-stands FromOne word = refl
 
 -- a trim is read by the words after its name
-trimming-name : (set : OptionSet) (by : Measure) (o : Written) → IsOptionNamed set (measure_name by) o → kind o ≡ kinds.Trim
-trimming-name set by o r = sym (kind-from_name o) ∙ ap kind_named r.name_is ∙ measure-kind by
+trimming-only : (set : OptionSet) (by : Measure) (words rest : List Word) (trim : TrimReading) → Begins trim_operands (IsTrimBy by) IsTrimEnd words trim rest → (other : Written) (places : List FormWord) → IsOptionNamed set (options.Trim by) other → IsOptionEnd other places → Fits words (operand_places other ++ places) → (other ≡ trimming trim) × Fits rest places
+trimming-only set by words rest trim b (trimming t) places r u f =
+    let one = b.only t places (record { by_is = trim_name-one t.by by r.name_is; fit = r.fit }) u f in (ap trimming one.0, one.1)
+trimming-only set by words rest trim b other places r u f = cc
 
-trimming-only : (set : OptionSet) (by : Measure) (words rest : List Word) (trim : TrimReading) → Begins trim_operands (IsTrimBy by) IsTrimEnd words trim rest → (other : Written) (places : List FormWord) → kind other ≡ kinds.Trim → IsOptionNamed set (measure_name by) other → IsOptionEnd other places → Fits words (operand_places other ++ places) → (other ≡ trimming trim) × Fits rest places
-trimming-only set by words rest trim b (trimming t) places k r u f =
-    let one = b.only t places (record { by_is = measure_name-one t.by by r.name_is; fit = r.fit }) u f in (ap trimming one.0, one.1)
-trimming-only set by words rest trim b other places k r u f = cc
-
-pub Begins-trimming : (set : OptionSet) (by : Measure) (words rest : List Word) (trim : TrimReading) → Begins trim_operands (IsTrimBy by) IsTrimEnd words trim rest → Begins operand_places (IsOptionNamed set (measure_name by)) IsOptionEnd words (trimming trim) rest
+pub Begins-trimming : (set : OptionSet) (by : Measure) (words rest : List Word) (trim : TrimReading) → Begins trim_operands (IsTrimBy by) IsTrimEnd words trim rest → Begins operand_places (IsOptionNamed set (options.Trim by)) IsOptionEnd words (trimming trim) rest
 Begins-trimming set by words rest trim b = record {
-  right = record { name_is = ap measure_name b.right.by_is; fit = b.right.fit };
+  right = record { name_is = ap options.Trim b.right.by_is; fit = b.right.fit };
   fits = b.fits;
-  only = λ other places r. trimming-only set by words rest trim b other places (trimming-name set by other r) r;
+  only = trimming-only set by words rest trim b;
 }
 
-no_trimming : (set : OptionSet) (by : Measure) (words : List Word) → BeginsNone trim_operands (IsTrimBy by) IsTrimEnd words → (other : Written) (places : List FormWord) → kind other ≡ kinds.Trim → IsOptionNamed set (measure_name by) other → IsOptionEnd other places → Fits words (operand_places other ++ places) → ⊥
-no_trimming set by words none (trimming t) places k r u f = none t places (record { by_is = measure_name-one t.by by r.name_is; fit = r.fit }) u f
-no_trimming set by words none other places k r u f = cc
-
-pub BeginsNone-trimming : (set : OptionSet) (by : Measure) (words : List Word) → BeginsNone trim_operands (IsTrimBy by) IsTrimEnd words → BeginsNone operand_places (IsOptionNamed set (measure_name by)) IsOptionEnd words
-BeginsNone-trimming set by words none other places r = no_trimming set by words none other places (trimming-name set by other r) r
+pub BeginsNone-trimming : (set : OptionSet) (by : Measure) (words : List Word) → BeginsNone trim_operands (IsTrimBy by) IsTrimEnd words → BeginsNone operand_places (IsOptionNamed set (options.Trim by)) IsOptionEnd words
+BeginsNone-trimming set by words none (trimming t) places r u f = none t places (record { by_is = trim_name-one t.by by r.name_is; fit = r.fit }) u f
+BeginsNone-trimming set by words none other places r u f = cc
 
 -- no word is left for an option that takes one
 abbrev is_bare : OptionName → Bool
-is_bare Count = false
-is_bare Idle = false
-is_bare Time = false
-is_bare RetryCount = false
-is_bare Group = false
-is_bare Block = false
-is_bare MaxLen = false
-is_bare MinId = false
-is_bare name = true
+is_bare (options.Flag f) = true
+is_bare name = false
 
 no_bound : (sign : Option Sign) (place : FormWord) (ps qs : List FormWord) → Fits [] ((sign_places sign ++ (place ∷ ps)) ++ qs) → ⊥
 no_bound None place ps qs f = f
 no_bound (Some sign) place ps qs f = f
 
 no_word : (o : Written) (places : List FormWord) → is_bare (first_name o) ≡ false → Fits [] (operand_places o ++ places) → ⊥
-no_word (count range most) places takes f = f
-no_word (idle word) places takes f = f
-no_word (since word) places takes f = f
-no_word (deliveries word) places takes f = f
-no_word (named_group group consumer) places takes f = f
-no_word (block wait) places takes f = f
-no_word (trimming t) places takes f = no_bound t.sign (bound_place t.by t.bound) (limit_places t.limit) places f
-no_word o places takes f = cc
+no_word (flag f) places takes fits = cc
+no_word (trimming t) places takes fits = no_bound t.sign (bound_place t.by t.bound) (limit_places t.limit) places fits
+no_word o places takes fits = fits
 
 pub BeginsNone-word : (set : OptionSet) (name : OptionName) (words : List Word) → words ≡ [] → is_bare name ≡ false → BeginsNone operand_places (IsOptionNamed set name) IsOptionEnd words
 BeginsNone-word set name words e takes other places r u f = no_word other places (ap is_bare r.name_is ∙ takes) (rw e at f)
-
--- what is left after a word is no longer
-pub shorter : (words rest : List Word) (word : Word) → words ≡ word ∷ rest → length rest ≤ length words
-shorter words rest word e = let long : length words ≡ length (word ∷ rest) = ap length e in omega (arith, long)
-
--- what a word or a trim is made into, as `map` makes it
-pub mapped-some : {X Y : Type 0} (make : X → Y) (read : Option X) (made : Option Y) {P : X → Type 0} (Q : Y → Type 0) → MatchOption read (made ≡ None) (λ x. IsSomeAnd made (λ y. y ≡ make x)) → IfSome read P → ((x : X) → P x → Q (make x)) → IfSome made Q
-mapped-some make None made Q e p then = rw e tt
-mapped-some make (Some x) None Q e p then = absurd e
-mapped-some make (Some x) (Some y) Q e p then = rw e (then x p)
-
-pub mapped-none : {X Y : Type 0} (make : X → Y) (read : Option X) (made : Option Y) {P Q : Type 0} → MatchOption read (made ≡ None) (λ x. IsSomeAnd made (λ y. y ≡ make x)) → IfNone read P → (P → Q) → IfNone made Q
-mapped-none make None made e p then = rw e (then p)
-mapped-none make (Some x) None e p then = absurd e
-mapped-none make (Some x) (Some y) e p then = tt

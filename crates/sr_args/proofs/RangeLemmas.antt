@@ -1,15 +1,16 @@
 -- What XRANGE and XREVRANGE answer, over the words of a range with its ids in either order.
 use Rattle.std.proofs.Common.{◌≡◌, List, [], ◌∷◌, refl, Ok, Err}
 use Rattle.std.specs.List.{flat_map}
-use Rattle.sr_args.specs.declared.options.Choice.{Choice}
-use Rattle.sr_args.specs.declared.options.OptionSet.TheVariants as sets
+use Rattle.sr_args.specs.declared.name.Choice.{Choice}
+use Rattle.sr_args.specs.declared.name.OptionSet.TheVariants as sets
 use Rattle.sr_args.specs.declared.options.ValueFault.{ValueFault}
 use Rattle.sr_args.specs.declared.options.ValueFault.TheVariants as faults
 use Rattle.sr_args.specs.FormWord.{Word, IdForm, HasNumbers}
-use Rattle.sr_args.specs.Options.{Written, option_places, nothing}
+use Rattle.sr_args.specs.Name.{nothing}
+use Rattle.sr_args.specs.Options.{Written, option_places}
 use Rattle.sr_args.specs.Form.{Reading, Values, places, Reads}
 use Rattle.sr_args.specs.steps.Gives.{Gives}
-use Rattle.sr_args.specs.steps.Options.{EndsOptions, BeginsNoOptions, AreJudged, chosen_of, fault_of}
+use Rattle.sr_args.specs.steps.Options.{EndsOptions, BeginsNoOptions, AreJudged, fault_of}
 use Rattle.sr_args.specs.steps.Ranges.{range_form, range_reading}
 use Rattle.sr_args.proofs.ChoiceLemmas.{HasNumbers-append, HasNumbers-front, HasIds-front, Choose-numbers}
 use Rattle.sr_args.proofs.OptionLemmas.{IsPast-end}
@@ -39,4 +40,4 @@ range-fault first second call_of words key a b written faults.BadId reads judged
 
 pub range-numbers : (first second : IdForm) (key a b : Word) (written : List Written) (choice : Choice) → AreJudged written (Ok choice) → HasNumbers (places (range_form first second) (range_reading key a b written first second))
 range-numbers first second key a b written choice judged =
-    (tt, (tt, (tt, HasNumbers-append (flat_map option_places written) [] (Choose-numbers written nothing (chosen_of choice) judged) tt)))
+    (tt, (tt, (tt, HasNumbers-append (flat_map option_places written) [] (Choose-numbers written nothing choice judged) tt)))

@@ -2,15 +2,16 @@
 use Rattle.std.proofs.Common.{◌≡◌, List, ◌∷◌, ◌++◌, map, Option, Some, IsSome, Ok, Err, refl}
 use Rattle.std.specs.List.{flat_map}
 use Rattle.sr_args.specs.declared.name.OptionName.TheVariants.{Streams}
-use Rattle.sr_args.specs.declared.options.Choice.{Choice}
-use Rattle.sr_args.specs.declared.options.OptionSet.{OptionSet}
+use Rattle.sr_args.specs.declared.name.Choice.{Choice}
+use Rattle.sr_args.specs.declared.name.OptionSet.{OptionSet}
 use Rattle.sr_args.specs.declared.options.ValueFault.{ValueFault}
 use Rattle.sr_args.specs.declared.options.ValueFault.TheVariants as faults
 use Rattle.sr_args.specs.FormWord.{Word, FormWord, IdForm, any, option, spelled, HasNumbers, HasIds}
-use Rattle.sr_args.specs.Options.{Written, option_places, nothing, group_in}
+use Rattle.sr_args.specs.Name.{nothing}
+use Rattle.sr_args.specs.Options.{Written, option_places, group_in}
 use Rattle.sr_args.specs.Form.{streams, Values, Reads, places}
 use Rattle.sr_args.specs.steps.Gives.{Gives}
-use Rattle.sr_args.specs.steps.Options.{AreJudged, EndsOptions, chosen_of, fault_of}
+use Rattle.sr_args.specs.steps.Options.{AreJudged, EndsOptions, fault_of}
 use Rattle.sr_args.specs.steps.Streams.{streams_form, streams_reading, grouped_form, grouped_reading}
 use Rattle.sr_args.proofs.ChoiceLemmas.{HasNumbers-append, HasNumbers-front, HasIds-front, HasIds-back, Choose-numbers}
 use Rattle.sr_args.proofs.FormLemmas.{ids-numbers}
@@ -38,7 +39,7 @@ read-fault set spelling call_of words written keys ids faults.BadId reads judged
 
 pub read-numbers : (set : OptionSet) (spelling : IdForm) (written : List Written) (keys ids : List Word) (choice : Choice) → AreJudged written (Ok choice) → HasNumbers (places (streams_form set spelling) (streams_reading set spelling written keys ids))
 read-numbers set spelling written keys ids choice judged =
-    HasNumbers-append (flat_map option_places written) (streams_places spelling keys ids) (Choose-numbers written nothing (chosen_of choice) judged) (streams-numbers spelling keys ids)
+    HasNumbers-append (flat_map option_places written) (streams_places spelling keys ids) (Choose-numbers written nothing choice judged) (streams-numbers spelling keys ids)
 
 pub read-ids : (set : OptionSet) (spelling : IdForm) (written : List Written) (keys ids : List Word) → HasIds (places (streams_form set spelling) (streams_reading set spelling written keys ids)) → HasIds (map (spelled spelling) ids)
 read-ids set spelling written keys ids h =

@@ -3,16 +3,17 @@ use Rattle.std.proofs.Common.{◌≡◌, ◌≢◌, ℕ, ◌*◌, ◌%◌, ◌/�
 use Rattle.std.specs.List.{flat_map}
 use Rattle.sr_ids.specs.declared.spec.Spec.{Spec}
 use Rattle.sr_ids.specs.{IsSpec}
-use Rattle.sr_args.specs.declared.options.Choice.{Choice}
-use Rattle.sr_args.specs.declared.options.OptionSet.TheVariants as sets
+use Rattle.sr_args.specs.declared.name.Choice.{Choice}
+use Rattle.sr_args.specs.declared.name.OptionSet.TheVariants as sets
 use Rattle.sr_args.specs.declared.options.ValueFault.{ValueFault}
 use Rattle.sr_args.specs.declared.options.ValueFault.TheVariants as faults
 use Rattle.sr_args.specs.FormWord.{Word, Fits, HasNumbers, HasIds, spelled, new_id}
 use Rattle.sr_args.specs.Form.{Reading, Reads, pair_places, places}
-use Rattle.sr_args.specs.Options.{Written, option_places, nothing, Choose}
+use Rattle.sr_args.specs.Name.{nothing}
+use Rattle.sr_args.specs.Options.{Written, option_places, Choose}
 use Rattle.sr_args.specs.commands.Xadd.{form, call}
 use Rattle.sr_args.specs.steps.Gives.{Gives, GivesCall}
-use Rattle.sr_args.specs.steps.Options.{AreJudged, EndsOptions, chosen_of, fault_of}
+use Rattle.sr_args.specs.steps.Options.{AreJudged, EndsOptions, fault_of}
 use Rattle.sr_bytes.specs.PackedWords.{paired}
 use Rattle.sr_args.proofs.ChoiceLemmas.{HasNumbers-append, HasNumbers-front, HasIds-front, HasIds-back, Choose-numbers}
 use Rattle.sr_args.proofs.FormLemmas.{pairs-numbers}
@@ -89,16 +90,16 @@ Gives-from_options words key written id fields faults.Number r j =
 Gives-from_options words key written id fields faults.BadId r j =
     ((key, (written, (id, fields))), r, xadd-numbers key written id fields j.0, λ i. j.1 (HasIds-front (flat_map option_places written) (spelled new_id id ∷ flat_map pair_places fields) i.1))
 
-pub xadd-bad_id : (words : List Word) (key : Word) (written : List Written) (id : Word) (fields : List (Word × Word)) (choice : Choice) → Reads form words (key, (written, (id, fields))) → Choose written nothing (chosen_of choice) → ((spec : Spec) → IsSpec id spec → ⊥) → (reading : Reading form) × Reads form words reading × HasNumbers (places form reading) × (HasIds (places form reading) → ⊥)
+pub xadd-bad_id : (words : List Word) (key : Word) (written : List Written) (id : Word) (fields : List (Word × Word)) (choice : Choice) → Reads form words (key, (written, (id, fields))) → Choose written nothing choice → ((spec : Spec) → IsSpec id spec → ⊥) → (reading : Reading form) × Reads form words reading × HasNumbers (places form reading) × (HasIds (places form reading) → ⊥)
 xadd-bad_id words key written id fields choice r chosen none = (
   (key, (written, (id, fields))),
   r,
-  xadd-numbers key written id fields (Choose-numbers written nothing (chosen_of choice) chosen),
+  xadd-numbers key written id fields (Choose-numbers written nothing choice chosen),
   λ i.
       let last = (HasIds-back (flat_map option_places written) (spelled new_id id ∷ flat_map pair_places fields) i.1).0 in
       none last.0 last.1,
 )
 
-pub xadd-gives : (words : List Word) (key copy : Word) (written : List Written) (id : Word) (fields copied : List (Word × Word)) (choice : Choice) (spec : Spec) → Reads form words (key, (written, (id, fields))) → copy ≡ key → Choose written nothing (chosen_of choice) → IsSpec id spec → copied ≡ fields → GivesCall form call words (call (copy, (chosen_of choice, (spec, copied))))
+pub xadd-gives : (words : List Word) (key copy : Word) (written : List Written) (id : Word) (fields copied : List (Word × Word)) (choice : Choice) (spec : Spec) → Reads form words (key, (written, (id, fields))) → copy ≡ key → Choose written nothing choice → IsSpec id spec → copied ≡ fields → GivesCall form call words (call (copy, (choice, (spec, copied))))
 xadd-gives words key copy written id fields copied choice spec r same chosen spells e =
-    record { reading = (key, (written, (id, fields))); reads = r; values = (copy, (chosen_of choice, (spec, copied))); means = (same, (chosen, (spells, e))); is = refl }
+    record { reading = (key, (written, (id, fields))); reads = r; values = (copy, (choice, (spec, copied))); means = (same, (chosen, (spells, e))); is = refl }

@@ -5,13 +5,14 @@ use Rattle.std.specs.Prelude.{◌≡◌, ◌≢◌, List, [], ◌∷◌, ◌++�
 use Rattle.std.specs.List.{flat_map}
 use Rattle.sr_ids.specs.declared.id.Id.{Id}
 use Rattle.sr_args.specs.declared.call.Trim.{Trim}
+use Rattle.sr_args.specs.declared.name.Choice.{Choice}
 use Rattle.sr_args.specs.declared.name.OptionName.{OptionName}
 use Rattle.sr_args.specs.declared.name.OptionName.TheVariants as option_names
-use Rattle.sr_args.specs.declared.options.OptionSet.{OptionSet}
+use Rattle.sr_args.specs.declared.name.OptionSet.{OptionSet}
 use Rattle.sr_args.specs.Different.{AreDifferent}
-use Rattle.sr_args.specs.Name.{IsSameName, option_text}
-use Rattle.sr_args.specs.Options.{Written, TrimReading, Chosen, trimming, option_places, AreOptionsFit}
-use Rattle.sr_args.specs.Options.{IsUnnamed, IsPast, IsTrimFit, nothing, Choose, IsTrim, group_in}
+use Rattle.sr_args.specs.Name.{IsSameName, option_text, nothing}
+use Rattle.sr_args.specs.Options.{Written, TrimReading, trimming, option_places, AreOptionsFit}
+use Rattle.sr_args.specs.Options.{IsUnnamed, IsPast, IsTrimFit, Choose, IsTrim, group_in}
 use Rattle.sr_args.specs.FormWord.{Word, Range, Number, Writes, IdForm, IdOf, Spells, strict_id}
 use Rattle.sr_args.specs.FormWord.{FormWord, option, any, numeric, spelled, Fits}
 
@@ -77,12 +78,12 @@ Values (number range form) = Number range × Values form
 Values optional_text = Option Word
 Values (ids spelling) = List (IdOf spelling)
 Values pairs = List (Word × Word)
-Values (options set form) = Chosen × Values form
-Values (grouped set form) = (Word × Word) × (Chosen × Values form)
+Values (options set form) = Choice × Values form
+Values (grouped set form) = (Word × Word) × (Choice × Values form)
 Values trim = Trim
 Values (before name range form) = Option (Number range) × Values form
 Values (maybe form) = Option (Values form)
-Values (ids_before set) = List Id × Chosen
+Values (ids_before set) = List Id × Choice
 Values (streams spelling) = List Word × List (IdOf spelling)
 Values (texts_after name) = List Word
 Values (barring names form) = Values form

@@ -2,62 +2,40 @@ ghost use Rattle.std.specs.Prelude.{◌≡◌, ◌+◌, ◌<◌, ◌≤◌, ◌+
 ghost use Rattle.std.specs.Prelude.{length, Option, IfSome, IfNone, Result, Err, true, false};
 ghost use Rattle.std.specs.Option.{option_copied, option_or};
 ghost use Rattle.sr_args.specs.declared.name.OptionName as names;
-ghost use Rattle.sr_args.specs.Name.{IsSameName, option_text};
+ghost use Rattle.sr_args.specs.Name.{IsSameName, is_of, option_text};
 ghost use Rattle.sr_args.specs.FormWord.{Word};
 ghost use Rattle.sr_args.specs.Options as written;
-ghost use Rattle.sr_args.specs.Options.{Written, operand_places, is_of, IsUnnamed, IsLimit, group_in_one};
+ghost use Rattle.sr_args.specs.Options.{Written, operand_places, IsUnnamed, IsLimit, group_in_one};
 ghost use Rattle.sr_args.specs.steps.Options.{BeginsNoOptions, EndsOptions, AreJudged, IsJudged, GivesTrim};
 ghost use Rattle.sr_args.specs.steps.Options.{Begins, BeginsNone, IsAny, IsLimitOf, IsOptionEnd, IsOptionNamed};
 ghost use Rattle.sr_args.specs.steps.Options.{IsSigned};
-ghost use Rattle.sr_args.specs.steps.Options.{GivesBound, IsTrimBy, IsTrimEnd, IsUnlimitedAfter, chosen_of, fault_of};
+ghost use Rattle.sr_args.specs.steps.Options.{GivesBound, IsTrimBy, IsTrimEnd, IsUnlimitedAfter, fault_of};
 ghost use Rattle.sr_args.specs.steps.Options.{index_of};
 ghost use Rattle.sr_args.specs.steps.Options.{signed_places, trim_operands, trim_reading, written_of};
 ghost use Rattle.sr_args.specs.steps.Options.{named_by, IsGiven};
 
-use crate::name::{option_named, sign_named};
+use crate::name::{
+    Choice, FLAGS, Flag, NUMBERED, Numbered, OptionSet, has_option, nothing, option_named,
+    sign_named, with_flag, with_number,
+};
 use crate::number::{read_count, read_nat};
 use crate::value::number_word;
-use crate::{CallFault, CountRange, Measure, OptionName, Sign, TimeAsked, Trim, TrimBy};
+use crate::{CallFault, CountRange, Measure, OptionName, Sign, Trim, TrimBy};
 use sr_bytes::Unread;
 use sr_ids::parse_strict;
-
-/// The options that stand in one place of a command's form, in any order and each once at most.
-#[derive(Clone, Copy)]
-pub(crate) enum OptionSet {
-    /// Those of XRANGE and XREVRANGE.
-    Range,
-    /// Those of XADD.
-    Xadd,
-    /// That of XGROUP CREATE.
-    XgroupCreate,
-    /// Those of XAUTOCLAIM.
-    Xautoclaim,
-    /// Those of XCLAIM.
-    Xclaim,
-    /// Those of XREAD.
-    Xread,
-    /// Those of XREADGROUP.
-    Xreadgroup,
-}
 
 /// What an option is. MAXLEN and MINID are both a trim.
 #[derive(Clone, Copy)]
 pub(crate) enum OptionKind {
+    Flag(Flag),
+    Numbered(Numbered),
     Count,
-    NoMkStream,
-    Trim,
-    MkStream,
-    JustId,
-    Idle,
-    Time,
-    RetryCount,
     Group,
-    NoAck,
-    Block,
+    Trim,
 }
 
 /// How many kinds of options there are.
-const KINDS: usize = 11;
+const KINDS: usize = 3 + FLAGS + NUMBERED;
 
 /// The words of a trim, in the places of its form.
 #[derive(Clone, Copy)]
@@ -78,38 +56,11 @@ pub(crate) struct GroupWords<'a> {
 /// The words of an option, in the places of its form.
 #[derive(Clone, Copy)]
 pub(crate) enum OptionWords<'a> {
+    Flag(Flag),
+    Numbered(Numbered, &'a [u8]),
     Count(CountRange, &'a [u8]),
-    NoMkStream,
-    MkStream,
-    JustId,
-    Idle(&'a [u8]),
-    Time(&'a [u8]),
-    RetryCount(&'a [u8]),
     Group(GroupWords<'a>),
-    NoAck,
-    Block(&'a [u8]),
     Trim(TrimWords<'a>),
-}
-
-/// What options ask for.
-#[derive(Clone, Copy)]
-pub(crate) struct Choice {
-    /// Whether XADD makes a missing key.
-    pub(crate) add_makes: bool,
-    /// Whether XGROUP CREATE makes a missing key.
-    pub(crate) create_makes: bool,
-    pub(crate) trim: Option<Trim>,
-    pub(crate) count: Option<i64>,
-    /// Whether ids are replied, and not entries.
-    pub(crate) just_ids: bool,
-    /// When a claimed entry counts as delivered.
-    pub(crate) time: TimeAsked,
-    /// How often a claimed entry counts as delivered.
-    pub(crate) delivered: Option<u64>,
-    /// Whether XREADGROUP delivers new entries as acknowledged.
-    pub(crate) no_ack: bool,
-    /// How many milliseconds a read waits for an entry, if it waits.
-    pub(crate) block: Option<u64>,
 }
 
 /// What is wrong with the words of options that fit their form.
@@ -187,15 +138,9 @@ fn first_group<'a>(group: Option<GroupWords<'a>>, option: OptionWords<'a>) -> Op
     }
     match option {
         OptionWords::Group(words) => Some(words),
-        OptionWords::Count(_, _)
-        | OptionWords::NoMkStream
-        | OptionWords::MkStream
-        | OptionWords::JustId
-        | OptionWords::Idle(_)
-        | OptionWords::Time(_)
-        | OptionWords::RetryCount(_)
-        | OptionWords::NoAck
-        | OptionWords::Block(_)
+        OptionWords::Flag(_)
+        | OptionWords::Numbered(_, _)
+        | OptionWords::Count(_, _)
         | OptionWords::Trim(_) => None,
     }
 }
@@ -216,45 +161,6 @@ fn next_name(set: OptionSet, words: &mut Unread<'_>) -> Option<OptionName>
     }
     words.next()?;
     Some(name)
-}
-
-/// Whether the name stands in the set.
-fn has_option(set: OptionSet, name: OptionName) -> bool
-    ensures { result ≡ is_of set name }
-{
-    match set {
-        OptionSet::Range => match name {
-            OptionName::Count => true,
-            _ => false,
-        },
-        OptionSet::Xadd => match name {
-            OptionName::NoMkStream | OptionName::MaxLen | OptionName::MinId | OptionName::Limit =>
-                true,
-            _ => false,
-        },
-        OptionSet::Xread => match name {
-            OptionName::Count | OptionName::Block => true,
-            _ => false,
-        },
-        OptionSet::Xreadgroup => match name {
-            OptionName::Count | OptionName::Block | OptionName::Group | OptionName::NoAck => true,
-            _ => false,
-        },
-        OptionSet::XgroupCreate => match name {
-            OptionName::MkStream => true,
-            _ => false,
-        },
-        OptionSet::Xautoclaim => match name {
-            OptionName::Count | OptionName::JustId => true,
-            _ => false,
-        },
-        OptionSet::Xclaim => match name {
-            OptionName::Idle | OptionName::Time | OptionName::RetryCount | OptionName::JustId => {
-                true
-            }
-            _ => false,
-        },
-    }
 }
 
 /// Which numbers COUNT takes in the set.
@@ -284,18 +190,11 @@ fn operand_words<'a>(
     ensures shorter { IfSome result (λ _. length words.new ≤ length words.old) }
 {
     match name {
+        OptionName::Flag(flag) => Some(OptionWords::Flag(flag)),
+        OptionName::Numbered(which) => Some(OptionWords::Numbered(which, words.next()?)),
         OptionName::Count => Some(OptionWords::Count(count_range(set), words.next()?)),
-        OptionName::NoMkStream => Some(OptionWords::NoMkStream),
-        OptionName::MkStream => Some(OptionWords::MkStream),
-        OptionName::JustId => Some(OptionWords::JustId),
-        OptionName::Idle => words.next().map(OptionWords::Idle),
-        OptionName::Time => words.next().map(OptionWords::Time),
-        OptionName::RetryCount => words.next().map(OptionWords::RetryCount),
         OptionName::Group => Some(OptionWords::Group(group_words(words)?)),
-        OptionName::NoAck => Some(OptionWords::NoAck),
-        OptionName::Block => words.next().map(OptionWords::Block),
-        OptionName::MaxLen => trim_words(Measure::MaxLen, words).map(OptionWords::Trim),
-        OptionName::MinId => trim_words(Measure::MinId, words).map(OptionWords::Trim),
+        OptionName::Trim(by) => Some(OptionWords::Trim(trim_words(by, words)?)),
         OptionName::Limit
         | OptionName::Force
         | OptionName::LastId
@@ -376,32 +275,15 @@ pub(crate) fn names_option(set: OptionSet, word: &[u8]) -> bool
     }
 }
 
-/// Whether the word names the option.
-pub(crate) fn is_named(word: &[u8], name: OptionName) -> bool
-    ensures yes { result ≡ true → IsSameName word.now (option_text name) }
-    ensures no { result ≡ false → IsSameName word.now (option_text name) → ⊥ }
-{
-    match option_named(word) {
-        None => false,
-        Some(found) => found == name,
-    }
-}
-
 /// What an option is.
 fn kind_of(option: OptionWords<'_>) -> OptionKind
     ensures { result ≡ written.kind (written_of option.entry) }
 {
     match option {
+        OptionWords::Flag(flag) => OptionKind::Flag(flag),
+        OptionWords::Numbered(which, _) => OptionKind::Numbered(which),
         OptionWords::Count(_, _) => OptionKind::Count,
-        OptionWords::NoMkStream => OptionKind::NoMkStream,
-        OptionWords::MkStream => OptionKind::MkStream,
-        OptionWords::JustId => OptionKind::JustId,
-        OptionWords::Idle(_) => OptionKind::Idle,
-        OptionWords::Time(_) => OptionKind::Time,
-        OptionWords::RetryCount(_) => OptionKind::RetryCount,
         OptionWords::Group(_) => OptionKind::Group,
-        OptionWords::NoAck => OptionKind::NoAck,
-        OptionWords::Block(_) => OptionKind::Block,
         OptionWords::Trim(_) => OptionKind::Trim,
     }
 }
@@ -411,23 +293,12 @@ fn index_of_kind(kind: OptionKind) -> usize
     ensures value { result ≡ index_of kind }
     ensures within { result < KINDS }
 {
-    kind as usize
-}
-
-/// What is asked for if no option is written.
-fn nothing() -> Choice
-    ensures { chosen_of result ≡ written.nothing }
-{
-    Choice {
-        add_makes: true,
-        create_makes: false,
-        trim: None,
-        count: None,
-        just_ids: false,
-        time: TimeAsked::Now,
-        delivered: None,
-        no_ack: false,
-        block: None,
+    match kind {
+        OptionKind::Count => 0,
+        OptionKind::Group => 1,
+        OptionKind::Trim => 2,
+        OptionKind::Flag(flag) => 3 + flag as usize,
+        OptionKind::Numbered(which) => 3 + FLAGS + which as usize,
     }
 }
 
@@ -460,41 +331,31 @@ fn worse(fault: ValueFault, option: OptionWords<'_>) -> ValueFault
 }
 
 /// What is asked for after an option, or the fault of its words.
-fn judge(mut choice: Choice, option: OptionWords<'_>) -> Result<Choice, ValueFault>
-    ensures { IsJudged (written_of option.entry) (chosen_of choice) result }
+fn judge(choice: Choice, option: OptionWords<'_>) -> Result<Choice, ValueFault>
+    ensures { IsJudged (written_of option.entry) choice result }
 {
     match option {
+        OptionWords::Flag(flag) => Ok(with_flag(choice, flag)),
+        OptionWords::Numbered(which, word) => match read_nat(word) {
+            None => Err(ValueFault::Number),
+            Some(number) => Ok(with_number(choice, which, number)),
+        },
         OptionWords::Count(range, most) => match read_count(range, most) {
-            None => return Err(ValueFault::Number),
-            Some(count) => choice.count = Some(count),
+            None => Err(ValueFault::Number),
+            Some(count) => Ok(Choice {
+                count: Some(count),
+                ..choice
+            }),
         },
-        OptionWords::NoMkStream => choice.add_makes = false,
-        OptionWords::MkStream => choice.create_makes = true,
-        OptionWords::JustId => choice.just_ids = true,
-        OptionWords::Idle(word) => match read_nat(word) {
-            None => return Err(ValueFault::Number),
-            Some(time) => choice.time = TimeAsked::Idle(time),
-        },
-        OptionWords::Time(word) => match read_nat(word) {
-            None => return Err(ValueFault::Number),
-            Some(time) => choice.time = TimeAsked::At(time),
-        },
-        OptionWords::RetryCount(word) => match read_nat(word) {
-            None => return Err(ValueFault::Number),
-            Some(delivered) => choice.delivered = Some(delivered),
-        },
-        OptionWords::Group(_) => {}
-        OptionWords::NoAck => choice.no_ack = true,
-        OptionWords::Block(word) => match read_nat(word) {
-            None => return Err(ValueFault::Number),
-            Some(wait) => choice.block = Some(wait),
-        },
+        OptionWords::Group(_) => Ok(choice),
         OptionWords::Trim(words) => match read_trim(words) {
-            Err(fault) => return Err(fault),
-            Ok(trim) => choice.trim = Some(trim),
+            Err(fault) => Err(fault),
+            Ok(trim) => Ok(Choice {
+                trim: Some(trim),
+                ..choice
+            }),
         },
     }
-    Ok(choice)
 }
 
 /// The trim that words write. A number in it that is none comes before an id that is none.

@@ -7,9 +7,8 @@ ghost use Rattle.sr_args.specs.steps.Options.{AreJudged};
 ghost use Rattle.sr_args.specs.steps.Streams.{streams_form, streams_reading, grouped_form, grouped_reading};
 
 use crate::OptionName;
-use crate::options::{
-    Choice, GroupWords, OptionSet, ValueFault, is_named, read_given, read_options,
-};
+use crate::name::{Choice, OptionSet, is_named};
+use crate::options::{GroupWords, ValueFault, read_given, read_options};
 use sr_bytes::Unread;
 use std::alloc::{AllocError, Global};
 

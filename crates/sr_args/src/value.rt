@@ -8,7 +8,7 @@ ghost use Rattle.sr_args.specs.declared.reads.ReadAsked as reads;
 ghost use Rattle.sr_args.specs.steps.Numbers.{IsAnyWord, IsPastNumber};
 ghost use Rattle.sr_args.specs.steps.Options.{Begins, BeginsNone};
 
-use crate::options::is_named;
+use crate::name::is_named;
 use crate::{OptionName, Position, ReadAsked};
 use sr_bytes::{Name, Unread};
 use sr_ids::{Ids, parse_strict};

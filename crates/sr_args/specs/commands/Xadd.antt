@@ -4,7 +4,7 @@
 use Rattle.std.specs.Prelude.{[], ◌∷◌, codes, None}
 use Rattle.sr_args.specs.declared.call.Call.{Call}
 use Rattle.sr_args.specs.declared.call.Call.TheVariants as calls
-use Rattle.sr_args.specs.declared.options.OptionSet.TheVariants as sets
+use Rattle.sr_args.specs.declared.name.OptionSet.TheVariants as sets
 use Rattle.sr_args.specs.FormWord.{new_id}
 use Rattle.sr_args.specs.Form.{Form, text, options, id, pairs, Values}
 use Rattle.sr_args.specs.Row.{Row}

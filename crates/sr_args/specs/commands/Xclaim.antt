@@ -6,7 +6,7 @@ use Rattle.sr_args.specs.declared.call.Call.{Call}
 use Rattle.sr_args.specs.declared.call.Call.TheVariants as calls
 use Rattle.sr_args.specs.declared.name.OptionName.{OptionName}
 use Rattle.sr_args.specs.declared.name.OptionName.TheVariants.{Force, LastId}
-use Rattle.sr_args.specs.declared.options.OptionSet.TheVariants as sets
+use Rattle.sr_args.specs.declared.name.OptionSet.TheVariants as sets
 use Rattle.sr_args.specs.FormWord.{int}
 use Rattle.sr_args.specs.Form.{Form, text, number, ids_before, barring, Values}
 use Rattle.sr_args.specs.Row.{Row}

@@ -4,7 +4,7 @@
 use Rattle.std.specs.Prelude.{[], ◌∷◌, codes, Some}
 use Rattle.sr_args.specs.declared.call.Call.{Call}
 use Rattle.sr_args.specs.declared.call.Call.TheVariants as calls
-use Rattle.sr_args.specs.declared.options.OptionSet.TheVariants as sets
+use Rattle.sr_args.specs.declared.name.OptionSet.TheVariants as sets
 use Rattle.sr_args.specs.FormWord.{position}
 use Rattle.sr_args.specs.Form.{Form, end, text, id, options, Values}
 use Rattle.sr_args.specs.Row.{Row}

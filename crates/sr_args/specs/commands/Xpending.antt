@@ -5,6 +5,7 @@ use Rattle.std.specs.Prelude.{Option, Some, None, [], ◌∷◌, codes}
 use Rattle.sr_args.specs.declared.call.Call.{Call}
 use Rattle.sr_args.specs.declared.call.Call.TheVariants as calls
 use Rattle.sr_args.specs.declared.commands.xpending.PendingAsked.{PendingAsked}
+use Rattle.sr_args.specs.declared.name.Numbered.TheVariants.{Idle}
 use Rattle.sr_args.specs.declared.name.OptionName.TheVariants as names
 use Rattle.sr_args.specs.FormWord.{int, range_start, range_end}
 use Rattle.sr_args.specs.Form.{Form, text, number, id, optional_text, before, maybe, Values}
@@ -15,7 +16,7 @@ row = record { name = codes "XPENDING" ∷ []; fewest = 3; most = Some 9 }
 
 -- [IDLE number] start end count [consumer]
 abbrev pub listing : Form
-listing = before names.Idle int (id range_start (id range_end (number int optional_text)))
+listing = before (names.Numbered Idle) int (id range_start (id range_end (number int optional_text)))
 
 abbrev pub form : Form
 form = text (text (maybe listing))

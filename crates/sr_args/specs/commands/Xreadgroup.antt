@@ -6,7 +6,7 @@ use Rattle.std.specs.Prelude.{[], ◌∷◌, codes, None}
 use Rattle.std.specs.List.{zip}
 use Rattle.sr_args.specs.declared.call.Call.{Call}
 use Rattle.sr_args.specs.declared.call.Call.TheVariants as calls
-use Rattle.sr_args.specs.declared.options.OptionSet.TheVariants as sets
+use Rattle.sr_args.specs.declared.name.OptionSet.TheVariants as sets
 use Rattle.sr_args.specs.FormWord.{read_id}
 use Rattle.sr_args.specs.Form.{Form, grouped, streams, Values}
 use Rattle.sr_args.specs.Row.{Row}

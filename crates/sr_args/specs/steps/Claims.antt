@@ -1,7 +1,7 @@
 -- The words of XAUTOCLAIM and of XCLAIM in their places. No public clause cites this module.
 
 use Rattle.std.specs.Prelude.{◌≡◌, List, ◌++◌}
-use Rattle.sr_args.specs.declared.options.OptionSet.{OptionSet}
+use Rattle.sr_args.specs.declared.name.OptionSet.{OptionSet}
 use Rattle.sr_args.specs.FormWord.{Word}
 use Rattle.sr_args.specs.Options.{Written}
 use Rattle.sr_args.specs.Form.{Reading, AreUnnamed}

@@ -1,17 +1,22 @@
 -- How the words of a command begin with its options, and what reading them leaves. No public clause speaks of it.
 -- Source: Redis documentation, the page of each command.
 
-use Rattle.std.specs.Prelude.{◌≡◌, ◌≢◌, ◌⊎◌, ℕ, List, [], ◌∷◌, ◌++◌, length, get_or, map}
+use Rattle.std.specs.Prelude.{◌≡◌, ◌≢◌, ◌⊎◌, ℕ, ◌+◌, List, [], ◌∷◌, ◌++◌, length, get_or, map}
 use Rattle.std.specs.Prelude.{Bool, true, false, Option, Some, None, Result, Ok, Err, ⊤}
 use Rattle.std.specs.List.{flat_map}
 use Rattle.std.specs.Option.{option_copied}
+use denote.Enum.Declared.{tag_of}
+use Rattle.sr_args.specs.contracts.name.Flag as flags
+use Rattle.sr_args.specs.contracts.name.Numbered as numbers
 use Rattle.sr_args.specs.declared.fault.CallFault.{CallFault}
 use Rattle.sr_args.specs.declared.fault.CallFault.TheVariants as calls
-use Rattle.sr_args.specs.declared.options.Choice.{Choice}
+use Rattle.sr_args.specs.declared.name.Choice.{Choice}
+use Rattle.sr_args.specs.declared.name.TheConstants.{FLAGS}
 use Rattle.sr_args.specs.declared.options.Given.{Given}
 use Rattle.sr_args.specs.declared.options.GroupWords.{GroupWords}
 use Rattle.sr_args.specs.declared.options.OptionWords.{OptionWords}
 use Rattle.sr_args.specs.declared.options.OptionWords.TheVariants as words
+use Rattle.sr_args.specs.declared.options.TheConstants.{KINDS}
 use Rattle.sr_args.specs.declared.options.TrimWords.{TrimWords}
 use Rattle.sr_args.specs.declared.call.Trim.{Trim}
 use Rattle.sr_args.specs.declared.call.TrimBy.{TrimBy}
@@ -22,16 +27,16 @@ use Rattle.sr_args.specs.declared.name.OptionName.{OptionName}
 use Rattle.sr_args.specs.declared.name.OptionName.TheVariants as options
 use Rattle.sr_args.specs.declared.options.OptionKind.{OptionKind}
 use Rattle.sr_args.specs.declared.options.OptionKind.TheVariants as kinds
-use Rattle.sr_args.specs.declared.options.OptionSet.{OptionSet}
+use Rattle.sr_args.specs.declared.name.OptionSet.{OptionSet}
 use Rattle.sr_args.specs.declared.name.Sign.{Sign}
 use Rattle.sr_args.specs.declared.name.Sign.TheVariants.{Nearly}
-use Rattle.sr_args.specs.Name.{IsSameName, option_text, sign_text}
+use Rattle.sr_args.specs.Name.{IsSameName, nothing, option_text, sign_text}
 use Rattle.sr_args.specs.FormWord.{Word, FormWord, Fits, HasNumber, HasNumbers, HasId, HasIds}
-use Rattle.sr_args.specs.Options.{TrimReading, Written, count, no_make, make_key, ids_only, idle, since, deliveries}
-use Rattle.sr_args.specs.Options.{named_group, no_ack, block, trimming, operand_places, sign_places, group_in}
+use Rattle.sr_args.specs.Options.{TrimReading, Written, flag, numbered, count, named_group, trimming}
+use Rattle.sr_args.specs.Options.{operand_places, sign_places, group_in}
 use Rattle.sr_args.specs.Options.{bound_place, option_places, first_name, kind, IsIn}
-use Rattle.sr_args.specs.Options.{IsTrimFit, IsOptionFit, AreOptionsFit, IsUnnamed, IsPast, Chosen, Choose, Sets}
-use Rattle.sr_args.specs.Options.{IsBound, IsTrim, nothing}
+use Rattle.sr_args.specs.Options.{IsTrimFit, IsOptionFit, AreOptionsFit, IsUnnamed, IsPast, Choose, Sets}
+use Rattle.sr_args.specs.Options.{IsBound, IsTrim}
 
 -- the words begin with a part: they fit its places with any after them, if the rest fits those; and before places that
 -- may follow they fit no other part
@@ -91,16 +96,10 @@ pub record IsOptionNamed (set : OptionSet) (name : OptionName) (o : Written) : T
 
 -- no word goes on with the option
 abbrev pub IsOptionEnd : Written → List FormWord → Type 0
+IsOptionEnd (flag f) places = ⊤
+IsOptionEnd (numbered which word) places = ⊤
 IsOptionEnd (count range most) places = ⊤
-IsOptionEnd no_make places = ⊤
-IsOptionEnd make_key places = ⊤
-IsOptionEnd ids_only places = ⊤
-IsOptionEnd (idle word) places = ⊤
-IsOptionEnd (since word) places = ⊤
-IsOptionEnd (deliveries word) places = ⊤
 IsOptionEnd (named_group group consumer) places = ⊤
-IsOptionEnd no_ack places = ⊤
-IsOptionEnd (block wait) places = ⊤
 IsOptionEnd (trimming trim) places = IsUnlimited places
 
 -- the other options are those written and a tail, which the words left begin with
@@ -137,30 +136,11 @@ trim_reading words =
 
 -- the words of an option
 abbrev pub written_of : OptionWords → Written
+written_of (words.Flag f) = flag f
+written_of (words.Numbered which word) = numbered which word.now
 written_of (words.Count range most) = count range most.now
-written_of words.NoMkStream = no_make
-written_of words.MkStream = make_key
-written_of words.JustId = ids_only
-written_of (words.Idle word) = idle word.now
-written_of (words.Time word) = since word.now
-written_of (words.RetryCount word) = deliveries word.now
 written_of (words.Group named) = named_group named.group.now named.consumer.now
-written_of words.NoAck = no_ack
-written_of (words.Block word) = block word.now
 written_of (words.Trim trim) = trimming (trim_reading trim)
-
-abbrev pub chosen_of : Choice → Chosen
-chosen_of choice = record {
-  add_makes = choice.add_makes;
-  create_makes = choice.create_makes;
-  trim = choice.trim;
-  count = choice.count;
-  just_ids = choice.just_ids;
-  time = choice.time;
-  delivered = choice.delivered;
-  no_ack = choice.no_ack;
-  block = choice.block;
-}
 
 -- the words of a group and a consumer, if there are any
 abbrev pub named_by : Option GroupWords → Option (Word × Word)
@@ -169,14 +149,14 @@ named_by (Some words) = Some (words.group.now, words.consumer.now)
 
 -- what the options ask for, or the first fault of their words: a number that is missing comes before an id that is
 abbrev pub AreJudged : List Written → Result Choice ValueFault → Type 0
-AreJudged written (Ok choice) = Choose written nothing (chosen_of choice)
+AreJudged written (Ok choice) = Choose written nothing choice
 AreJudged written (Err faults.Number) = HasNumbers (flat_map option_places written) → ⊥
 AreJudged written (Err faults.BadId) =
     HasNumbers (flat_map option_places written) × (HasIds (flat_map option_places written) → ⊥)
 
 -- the same of a single option after what was asked for before it
-abbrev pub IsJudged : Written → Chosen → Result Choice ValueFault → Type 0
-IsJudged o before (Ok after) = Sets o before (chosen_of after)
+abbrev pub IsJudged : Written → Choice → Result Choice ValueFault → Type 0
+IsJudged o before (Ok after) = Sets o before after
 IsJudged o before (Err faults.Number) = HasNumbers (option_places o) → ⊥
 IsJudged o before (Err faults.BadId) = HasNumbers (option_places o) × (HasIds (option_places o) → ⊥)
 
@@ -192,19 +172,13 @@ GivesBound by word (Ok bound) = IsBound by word bound
 GivesBound by word (Err faults.Number) = HasNumber (bound_place by word) → ⊥
 GivesBound by word (Err faults.BadId) = HasNumber (bound_place by word) × (HasId (bound_place by word) → ⊥)
 
--- the place of a kind among the kinds
+-- the place of a kind among the kinds: flags come after three, and then numbers
 abbrev pub index_of : OptionKind → ℕ
 index_of kinds.Count = 0
-index_of kinds.NoMkStream = 1
+index_of kinds.Group = 1
 index_of kinds.Trim = 2
-index_of kinds.MkStream = 3
-index_of kinds.JustId = 4
-index_of kinds.Idle = 5
-index_of kinds.Time = 6
-index_of kinds.RetryCount = 7
-index_of kinds.Group = 8
-index_of kinds.NoAck = 9
-index_of kinds.Block = 10
+index_of (kinds.Flag f) = 3 + tag_of flags.the_type f
+index_of (kinds.Numbered which) = 3 + FLAGS + tag_of numbers.the_type which
 
 abbrev pub fault_of : ValueFault → CallFault
 fault_of faults.Number = calls.Number
@@ -212,7 +186,7 @@ fault_of faults.BadId = calls.BadId
 
 -- the kinds of the options written are those that were seen
 pub record AreSeen (seen : List Bool) (written : List Written) : Type 0 where
-  pub many : length seen ≡ 11
+  pub many : length seen ≡ KINDS
   pub yes : (k : OptionKind) → get_or seen (index_of k) false ≡ true → IsIn k (map kind written)
   pub no : (k : OptionKind) → get_or seen (index_of k) false ≡ false → IsIn k (map kind written) → ⊥
 

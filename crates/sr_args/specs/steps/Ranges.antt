@@ -5,7 +5,7 @@ use Rattle.sr_ids.specs.declared.id.Id.{Id}
 use Rattle.sr_args.specs.declared.commands.xrange.Asked.{Asked}
 use Rattle.sr_args.specs.declared.commands.xrange.Bound.{Bound}
 use Rattle.sr_args.specs.declared.commands.xrange.Bound.TheVariants as bounds
-use Rattle.sr_args.specs.declared.options.OptionSet.TheVariants as sets
+use Rattle.sr_args.specs.declared.name.OptionSet.TheVariants as sets
 use Rattle.sr_args.specs.FormWord.{Word, IdForm, IdOf, range_start, range_end}
 use Rattle.sr_args.specs.Options.{Written}
 use Rattle.sr_args.specs.Form.{Form, end, text, id, options, Reading, Values}

@@ -8,8 +8,8 @@ ghost use Rattle.sr_args.specs.steps.Gives.{Gives};
 ghost use Rattle.sr_args.specs.steps.Rounds.{dead_form, dead_of, rounds_form, rounds_of, IsMaybeTries};
 
 use crate::commands::named::read_group;
+use crate::name::is_named;
 use crate::number::read_tries;
-use crate::options::is_named;
 use crate::table::Row;
 use crate::value::{copy_word, number_word};
 use crate::{CallFault, Command, Names, OptionName};

@@ -6,7 +6,8 @@ ghost use Rattle.sr_args.specs.commands.Xadd as xadd_form;
 ghost use Rattle.sr_args.specs.steps.Gives.{Gives};
 ghost use Rattle.sr_args.specs.steps.Options.{AreJudged};
 
-use crate::options::{Choice, OptionSet, ValueFault, read_options};
+use crate::name::{Choice, OptionSet};
+use crate::options::{ValueFault, read_options};
 use crate::same::{same_fields, same_spec, same_trim_asked};
 use crate::table::Row;
 use crate::value::copy_word;

@@ -7,8 +7,9 @@ ghost use Rattle.sr_args.specs.steps.Gives.{Gives};
 ghost use Rattle.sr_args.specs.steps.Options.{AreJudged};
 
 use crate::commands::named::{ConsumerWords, consumer_words, copy_consumer};
+use crate::name::{Choice, OptionSet};
 use crate::number::read_int;
-use crate::options::{Choice, OptionSet, ValueFault, read_options};
+use crate::options::{ValueFault, read_options};
 use crate::same::{same_count, same_id};
 use crate::table::Row;
 use crate::{Call, CallFault};

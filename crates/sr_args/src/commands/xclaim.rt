@@ -8,8 +8,9 @@ ghost use Rattle.sr_args.specs.steps.Gives.{Gives};
 ghost use Rattle.sr_args.specs.steps.Options.{AreJudged};
 
 use crate::commands::named::{ConsumerWords, consumer_words, copy_consumer};
+use crate::name::{Choice, OptionSet, is_named};
 use crate::number::read_int;
-use crate::options::{Choice, OptionSet, ValueFault, is_named, names_option, read_options};
+use crate::options::{ValueFault, names_option, read_options};
 use crate::same::{same_ids, same_number};
 use crate::table::Row;
 use crate::value::{are_first_ids, copy_first_ids};

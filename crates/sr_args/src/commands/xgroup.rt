@@ -10,7 +10,8 @@ ghost use Rattle.sr_args.specs.steps.Gives.{Gives};
 ghost use Rattle.sr_args.specs.steps.Options.{AreJudged};
 
 use crate::commands::named::{read_consumer, read_group};
-use crate::options::{Choice, OptionSet, ValueFault, read_options};
+use crate::name::{Choice, OptionSet};
+use crate::options::{ValueFault, read_options};
 use crate::same::same_position;
 use crate::table::Row;
 use crate::value::{copy_word, read_position};

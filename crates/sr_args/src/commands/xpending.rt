@@ -6,8 +6,9 @@ ghost use Rattle.sr_args.specs.commands.Xpending as xpending_form;
 ghost use Rattle.sr_args.specs.steps.Gives.{Gives};
 ghost use Rattle.sr_args.specs.steps.Numbers.{IsAnyWord};
 ghost use Rattle.sr_args.specs.steps.Options.{Begins, BeginsNone};
-ghost use Rattle.sr_args.specs.steps.Pending.{listing_reading, IsBeforeStart, IsPastIdle, IsMaybeInt};
+ghost use Rattle.sr_args.specs.steps.Pending.{idle_name, listing_reading, IsBeforeStart, IsPastIdle, IsMaybeInt};
 
+use crate::name::Numbered;
 use crate::names::copy_name;
 use crate::number::read_int;
 use crate::same::{same_count, same_id, same_name};
@@ -201,11 +202,11 @@ fn listing_words(mut words: Unread<'_>) -> Option<ListingWords<'_>>
 /// `[IDLE number]`
 fn idle_word<'a>(words: &mut Unread<'a>) -> Option<Option<&'a [u8]>>
     ensures found { IfSome result (λ read.
-        Begins (named_places OptionName.Idle int) IsAnyWord IsBeforeStart words.old (option_copied read) words.new) }
-    ensures none { IfNone result (BeginsNone (named_places OptionName.Idle int) IsAnyWord IsBeforeStart words.old) }
+        Begins (named_places idle_name int) IsAnyWord IsBeforeStart words.old (option_copied read) words.new) }
+    ensures none { IfNone result (BeginsNone (named_places idle_name int) IsAnyWord IsBeforeStart words.old) }
     ensures past { IfSome result (λ read. IsPastIdle (option_copied read) words.new) }
 {
-    number_word(OptionName::Idle, words)
+    number_word(OptionName::Numbered(Numbered::Idle), words)
 }
 
 /// The number that a word writes, if there is a word.

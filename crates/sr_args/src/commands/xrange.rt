@@ -8,7 +8,8 @@ ghost use Rattle.sr_args.specs.steps.Gives.{Gives};
 ghost use Rattle.sr_args.specs.steps.Options.{AreJudged};
 ghost use Rattle.sr_args.specs.steps.Ranges.{range_form, range_reading, spelling_of, id_at, asked_of};
 
-use crate::options::{Choice, OptionSet, ValueFault, read_options};
+use crate::name::{Choice, OptionSet};
+use crate::options::{ValueFault, read_options};
 use crate::same::{same_count, same_id};
 use crate::table::Row;
 use crate::value::copy_word;

@@ -4,7 +4,7 @@ ghost use Rattle.sr_args.specs.commands.Xread as xread_form;
 ghost use Rattle.sr_args.specs.steps.Gives.{Gives};
 ghost use Rattle.sr_args.specs.steps.Streams.{AreStreams};
 
-use crate::options::OptionSet;
+use crate::name::OptionSet;
 use crate::same::{same_count, same_number, same_streams};
 use crate::streams::read_words;
 use crate::table::Row;

@@ -1,6 +1,6 @@
 ghost use Rattle.std.specs.Prelude.{IfSome, IfNone, ◌≡◌, ◌↔◌, IsTrue, IfOk};
 ghost use Rattle.sr_args.specs.declared.name.Measure as measures;
-ghost use Rattle.sr_args.specs.Name.{IsSameName, measure_name, option_text};
+ghost use Rattle.sr_args.specs.Name.{IsSameName, option_text};
 ghost use Rattle.sr_args.specs.Form.{Reading, Reads};
 ghost use Rattle.sr_args.specs.commands.Xtrim as xtrim_form;
 ghost use Rattle.sr_args.specs.steps.Gives.{Gives};
@@ -88,13 +88,12 @@ fn xtrim_words(mut words: Unread<'_>) -> Option<XtrimWords<'_>>
 
 /// The measure of the trim that a word begins.
 fn measure_named(word: &[u8]) -> Option<Measure>
-    ensures found { IfSome result (λ measure. IsSameName word.now (option_text (measure_name measure))) }
+    ensures found { IfSome result (λ measure. IsSameName word.now (option_text (OptionName.Trim measure))) }
     ensures none { IfNone result ((measure : measures.Measure) →
-        IsSameName word.now (option_text (measure_name measure)) → ⊥) }
+        IsSameName word.now (option_text (OptionName.Trim measure)) → ⊥) }
 {
     match option_named(word)? {
-        OptionName::MaxLen => Some(Measure::MaxLen),
-        OptionName::MinId => Some(Measure::MinId),
+        OptionName::Trim(by) => Some(by),
         _ => None,
     }
 }

@@ -1,6 +1,6 @@
 use Rattle.std.proofs.Common.{◌∙◌, sym, ap}
 use Rattle.std.proofs.lemmas.Bool.{false≢true}
-use Rattle.sr_args.specs.Options.{is_of}
+use Rattle.sr_args.specs.Name.{is_of}
 use Rattle.sr_args.proofs.OptionLemmas.{name-one}
 use Rattle.sr_args.proofs.options.names_option.Goals as goal
 

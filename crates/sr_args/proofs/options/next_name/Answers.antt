@@ -1,10 +1,10 @@
 use Rattle.std.proofs.Common.{◌≡◌, List, [], ◌∷◌, false, sym, ap, ◌∙◌, subst}
 use Rattle.std.proofs.lemmas.Bool.{false≢true}
 use Rattle.sr_args.specs.declared.name.OptionName.{OptionName}
-use Rattle.sr_args.specs.declared.options.OptionSet.{OptionSet}
-use Rattle.sr_args.specs.Name.{IsSameName, option_text}
+use Rattle.sr_args.specs.declared.name.OptionSet.{OptionSet}
+use Rattle.sr_args.specs.Name.{IsSameName, option_text, is_of}
 use Rattle.sr_args.specs.FormWord.{Word}
-use Rattle.sr_args.specs.Options.{is_of, IsUnnamed}
+use Rattle.sr_args.specs.Options.{IsUnnamed}
 use Rattle.sr_args.proofs.OptionLemmas.{name-one}
 use Rattle.sr_args.proofs.options.next_name.Goals as goal
 

@@ -1,6 +1,6 @@
 use Rattle.std.proofs.Common.{◌≡◌, List, [], ◌∷◌, Option, Some, None, length, arith, ap}
 use Rattle.std.specs.Prelude.{IfSome, IfNone}
-use Rattle.sr_args.specs.declared.options.OptionSet.TheVariants.{Xclaim}
+use Rattle.sr_args.specs.declared.name.OptionSet.TheVariants.{Xclaim}
 use Rattle.sr_args.specs.FormWord.{Word}
 use Rattle.sr_args.proofs.ClaimLemmas.{IsSkipped-more}
 use Rattle.sr_args.proofs.commands.xclaim.skip_ids.Goals as goal

@@ -1,5 +1,5 @@
 use Rattle.std.proofs.Common.{◌≤◌, length}
-use Rattle.sr_args.specs.declared.options.OptionSet.TheVariants.{Xclaim}
+use Rattle.sr_args.specs.declared.name.OptionSet.TheVariants.{Xclaim}
 use Rattle.sr_args.specs.steps.Claims.{IsSkipped}
 use Rattle.sr_args.proofs.commands.xclaim.skip_ids.Given as goal
 

@@ -3,14 +3,15 @@ use Rattle.std.specs.List.{flat_map}
 use Rattle.std.proofs.lemmas.Result.{err_from_is_err_and}
 use Rattle.sr_args.specs.declared.call.Call.TheVariants.{XgroupCreate}
 use Rattle.sr_args.specs.declared.call.Position.{Position}
-use Rattle.sr_args.specs.declared.options.Choice.{Choice}
+use Rattle.sr_args.specs.declared.name.Choice.{Choice}
 use Rattle.sr_args.specs.FormWord.{Word, HasNumbers}
-use Rattle.sr_args.specs.Options.{Written, option_places, nothing}
+use Rattle.sr_args.specs.Name.{nothing}
+use Rattle.sr_args.specs.Options.{Written, option_places}
 use Rattle.sr_args.specs.Position.{SpellsPosition}
 use Rattle.sr_args.specs.Form.{Reads}
 use Rattle.sr_args.specs.commands.XgroupCreate.{form, call}
 use Rattle.sr_args.specs.steps.Gives.{GivesCall}
-use Rattle.sr_args.specs.steps.Options.{AreJudged, chosen_of}
+use Rattle.sr_args.specs.steps.Options.{AreJudged}
 use Rattle.sr_args.proofs.ChoiceLemmas.{HasNumbers-append, Choose-numbers}
 use Rattle.sr_args.proofs.commands.xgroup.read_xgroup_create.Goals as goal
 
@@ -18,13 +19,13 @@ gives : (words : List Word) (key group word key′ group′ : Word) (written : L
 gives words key group word key′ group′ written from choice reads spells judged same_key same_group = record {
   reading = (key, (group, (word, (written, tt))));
   reads = reads;
-  values = (key′, (group′, (from, (chosen_of choice, tt))));
+  values = (key′, (group′, (from, (choice, tt))));
   means = (same_key, (same_group, (spells, (judged, tt))));
   is = refl;
 }
 
 numbers : (written : List Written) (choice : Choice) → AreJudged written (Ok choice) → HasNumbers (flat_map option_places written)
-numbers written choice judged = Choose-numbers written nothing (chosen_of choice) judged
+numbers written choice judged = Choose-numbers written nothing choice judged
 
 pub returns-in_default-read_position : goal.returns-in_default-read_position
 returns-in_default-read_position c =

@@ -2,12 +2,12 @@ use Rattle.std.proofs.Common.{◌≡◌, List, Ok, Err, refl}
 use Rattle.std.proofs.lemmas.Result.{err_from_is_err_and}
 use Rattle.sr_ids.specs.declared.id.Id.{Id}
 use Rattle.sr_args.specs.declared.commands.xrange.Bound.{Bound}
-use Rattle.sr_args.specs.declared.options.Choice.{Choice}
+use Rattle.sr_args.specs.declared.name.Choice.{Choice}
 use Rattle.sr_args.specs.FormWord.{Word, IdOf, Spells}
 use Rattle.sr_args.specs.Options.{Written}
 use Rattle.sr_args.specs.Form.{Reads}
 use Rattle.sr_args.specs.steps.Gives.{GivesCall}
-use Rattle.sr_args.specs.steps.Options.{AreJudged, chosen_of}
+use Rattle.sr_args.specs.steps.Options.{AreJudged}
 use Rattle.sr_args.specs.steps.Ranges.{range_form, range_reading, spelling_of, id_at, asked_of}
 use Rattle.sr_args.proofs.RangeLemmas.{range-fault, range-numbers}
 use Rattle.sr_args.proofs.commands.xrange.read_range.Goals as goal
@@ -23,7 +23,7 @@ gives first second words key a b copy written i j choice reads same s t judged =
     record {
       reading = range_reading key a b written (spelling_of first) (spelling_of second);
       reads = reads;
-      values = (copy, (s.0, (t.0, (chosen_of choice, tt))));
+      values = (copy, (s.0, (t.0, (choice, tt))));
       means = (same, (s.1, (t.1, (judged, tt))));
       is = rw (s.2, t.2) refl;
     }

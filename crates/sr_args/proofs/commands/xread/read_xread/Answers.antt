@@ -4,14 +4,14 @@ use Rattle.std.proofs.lemmas.Result.{err_from_is_err_and}
 use Rattle.std.proofs.lemmas.Bool.{false≢true}
 use Rattle.sr_args.specs.declared.call.Call.TheVariants.{Xread}
 use Rattle.sr_args.specs.declared.call.Position.{Position}
-use Rattle.sr_args.specs.declared.options.Choice.{Choice}
-use Rattle.sr_args.specs.declared.options.OptionSet.TheVariants as sets
+use Rattle.sr_args.specs.declared.name.Choice.{Choice}
+use Rattle.sr_args.specs.declared.name.OptionSet.TheVariants as sets
 use Rattle.sr_args.specs.FormWord.{Word, HasIds, position, spelled}
 use Rattle.sr_args.specs.Options.{Written}
 use Rattle.sr_args.specs.Form.{Reads, AreIds}
 use Rattle.sr_args.specs.commands.Xread.{form, call}
 use Rattle.sr_args.specs.steps.Gives.{GivesCall}
-use Rattle.sr_args.specs.steps.Options.{AreJudged, chosen_of}
+use Rattle.sr_args.specs.steps.Options.{AreJudged}
 use Rattle.sr_args.specs.steps.Streams.{streams_reading}
 use Rattle.sr_args.proofs.FormLemmas.{AreIds-exist}
 use Rattle.sr_args.proofs.ReadLemmas.{read-fault, read-numbers, read-ids}
@@ -23,7 +23,7 @@ gives : (words : List Word) (written : List Written) (keys ids : List Word) (fro
 gives words written keys ids from choice reads are judged = record {
   reading = streams_reading sets.Xread position written keys ids;
   reads = reads;
-  values = (chosen_of choice, (keys, from));
+  values = (choice, (keys, from));
   means = (judged, (refl, are));
   is = refl;
 }

@@ -4,15 +4,15 @@ use Rattle.std.proofs.lemmas.Result.{err_from_is_err_and}
 use Rattle.std.proofs.lemmas.Bool.{false≢true}
 use Rattle.sr_args.specs.declared.call.Call.{Call}
 use Rattle.sr_args.specs.declared.call.Call.TheVariants.{Xreadgroup}
-use Rattle.sr_args.specs.declared.options.Choice.{Choice}
-use Rattle.sr_args.specs.declared.options.OptionSet.TheVariants as sets
+use Rattle.sr_args.specs.declared.name.Choice.{Choice}
+use Rattle.sr_args.specs.declared.name.OptionSet.TheVariants as sets
 use Rattle.sr_args.specs.declared.reads.ReadAsked.{ReadAsked}
 use Rattle.sr_args.specs.FormWord.{Word, HasIds, read_id, spelled}
 use Rattle.sr_args.specs.Options.{Written, group_in}
 use Rattle.sr_args.specs.Form.{Reads, AreIds}
 use Rattle.sr_args.specs.commands.Xreadgroup.{form, call}
 use Rattle.sr_args.specs.steps.Gives.{GivesCall}
-use Rattle.sr_args.specs.steps.Options.{AreJudged, chosen_of}
+use Rattle.sr_args.specs.steps.Options.{AreJudged}
 use Rattle.sr_args.specs.steps.Streams.{grouped_reading}
 use Rattle.sr_args.proofs.FormLemmas.{AreIds-exist}
 use Rattle.sr_args.proofs.ReadLemmas.{grouped-fault, read-numbers, read-ids}
@@ -24,7 +24,7 @@ gives : (words : List Word) (written : List Written) (keys ids : List Word) (gro
 gives words written keys ids group consumer asked choice reads named are judged = record {
   reading = grouped_reading sets.Xreadgroup read_id written keys ids;
   reads = reads;
-  values = ((group, consumer), (chosen_of choice, (keys, asked)));
+  values = ((group, consumer), (choice, (keys, asked)));
   means = (named, judged, (refl, are));
   is = refl;
 }
