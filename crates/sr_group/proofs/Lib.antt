@@ -6,5 +6,6 @@ pub mod JudgeLemmas
 pub mod LoopLemmas
 pub mod MovingLemmas
 pub mod NameLemmas
+pub mod ScanLawLemmas
 pub mod ScanLemmas
 pub mod ShowLemmas

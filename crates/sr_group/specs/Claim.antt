@@ -1,7 +1,8 @@
 -- What XCLAIM and XAUTOCLAIM do with the ids that they are given or find.
 -- Source: Redis documentation, commands XCLAIM and XAUTOCLAIM.
 
-use Rattle.std.specs.Prelude.{ℕ, zero, suc, ◌-◌, ◌*◌, ◌^◌, ◌<◌, IfSome, min, List, [], ◌∷◌, ◌++◌, Option, Some, None}
+use Rattle.std.specs.Prelude.{◌≡◌, ◌⊎◌, ℕ, zero, suc, ◌-◌, ◌*◌, ◌^◌, ◌<◌, ◌≤◌, IfSome, min}
+use Rattle.std.specs.Prelude.{List, [], ◌∷◌, ◌++◌, length, count_by, Option, Some, None}
 use Rattle.std.specs.Prelude.{Bool, true, false, not, ◌||◌, nat_lt, if◌then◌else◌, filter, take, slice_get}
 use Rattle.sr_ids.specs.declared.id.Id.{Id}
 use Rattle.sr_ids.specs.{least_id}
@@ -99,6 +100,17 @@ module _ (claim : Claim) (claimer : List ℕ) (moment : ℕ) (entries : List Ent
   -- those that a scan looks at: up to the one with which `count` are taken, and at most ten times as many
   abbrev pub scanned : ℕ → List Nack → List Nack
   scanned count nacks = up_to_taken count (take (10 * count) nacks)
+
+  -- these are what a scan looks at: the front of what is pending, at most ten times as many as are wanted, of which no
+  -- more are taken than are wanted; it goes that far, and no farther than to the one with which enough are taken
+  pub record IsScanned (count : ℕ) (nacks looked : List Nack) : Type 0 where
+    pub rest : List Nack
+    pub front : nacks ≡ looked ++ rest
+    pub few : length looked ≤ 10 * count
+    pub wanted : count_by is_taken looked ≤ count
+    pub far : (rest ≡ []) ⊎ ((length looked ≡ 10 * count) ⊎ (count_by is_taken looked ≡ count))
+    pub no_farther : (before after : List Nack) → looked ≡ before ++ after → (after ≡ [] → ⊥)
+        → count_by is_taken before < count
 
 -- entries that are moved: who claims them, how, and their ids
 pub record MoveState : Type 0 where
