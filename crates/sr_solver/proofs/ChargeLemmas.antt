@@ -1,52 +1,20 @@
--- The charges of the tiers, row by entry; if each consumer has one tier, they are the costs.
-use Rattle.std.proofs.Common.{◌≡◌, ℕ, zero, suc, ◌+◌, ◌*◌, ◌-◌, ◌/◌, ◌%◌, ◌<◌, ◌≤◌, cond, List, [], ◌∷◌, ◌++◌, length}
-use Rattle.std.proofs.Common.{append_assoc, map, get_or, Option, Some, None, option_map, refl, sym, ap, ◌∙◌, inl, inr}
+-- If each consumer has one tier, the charges of the tiers are the costs.
+use Rattle.std.proofs.Common.{◌≡◌, ℕ, zero, suc, ◌+◌, ◌*◌, ◌-◌, ◌/◌, ◌%◌, ◌<◌, ◌≤◌, cond, List, [], ◌∷◌, length}
+use Rattle.std.proofs.Common.{get_or, Option, Some, None, option_map, refl, sym, ap, ◌∙◌, inl, inr}
 use Rattle.std.proofs.Common.{arith}
 use Rattle.std.specs.Prelude.{nat_lt}
-use Rattle.std.specs.List.{sum_by, flat_map, range_with_len}
+use Rattle.std.specs.List.{sum_by}
 use Rattle.std.proofs.Math.Nat.{mul_comm, div-lt_iff_lt-mul}
 use Rattle.std.proofs.lemmas.Bool.{cases_lt, lt-ltb, le-ltb}
-use Rattle.std.proofs.lemmas.List.{flat_map_more}
-use Rattle.std.proofs.lemmas.List.FromFn.{map-range_with_len_more}
 use Rattle.std.proofs.lemmas.List.Sums.{sum_by-cons, count_by-le-length}
 use Rattle.sr_transport.specs.declared.problem.Tier.{Tier}
 use Rattle.sr_transport.specs.{Tiered, tier_at, first_in}
 use Rattle.sr_transport.specs.Problem.{AreTiers, IsWithinLimits, cost_at}
 use Rattle.sr_transport.specs.Assignment.{charge_at}
-use Rattle.sr_transport.specs.ByTier.{by_tier, charges_of, charges}
+use Rattle.sr_transport.specs.ByTier.{by_tier, charges}
 use Rattle.sr_transport.proofs.TierLemmas.{no_tier}
 use Rattle.sr_transport.proofs.ByTierLemmas.{columns-length, cost_at-by_tier, by_tier-within}
 use Rattle.sr_solver.proofs.OrderLemmas.{list_same}
-
-range_more : (a n : ℕ) → range_with_len a (suc n) ≡ range_with_len a n ++ (a + n) ∷ []
-range_more a zero = let here : a + 0 ≡ a = omega arith in rw here refl
-range_more a (suc n) =
-    let next : a + suc n ≡ a + 1 + n = omega arith in
-    rw next (ap (λ (l : List ℕ). a ∷ l) (range_more (a + 1) n))
-
-numbers_more : (n : ℕ) → range_with_len 0 (n + 1) ≡ range_with_len 0 n ++ n ∷ []
-numbers_more n =
-    let next : n + 1 ≡ suc n = omega arith in
-    let same : 0 + n ≡ n = omega arith in
-    ap (range_with_len 0) next ∙ range_more 0 n ∙ ap (λ m. range_with_len 0 n ++ m ∷ []) same
-
--- one charge more in a row, and one row more
-pub row_more : (p : Tiered) (i t : ℕ) (rows old new : List (Option ℕ))
-    → old ≡ rows ++ map (charge_at p i) (range_with_len 0 t)
-    → new ≡ old ++ charge_at p i t ∷ [] → new ≡ rows ++ map (charge_at p i) (range_with_len 0 (t + 1))
-row_more p i t rows old new is pushed =
-    rw (map-range_with_len_more (charge_at p i) 0 t t (omega arith))
-    (pushed ∙ rw is (append_assoc rows (map (charge_at p i) (range_with_len 0 t)) (charge_at p i t ∷ [])))
-
-pub rows_more : (p : Tiered) (i : ℕ) (rows new : List (Option ℕ)) → rows ≡ flat_map (charges_of p) (range_with_len 0 i)
-    → new ≡ rows ++ charges_of p i → new ≡ flat_map (charges_of p) (range_with_len 0 (i + 1))
-rows_more p i rows new is added =
-    rw (numbers_more i)
-    (
-    added
-    ∙ ap (λ (l : List (Option ℕ)). l ++ charges_of p i) is
-    ∙ flat_map_more (charges_of p) [] (range_with_len 0 i) i
-    )
 
 -- sums of terms that are no greater, and one of them less
 sum_by-le : {X : Type 0} (f g : X → ℕ) (xs : List X) → ((x : X) → f x ≤ g x) → sum_by f xs ≤ sum_by g xs
@@ -94,7 +62,7 @@ first_most takers tiers (suc k) c are all =
     omega (arith, first_more takers tiers c are (omega arith), first_most takers tiers k (c + 1) are (omega arith))
 
 -- as many tiers as consumers: the tier of each consumer has its number
-first_is : (takers : ℕ) (tiers : List Tier) (c : ℕ) → AreTiers takers tiers → length tiers ≡ takers → c < takers
+pub first_is : (takers : ℕ) (tiers : List Tier) (c : ℕ) → AreTiers takers tiers → length tiers ≡ takers → c < takers
     → first_in tiers c ≡ c
 first_is takers tiers c are one lt =
     let least = first_least takers tiers c are (omega arith) in

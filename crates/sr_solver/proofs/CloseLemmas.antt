@@ -1,17 +1,16 @@
 -- A consumer is closed, and its entries are offered to one consumer after another.
-use Rattle.std.proofs.Common.{◌≡◌, ℕ, ◌+◌, ◌<◌, ◌⊎◌, true, false, List, length, get_or, Option, sym, ap, ◌∙◌, inl, inr}
-use Rattle.std.proofs.Common.{arith}
+use Rattle.std.proofs.Common.{◌≡◌, ℕ, ◌+◌, ◌<◌, ◌⊎◌, true, false, List, length, get_or, Option, Some, None, sym, ap, ◌∙◌, inl}
+use Rattle.std.proofs.Common.{inr, arith}
 use Rattle.std.proofs.Math.ListN.{set, length-set}
-use Rattle.std.proofs.lemmas.Bool.{cases_eq}
+use Rattle.std.proofs.lemmas.Bool.{cases_eq, cases_lt}
 use Rattle.std.proofs.lemmas.List.{get_or-set_same, get_or-set_other}
 use Rattle.sr_transport.specs.{Transport, consumers}
-use Rattle.sr_transport.specs.plain.Problem.{room_of}
-use Rattle.sr_transport.specs.plain.Assignment.{load}
 use Rattle.sr_solver.specs.declared.label.Label.{Label}
+use Rattle.sr_solver.specs.declared.search.End.{End}
+use Rattle.sr_solver.specs.declared.stepped.Step.{Step}
 use Rattle.sr_solver.specs.Labels.{no_label, label_at, open_count, priced}
 use Rattle.sr_solver.specs.Search.{IsWithin, IsSearch, IsNearest, IsRound, IsClosed}
-use Rattle.sr_solver.specs.Cutoff.{IsCutoff}
-use Rattle.sr_solver.proofs.CutoffLemmas.{cutoff_kept}
+use Rattle.sr_solver.specs.Cutoff.{IsPast, IsCutoff}
 use Rattle.sr_solver.proofs.LabelLemmas.{open_count-set_closed, IsSameWay, way_kept, same_way}
 
 -- the labels before and after consumer t is closed
@@ -55,9 +54,9 @@ closing t old label lt was_open same is_closed =
 
 -- a consumer that is closed: its entries are not offered yet
 closing_search : (p : Transport) (k : ℕ) (xs prices : List ℕ) (cutoff : Option ℕ) (old new : List Label) (t : ℕ)
-    → IsRound p k xs prices cutoff old → IsNearest p old t → load xs t ≡ room_of p t → IsClosing t old new
+    → IsRound p k xs prices cutoff old → IsNearest p old t → IsClosing t old new
     → IsSearch p k xs prices cutoff new t 0
-closing_search p k xs prices cutoff old new t search nearest full closing =
+closing_search p k xs prices cutoff old new t search nearest closing =
     let above : (c : ℕ) → 0 < (label_at new c).hops → 0 < (label_at old c).hops =
     λ c up. omega (arith, up, (closing.same c).hops) in
     let within : (dist base i c : ℕ) → IsWithin p prices old dist base i c → IsWithin p prices new dist base i c =
@@ -76,10 +75,6 @@ closing_search p k xs prices cutoff old new t search nearest full closing =
       reached = λ c lt now. elim (closing.back c now) [
         | inl e ↦ rw e (omega (arith, nearest.reached, (closing.same t).hops))
         | inr was ↦ omega (arith, search.reached c lt was, (closing.same c).hops)
-      ];
-      full = λ c lt now. elim (closing.back c now) [
-        | inl e ↦ rw e full
-        | inr was ↦ search.full c lt was
       ];
       nearer = λ c d lt ltd now not_now up. elim (closing.back c now) [
         | inl e ↦
@@ -125,26 +120,47 @@ closing_search p k xs prices cutoff old new t search nearest full closing =
 -- before its entries are offered to the first consumer
 pub closed_start : (p : Transport) (k : ℕ) (xs prices : List ℕ) (cutoff : Option ℕ) (old : List Label)
     (t : ℕ) (label : Label)
-    → IsRound p k xs prices cutoff old → IsNearest p old t → load xs t ≡ room_of p t
+    → IsRound p k xs prices cutoff old → IsNearest p old t
     → IsSameWay (label_at old t) label → label.closed ≡ true
     → IsClosed p k xs prices cutoff old (set old t label) t 0
-closed_start p k xs prices cutoff old t label search nearest full same is_closed =
+closed_start p k xs prices cutoff old t label search nearest same is_closed =
     let done : IsClosing t old (set old t label) =
     closing t old label (omega (arith, nearest.consumer, search.one_each)) nearest.not_closed same is_closed in
     record {
-      search = closing_search p k xs prices cutoff old (set old t label) t search nearest full done;
+      search = closing_search p k xs prices cutoff old (set old t label) t search nearest done;
       closed = done.here;
       fewer = omega (arith, done.fewer);
     }
 
--- the cutoff stays when a consumer is closed
-pub cutoff_closing : (p : Transport) (xs : List ℕ) (old : List Label) (t n : ℕ) (label : Label) (cutoff : Option ℕ)
+-- the cutoff stays when a consumer is closed that is nearer
+pub cutoff_closing : (p : Transport) (s : List Step) (xs prices : List ℕ) (old : List Label) (t : ℕ) (label : Label)
+    (cutoff : Option End)
     → t < length old → (label_at old t).closed ≡ false → IsSameWay (label_at old t) label → label.closed ≡ true
-    → IsCutoff p xs old n cutoff → IsCutoff p xs (set old t label) n cutoff
-cutoff_closing p xs old t n label cutoff lt was_open same is_closed is =
+    → (IsPast cutoff (label_at old t).dist → ⊥)
+    → IsCutoff p s xs prices old (consumers p) cutoff → IsCutoff p s xs prices (set old t label) (consumers p) cutoff
+cutoff_closing p s xs prices old t label None lt was_open same is_closed nearer is =
     let done : IsClosing t old (set old t label) = closing t old label lt was_open same is_closed in
-    cutoff_kept p xs old (set old t label) n n cutoff (omega arith)
-    (λ c ltc up. (omega (arith, up, (done.same c).hops), omega (arith, (done.same c).dist))) is
+    λ c ltc up. is c ltc (omega (arith, up, (done.same c).hops))
+cutoff_closing p s xs prices old t label (Some end) lt was_open same is_closed nearer is =
+    let done : IsClosing t old (set old t label) = closing t old label lt was_open same is_closed in
+    record {
+      small = is.small;
+      consumer = is.consumer;
+      reached = omega (arith, is.reached, (done.same end.consumer).hops);
+      room = is.room;
+      length = omega (arith, is.length, (done.same end.consumer).dist);
+      least = λ c ltc up room.
+          omega (arith, is.least c ltc (omega (arith, up, (done.same c).hops)) room, (done.same c).dist);
+      passed = λ c ltc now. elim (done.back c now) [
+        | inl e ↦ rw e (
+            elim (cases_lt (label_at old t).dist end.dist) [
+              | inl below ↦ omega (arith, below, (done.same t).dist)
+              | inr past ↦ absurd (nearer past)
+            ]
+            )
+        | inr was ↦ omega (arith, is.passed c ltc was, (done.same c).dist)
+      ];
+    }
 
 -- once all consumers were asked, a round is over
 pub closed_round : (p : Transport) (k : ℕ) (xs prices : List ℕ) (cutoff : Option ℕ) (labels : List Label) (t upto : ℕ)
@@ -156,7 +172,6 @@ closed_round p k xs prices cutoff labels t upto all search = record {
   few = search.few;
   few_closed = search.few_closed;
   reached = search.reached;
-  full = search.full;
   nearer = search.nearer;
   latest = λ c lt now ltt. absurd (omega arith);
   new_offered = search.new_offered;

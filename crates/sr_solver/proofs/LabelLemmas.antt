@@ -4,7 +4,7 @@ use Rattle.std.proofs.Common.{get_or, Option, Some, None, refl, ap, ◌∙◌, i
 use Rattle.std.specs.Prelude.{IsSome, unwrap_or}
 use Rattle.std.proofs.Math.ListN.{set}
 use Rattle.std.proofs.lemmas.Bool.{false≢true}
-use Rattle.std.proofs.lemmas.List.Sums.{sum_by-set, sum_by-cons, get_or-le-sum_by, count_by-le-length}
+use Rattle.std.proofs.lemmas.List.Sums.{sum_by-set, sum_by-cons, count_by-le-length}
 use Rattle.sr_transport.specs.{Transport}
 use Rattle.sr_solver.specs.declared.label.Label.{Label}
 use Rattle.sr_solver.specs.declared.label.Offer.{Offer}
@@ -57,14 +57,6 @@ open_count-set_closed labels t label lt was_open closed =
     let before : one (label_at labels t) ≡ 1 = ap test was_open in
     let after : one label ≡ 0 = ap test closed in
     omega (arith, sum_by-set one labels t label no_label lt, before, after)
-
-pub open_count-above : (labels : List Label) (t : ℕ) → t < length labels → (label_at labels t).closed ≡ false
-    → 0 < open_count labels
-open_count-above labels t lt is_open =
-    let one : Label → ℕ = λ l. cond (not l.closed) 1 0 in
-    let test : Bool → ℕ = λ b. cond (not b) 1 0 in
-    let here : one (label_at labels t) ≡ 1 = ap test is_open in
-    omega (arith, get_or-le-sum_by one labels t no_label lt, here)
 
 pub open_count-le : (labels : List Label) → open_count labels ≤ length labels
 open_count-le labels = count_by-le-length (λ l. not l.closed) labels

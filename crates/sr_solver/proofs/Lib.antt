@@ -1,5 +1,6 @@
 pub mod PathLemmas
 pub mod LabelLemmas
+pub mod StepLemmas
 pub mod CutoffLemmas
 pub mod SearchLemmas
 pub mod TableLemmas
@@ -13,5 +14,5 @@ pub mod ShortageLemmas
 pub mod SolvedLemmas
 pub mod OrderLemmas
 pub mod RenamedShortageLemmas
-pub mod TierLemmas
 pub mod ChargeLemmas
+pub mod ByConsumerLemmas

@@ -1,6 +1,6 @@
 -- The rows of members: an entry that is taken out, and one that is added.
 use Rattle.std.proofs.Common.{◌≡◌, ℕ, ◌+◌, ◌*◌, ◌^◌, ◌<◌, ◌≤◌, ◌==◌, ◌⊎◌, cond, List, length, get_or, take, ◌++◌}
-use Rattle.std.proofs.Common.{Option, refl, sym, ap, ◌∙◌, inl, inr, arith}
+use Rattle.std.proofs.Common.{Option, None, Fits, w64, refl, sym, ap, ◌∙◌, inl, inr, arith}
 use Rattle.std.proofs.Math.ListN.{set, length-set}
 use Rattle.std.proofs.lemmas.Bool.{cases_eq, cases_lt}
 use Rattle.std.proofs.Math.Nat.{mul-le-mul_left}
@@ -10,8 +10,8 @@ use Rattle.sr_transport.specs.{Transport, consumers}
 use Rattle.sr_transport.specs.plain.Problem.{IsWithinLimits, room_of, cost_at, cost_of}
 use Rattle.sr_transport.specs.plain.Assignment.{load}
 use Rattle.sr_solver.specs.declared.table.Bound.{Bound}
-use Rattle.sr_solver.specs.Table.{IsAt, IsApart, IsKnown, IsLowered}
-use Rattle.sr_solver.specs.Members.{IsListed, AreApart, IsSeen, AreWide, AreMembersOf, AreMembers, IsRemoved}
+use Rattle.sr_solver.specs.Table.{IsAt, IsApart, IsKnown, IsLowered, IsRowChanged, ArePairs}
+use Rattle.sr_solver.specs.Members.{IsListed, AreApart, IsSeen, AreLookedThrough, AreWide, AreMembersOf, AreMembers, IsRemoved}
 use Rattle.sr_solver.proofs.PathLemmas.{one_at_same, one_at_other, load-set}
 use Rattle.sr_solver.proofs.TableLemmas.{rows_apart, HasCome, known_lowered, known_same}
 
@@ -466,3 +466,57 @@ wide_more p k room old new is before kept enough c n lt in_room few = elim (case
 pub members_written : (p : Transport) (w n : ℕ) (count : ℕ → ℕ) (at : ℕ → ℕ → Type 0) (members rest : List ℕ)
     → length members ≡ n → AreMembersOf p w count at members → AreMembersOf p w count at (take n (members ++ rest))
 members_written p w n count at members rest all are = rw (take_at members rest n all) are
+
+-- no member was looked at
+pub looked_none : (p : Transport) (xs members : List ℕ) (row a : ℕ) (old new : List (Option Bound))
+    → IsRowChanged (consumers p) a (consumers p) (λ to was now. now ≡ None) old new
+    → AreLookedThrough p xs members row 0 a old new
+looked_none p xs members row a old new blank = record {
+  one_each = blank.one_each;
+  row_known = λ b ltb. rw (blank.row b ltb) (λ i seen allowed. absurd (omega (arith, seen.1.1)));
+  others = blank.others;
+}
+
+-- one member more was looked at
+pub looked_more : (p : Transport) (xs members : List ℕ) (row n i a : ℕ) (old now new : List (Option Bound))
+    → IsWithinLimits p.rooms p.entries p.costs → i < p.entries → get_or xs i 0 ≡ a
+    → i ≡ get_or members (row + 1 + n) 0
+    → AreLookedThrough p xs members row n a old now
+    → IsRowChanged (consumers p) a (consumers p) (λ next. IsLowered i (cost_of p i a) (cost_at p i next)) now new
+    → AreLookedThrough p xs members row (n + 1) a old new
+looked_more p xs members row n i a old now new limits lti stands is looked changed = record {
+  one_each = changed.one_each ∙ looked.one_each;
+  row_known = λ b ltb.
+      seen_more p xs members row n i a b _ _ limits ltb lti stands is (looked.row_known b ltb) (changed.row b ltb);
+  others = λ q out. changed.others q out ∙ looked.others q out;
+}
+
+-- all members were looked at
+pub looked_all : (p : Transport) (w : ℕ) (xs members : List ℕ) (row n a : ℕ) (old new : List (Option Bound))
+    → a < consumers p → AreMembers p w xs members → row ≡ a * w → n ≡ get_or members row 0
+    → ArePairs p xs old → AreLookedThrough p xs members row n a old new → ArePairs p xs new
+looked_all p w xs members row n a old new lta are is_row is_count pairs looked = record {
+  each_pair = looked.one_each ∙ pairs.each_pair;
+  each = λ c b ltc ltb. elim (cases_eq c a) [
+    | inl e ↦ rw e (seen_all p w xs members row n a b _ lta are is_row is_count (looked.row_known b ltb))
+    | inr ne ↦ rw (looked.others (c * consumers p + b) (rows_apart (consumers p) c a b ltb ne)) (pairs.each c b ltc ltb)
+  ];
+}
+
+-- the row of the consumer, and what fits within it
+pub row_in : (p : Transport) (w from : ℕ) (xs held members : List ℕ) → IsWithinLimits p.rooms p.entries p.costs
+    → members ≡ held → AreMembers p w xs held → from < consumers p → IsRow members (from * w) w (load xs from)
+row_in p w from xs held members limits same are lt =
+    row_of p w (load xs) (IsAt xs p.entries) members from (from * w) limits (rw same are) lt refl
+
+pub first_in : (members : List ℕ) (row w n : ℕ) → IsRow members row w n
+    → (row < length members) × Fits w64 (row * 8) × Fits w64 row
+first_in members row w n is =
+    (omega (arith, is.fits, is.room), omega (arith, is.short, is.room), omega (arith, is.short, is.room))
+
+pub other_in : (members : List ℕ) (row w n place : ℕ) → IsRow members row w n → place < get_or members row 0
+    → (row + 1 + place < length members) × Fits w64 ((row + 1 + place) * 8) × Fits w64 (row + 1 + place)
+    × Fits w64 (row + 1)
+other_in members row w n place is lt =
+    let within : row + 1 + place < length members = omega (arith, lt, is.count, is.fits, is.room) in
+    (within, omega (arith, within, is.short), omega (arith, within, is.short), omega (arith, within, is.short))

@@ -3,6 +3,7 @@ use Rattle.std.proofs.Common.{◌≡◌, ℕ, ◌+◌, ◌*◌, ◌<◌, ◌≤�
 use Rattle.std.proofs.Common.{refl, sym, ap, ◌∙◌, inl, inr, arith}
 use Rattle.std.specs.Prelude.{IfSome}
 use Rattle.sr_transport.specs.{greatest_charge, greatest_price, most_tiers, Transport, consumers}
+use Rattle.sr_transport.specs.Limits.{greatest_fee}
 use Rattle.sr_solver.specs.Limits.{greatest_way, greatest_bound}
 use Rattle.std.proofs.lemmas.Bool.{cases_eq, cases_lt, false≢true}
 use Rattle.std.proofs.Math.Nat.{mul-le-mul_left}
@@ -10,14 +11,16 @@ use Rattle.std.proofs.lemmas.Nat.{mul-add-lt}
 use Rattle.sr_transport.specs.plain.Problem.{IsWithinLimits, cost_at, cost_of, IsAllowed}
 use Rattle.sr_transport.specs.plain.Certificate.{IsLeast}
 use Rattle.sr_solver.specs.declared.label.Label.{Label}
+use Rattle.sr_solver.specs.declared.search.End.{End}
+use Rattle.sr_solver.specs.declared.stepped.Step.{Step}
 use Rattle.sr_solver.specs.Labels.{label_at, open_count, priced}
 use Rattle.sr_solver.specs.declared.table.Bound.{Bound}
 use Rattle.sr_solver.specs.Offers.{IsOfferedAt, offer_of}
 use Rattle.sr_solver.specs.Table.{IsAt, IsKnown, ArePairs, IsLeastMore, IsMover, IsNoNearer}
-use Rattle.sr_solver.specs.Placed.{IsPlaced, AreLoads}
+use Rattle.sr_solver.specs.Placed.{IsPlaced}
 use Rattle.sr_solver.specs.Search.{IsWithin, IsCovered, IsSearch, IsNewAt, IsAsked}
-use Rattle.sr_solver.specs.Cutoff.{IsCutoff, IsCut}
-use Rattle.sr_solver.proofs.CutoffLemmas.{IsNoLater, beyond_more, search_cut, cutoff_kept, cutoff_cut}
+use Rattle.sr_solver.specs.Cutoff.{length_of, IsNoLater, IsCutoff, IsCut}
+use Rattle.sr_solver.proofs.CutoffLemmas.{beyond_more, search_cut, IsGapAt, cutoff_cut}
 use Rattle.sr_solver.proofs.LabelLemmas.{offered_split, open_count_same, IsSameWay, way_kept, same_way}
 use Rattle.sr_solver.proofs.SearchLemmas.{cost_small}
 use Rattle.sr_solver.specs.Search.{IsClosed}
@@ -275,7 +278,6 @@ ask_search p k xs prices cutoff old new t b placed search ltt closed asked offer
         search.reached c lt (offering.back c now),
         (kept_same c (offering.back c now)).hops,
       );
-      full = λ c lt now. search.full c lt (offering.back c now);
       nearer = λ c d lt ltd now not_now up.
           let was = offering.back c now in
           elim (offering.at d) [
@@ -368,7 +370,7 @@ dist_small p k xs prices cutoff labels t upto placed le search c lt closed =
 -- a reached consumer is not far
 pub way_small : (p : Transport) (k : ℕ) (xs prices : List ℕ) (cutoff : Option ℕ) (labels : List Label) (t upto : ℕ)
     → IsPlaced p k xs prices → k ≤ p.entries → IsSearch p k xs prices cutoff labels t upto
-    → (c : ℕ) → c < consumers p → 0 < (label_at labels c).hops → (label_at labels c).dist ≤ greatest_way
+    → (c : ℕ) → c < consumers p → 0 < (label_at labels c).hops → (label_at labels c).dist + greatest_fee ≤ greatest_way
 way_small p k xs prices cutoff labels t upto placed le search c lt up =
     omega (
       arith,
@@ -428,17 +430,38 @@ pub bound_small : (p : Transport) (xs : List ℕ) (a b q : ℕ) (table : List (O
 bound_small p xs a b q table table_is lta ltb is_pair =
     rw is_pair (known_small p (IsAt xs p.entries a) a b _ (table_is.each a b lta ltb))
 
-pub cutoff_asked : (p : Transport) (k : ℕ) (xs prices loads : List ℕ) (cutoff next : Option ℕ)
-    (old before after : List Label) (t b : ℕ)
-    → IsPlaced p k xs prices → k ≤ p.entries → AreLoads p xs loads → b < consumers p
-    → IsClosed p k xs prices cutoff old after t (b + 1) → IsAsked p k xs prices cutoff t b before after
-    → IsCut p loads b (label_at after b) cutoff next
-    → IsCutoff p xs before (consumers p) cutoff → IsCutoff p xs after (consumers p) next
-cutoff_asked p k xs prices loads cutoff next old before after t b placed le counted ltb closed asked cut is =
-    let done : IsOffering p k xs prices t before after = offering p k xs prices t b cutoff before after asked in
-    cutoff_cut p xs loads after (consumers p) b cutoff next counted ltb ltb
-    (way_small p k xs prices cutoff after t (b + 1) placed le closed.search b ltb) cut
-    (cutoff_kept p xs before after (consumers p) (consumers p) cutoff (omega arith) (λ c lt up. elim (done.at c) [
-      | inl same ↦ rw same (up, omega arith)
-      | inr fresh ↦ (omega (arith, fresh.hops), fresh.nearer up)
-    ]) is)
+-- consumer b, once it was asked, is not far
+pub asked_small : (p : Transport) (k : ℕ) (xs prices : List ℕ) (old new : List Label) (t b : ℕ) (cutoff : Option ℕ)
+    → IsPlaced p k xs prices → k ≤ p.entries → t < consumers p → b < consumers p
+    → IsSearch p k xs prices cutoff old t b → (label_at old t).closed ≡ true
+    → IsAsked p k xs prices cutoff t b old new → 0 < (label_at new b).hops
+    → (label_at new b).dist + greatest_fee ≤ greatest_way
+asked_small p k xs prices old new t b cutoff placed le ltt ltb search closed asked up =
+    let done : IsOffering p k xs prices t old new = offering p k xs prices t b cutoff old new asked in
+    way_small p k xs prices cutoff new t (b + 1) placed le
+    (ask_search p k xs prices cutoff old new t b placed search ltt closed asked done) b ltb up
+
+-- what the cutoff becomes once consumer b was asked
+pub cutoff_asked : (p : Transport) (s : List Step) (k : ℕ) (xs prices : List ℕ) (old new : List Label) (t b : ℕ)
+    (gap : Option ℕ) (cutoff next : Option End)
+    → IsPlaced p k xs prices → k ≤ p.entries → t < consumers p → b < consumers p
+    → IsSearch p k xs prices (length_of cutoff) old t b → (label_at old t).closed ≡ true
+    → IsAsked p k xs prices (length_of cutoff) t b old new → IsGapAt p s xs prices b gap
+    → IsCut b (label_at new b) gap cutoff next
+    → IsCutoff p s xs prices old (consumers p) cutoff → IsCutoff p s xs prices new (consumers p) next
+cutoff_asked p s k xs prices old new t b gap cutoff next placed le ltt ltb search closed asked at cut is =
+    let done : IsOffering p k xs prices t old new = offering p k xs prices t b (length_of cutoff) old new asked in
+    let after : IsSearch p k xs prices (length_of cutoff) new t (b + 1) =
+    ask_search p k xs prices (length_of cutoff) old new t b placed search ltt closed asked done in
+    cutoff_cut p s xs prices old new b (consumers p) (consumers p) gap cutoff next
+    (record {
+      same = asked.others;
+      nearer = λ lt up. elim (done.at b) [
+        | inl same ↦ rw same (up, omega arith)
+        | inr fresh ↦ (omega (arith, fresh.hops), fresh.nearer up)
+      ];
+      kept = λ now. (ltb, done.kept b (done.back b now));
+      near = λ is_open up c lt was. after.nearer c b lt ltb was is_open up;
+    })
+    (record { here = ltb; more = omega arith; each = λ c lt ne. lt }) at
+    (way_small p k xs prices (length_of cutoff) new t (b + 1) placed le after b ltb) cut is

@@ -12,11 +12,12 @@ use Rattle.std.proofs.lemmas.Map.Keys.{apart_from_distinct, IsDistinct-from_apar
 use Rattle.std.proofs.lemmas.Nat.{mul-add-lt}
 use Rattle.std.proofs.Math.Nat.{mul_comm}
 use Rattle.std.proofs.Math.ListN.{set}
-use Rattle.sr_transport.specs.plain.Problem.{IsWithinLimits, cost_at, cost_of, IsAllowed}
-use Rattle.sr_transport.specs.plain.Assignment.{load, IsAssignment, total_of}
-use Rattle.sr_transport.specs.plain.Certificate.{IsLeast, ShowsCheapest}
-use Rattle.sr_transport.specs.plain.Solved.{IsBest}
+use Rattle.sr_transport.specs.plain.Problem.{IsWithinLimits, room_of, cost_at, cost_of, IsAllowed}
+use Rattle.sr_transport.specs.plain.Assignment.{load, IsAssignment}
+use Rattle.sr_transport.specs.plain.Certificate.{IsLeast}
 use Rattle.sr_transport.proofs.SumLemmas.{sum_below-same, sum_by_below}
+use Rattle.sr_solver.specs.declared.stepped.Step.{Step}
+use Rattle.sr_solver.specs.Answered.{IsPriced}
 use Rattle.sr_solver.specs.Order.{numbers_below, IsOrder, IsReordered, IsRenamed, row_below, rows_below}
 
 pub length-numbers_below : (n : ℕ) → length (numbers_below n) ≡ n
@@ -207,12 +208,14 @@ renamed_assignment p q order ys xs is re every renamed assigned =
       };
     }
 
-pub renamed_shows : (p q : Transport) (order ys xs prices : List ℕ) → IsOrder p.entries order → IsReordered p q order
-    → length xs ≡ p.entries → IsRenamed order ys xs p.entries → IsAssignment q ys → ShowsCheapest q ys prices
-    → ShowsCheapest p xs prices
-renamed_shows p q order ys xs prices is re every renamed assigned shows =
+pub renamed_priced : (p q : Transport) (s : List Step) (order ys xs prices : List ℕ) → IsOrder p.entries order
+    → IsReordered p q order
+    → length xs ≡ p.entries → IsRenamed order ys xs p.entries → IsPriced q s ys prices → IsPriced p s xs prices
+renamed_priced p q s order ys xs prices is re every renamed shows =
+    let assigned = shows.assignment in
     let every_y : length ys ≡ p.entries = assigned.every ∙ re.entries in
     record {
+      assignment = renamed_assignment p q order ys xs is re every renamed assigned;
       one_each = shows.one_each ∙ same_consumers p q order re;
       least = λ i lt. order_each (λ j. IsLeast p prices j (get_or xs j 0)) p.entries order is
           (λ k l.
@@ -230,30 +233,12 @@ renamed_shows p q order ys xs prices is re every renamed assigned shows =
             order_cost_of p q order re k c l allowed.0,
           )))
           i (omega (arith, lt, every));
-      filled = λ c lt above.
-          omega (
-            arith,
-            same_load order ys xs p.entries c is every_y every renamed,
-            shows.filled c (omega (arith, lt, same_consumers p q order re)) above,
-            ap (λ r. get_or r c 0) re.rooms,
-          );
+      level = λ c lt.
+          let loads : load xs c ≡ load ys c = same_load order ys xs p.entries c is every_y every renamed in
+          let rooms : room_of p c ≡ room_of q c = sym (ap (λ r. get_or r c 0) re.rooms) in
+          rw (loads, rooms) (shows.level c (omega (arith, lt, same_consumers p q order re)));
+      small = shows.small;
     }
-
-pub renamed_total : (p q : Transport) (order ys xs : List ℕ) → IsOrder p.entries order → IsReordered p q order
-    → length xs ≡ p.entries → IsRenamed order ys xs p.entries → IsAssignment q ys → total_of q ys ≡ total_of p xs
-renamed_total p q order ys xs is re every renamed assigned =
-    let every_y : length ys ≡ p.entries = assigned.every ∙ re.entries in
-    let cost : ℕ → ℕ = λ i. cost_of p i (get_or xs i 0) in
-    let each : sum_below (λ k. cost_of q k (get_or ys k 0)) p.entries ≡ sum_below (λ k. cost
-    (get_or order k 0)) p.entries =
-    sum_below-same (λ k. cost_of q k (get_or ys k 0)) (λ k. cost (get_or order k 0)) p.entries
-    (λ k l.
-    let in_y : k < length ys = omega (arith, l, every_y) in
-    let is_consumer : get_or ys k 0 < consumers p =
-    omega (arith, (assigned.placement.allowed k in_y).0, same_consumers p q order re) in
-    order_cost_of p q order re k (get_or ys k 0) l is_consumer
-    ∙ sym (ap (λ x. cost_of p (get_or order k 0) x) (renamed k l))) in
-    rw every_y (rw every (each ∙ order_sum cost p.entries order is))
 
 -- the reordered problem is within the limits
 row_small : (p : Transport) → IsWithinLimits p.rooms p.entries p.costs → (i n : ℕ) → i < p.entries → n ≤ consumers p
@@ -330,21 +315,16 @@ renamed_more n order ys xs place is every lt renamed k below =
     ]
 
 -- the same of the whole answer, where the lists are known by equations
-pub renamed_solution : (p q : Transport) (order ys zs first orders assigns xs prices : List ℕ) (total : ℕ)
+pub renamed_solution : (p q : Transport) (s : List Step) (order ys zs first orders assigns xs prices : List ℕ)
     → IsOrder p.entries order
     → IsReordered p q first → first ≡ order → orders ≡ order → assigns ≡ ys → xs ≡ zs → length zs ≡ length assigns
-    → IsRenamed orders assigns zs (length assigns) → IsBest q ys prices total → IsBest p xs prices total
-renamed_solution p q order ys zs first orders assigns xs prices total is re_first same_first same_orders same_assigns
-    same_xs many renamed_all best =
+    → IsRenamed orders assigns zs (length assigns) → IsPriced q s ys prices → IsPriced p s xs prices
+renamed_solution p q s order ys zs first orders assigns xs prices is re_first same_first same_orders same_assigns
+    same_xs many renamed_all priced =
     let re : IsReordered p q order = rw same_first at re_first in
-    let every_y : length ys ≡ p.entries = best.assignment.every ∙ re.entries in
+    let every_y : length ys ≡ p.entries = priced.assignment.every ∙ re.entries in
     let every : length zs ≡ p.entries = many ∙ (ap length same_assigns ∙ every_y) in
     let renamed : IsRenamed order ys zs p.entries = λ k l.
     ap (λ o. get_or zs (get_or o k 0) 0) (sym same_orders)
     ∙ (renamed_all k (omega (arith, l, many, every)) ∙ ap (λ a. get_or a k 0) same_assigns) in
-    rw same_xs (record {
-      assignment = renamed_assignment p q order ys zs is re every renamed best.assignment;
-      shown = renamed_shows p q order ys zs prices is re every renamed best.assignment best.shown;
-      sum = best.sum ∙ renamed_total p q order ys zs is re every renamed best.assignment;
-      small_total = best.small_total;
-    })
+    rw same_xs (renamed_priced p q s order ys zs prices is re every renamed priced)

@@ -1,9 +1,9 @@
 -- At the start no entry stands anywhere. Then one more is placed: the prices rise, and the entries move along the path.
-use Rattle.std.proofs.Common.{◌≡◌, ℕ, ◌+◌, ◌*◌, ◌<◌, ◌≤◌, ◌⊎◌, Bool, true, false, List, length, get_or, Option, Some}
+use Rattle.std.proofs.Common.{◌≡◌, ℕ, ◌+◌, ◌*◌, ◌<◌, ◌≤◌, ◌⊎◌, true, false, List, length, get_or, Option, Some}
 use Rattle.std.proofs.Common.{refl, sym, ap, ◌∙◌, subst, inl, inr, arith}
-use Rattle.sr_transport.specs.{most_tiers, Transport, consumers}
+use Rattle.sr_transport.specs.{Transport, consumers}
 use Rattle.sr_transport.specs.Limits.{greatest_rise}
-use Rattle.std.proofs.lemmas.Bool.{cases_eq, cases_lt, false≢true}
+use Rattle.std.proofs.lemmas.Bool.{cases_eq, false≢true}
 use Rattle.std.proofs.Math.ListN.{set, length-set, replicate}
 use Rattle.std.proofs.lemmas.List.{get_or_past, get_or-set_same, get_or-set_other, get_or-replicate, length-replicate}
 use Rattle.std.proofs.lemmas.List.Folds.{sum_by-replicate}
@@ -12,14 +12,18 @@ use Rattle.sr_transport.specs.plain.Problem.{IsWithinLimits, room_of, IsAllowed}
 use Rattle.sr_transport.specs.plain.Assignment.{load}
 use Rattle.sr_transport.specs.plain.Certificate.{IsLeast}
 use Rattle.sr_solver.specs.declared.label.Label.{Label}
-use Rattle.sr_solver.specs.Labels.{no_label, label_at, open_count, priced}
+use Rattle.sr_solver.specs.Labels.{no_label, label_at, priced}
 use Rattle.sr_solver.specs.declared.placement.Placement.{Placement}
-use Rattle.sr_solver.specs.Placed.{IsPlaced, AreLoads, IsStanding}
+use Rattle.sr_solver.specs.declared.search.End.{End}
+use Rattle.sr_solver.specs.declared.stepped.Step.{Step}
+use Rattle.sr_solver.specs.Steps.{step_at, next_fee, AreSteps, IsLevel}
+use Rattle.sr_solver.specs.Placed.{IsPlaced, AreLevel, AreLoads, IsStanding}
 use Rattle.sr_solver.specs.Members.{AreWide, AreMembers}
 use Rattle.sr_solver.specs.Search.{IsWay, IsCovered, IsRound, IsEnd}
 use Rattle.sr_solver.specs.Path.{IsRaised, AreRaised, IsStep, ArePaths, AreShifted}
 use Rattle.sr_solver.proofs.PathLemmas.{one_at, one_at_same, one_at_other}
-use Rattle.sr_solver.proofs.LabelLemmas.{open_count-above}
+use Rattle.sr_solver.proofs.CutoffLemmas.{cases_bool}
+use Rattle.sr_solver.proofs.StepLemmas.{fee_small, level_none, level_more}
 
 -- where each entry stands past the last consumer, no consumer has a load
 load_nowhere : (n top c : ℕ) → c < top → load (replicate n top) c ≡ 0
@@ -42,7 +46,6 @@ none_placed p limits = record {
   waiting = λ i le lt. get_or-replicate p.entries i (consumers p) 0 lt;
   in_room = λ c lt. omega (arith, load_nowhere p.entries (consumers p) c lt);
   least = λ i lt. absurd (omega (arith, lt));
-  filled = λ c lt above. absurd (omega (arith, above, get_or-replicate {A = ℕ} (consumers p) c 0 0 lt));
   low = λ c lt. omega (arith, get_or-replicate {A = ℕ} (consumers p) c 0 0 lt);
 }
 
@@ -70,46 +73,53 @@ none_members p w wide =
       each = λ c i lt at. absurd (none_at p i c at.0 lt at.1);
     }
 
+-- prices of 0 are level with no loads
+none_level : (p : Transport) (s : List Step)
+    → AreLevel p s (replicate p.entries (consumers p)) (replicate (consumers p) 0)
+none_level p s c lt =
+    rw (load_nowhere p.entries (consumers p) c lt, get_or-replicate {A = ℕ} (consumers p) c 0 0 lt)
+    (level_none (step_at s c) (room_of p c))
+
 -- at the start no entry is placed, every load is 0, and no row has a member
-pub none_stands : (p : Transport) (placement : Placement) → IsWithinLimits p.rooms p.entries p.costs
+pub none_stands : (p : Transport) (s : List Step) (placement : Placement)
+    → IsWithinLimits p.rooms p.entries p.costs → AreSteps p.rooms s
     → placement.assign.items ≡ replicate p.entries (consumers p) → placement.prices.items ≡ replicate (consumers p) 0
     → placement.loads.items ≡ replicate (consumers p) 0
     → placement.members.items ≡ replicate (consumers p * placement.width) 0 → AreWide p placement.width
-    → IsStanding p 0 placement
-none_stands p placement limits assign prices loads members wide = record {
+    → IsStanding p s 0 placement
+none_stands p s placement limits steps assign prices loads members wide = record {
   placed = rw assign (rw prices (none_placed p limits));
+  are_steps = steps;
+  level = rw assign (rw prices (none_level p s));
   loads = rw assign (rw loads (none_loads p));
   wide = wide;
   members = rw assign (rw members (none_members p placement.width wide));
 }
 
-cases_bool : (b : Bool) → (b ≡ true) ⊎ (b ≡ false)
-cases_bool true = inl refl
-cases_bool false = inr refl
+-- the path is short: its length has no price in it
+pub end_near : (p : Transport) (s : List Step) (k : ℕ) (xs prices : List ℕ) (labels : List Label) (end : End)
+    → AreSteps p.rooms s → IsEnd p s k xs prices labels end → end.dist ≤ greatest_rise
+end_near p s k xs prices labels end steps found =
+    let is = found.shortest in
+    omega (
+      arith,
+      is.length,
+      fee_small p.rooms s end.consumer (load xs end.consumer) steps is.consumer,
+      found.search.few end.consumer is.consumer is.reached,
+      found.search.long end.consumer is.consumer is.reached,
+      steps.few,
+    )
 
--- where the path ends the price is 0, so that the path is short
-pub end_near : (p : Transport) (k : ℕ) (xs prices : List ℕ) (labels : List Label) (end : ℕ)
-    → IsPlaced p k xs prices → IsEnd p k xs prices labels end → (label_at labels end).dist ≤ greatest_rise
-end_near p k xs prices labels end placed found =
-    let lt = found.nearest.consumer in
-    let no_price : get_or prices end 0 ≤ 0 =
-    elim (cases_lt 0 (get_or prices end 0)) [
-      | inl above ↦ absurd (omega (arith, placed.filled end lt above, found.room))
-      | inr none ↦ none
-    ] in
-    let some_open : 0 < open_count labels =
-    open_count-above labels end (omega (arith, lt, found.search.one_each)) found.nearest.not_closed in
-    let hops : (label_at labels end).hops ≤ most_tiers =
-    omega (arith, found.search.few end lt found.nearest.reached, some_open, placed.limits.consumers) in
-    omega (arith, found.search.long end lt found.nearest.reached, no_price, hops)
-
--- the closed consumers are no farther than the end of the path
-pub closed_near : (p : Transport) (k : ℕ) (xs prices : List ℕ) (labels : List Label) (end : ℕ)
-    → IsEnd p k xs prices labels end
-    → (c : ℕ) → c < consumers p → (label_at labels c).closed ≡ true
-    → (label_at labels c).dist ≤ (label_at labels end).dist
-closed_near p k xs prices labels end found c lt closed =
-    found.search.nearer c end lt found.nearest.consumer closed found.nearest.not_closed found.nearest.reached
+-- a consumer that an entry moves to and that is open is at the end of the path, and as far as that
+end_open : (p : Transport) (s : List Step) (k : ℕ) (xs prices : List ℕ) (labels : List Label) (end : End)
+    → AreLevel p s xs prices → IsEnd p s k xs prices labels end → (label_at labels end.consumer).closed ≡ false
+    → ((label_at labels end.consumer).dist ≡ end.dist)
+    × (next_fee s end.consumer (load xs end.consumer) ≡ get_or prices end.consumer 0)
+end_open p s k xs prices labels end level found is_open =
+    let is = found.shortest in
+    let far = found.far end.consumer is.consumer is.reached is_open in
+    let low = (level end.consumer is.consumer).next is.room in
+    (omega (arith, far, low, is.length), omega (arith, far, low, is.length))
 
 -- the entry that moves to a reached consumer is the new one, or placed
 mover_within : (p : Transport) (k : ℕ) (xs prices : List ℕ) (labels : List Label) (c : ℕ)
@@ -157,69 +167,74 @@ are_paths p k xs prices cutoff labels lt placed search =
     }
 
 -- what is known where the path was found, and the prices rose
-record IsRising (p : Transport) (k : ℕ) (xs prices : List ℕ) (labels : List Label) (end : ℕ)
+record IsRising (p : Transport) (s : List Step) (k : ℕ) (xs prices : List ℕ) (labels : List Label) (end : End)
     (raised : List ℕ) : Type 0 where
   placed : IsPlaced p k xs prices
-  found : IsEnd p k xs prices labels end
+  level : AreLevel p s xs prices
+  found : IsEnd p s k xs prices labels end
   rise : (c : ℕ) → c < consumers p
-      → IsRaised (label_at labels end).dist (label_at labels c) (get_or prices c 0) (get_or raised c 0)
+      → IsRaised end.dist (label_at labels c) (get_or prices c 0) (get_or raised c 0)
 
 -- no price falls
-no_price_falls : (p : Transport) (k : ℕ) (xs prices : List ℕ) (labels : List Label) (end : ℕ) (raised : List ℕ)
-    → IsRising p k xs prices labels end raised → (c : ℕ) → c < consumers p → get_or prices c 0 ≤ get_or raised c 0
-no_price_falls p k xs prices labels end raised rising c lt =
+no_price_falls : (p : Transport) (s : List Step) (k : ℕ) (xs prices : List ℕ) (labels : List Label) (end : End) (raised : List ℕ)
+    → IsRising p s k xs prices labels end raised → (c : ℕ) → c < consumers p → get_or prices c 0 ≤ get_or raised c 0
+no_price_falls p s k xs prices labels end raised rising c lt =
     elim (cases_bool (label_at labels c).closed) [
       | inl closed ↦
-          omega (arith, (rising.rise c lt).closed closed, closed_near p k xs prices labels end rising.found c lt closed)
+          omega (arith, (rising.rise c lt).closed closed, rising.found.shortest.passed c lt closed)
       | inr is_open ↦ omega (arith, (rising.rise c lt).stays is_open)
     ]
 
 -- what is within reach of an entry, or beyond the end of the path, is no nearer after the rise than the end of the path
-reach_raised : (p : Transport) (k : ℕ) (xs prices : List ℕ) (labels : List Label) (end : ℕ) (raised : List ℕ)
-    → IsRising p k xs prices labels end raised
-    → (dist base i c : ℕ) → c < consumers p → IsCovered p prices (Some (label_at labels end).dist) labels dist base i c
-    → base + (label_at labels end).dist ≤ dist + priced p raised i c
-reach_raised p k xs prices labels end raised rising dist base i c lt covered =
+reach_raised : (p : Transport) (s : List Step) (k : ℕ) (xs prices : List ℕ) (labels : List Label) (end : End) (raised : List ℕ)
+    → IsRising p s k xs prices labels end raised
+    → (dist base i c : ℕ) → c < consumers p → IsCovered p prices (Some end.dist) labels dist base i c
+    → base + end.dist ≤ dist + priced p raised i c
+reach_raised p s k xs prices labels end raised rising dist base i c lt covered =
     elim covered [
-      | inr beyond ↦ omega (arith, beyond, no_price_falls p k xs prices labels end raised rising c lt)
+      | inr beyond ↦ omega (arith, beyond, no_price_falls p s k xs prices labels end raised rising c lt)
       | inl within ↦ elim (cases_bool (label_at labels c).closed) [
         | inl closed ↦ omega (arith, (rising.rise c lt).closed closed, within.1)
         | inr is_open ↦
-            omega (arith, (rising.rise c lt).stays is_open, within.1, rising.found.nearest.least c lt within.0 is_open)
+            omega (arith, (rising.rise c lt).stays is_open, within.1, rising.found.far c lt within.0 is_open)
       ]
     ]
 
 -- an entry that is at x, closed or the end of the path, by a way that is as long as its reach allows, is at a least sum
-least_raised : (p : Transport) (k : ℕ) (xs prices : List ℕ) (labels : List Label) (end : ℕ) (raised : List ℕ)
-    → IsRising p k xs prices labels end raised
+least_raised : (p : Transport) (s : List Step) (k : ℕ) (xs prices : List ℕ) (labels : List Label) (end : End) (raised : List ℕ)
+    → IsRising p s k xs prices labels end raised
     → (dist base i x : ℕ) → x < consumers p
-    → ((c : ℕ) → IsAllowed p i c → IsCovered p prices (Some (label_at labels end).dist) labels dist base i c)
+    → ((c : ℕ) → IsAllowed p i c → IsCovered p prices (Some end.dist) labels dist base i c)
     → (label_at labels x).dist + base ≡ dist + priced p prices i x
-    → ((label_at labels x).closed ≡ true) ⊎ (x ≡ end)
+    → ((label_at labels x).closed ≡ true) ⊎ (x ≡ end.consumer)
     → IsLeast p raised i x
-least_raised p k xs prices labels end raised rising dist base i x lt reach tight passed c allowed =
-    let far = reach_raised p k xs prices labels end raised rising dist base i c allowed.0 (reach c allowed) in
-    elim passed [
+least_raised p s k xs prices labels end raised rising dist base i x lt reach tight passed c allowed =
+    let far = reach_raised p s k xs prices labels end raised rising dist base i c allowed.0 (reach c allowed) in
+    elim (cases_bool (label_at labels x).closed) [
       | inl closed ↦ omega (arith, far, tight, (rising.rise x lt).closed closed)
-      | inr at_end ↦
-          let is_open : (label_at labels x).closed ≡ false = rw at_end rising.found.nearest.not_closed in
-          let here : (label_at labels x).dist ≡ (label_at labels end).dist =
-          ap (λ z. (label_at labels z).dist) at_end in
-          omega (arith, far, tight, here, (rising.rise x lt).stays is_open)
+      | inr is_open ↦ elim passed [
+        | inl closed ↦ absurd (false≢true (sym is_open ∙ closed))
+        | inr at_end ↦
+            let there : (label_at labels end.consumer).closed ≡ false = rw at_end at is_open in
+            let here : (label_at labels x).dist ≡ (label_at labels end.consumer).dist =
+            ap (λ z. (label_at labels z).dist) at_end in
+            let same = (end_open p s k xs prices labels end rising.level rising.found there).0 in
+            omega (arith, far, tight, here, same, (rising.rise x lt).stays is_open)
+      ]
     ]
 
 -- an entry that moved
-least_moved : (p : Transport) (k : ℕ) (xs prices : List ℕ) (labels : List Label) (end : ℕ) (raised : List ℕ)
-    → IsRising p k xs prices labels end raised
+least_moved : (p : Transport) (s : List Step) (k : ℕ) (xs prices : List ℕ) (labels : List Label) (end : End) (raised : List ℕ)
+    → IsRising p s k xs prices labels end raised
     → (i x : ℕ) → x < consumers p → (label_at labels x).mover ≡ i → IsWay p k xs prices labels x
-    → ((label_at labels x).closed ≡ true) ⊎ (x ≡ end)
+    → ((label_at labels x).closed ≡ true) ⊎ (x ≡ end.consumer)
     → IsLeast p raised i x
-least_moved p k xs prices labels end raised rising i x lt mover way passed =
+least_moved p s k xs prices labels end raised rising i x lt mover way passed =
     elim way.step [
       | inl first ↦
           let new : i ≡ k = sym mover ∙ first.mover in
           rw new (
-          least_raised p k xs prices labels end raised rising 0 0 k x lt
+          least_raised p s k xs prices labels end raised rising 0 0 k x lt
           (λ c allowed. inl (rising.found.search.new_offered c allowed)) (omega (arith, first.dist)) passed
           )
       | inr next ↦
@@ -228,19 +243,19 @@ least_moved p k xs prices labels end raised rising i x lt mover way passed =
           let tight : (label_at labels x).dist + priced p prices i (get_or xs i 0) ≡ (label_at labels
           (get_or xs i 0)).dist + priced p prices i x =
           rw (← mover) next.dist in
-          least_raised p k xs prices labels end raised rising (label_at labels (get_or xs i 0)).dist
+          least_raised p s k xs prices labels end raised rising (label_at labels (get_or xs i 0)).dist
           (priced p prices i (get_or xs i 0)) i x lt
           (λ c allowed. rising.found.search.offered i c earlier closed (λ e. allowed.0) allowed) tight passed
     ]
 
 -- an entry that stays
-least_stays : (p : Transport) (k : ℕ) (xs prices : List ℕ) (labels : List Label) (end : ℕ) (raised : List ℕ)
-    → IsRising p k xs prices labels end raised → (i : ℕ) → i < k → IsLeast p raised i (get_or xs i 0)
-least_stays p k xs prices labels end raised rising i lti =
+least_stays : (p : Transport) (s : List Step) (k : ℕ) (xs prices : List ℕ) (labels : List Label) (end : End) (raised : List ℕ)
+    → IsRising p s k xs prices labels end raised → (i : ℕ) → i < k → IsLeast p raised i (get_or xs i 0)
+least_stays p s k xs prices labels end raised rising i lti =
     let lt = (rising.placed.placed i lti).0 in
     elim (cases_bool (label_at labels (get_or xs i 0)).closed) [
       | inl closed ↦
-          least_raised p k xs prices labels end raised rising (label_at labels (get_or xs i 0)).dist
+          least_raised p s k xs prices labels end raised rising (label_at labels (get_or xs i 0)).dist
           (priced p prices i (get_or xs i 0)) i
           (get_or xs i 0) lt (λ c allowed. rising.found.search.offered i c lti closed (λ e. allowed.0) allowed) refl
           (inl closed)
@@ -250,40 +265,54 @@ least_stays p k xs prices labels end raised rising i lti =
             arith,
             (rising.rise (get_or xs i 0) lt).stays is_open,
             rising.placed.least i lti c allowed,
-            no_price_falls p k xs prices labels end raised rising c allowed.0,
+            no_price_falls p s k xs prices labels end raised rising c allowed.0,
           )
     ]
 
--- a consumer whose price is above 0 is filled
-filled_raised : (p : Transport) (k : ℕ) (xs prices : List ℕ) (labels : List Label) (end : ℕ) (raised : List ℕ)
-    → IsRising p k xs prices labels end raised
-    → (c : ℕ) → c < consumers p → 0 < get_or raised c 0 → (load xs c ≡ room_of p c) × (end ≡ c → ⊥)
-filled_raised p k xs prices labels end raised rising c lt above =
+-- the prices that rose are level with the loads from before
+level_raised : (p : Transport) (s : List Step) (k : ℕ) (xs prices : List ℕ) (labels : List Label) (end : End)
+    (raised : List ℕ)
+    → IsRising p s k xs prices labels end raised
+    → (c : ℕ) → c < consumers p → IsLevel (step_at s c) (room_of p c) (load xs c) (get_or raised c 0)
+level_raised p s k xs prices labels end raised rising c lt =
     elim (cases_bool (label_at labels c).closed) [
-      | inl closed ↦ (
-        rising.found.search.full c lt closed,
-        λ e. false≢true (sym rising.found.nearest.not_closed ∙ ap (λ x. (label_at labels x).closed) e ∙ closed),
-      )
+      | inl closed ↦
+          let up = rising.found.search.reached c lt closed in
+          let rise = (rising.rise c lt).closed closed in
+          record {
+            next = λ room. omega (arith, rise, rising.found.shortest.least c lt up room);
+            last = λ beyond.
+                omega (arith, rise, (rising.level c lt).last beyond, rising.found.shortest.passed c lt closed);
+          }
+      | inr is_open ↦ let same = (rising.rise c lt).stays is_open in rw same (rising.level c lt)
+    ]
+
+-- and where the path ends the price is the fee of the next place
+end_raised : (p : Transport) (s : List Step) (k : ℕ) (xs prices : List ℕ) (labels : List Label) (end : End)
+    (raised : List ℕ)
+    → IsRising p s k xs prices labels end raised
+    → next_fee s end.consumer (load xs end.consumer) ≡ get_or raised end.consumer 0
+end_raised p s k xs prices labels end raised rising =
+    let is = rising.found.shortest in
+    let rise = rising.rise end.consumer is.consumer in
+    elim (cases_bool (label_at labels end.consumer).closed) [
+      | inl closed ↦ omega (arith, rise.closed closed, is.length)
       | inr is_open ↦
-          let full : load xs c ≡ room_of p c =
-          rising.placed.filled c lt (omega (arith, above, (rising.rise c lt).stays is_open)) in
-          let other : end ≡ c → ⊥ =
-          λ e. let room : load xs c < room_of p c = rw (← e) rising.found.room in omega (arith, full, room) in
-          (full, other)
+          (end_open p s k xs prices labels end rising.level rising.found is_open).1 ∙ sym (rise.stays is_open)
     ]
 
 -- where an entry is after the shift
-placed_shifted : (p : Transport) (k : ℕ) (xs prices : List ℕ) (labels : List Label) (end : ℕ) (raised new : List ℕ)
-    → IsRising p k xs prices labels end raised → k < p.entries → AreShifted labels k end xs new
+placed_shifted : (p : Transport) (s : List Step) (k : ℕ) (xs prices : List ℕ) (labels : List Label) (end : End) (raised new : List ℕ)
+    → IsRising p s k xs prices labels end raised → k < p.entries → AreShifted labels k end.consumer xs new
     → (i : ℕ) → i < k + 1 → IsAllowed p i (get_or new i 0) × IsLeast p raised i (get_or new i 0)
-placed_shifted p k xs prices labels end raised new rising ltk shifted i lt =
+placed_shifted p s k xs prices labels end raised new rising ltk shifted i lt =
     let search = rising.found.search in
     elim (shifted.moved i) [
       | inr moved ↦
           let within : get_or new i 0 < consumers p = omega (arith, moved.consumer, search.one_each) in
           let way = search.way (get_or new i 0) within moved.reached in (
             (let P : ℕ → Type 0 = λ j. IsAllowed p j (get_or new i 0) in subst P moved.mover way.allowed),
-            least_moved p k xs prices labels end raised rising i (get_or new i 0) within moved.mover way moved.passed,
+            least_moved p s k xs prices labels end raised rising i (get_or new i 0) within moved.mover way moved.passed,
           )
       | inl same ↦
           let earlier : i < k =
@@ -294,15 +323,15 @@ placed_shifted p k xs prices labels end raised new rising ltk shifted i lt =
             | inr ne ↦ omega (arith, lt, ne)
           ] in (
             rw same (rising.placed.placed i earlier),
-            rw same (least_stays p k xs prices labels end raised rising i earlier),
+            rw same (least_stays p s k xs prices labels end raised rising i earlier),
           )
     ]
 
 -- the entries after the new one still wait
-waiting_shifted : (p : Transport) (k : ℕ) (xs prices : List ℕ) (labels : List Label) (end : ℕ) (raised new : List ℕ)
-    → IsRising p k xs prices labels end raised → AreShifted labels k end xs new
+waiting_shifted : (p : Transport) (s : List Step) (k : ℕ) (xs prices : List ℕ) (labels : List Label) (end : End) (raised new : List ℕ)
+    → IsRising p s k xs prices labels end raised → AreShifted labels k end.consumer xs new
     → (i : ℕ) → k + 1 ≤ i → i < p.entries → get_or new i 0 ≡ consumers p
-waiting_shifted p k xs prices labels end raised new rising shifted i later lt =
+waiting_shifted p s k xs prices labels end raised new rising shifted i later lt =
     elim (shifted.moved i) [
       | inl same ↦ same ∙ rising.placed.waiting i (omega arith) lt
       | inr moved ↦
@@ -311,77 +340,115 @@ waiting_shifted p k xs prices labels end raised new rising shifted i later lt =
           absurd (omega (arith, moved.mover, mover_within p k xs prices labels (get_or new i 0) way))
     ]
 
+-- what the path does to the loads
+loads_shifted : (p : Transport) (s : List Step) (k : ℕ) (xs prices : List ℕ) (labels : List Label) (end : End)
+    (new : List ℕ)
+    → IsEnd p s k xs prices labels end → AreShifted labels k end.consumer xs new
+    → (c : ℕ) → c < consumers p → load new c ≡ load xs c + one_at end.consumer c
+loads_shifted p s k xs prices labels end new found shifted c lt =
+    shifted.loads c (omega (arith, lt, found.search.one_each))
+
 -- one more entry is placed
-pub placed_more : (p : Transport) (k : ℕ) (xs prices : List ℕ) (labels : List Label) (end : ℕ) (raised new : List ℕ)
-    → IsPlaced p k xs prices → IsEnd p k xs prices labels end → k < p.entries
-    → AreRaised (label_at labels end).dist labels prices raised → AreShifted labels k end xs new
+pub placed_more : (p : Transport) (s : List Step) (k : ℕ) (xs prices : List ℕ) (labels : List Label) (end : End)
+    (raised new : List ℕ)
+    → IsPlaced p k xs prices → AreSteps p.rooms s → AreLevel p s xs prices → IsEnd p s k xs prices labels end
+    → k < p.entries
+    → AreRaised end.dist labels prices raised → AreShifted labels k end.consumer xs new
     → IsPlaced p (k + 1) new raised
-placed_more p k xs prices labels end raised new placed found ltk rise shifted =
-    let rising : IsRising p k xs prices labels end raised =
-    record { placed = placed; found = found; rise = λ c lt. rise.each c (omega (arith, lt, placed.one_each)) } in
-    let loads : (c : ℕ) → c < consumers p → load new c ≡ load xs c + one_at end c =
-    λ c lt. shifted.loads c (omega (arith, lt, found.search.one_each)) in
+placed_more p s k xs prices labels end raised new placed steps level found ltk rise shifted =
+    let rising : IsRising p s k xs prices labels end raised =
+    record {
+      placed = placed;
+      level = level;
+      found = found;
+      rise = λ c lt. rise.each c (omega (arith, lt, placed.one_each));
+    } in
+    let loads = loads_shifted p s k xs prices labels end new found shifted in
     record {
       limits = placed.limits;
       every = shifted.every ∙ placed.every;
       one_each = rise.one_each ∙ placed.one_each;
-      placed = λ i lt. (placed_shifted p k xs prices labels end raised new rising ltk shifted i lt).0;
-      waiting = λ i later lt. waiting_shifted p k xs prices labels end raised new rising shifted i later lt;
-      in_room = λ c lt. elim (cases_eq end c) [
+      placed = λ i lt. (placed_shifted p s k xs prices labels end raised new rising ltk shifted i lt).0;
+      waiting = λ i later lt. waiting_shifted p s k xs prices labels end raised new rising shifted i later lt;
+      in_room = λ c lt. elim (cases_eq end.consumer c) [
         | inl e ↦
-            let room : load xs c < room_of p c = rw (← e) found.room in
-            omega (arith, loads c lt, one_at_same end c e, room)
-        | inr ne ↦ omega (arith, loads c lt, one_at_other end c ne, placed.in_room c lt)
+            let room : load xs c < room_of p c = rw (← e) found.shortest.room in
+            omega (arith, loads c lt, one_at_same end.consumer c e, room)
+        | inr ne ↦ omega (arith, loads c lt, one_at_other end.consumer c ne, placed.in_room c lt)
       ];
-      least = λ i lt. (placed_shifted p k xs prices labels end raised new rising ltk shifted i lt).1;
-      filled = λ c lt above.
-          let full = filled_raised p k xs prices labels end raised rising c lt above in
-          omega (arith, loads c lt, one_at_other end c full.1, full.0);
+      least = λ i lt. (placed_shifted p s k xs prices labels end raised new rising ltk shifted i lt).1;
       low = λ c lt. elim (cases_bool (label_at labels c).closed) [
         | inl closed ↦
             omega (
               arith,
               (rising.rise c lt).closed closed,
               placed.low c lt,
-              end_near p k xs prices labels end placed found,
+              end_near p s k xs prices labels end steps found,
             )
         | inr is_open ↦ omega (arith, (rising.rise c lt).stays is_open, placed.low c lt)
       ];
     }
 
--- the loads count it
-pub loads_more : (p : Transport) (k : ℕ) (xs prices loads : List ℕ) (labels : List Label) (end : ℕ) (new : List ℕ)
-    → AreLoads p xs loads → IsEnd p k xs prices labels end → AreShifted labels k end xs new
-    → AreLoads p new (set loads end (get_or loads end 0 + 1))
-loads_more p k xs prices loads labels end new counted found shifted =
-    let in_loads : end < length loads = omega (arith, found.nearest.consumer, counted.one_each) in
+-- and the prices stay level
+pub level_more_placed : (p : Transport) (s : List Step) (k : ℕ) (xs prices : List ℕ) (labels : List Label) (end : End)
+    (raised new : List ℕ)
+    → IsPlaced p k xs prices → AreLevel p s xs prices → IsEnd p s k xs prices labels end
+    → AreRaised end.dist labels prices raised → AreShifted labels k end.consumer xs new
+    → AreLevel p s new raised
+level_more_placed p s k xs prices labels end raised new placed level found rise shifted c lt =
+    let rising : IsRising p s k xs prices labels end raised =
     record {
-      one_each = length-set loads end (get_or loads end 0 + 1) ∙ counted.one_each;
+      placed = placed;
+      level = level;
+      found = found;
+      rise = λ c lt. rise.each c (omega (arith, lt, placed.one_each));
+    } in
+    let loads = loads_shifted p s k xs prices labels end new found shifted in
+    elim (cases_eq end.consumer c) [
+      | inl e ↦
+          let more : load new c ≡ load xs c + 1 = omega (arith, loads c lt, one_at_same end.consumer c e) in
+          let fee : next_fee s c (load xs c) ≡ get_or raised c 0 =
+          rw e at (end_raised p s k xs prices labels end raised rising) in
+          rw more (level_more (step_at s c) (room_of p c) (load xs c) (get_or raised c 0) fee)
+      | inr ne ↦
+          let same : load new c ≡ load xs c = omega (arith, loads c lt, one_at_other end.consumer c ne) in
+          rw same (level_raised p s k xs prices labels end raised rising c lt)
+    ]
+
+-- the loads count it
+pub loads_more : (p : Transport) (s : List Step) (k : ℕ) (xs prices loads : List ℕ) (labels : List Label) (end : End) (new : List ℕ)
+    → AreLoads p xs loads → IsEnd p s k xs prices labels end → AreShifted labels k end.consumer xs new
+    → AreLoads p new (set loads end.consumer (get_or loads end.consumer 0 + 1))
+loads_more p s k xs prices loads labels end new counted found shifted =
+    let at : ℕ = end.consumer in
+    let in_loads : at < length loads = omega (arith, found.shortest.consumer, counted.one_each) in
+    record {
+      one_each = length-set loads at (get_or loads at 0 + 1) ∙ counted.one_each;
       each = λ c lt.
-          let load_at : load new c ≡ load xs c + one_at end c =
+          let load_at : load new c ≡ load xs c + one_at at c =
           shifted.loads c (omega (arith, lt, found.search.one_each)) in
-          elim (cases_eq c end) [
+          elim (cases_eq c at) [
             | inl e ↦
-                let here : get_or (set loads end (get_or loads end 0 + 1)) c 0 ≡ get_or loads end 0 + 1 =
-                rw e (get_or-set_same loads end (get_or loads end 0 + 1) 0 in_loads) in
-                let before : get_or loads end 0 ≡ load xs c = rw (← e) (counted.each c lt) in
-                omega (arith, here, before, load_at, one_at_same end c (sym e))
+                let here : get_or (set loads at (get_or loads at 0 + 1)) c 0 ≡ get_or loads at 0 + 1 =
+                rw e (get_or-set_same loads at (get_or loads at 0 + 1) 0 in_loads) in
+                let before : get_or loads at 0 ≡ load xs c = rw (← e) (counted.each c lt) in
+                omega (arith, here, before, load_at, one_at_same at c (sym e))
             | inr ne ↦
-                let here : get_or (set loads end (get_or loads end 0 + 1)) c 0 ≡ get_or loads c 0 =
-                get_or-set_other loads end c (get_or loads end 0 + 1) 0 ne in
-                let other : end ≡ c → ⊥ = λ e. ne (sym e) in
-                omega (arith, here, counted.each c lt, load_at, one_at_other end c other)
+                let here : get_or (set loads at (get_or loads at 0 + 1)) c 0 ≡ get_or loads c 0 =
+                get_or-set_other loads at c (get_or loads at 0 + 1) 0 ne in
+                let other : at ≡ c → ⊥ = λ e. ne (sym e) in
+                omega (arith, here, counted.each c lt, load_at, one_at_other at c other)
           ];
     }
 
 -- one more entry is within each room
-pub end_in_room : (p : Transport) (k : ℕ) (xs prices : List ℕ) (labels : List Label) (end : ℕ)
-    → IsPlaced p k xs prices → IsEnd p k xs prices labels end
-    → (c : ℕ) → c < length labels → load xs c + one_at end c ≤ room_of p c
-end_in_room p k xs prices labels end placed found c lt =
-    elim (cases_eq end c) [
+pub end_in_room : (p : Transport) (s : List Step) (k : ℕ) (xs prices : List ℕ) (labels : List Label) (end : End)
+    → IsPlaced p k xs prices → IsEnd p s k xs prices labels end
+    → (c : ℕ) → c < length labels → load xs c + one_at end.consumer c ≤ room_of p c
+end_in_room p s k xs prices labels end placed found c lt =
+    elim (cases_eq end.consumer c) [
       | inl e ↦
-          let room : load xs c < room_of p c = rw (← e) found.room in
-          omega (arith, one_at_same end c e, room)
-      | inr ne ↦ omega (arith, one_at_other end c ne, placed.in_room c (omega (arith, lt, found.search.one_each)))
+          let room : load xs c < room_of p c = rw (← e) found.shortest.room in
+          omega (arith, one_at_same end.consumer c e, room)
+      | inr ne ↦ omega (arith, one_at_other end.consumer c ne, placed.in_room c (omega (arith, lt, found.search.one_each)))
     ]

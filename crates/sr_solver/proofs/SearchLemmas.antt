@@ -1,17 +1,23 @@
 -- The search: its start, a consumer that is closed, and one offer more.
-use Rattle.std.proofs.Common.{◌≡◌, ℕ, ◌+◌, ◌<◌, ◌≤◌, true, false, List, length, get_or, Option, ap, inl, inr, arith}
+use Rattle.std.proofs.Common.{◌≡◌, ℕ, ◌+◌, ◌<◌, ◌≤◌, true, false, List, length, get_or, Option, sym, ap, ◌∙◌, inl, inr}
+use Rattle.std.proofs.Common.{arith}
 use Rattle.std.proofs.Math.ListN.{set}
 use Rattle.std.proofs.lemmas.Bool.{cases_eq, cases_lt, false≢true}
 use Rattle.std.proofs.lemmas.List.{get_or_past, get_or-set_same, get_or-set_other}
 use Rattle.sr_transport.specs.{greatest_price, Transport, consumers}
+use Rattle.sr_transport.specs.Limits.{greatest_fee}
 use Rattle.sr_solver.specs.Limits.{greatest_way}
 use Rattle.sr_transport.specs.plain.Problem.{IsWithinLimits, cost_at, IsAllowed}
 pub use Rattle.sr_transport.proofs.PlainLimitLemmas.{cost_at_small, cost_small}
 use Rattle.sr_solver.specs.declared.label.Label.{Label}
+use Rattle.sr_solver.specs.declared.search.End.{End}
+use Rattle.sr_solver.specs.declared.stepped.Step.{Step}
 use Rattle.sr_solver.specs.Labels.{no_label, label_at}
 use Rattle.sr_solver.specs.Offers.{IsOffered}
 use Rattle.sr_solver.specs.Search.{IsFirstStep, IsRound, first_offer, IsStarted}
+use Rattle.sr_solver.specs.Cutoff.{IsCutoff, IsCut}
 use Rattle.sr_solver.proofs.LabelLemmas.{offered_split, open_count-le}
+use Rattle.sr_solver.proofs.CutoffLemmas.{IsGapAt, cutoff_cut}
 
 -- a consumer past the last has no label
 past_label : (labels : List Label) (c : ℕ) → length labels ≤ c → label_at labels c ≡ no_label
@@ -76,7 +82,6 @@ started_round p k xs prices cutoff labels limits started =
       few = λ c lt above. omega (arith, ((each c lt).reached above).1.hops, open_count-le labels, started.one_each);
       few_closed = λ c lt is_closed. absurd (none_closed c is_closed);
       reached = λ c lt is_closed. absurd (none_closed c is_closed);
-      full = λ c lt is_closed. absurd (none_closed c is_closed);
       nearer = λ c d lt ltd is_closed not_closed above. absurd (none_closed c is_closed);
       latest = λ c lt is_closed ltt. absurd (none_closed c is_closed);
       new_offered = λ c allowed.
@@ -102,7 +107,45 @@ offered_more p k n prices labels label lt each offered c ltc =
 pub first_small : (p : Transport) (k c : ℕ) (prices : List ℕ) (label : Label) → IsWithinLimits p.rooms p.entries p.costs
     → get_or prices c 0 ≤ greatest_price → c < consumers p
     → IsOffered (cost_at p k c) (get_or prices c 0) (first_offer k) no_label label → 0 < label.hops
-    → label.dist ≤ greatest_way
+    → label.dist + greatest_fee ≤ greatest_way
 first_small p k c prices label limits low lt offered above =
     let first = ((fresh p k prices label c lt offered).reached above).1 in
     omega (arith, first.dist, low, cost_small p limits k c)
+
+-- and its label is open
+first_open : (p : Transport) (k n : ℕ) (prices : List ℕ) (labels : List Label) → n ≤ consumers p
+    → ((c : ℕ) → c < n → IsOffered (cost_at p k c) (get_or prices c 0) (first_offer k) no_label (label_at labels c))
+    → (c : ℕ) → c < n → (label_at labels c).closed ≡ false
+first_open p k n prices labels le each c lt =
+    (fresh p k prices (label_at labels c) c (omega arith) (each c lt)).still_open
+
+-- what the cutoff becomes
+pub cutoff_more : (p : Transport) (s : List Step) (k n : ℕ) (xs prices : List ℕ) (labels : List Label) (label : Label)
+    (gap : Option ℕ) (cutoff next : Option End)
+    → IsWithinLimits p.rooms p.entries p.costs → n < length labels → n < consumers p
+    → get_or prices n 0 ≤ greatest_price
+    → ((c : ℕ) → c < n → IsOffered (cost_at p k c) (get_or prices c 0) (first_offer k) no_label (label_at labels c))
+    → IsOffered (cost_at p k n) (get_or prices n 0) (first_offer k) no_label label → IsGapAt p s xs prices n gap
+    → IsCut n label gap cutoff next → IsCutoff p s xs prices labels n cutoff
+    → IsCutoff p s xs prices (set labels n label) (n + 1) next
+cutoff_more p s k n xs prices labels label gap cutoff next limits lt ltn low each offered at cut is =
+    let here : label_at (set labels n label) n ≡ label = get_or-set_same labels n label no_label lt in
+    let still : (label_at (set labels n label) n).closed ≡ false =
+    ap (λ l. l.closed) here ∙ (fresh p k prices label n ltn offered).still_open in
+    let same : (c : ℕ) → (c ≡ n → ⊥) → label_at (set labels n label) c ≡ label_at labels c =
+    λ c ne. get_or-set_other labels n c label no_label ne in
+    cutoff_cut p s xs prices labels (set labels n label) n n (n + 1) gap cutoff next
+    (record {
+      same = same;
+      nearer = λ below up. absurd (omega (arith, below));
+      kept = λ now. absurd (false≢true (sym still ∙ now));
+      near = λ is_open up c below was. elim (cases_eq c n) [
+        | inl e ↦ absurd (false≢true (sym still ∙ rw e at was))
+        | inr ne ↦ absurd (false≢true (
+            sym (first_open p k n prices labels (omega arith) each c (omega (arith, below, ne)))
+            ∙ sym (ap (λ l. l.closed) (same c ne)) ∙ was
+            ))
+      ];
+    })
+    (record { here = omega arith; more = omega arith; each = λ c below ne. omega (arith, below, ne) }) at
+    (rw here (first_small p k n prices label limits low ltn offered)) (rw here cut) is

@@ -115,7 +115,7 @@ stranded_held : (p : Transport) (k : ℕ) (xs prices : List ℕ) (labels : List 
     → length (stranded_below labels xs k) ≡ sum_below (λ c. once labels c * load xs c) (consumers p)
 stranded_held p k xs prices labels stuck =
     let nowhere : once labels (consumers p) ≡ 0 =
-    past_once labels (consumers p) (omega (arith, stuck.search.one_each)) in
+    past_once labels (consumers p) (omega (arith, stuck.lost.search.one_each)) in
     let waits : (i : ℕ) → k ≤ i → i < length xs → once labels (get_or xs i 0) ≡ 0 =
     λ i le lt. ap (once labels) (stuck.waiting i le (omega (arith, lt, stuck.every))) ∙ nowhere in
     let within : All (λ x. x < suc (consumers p)) xs =
@@ -138,9 +138,9 @@ reached_closed : (p : Transport) (k : ℕ) (xs prices : List ℕ) (labels : List
     → (i c : ℕ) → (i ≡ k) ⊎ IsStranded labels xs k i → IsAllowed p i c → (label_at labels c).closed ≡ true
 reached_closed p k xs prices labels stuck i c member allowed =
     elim member [
-      | inl new ↦ stuck.all_closed c allowed.0 (stuck.search.new_offered c (rw (← new) allowed)).0
-      | inr stranded ↦ elim (stuck.search.offered i c stranded.0 stranded.1 (λ e. allowed.0) allowed) [
-        | inl within ↦ stuck.all_closed c allowed.0 within.0
+      | inl new ↦ stuck.lost.all_closed c allowed.0 (stuck.lost.search.new_offered c (rw (← new) allowed)).0
+      | inr stranded ↦ elim (stuck.lost.search.offered i c stranded.0 stranded.1 (λ e. allowed.0) allowed) [
+        | inl within ↦ stuck.lost.all_closed c allowed.0 within.0
         | inr beyond ↦ absurd beyond
       ]
     ]
@@ -152,7 +152,7 @@ places_held : (p : Transport) (k : ℕ) (xs prices : List ℕ) (labels : List La
 places_held p k xs prices labels stuck c lt true closed =
     let one : Bool → ℕ = λ b. cond b 1 0 in
     let weight : once labels c ≡ 1 = ap one (closed refl) in
-    let full : load xs c ≡ room_of p c = stuck.search.full c lt (closed refl) in
+    let full : room_of p c ≤ load xs c = stuck.lost.full c lt (stuck.lost.search.reached c lt (closed refl)) in
     rw weight (omega (arith, full))
 places_held p k xs prices labels stuck c lt false closed = omega arith
 

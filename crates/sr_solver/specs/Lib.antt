@@ -2,6 +2,7 @@
 -- so far. Nothing here stands in a public clause, which is of `sr_transport`.
 
 pub mod Limits
+pub mod Steps
 pub mod Labels
 pub mod Cutoff
 pub mod Offers
@@ -10,9 +11,10 @@ pub mod Groups
 pub mod Table
 pub mod Members
 pub mod Taker
-pub mod Takers
 pub mod Search
 pub mod Path
 pub mod Shortage
 pub mod Order
 pub mod Progress
+pub mod Answered
+pub mod ByConsumer

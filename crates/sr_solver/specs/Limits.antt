@@ -1,6 +1,6 @@
 -- The limits of what a search adds up. Those of a problem and of its answers are in sr_transport.
 
-use Rattle.std.specs.Prelude.{ℕ, ◌*◌}
+use Rattle.std.specs.Prelude.{ℕ, ◌*◌, ◌^◌}
 use Rattle.sr_transport.specs.{greatest_charge, greatest_price}
 
 -- prices, and lengths of paths, while entries are placed: so small that any four of them can be added up
@@ -10,6 +10,10 @@ greatest_way = 2 * greatest_price
 -- a bound of the table: a difference of two costs, with the greatest charge added
 abbrev pub greatest_bound : ℕ
 greatest_bound = 2 * greatest_charge
+
+-- greater than any sum that is compared with the length of a path
+abbrev pub far : ℕ
+far = 2 ^ 63
 
 -- how many entries in a row make a group
 abbrev pub group_size : ℕ

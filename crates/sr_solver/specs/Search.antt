@@ -4,12 +4,13 @@
 use Rattle.std.specs.Prelude.{◌≡◌, ℕ, ◌+◌, ◌*◌, ◌<◌, ◌≤◌, List, length, slice_index, ◌⊎◌, Bool, true, false, Option}
 use Rattle.std.specs.Prelude.{Some, None}
 use Rattle.sr_transport.specs.{greatest_charge, Transport, consumers}
-use Rattle.sr_transport.specs.plain.Problem.{room_of, cost_at, cost_of, IsAllowed}
-use Rattle.sr_transport.specs.plain.Assignment.{load}
+use Rattle.sr_transport.specs.plain.Problem.{cost_at, cost_of, IsAllowed}
 use Rattle.sr_solver.specs.declared.label.Label.{Label}
 use Rattle.sr_solver.specs.declared.label.Offer.{Offer}
+use Rattle.sr_solver.specs.declared.search.End.{End}
+use Rattle.sr_solver.specs.declared.stepped.Step.{Step}
 use Rattle.sr_solver.specs.Labels.{no_label, label_at, open_count, priced}
-use Rattle.sr_solver.specs.Cutoff.{IsBeyond}
+use Rattle.sr_solver.specs.Cutoff.{IsBeyond, IsShortest, AreFull}
 use Rattle.sr_solver.specs.Offers.{IsOffered}
 
 -- consumer c is reached by the new entry itself
@@ -55,7 +56,6 @@ pub record IsSearch (p : Transport) (k : ℕ) (xs prices : List ℕ) (cutoff : O
   pub few_closed : (c : ℕ) → c < consumers p → (label_at labels c).closed ≡ true
       → (label_at labels c).hops + open_count labels ≤ consumers p
   pub reached : (c : ℕ) → c < consumers p → (label_at labels c).closed ≡ true → 0 < (label_at labels c).hops
-  pub full : (c : ℕ) → c < consumers p → (label_at labels c).closed ≡ true → load xs c ≡ room_of p c
   pub nearer : (c d : ℕ) → c < consumers p → d < consumers p → (label_at labels c).closed ≡ true
       → (label_at labels d).closed ≡ false → 0 < (label_at labels d).hops
       → (label_at labels c).dist ≤ (label_at labels d).dist
@@ -121,20 +121,32 @@ pub record IsAsked (p : Transport) (k : ℕ) (xs prices : List ℕ) (cutoff : Op
   pub here : IsLeftAt p k xs prices cutoff t old new c ⊎ IsNewAt p k xs prices t old new c
   pub others : (d : ℕ) → (d ≡ c → ⊥) → label_at new d ≡ label_at old d
 
--- the search found a path that ends at a consumer with room: its length is the cutoff
-pub record IsEnd (p : Transport) (k : ℕ) (xs prices : List ℕ) (labels : List Label) (end : ℕ) : Type 0 where
-  pub search : IsRound p k xs prices (Some (label_at labels end).dist) labels
-  pub nearest : IsNearest p labels end
-  pub room : load xs end < room_of p end
+-- the search found a shortest path to a consumer with room: its length is the cutoff, and no open consumer is nearer
+pub record IsEnd (p : Transport) (steps : List Step) (k : ℕ) (xs prices : List ℕ) (labels : List Label)
+    (end : End) : Type 0 where
+  pub search : IsRound p k xs prices (Some end.dist) labels
+  pub shortest : IsShortest p steps xs prices labels (consumers p) end
+  pub far : (c : ℕ) → c < consumers p → 0 < (label_at labels c).hops → (label_at labels c).closed ≡ false
+      → end.dist ≤ (label_at labels c).dist
 
 -- the search ended with no path, and no cutoff
+pub record IsLost (p : Transport) (k : ℕ) (xs prices : List ℕ) (labels : List Label) : Type 0 where
+  pub search : IsRound p k xs prices None labels
+  pub all_closed : AreAllClosed p labels
+  pub full : AreFull p xs labels (consumers p)
+
+-- how a search ends
+abbrev pub IsFound : Transport → List Step → ℕ → List ℕ → List ℕ → List Label → Option End → Type 0
+IsFound p steps k xs prices labels None = IsLost p k xs prices labels
+IsFound p steps k xs prices labels (Some end) = IsEnd p steps k xs prices labels end
+
+-- there is no place for entry k
 pub record IsStuck (p : Transport) (k : ℕ) (xs prices : List ℕ) (labels : List Label) : Type 0 where
   pub entry : k < p.entries
   pub placed_below : (i : ℕ) → i < k → IsAllowed p i (slice_index xs i)
   pub waiting : (i : ℕ) → k ≤ i → i < p.entries → slice_index xs i ≡ consumers p
   pub every : length xs ≡ p.entries
-  pub search : IsRound p k xs prices None labels
-  pub all_closed : AreAllClosed p labels
+  pub lost : IsLost p k xs prices labels
 
 -- the offer of the new entry
 abbrev pub first_offer : ℕ → Offer

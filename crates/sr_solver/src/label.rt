@@ -1,4 +1,4 @@
-ghost use Rattle.std.specs.Prelude.{◌≡◌, ◌+◌, ◌*◌, ◌≤◌, ◌&&◌, not, nat_lt, IfSome, true, false};
+ghost use Rattle.std.specs.Prelude.{◌≡◌, ◌+◌, ◌*◌, ◌<◌, ◌≤◌, ◌&&◌, not, nat_lt, IfSome, true, false};
 ghost use Rattle.sr_transport.specs.{greatest_charge};
 ghost use Rattle.sr_solver.specs.Limits.{greatest_way};
 ghost use Rattle.sr_solver.specs.Labels.{no_label};
@@ -36,6 +36,13 @@ impl Label {
         ensures { result ≡ (nat_lt 0 self.hops && not self.closed) }
     {
         0 < self.hops && !self.closed
+    }
+
+    /// The length of the path to it, or a number that is not below any, if it is not open.
+    pub fn open_dist(self) -> u64
+        ensures { 0 < self.hops → self.closed ≡ false → result ≡ self.dist }
+    {
+        if self.is_open() { self.dist } else { u64::MAX }
     }
 }
 
@@ -82,7 +89,7 @@ pub fn offered(cost: Option<u64>, price: u64, offer: Offer, label: Label) -> Lab
 }
 
 /// Whether a path whose length is `sum` less `base` is no shorter than the cutoff.
-pub fn is_beyond(cutoff: Option<u64>, base: u64, sum: u64) -> bool
+fn is_beyond(cutoff: Option<u64>, base: u64, sum: u64) -> bool
     requires cutoff { IfSome cutoff (λ d. d ≤ greatest_way) }
     requires base { base ≤ 4 * greatest_way }
     ensures yes { result ≡ true → IsBeyond cutoff base sum }

@@ -14,6 +14,7 @@ mod sample;
 mod search;
 mod shortage;
 mod solution;
+mod stepped;
 mod table;
 mod taker;
 mod tiered;

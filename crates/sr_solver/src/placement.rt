@@ -1,7 +1,9 @@
 ghost use Rattle.std.specs.Prelude.{◌≤◌, ◌⊎◌, IfOk};
 ghost use Rattle.sr_solver.specs.Members.{AreWide};
 ghost use Rattle.sr_solver.specs.Placed.{IsStanding};
+ghost use Rattle.sr_solver.specs.Steps.{AreSteps};
 
+use crate::stepped::Stepped;
 use sr_transport::Columns;
 use std::alloc::{AllocError, Global};
 
@@ -21,12 +23,13 @@ pub struct Placement {
 }
 
 /// No entry stands anywhere yet.
-pub fn nowhere(alloc: Global, problem: &Columns<'_>) -> Result<Placement, AllocError>
-    ensures { IfOk result (IsStanding problem.now 0) }
+pub fn nowhere(alloc: Global, problem: &Stepped<'_>) -> Result<Placement, AllocError>
+    requires { AreSteps problem.now.columns.rooms problem.now.steps.now }
+    ensures { IfOk result (IsStanding problem.now.columns problem.now.steps.now 0) }
 {
-    let consumers = problem.consumers();
-    let width = row_width(problem);
-    let assign = vec![in alloc; consumers; problem.entries()]?;
+    let consumers = problem.columns.consumers();
+    let width = row_width(&problem.columns);
+    let assign = vec![in alloc; consumers; problem.columns.entries()]?;
     let prices = vec![in alloc; 0u64; consumers]?;
     let loads = vec![in alloc; 0u64; consumers]?;
     let members = vec![in alloc; 0usize; consumers * width]?;

@@ -11,9 +11,9 @@ use crate::members::add;
 use crate::path::{raise, shift};
 use crate::placement::Placement;
 use crate::search::search;
+use crate::stepped::Stepped;
 use crate::table::{Table, put};
 use crate::taker::taker;
-use sr_transport::Columns;
 
 /// How the placement of all entries ends.
 pub enum Progress {
@@ -32,31 +32,33 @@ const FEW_SEARCHES: usize = 16;
 const SEARCH_STEP: usize = 8;
 
 /// At the last entry more than one search for this many entries is too many.
-const LAST_STEP: usize = 2;
+const LAST_STEP: usize = 4;
 
 /// Places the first entries, as long as each has a consumer that takes it, and gives how many these are.
-pub fn take_all(problem: &Columns<'_>, placement: &mut Placement) -> usize
-    requires standing { IsStanding problem.now 0 placement.old }
-    ensures few { result ≤ problem.now.entries }
-    ensures standing { IsStanding problem.now result placement.new }
-    ensures stopped { result < problem.now.entries
-        → (c : ℕ) → IsTaker problem.now placement.new.prices.items placement.new.loads.items result c → ⊥ }
+pub fn take_all(problem: &Stepped<'_>, placement: &mut Placement) -> usize
+    requires standing { IsStanding problem.now.columns problem.now.steps.now 0 placement.old }
+    ensures few { result ≤ problem.now.columns.entries }
+    ensures standing { IsStanding problem.now.columns problem.now.steps.now result placement.new }
+    ensures stopped { result < problem.now.columns.entries
+        → (c : ℕ) → IsTaker problem.now.columns problem.now.steps.now placement.new.prices.items
+        placement.new.loads.items result c → ⊥ }
 {
-    for entry in 0..problem.entries() {
+    for entry in 0..problem.columns.entries() {
         let Some(consumer) = taker(problem, entry, &placement.prices, &placement.loads) else {
             return entry;
         };
         join(problem, entry, consumer, placement);
     }
-    problem.entries()
+    problem.columns.entries()
 }
 
 /// Places an entry at a consumer that takes it.
-fn join(problem: &Columns<'_>, entry: usize, consumer: usize, placement: &mut Placement)
-    requires entry { entry < problem.now.entries }
-    requires standing { IsStanding problem.now entry placement.old }
-    requires taker { IsTaker problem.now placement.old.prices.items placement.old.loads.items entry consumer }
-    ensures { IsStanding problem.now (entry + 1) placement.new }
+fn join(problem: &Stepped<'_>, entry: usize, consumer: usize, placement: &mut Placement)
+    requires entry { entry < problem.now.columns.entries }
+    requires standing { IsStanding problem.now.columns problem.now.steps.now entry placement.old }
+    requires taker { IsTaker problem.now.columns problem.now.steps.now placement.old.prices.items
+        placement.old.loads.items entry consumer }
+    ensures { IsStanding problem.now.columns problem.now.steps.now (entry + 1) placement.new }
 {
     add(&mut placement.members, consumer * placement.width, entry);
     placement.assign[entry] = consumer;
@@ -65,26 +67,26 @@ fn join(problem: &Columns<'_>, entry: usize, consumer: usize, placement: &mut Pl
 
 /// Places entry after entry from `first` on, where those before it are placed.
 pub fn place_all(
-    problem: &Columns<'_>,
+    problem: &Stepped<'_>,
     first: usize,
     is_patient: bool,
     placement: &mut Placement,
     table: &mut Table,
     labels: &mut [Label],
 ) -> Progress
-    requires first { first ≤ problem.now.entries }
-    requires standing { IsStanding problem.now first placement.old }
-    requires table { IsTable problem.now placement.old.assign.items table.old }
-    requires labels { length labels.old ≡ consumers problem.now }
-    ensures { IsEndOf problem.now is_patient placement.new labels.new result }
+    requires first { first ≤ problem.now.columns.entries }
+    requires standing { IsStanding problem.now.columns problem.now.steps.now first placement.old }
+    requires table { IsTable problem.now.columns placement.old.assign.items table.old }
+    requires labels { length labels.old ≡ consumers problem.now.columns }
+    ensures { IsEndOf problem.now.columns problem.now.steps.now is_patient placement.new labels.new result }
 {
     let mut searches = 0usize;
-    for entry in first..problem.entries() {
+    for entry in first..problem.columns.entries() {
         if take(problem, entry, placement, table) {
             continue;
         }
         searches = searches.saturating_add(1);
-        if !is_patient && are_many(searches, entry, problem.entries()) {
+        if !is_patient && are_many(searches, entry, problem.columns.entries()) {
             return Progress::Slow;
         }
         if !place(problem, entry, placement, table, labels) {
@@ -101,44 +103,52 @@ fn are_many(searches: usize, entry: usize, entries: usize) -> bool {
 }
 
 /// Places an entry at a consumer that takes it, if there is one.
-fn take(problem: &Columns<'_>, entry: usize, placement: &mut Placement, table: &mut Table) -> bool
-    requires entry { entry < problem.now.entries }
-    requires standing { IsStanding problem.now entry placement.old }
-    requires table { IsTable problem.now placement.old.assign.items table.old }
-    ensures taken { result ≡ true → IsStanding problem.now (entry + 1) placement.new }
-    ensures left { result ≡ false → IsStanding problem.now entry placement.new }
-    ensures table { IsTable problem.now placement.new.assign.items table.new }
+fn take(problem: &Stepped<'_>, entry: usize, placement: &mut Placement, table: &mut Table) -> bool
+    requires entry { entry < problem.now.columns.entries }
+    requires standing { IsStanding problem.now.columns problem.now.steps.now entry placement.old }
+    requires table { IsTable problem.now.columns placement.old.assign.items table.old }
+    ensures taken { result ≡ true → IsStanding problem.now.columns problem.now.steps.now (entry + 1) placement.new }
+    ensures left { result ≡ false → IsStanding problem.now.columns problem.now.steps.now entry placement.new }
+    ensures table { IsTable problem.now.columns placement.new.assign.items table.new }
 {
     let Some(consumer) = taker(problem, entry, &placement.prices, &placement.loads) else {
         return false;
     };
-    put(problem, entry, consumer, placement, table);
+    put(&problem.columns, entry, consumer, placement, table);
     placement.loads[consumer] += 1;
     true
 }
 
 /// Places an entry at the end of a shortest path, where there is a place for it.
 fn place(
-    problem: &Columns<'_>,
+    problem: &Stepped<'_>,
     entry: usize,
     placement: &mut Placement,
     table: &mut Table,
     labels: &mut [Label],
 ) -> bool
-    requires entry { entry < problem.now.entries }
-    requires standing { IsStanding problem.now entry placement.old }
-    requires table { IsTable problem.now placement.old.assign.items table.old }
-    requires labels { length labels.old ≡ consumers problem.now }
-    ensures standing { result ≡ true → IsStanding problem.now (entry + 1) placement.new }
-    ensures table { result ≡ true → IsTable problem.now placement.new.assign.items table.new }
+    requires entry { entry < problem.now.columns.entries }
+    requires standing { IsStanding problem.now.columns problem.now.steps.now entry placement.old }
+    requires table { IsTable problem.now.columns placement.old.assign.items table.old }
+    requires labels { length labels.old ≡ consumers problem.now.columns }
+    ensures standing { result ≡ true → IsStanding problem.now.columns problem.now.steps.now (entry + 1)
+        placement.new }
+    ensures table { result ≡ true → IsTable problem.now.columns placement.new.assign.items table.new }
     ensures stuck { result ≡ false
-        → IsStuck problem.now entry placement.new.assign.items placement.new.prices.items labels.new }
+        → IsStuck problem.now.columns entry placement.new.assign.items placement.new.prices.items labels.new }
 {
     let Some(end) = search(problem, entry, placement, table, labels) else {
         return false;
     };
-    raise(&mut placement.prices, labels, labels[end].dist);
-    shift(problem, entry, end, labels, placement, table);
-    placement.loads[end] += 1;
+    raise(&mut placement.prices, labels, end.dist);
+    shift(
+        &problem.columns,
+        entry,
+        end.consumer,
+        labels,
+        placement,
+        table,
+    );
+    placement.loads[end.consumer] += 1;
     true
 }

@@ -1,16 +1,18 @@
-ghost use Rattle.std.specs.Prelude.{◌≡◌, ℕ, ◌+◌, ◌*◌, ◌^◌, ◌<◌, length, All, IfOk, IfSome};
+ghost use Rattle.std.specs.Prelude.{◌≡◌, ℕ, ◌+◌, ◌*◌, ◌^◌, ◌<◌, ◌≤◌, length, All, IfOk, IfSome};
 ghost use Rattle.std.specs.List.Sorted.{IsPermutation};
 ghost use Rattle.sr_transport.specs.{consumers};
 ghost use Rattle.sr_solver.specs.Order.{IsOrder};
+ghost use Rattle.sr_solver.specs.Steps.{AreSteps};
 
 use crate::order::{by_stake, rows};
 use crate::solution::solve_in_order;
-use crate::wanted::{crowds, wanted_price};
-use sr_transport::{Columns, Solved};
+use crate::stepped::{Answer, Step, Stepped};
+use crate::wanted::{crowds, wanted};
+use sr_transport::Columns;
 use std::alloc::{AllocError, Global};
 
 /// One entry out of this many is in the sample.
-const STEP: usize = 8;
+const BLOCK: usize = 8;
 
 /// A smaller sample is not worth its time.
 const FEW: usize = 64;
@@ -25,11 +27,12 @@ const TRIES: usize = 4;
 ///
 /// The prices come from a sample, which is solved first. Which sample that is, and whether it has an answer, affects
 /// the time alone.
-pub fn placing_order(alloc: Global, problem: &Columns<'_>) -> Result<Vec<usize>, AllocError>
-    ensures { IfOk result (λ order. IsOrder problem.now.entries order.items) }
+pub fn placing_order(alloc: Global, problem: &Stepped<'_>) -> Result<Vec<usize>, AllocError>
+    requires { AreSteps problem.now.columns.rooms problem.now.steps.now }
+    ensures { IfOk result (λ order. IsOrder problem.now.columns.entries order.items) }
 {
-    let mut order = by_stake(alloc, problem)?;
-    if order.len() < FEW * STEP {
+    let mut order = by_stake(alloc, &problem.columns)?;
+    if order.len() < FEW * BLOCK {
         return Ok(order);
     }
     let sample = sample(alloc, &order)?;
@@ -41,35 +44,35 @@ pub fn placing_order(alloc: Global, problem: &Columns<'_>) -> Result<Vec<usize>,
 }
 
 /// Whether the entries are allowed so few consumers that an order of their own may cost more time than it saves. One of
-/// each `STEP` entries in a row is looked at.
+/// each `BLOCK` entries in a row is looked at.
 pub fn is_sparse(problem: &Columns<'_>) -> bool {
     let mut pairs = 0usize;
-    for block in 0..problem.entries() / STEP {
+    for block in 0..problem.entries() / BLOCK {
         for cost in problem.costs(place_in(block)) {
             pairs = pairs.saturating_add(usize::from(cost.is_some()));
         }
     }
-    pairs <= (problem.entries() / STEP).saturating_mul(SPARSE)
+    pairs <= (problem.entries() / BLOCK).saturating_mul(SPARSE)
 }
 
-/// One of each `STEP` entries in a row. Which one follows no period.
+/// One of each `BLOCK` entries in a row. Which one follows no period.
 fn sample(alloc: Global, order: &[usize]) -> Result<Vec<usize>, AllocError>
     ensures { IfOk result (λ sample. (n : ℕ) → All (λ entry. entry < n) order.now
         → All (λ entry. entry < n) sample.items) }
 {
-    let mut sample = Vec::with_capacity(alloc, order.len() / STEP)?;
-    for block in 0..order.len() / STEP {
+    let mut sample = Vec::with_capacity(alloc, order.len() / BLOCK)?;
+    for block in 0..order.len() / BLOCK {
         sample.push(order[place_in(block)])?;
     }
     Ok(sample)
 }
 
-/// The place that is picked in a block of `STEP` places.
+/// The place that is picked in a block of `BLOCK` places.
 fn place_in(block: usize) -> usize
     requires { block * 8 + 8 < 2 ^ 64 }
     ensures { result < block * 8 + 8 }
 {
-    block * STEP + mixed(block as u64) as usize % STEP
+    block * BLOCK + mixed(block as u64) as usize % BLOCK
 }
 
 /// A number in which those that follow one another differ without a pattern.
@@ -78,47 +81,81 @@ fn mixed(number: u64) -> u64 {
     (spread ^ (spread >> 32)).wrapping_mul(0xD6E8_FEB8_6659_FD93) >> 32
 }
 
-/// Sorts entries by falling price of the consumer that they want.
+/// Sorts entries by falling price of the consumer that they want, less the fee of the place that would be left for them
+/// there: so the entries that cannot have a place without a fee come when the price has risen to it.
 fn by_price(
     alloc: Global,
-    problem: &Columns<'_>,
+    problem: &Stepped<'_>,
     prices: &[u64],
     order: &mut Vec<usize>,
 ) -> Result<(), AllocError>
-    requires one_each { length prices.now ≡ consumers problem.now }
-    requires below { All (λ entry. entry < problem.now.entries) order.old.items }
+    requires steps_each { length problem.now.steps.now ≡ consumers problem.now.columns }
+    requires one_each { length prices.now ≡ consumers problem.now.columns }
+    requires below { All (λ entry. entry < problem.now.columns.entries) order.old.items }
     ensures { IsPermutation order.old.items order.new.items }
 {
-    let crowds = crowds(alloc, problem, prices)?;
-    let mut keys = vec![in alloc; 0u64; problem.entries()]?;
+    let crowds = crowds(alloc, &problem.columns, prices)?;
+    let mut keys = vec![in alloc; 0u64; problem.columns.entries()]?;
+    let mut loads = vec![in alloc; 0u64; problem.columns.consumers()]?;
     for entry in order.iter() {
-        keys[*entry] = u64::MAX - wanted_price(problem, prices, &crowds, *entry);
+        keys[*entry] = u64::MAX - claim(problem, prices, &crowds, *entry, &mut loads);
     }
     order.sort_by_key(|entry| keys.get(*entry).copied())
 }
 
-/// The prices of a cheapest assignment of these entries alone, with the rooms smaller in proportion.
+/// The price of the consumer that an entry wants, less the fee of the next place there, which the entry takes.
+fn claim(
+    problem: &Stepped<'_>,
+    prices: &[u64],
+    crowds: &[u64],
+    entry: usize,
+    loads: &mut [u64],
+) -> u64
+    requires entry { entry < problem.now.columns.entries }
+    requires steps_each { length problem.now.steps.now ≡ consumers problem.now.columns }
+    requires prices_each { length prices.now ≡ consumers problem.now.columns }
+    requires crowds_each { length crowds.now ≡ consumers problem.now.columns }
+    requires loads_each { length loads.old ≡ consumers problem.now.columns }
+    ensures { length loads.new ≡ length loads.old }
+{
+    let Some(consumer) = wanted(&problem.columns, prices, crowds, entry) else {
+        return 0;
+    };
+    if prices.len() <= consumer {
+        return 0;
+    }
+    let fee = problem.steps[consumer].fee_after(loads[consumer]);
+    loads[consumer] = loads[consumer].saturating_add(1);
+    prices[consumer].saturating_sub(fee)
+}
+
+/// The prices of a placement of these entries alone, with the rooms smaller in proportion.
 fn prices_of(
     alloc: Global,
-    problem: &Columns<'_>,
+    problem: &Stepped<'_>,
     sample: Vec<usize>,
 ) -> Result<Option<Vec<u64>>, AllocError>
-    requires { All (λ entry. entry < problem.now.entries) sample.items }
-    ensures { IfOk result (λ found. IfSome found (λ prices. length prices.items ≡ consumers problem.now)) }
+    requires steps { AreSteps problem.now.columns.rooms problem.now.steps.now }
+    requires below { All (λ entry. entry < problem.now.columns.entries) sample.items }
+    ensures { IfOk result (λ found. IfSome found (λ prices. length prices.items ≡ consumers problem.now.columns)) }
 {
-    let whole = sample.len();
+    let rooms = smaller_rooms(alloc, &problem.columns, sample.len())?;
+    let steps = smaller_steps(alloc, problem, &rooms)?;
     let mut sample = sample;
     for _ in 0..TRIES {
-        let rooms = smaller_rooms(alloc, problem, whole)?;
-        let costs = rows(alloc, problem, &sample)?;
-        let Some(smaller) = Columns::new(&rooms, sample.len(), &costs) else {
+        let costs = rows(alloc, &problem.columns, &sample)?;
+        let Some(columns) = Columns::new(&rooms, sample.len(), &costs) else {
             return Ok(None);
         };
+        let smaller = Stepped {
+            columns,
+            steps: &steps,
+        };
         match solve_in_order(alloc, &smaller)? {
-            Solved::Best { prices, .. } => {
+            Answer::Placed { prices, .. } => {
                 return Ok(Some(prices));
             }
-            Solved::Short { set } => {
+            Answer::Short { set } => {
                 sample = without(alloc, &sample, &set)?;
             }
         }
@@ -168,4 +205,34 @@ fn smaller_rooms(
         given = share;
     }
     Ok(rooms)
+}
+
+/// The steps in these smaller rooms: as many places are without a fee, in proportion.
+fn smaller_steps(
+    alloc: Global,
+    problem: &Stepped<'_>,
+    rooms: &[u64],
+) -> Result<Vec<Step>, AllocError>
+    requires steps { AreSteps problem.now.columns.rooms problem.now.steps.now }
+    requires rooms { length rooms.now ≡ consumers problem.now.columns }
+    ensures { IfOk result (λ steps. AreSteps rooms.now steps.items) }
+{
+    let mut steps = Vec::with_capacity(alloc, rooms.len())?;
+    for consumer in 0..rooms.len() {
+        let room = problem.columns.room(consumer);
+        steps.push(smaller_step(problem.steps[consumer], room, rooms[consumer]))?;
+    }
+    Ok(steps)
+}
+
+/// A step of a room as one of a smaller room.
+fn smaller_step(step: Step, room: u64, smaller: u64) -> Step
+    ensures first { result.first ≤ smaller }
+    ensures fee { result.fee ≡ step.fee }
+{
+    let first = step.first.saturating_mul(smaller).saturating_add(room / 2) / room.max(1);
+    Step {
+        first: first.min(smaller),
+        fee: step.fee,
+    }
 }

@@ -1,67 +1,74 @@
-ghost use Rattle.std.specs.Prelude.{◌≡◌, ℕ, ◌<◌, ◌≤◌, length, slice_index, IfSome, IfNone, None, true};
+ghost use Rattle.std.specs.Prelude.{◌≡◌, ℕ, ◌<◌, ◌≤◌, ◌↔◌, length, slice_index, IfSome, IfNone, IsTrue, true};
 ghost use Rattle.sr_transport.specs.{most_tiers, consumers};
+ghost use Rattle.sr_transport.specs.Limits.{greatest_fee};
 ghost use Rattle.sr_solver.specs.Limits.{greatest_way};
-ghost use Rattle.sr_transport.specs.plain.Problem.{IsWithinLimits, room_of, IsAllowed};
-ghost use Rattle.sr_transport.specs.plain.Assignment.{load};
+ghost use Rattle.sr_transport.specs.plain.Problem.{IsWithinLimits, IsAllowed};
 ghost use Rattle.sr_transport.specs.plain.Certificate.{IsLeast};
 ghost use Rattle.sr_solver.specs.Labels.{label_at, open_count};
 ghost use Rattle.sr_solver.specs.Placed.{IsStanding};
-ghost use Rattle.sr_solver.specs.Cutoff.{IsCutoff, IsCut};
+ghost use Rattle.sr_solver.specs.Cutoff.{length_of, IsPast, IsCutoff, IsCut, IsNoLater};
 ghost use Rattle.sr_solver.specs.Offers.{IsOfferedAt, offer_of};
 ghost use Rattle.sr_solver.specs.Table.{IsTable};
 ghost use Rattle.sr_solver.specs.Search.{IsStarted, IsBetter, IsNearest, AreAllClosed, IsSearch, IsRound, IsAsked};
-ghost use Rattle.sr_solver.specs.Search.{IsEnd};
+ghost use Rattle.sr_solver.specs.Search.{IsFound};
 
 use crate::label::{Label, Offer, offered};
 use crate::placement::Placement;
-use crate::table::{Table, least_mover, may_be_nearer};
+use crate::stepped::Stepped;
+use crate::table::{Table, least_mover, look_over, may_be_nearer};
 use sr_transport::Columns;
 
-/// Looks for the shortest path that makes place for `entry`, and gives the consumer where it ends, which has room left.
+/// Where a path may end.
+#[derive(Clone, Copy)]
+pub struct End {
+    /// A consumer that has room.
+    pub consumer: usize,
+    /// The length of the path, with the fee of the place in which it ends, and less the price there.
+    pub dist: u64,
+}
+
+/// Looks for the shortest path that makes place for `entry`, and gives its end, where there is room left.
 ///
 /// `None` where no path ends at a consumer with room: each consumer that the search reached is full, and closed. Once
-/// one with room is reached, paths that are no shorter than the way there are left out.
+/// one with room is reached, paths that are no shorter than the way there with the fee are left out.
 pub fn search(
-    problem: &Columns<'_>,
+    problem: &Stepped<'_>,
     entry: usize,
     placement: &Placement,
     table: &mut Table,
     labels: &mut [Label],
-) -> Option<usize>
-    requires entry { entry < problem.now.entries }
-    requires standing { IsStanding problem.now entry placement.now }
-    requires table { IsTable problem.now placement.now.assign.items table.old }
-    requires labels { length labels.old ≡ consumers problem.now }
-    ensures table { IsTable problem.now placement.now.assign.items table.new }
-    ensures end { IfSome result (IsEnd problem.now entry placement.now.assign.items placement.now.prices.items
-        labels.new) }
-    ensures round { IfNone result (IsRound problem.now entry placement.now.assign.items placement.now.prices.items
-        None labels.new) }
-    ensures all_closed { IfNone result (AreAllClosed problem.now labels.new) }
+) -> Option<End>
+    requires entry { entry < problem.now.columns.entries }
+    requires standing { IsStanding problem.now.columns problem.now.steps.now entry placement.now }
+    requires table { IsTable problem.now.columns placement.now.assign.items table.old }
+    requires labels { length labels.old ≡ consumers problem.now.columns }
+    ensures table { IsTable problem.now.columns placement.now.assign.items table.new }
+    ensures found { IsFound problem.now.columns problem.now.steps.now entry placement.now.assign.items
+        placement.now.prices.items labels.new result }
 {
-    let loads = placement.loads.as_slice();
     let mut cutoff = start(problem, entry, placement, labels);
-    while let Some(near) = nearest(problem, loads, labels) {
-        if loads[near] < problem.room(near) {
-            return Some(near);
+    while let Some(near) = nearest(&problem.columns, labels) {
+        if is_past(cutoff, labels[near].dist) {
+            return cutoff;
         }
         cutoff = close(problem, entry, near, cutoff, placement, table, labels);
     }
-    None
+    cutoff
 }
 
 /// Forgets the last search, and offers the new entry to each consumer; gives the first cutoff.
 fn start(
-    problem: &Columns<'_>,
+    problem: &Stepped<'_>,
     entry: usize,
     placement: &Placement,
     labels: &mut [Label],
-) -> Option<u64>
-    requires entry { entry < problem.now.entries }
-    requires standing { IsStanding problem.now entry placement.now }
-    requires labels_each { length labels.old ≡ consumers problem.now }
-    ensures started { IsStarted problem.now entry placement.now.prices.items labels.new }
-    ensures cutoff { IsCutoff problem.now placement.now.assign.items labels.new (consumers problem.now) result }
+) -> Option<End>
+    requires entry { entry < problem.now.columns.entries }
+    requires standing { IsStanding problem.now.columns problem.now.steps.now entry placement.now }
+    requires labels_each { length labels.old ≡ consumers problem.now.columns }
+    ensures started { IsStarted problem.now.columns entry placement.now.prices.items labels.new }
+    ensures cutoff { IsCutoff problem.now.columns problem.now.steps.now placement.now.assign.items
+        placement.now.prices.items labels.new (consumers problem.now.columns) result }
 {
     let (prices, loads) = (placement.prices.as_slice(), placement.loads.as_slice());
     let offer = Offer {
@@ -72,107 +79,122 @@ fn start(
         cutoff: None,
     };
     let mut cutoff = None;
-    for (consumer, cost) in problem.costs(entry).iter().enumerate() {
+    for (consumer, cost) in problem.columns.costs(entry).iter().enumerate() {
         let label = offered(*cost, prices[consumer], offer, Label::none());
         labels[consumer] = label;
-        cutoff = cut(problem, loads, consumer, label, cutoff);
+        let gap = problem.gap(consumer, loads[consumer], prices[consumer]);
+        cutoff = cut(consumer, label, gap, cutoff);
     }
     cutoff
 }
 
-/// The cutoff once a consumer has this label: it falls to the way there, where that is nearer, and the consumer has
-/// room.
-fn cut(
-    problem: &Columns<'_>,
-    loads: &[u64],
-    consumer: usize,
-    label: Label,
-    cutoff: Option<u64>,
-) -> Option<u64>
-    requires loads_each { length loads.now ≡ consumers problem.now }
-    requires consumer { consumer < consumers problem.now }
-    ensures { IsCut problem.now loads.now consumer label cutoff result }
+/// The cutoff once a consumer has this label: it falls to the way there with the gap from the price to the fee of the
+/// next place, if that is less, and there is a next place.
+fn cut(consumer: usize, label: Label, gap: Option<u64>, cutoff: Option<End>) -> Option<End>
+    requires label { 0 < label.hops → label.dist ≤ greatest_way }
+    requires gap { IfSome gap (λ gap. gap ≤ greatest_fee) }
+    ensures { IsCut consumer label gap cutoff result }
 {
-    if label.hops == 0 || problem.room(consumer) <= loads[consumer] {
+    if label.hops == 0 {
         return cutoff;
     }
-    if let Some(dist) = cutoff
-        && dist <= label.dist
+    let Some(gap) = gap else {
+        return cutoff;
+    };
+    let dist = label.dist + gap;
+    if let Some(end) = cutoff
+        && end.dist <= dist
     {
         return cutoff;
     }
-    Some(label.dist)
+    Some(End { consumer, dist })
 }
 
-/// The nearest open consumer, and of equally near ones rather one with room; `None` where none is open.
-fn nearest(problem: &Columns<'_>, loads: &[u64], labels: &[Label]) -> Option<usize>
-    requires loads_each { length loads.now ≡ consumers problem.now }
-    requires labels_each { length labels.now ≡ consumers problem.now }
+/// Whether a path of this length is no shorter than the cutoff.
+fn is_past(cutoff: Option<End>, dist: u64) -> bool
+    ensures { IsTrue result ↔ IsPast cutoff dist }
+{
+    let Some(end) = cutoff else {
+        return false;
+    };
+    end.dist <= dist
+}
+
+/// The length of the path that the cutoff is, if there is one.
+fn dist_of(cutoff: Option<End>) -> Option<u64>
+    ensures { result ≡ length_of cutoff }
+{
+    let Some(end) = cutoff else {
+        return None;
+    };
+    Some(end.dist)
+}
+
+/// The nearest open consumer; `None` where none is open.
+fn nearest(problem: &Columns<'_>, labels: &[Label]) -> Option<usize>
+    requires { length labels.now ≡ consumers problem.now }
     ensures some { IfSome result (IsNearest problem.now labels.now) }
     ensures none { IfNone result (AreAllClosed problem.now labels.now) }
 {
     let mut best = None;
+    let mut least = u64::MAX;
     for consumer in 0..problem.consumers() {
-        if labels[consumer].is_open() && is_better(problem, loads, labels, consumer, best) {
+        let label = labels[consumer];
+        let dist = label.open_dist();
+        if dist <= least && label.is_open() && is_better(labels, consumer, best) {
             best = Some(consumer);
+            least = dist;
         }
     }
     best
 }
 
-/// Whether a consumer is nearer than the best so far, or as near and the only one of the two with room.
-fn is_better(
-    problem: &Columns<'_>,
-    loads: &[u64],
-    labels: &[Label],
-    consumer: usize,
-    best: Option<usize>,
-) -> bool
-    requires loads_each { length loads.now ≡ consumers problem.now }
-    requires labels_each { length labels.now ≡ consumers problem.now }
-    requires consumer { consumer < consumers problem.now }
-    requires best { IfSome best (λ b. b < consumers problem.now) }
+/// Whether a consumer is nearer than the best so far.
+fn is_better(labels: &[Label], consumer: usize, best: Option<usize>) -> bool
+    requires consumer { consumer < length labels.now }
+    requires best { IfSome best (λ b. b < length labels.now) }
     ensures { IsBetter labels.now consumer result best }
 {
     let Some(best) = best else {
         return true;
     };
-    let (dist, least) = (labels[consumer].dist, labels[best].dist);
-    if dist == least {
-        return loads[consumer] < problem.room(consumer) && problem.room(best) <= loads[best];
-    }
-    dist < least
+    labels[consumer].dist < labels[best].dist
 }
 
 /// Closes a consumer: offers the entries that stand there to the others, and gives the next cutoff.
 fn close(
-    problem: &Columns<'_>,
+    problem: &Stepped<'_>,
     entry: usize,
     near: usize,
-    cutoff: Option<u64>,
+    cutoff: Option<End>,
     placement: &Placement,
     table: &mut Table,
     labels: &mut [Label],
-) -> Option<u64>
-    requires entry { entry < problem.now.entries }
-    requires standing { IsStanding problem.now entry placement.now }
-    requires table { IsTable problem.now placement.now.assign.items table.old }
-    requires round { IsRound problem.now entry placement.now.assign.items placement.now.prices.items cutoff labels.old }
-    requires cutoff { IsCutoff problem.now placement.now.assign.items labels.old (consumers problem.now) cutoff }
-    requires nearest { IsNearest problem.now labels.old near }
-    requires full { load placement.now.assign.items near ≡ room_of problem.now near }
-    ensures table { IsTable problem.now placement.now.assign.items table.new }
-    ensures round { IsRound problem.now entry placement.now.assign.items placement.now.prices.items result labels.new }
-    ensures cutoff { IsCutoff problem.now placement.now.assign.items labels.new (consumers problem.now) result }
+) -> Option<End>
+    requires entry { entry < problem.now.columns.entries }
+    requires standing { IsStanding problem.now.columns problem.now.steps.now entry placement.now }
+    requires table { IsTable problem.now.columns placement.now.assign.items table.old }
+    requires round { IsRound problem.now.columns entry placement.now.assign.items placement.now.prices.items
+        (length_of cutoff) labels.old }
+    requires cutoff { IsCutoff problem.now.columns problem.now.steps.now placement.now.assign.items
+        placement.now.prices.items labels.old (consumers problem.now.columns) cutoff }
+    requires nearest { IsNearest problem.now.columns labels.old near }
+    requires nearer { IsPast cutoff (label_at labels.old near).dist → ⊥ }
+    ensures table { IsTable problem.now.columns placement.now.assign.items table.new }
+    ensures round { IsRound problem.now.columns entry placement.now.assign.items placement.now.prices.items
+        (length_of result) labels.new }
+    ensures cutoff { IsCutoff problem.now.columns problem.now.steps.now placement.now.assign.items
+        placement.now.prices.items labels.new (consumers problem.now.columns) result }
     ensures fewer { open_count labels.new < open_count labels.old }
 {
+    look_over(&problem.columns, near, placement, table);
     let label = labels[near];
     labels[near] = Label {
         closed: true,
         ..label
     };
     let mut cutoff = cutoff;
-    for other in 0..problem.consumers() {
+    for other in 0..problem.columns.consumers() {
         cutoff = ask(
             problem, entry, near, other, cutoff, placement, table, labels,
         );
@@ -183,40 +205,45 @@ fn close(
 /// Offers to the consumer `other` the entry at `near` that costs least more there, where the table lets it come nearer,
 /// and nearer than the cutoff; gives the next cutoff.
 fn ask(
-    problem: &Columns<'_>,
+    problem: &Stepped<'_>,
     entry: usize,
     near: usize,
     other: usize,
-    cutoff: Option<u64>,
+    cutoff: Option<End>,
     placement: &Placement,
     table: &mut Table,
     labels: &mut [Label],
-) -> Option<u64>
-    requires entry { entry < problem.now.entries }
-    requires near { near < consumers problem.now }
-    requires other { other < consumers problem.now }
-    requires standing { IsStanding problem.now entry placement.now }
-    requires table { IsTable problem.now placement.now.assign.items table.old }
-    requires search { IsSearch problem.now entry placement.now.assign.items placement.now.prices.items cutoff
-        labels.old near other }
-    requires cutoff { IfSome cutoff (λ d. d ≤ greatest_way) }
+) -> Option<End>
+    requires entry { entry < problem.now.columns.entries }
+    requires near { near < consumers problem.now.columns }
+    requires other { other < consumers problem.now.columns }
+    requires standing { IsStanding problem.now.columns problem.now.steps.now entry placement.now }
+    requires table { IsTable problem.now.columns placement.now.assign.items table.old }
+    requires search { IsSearch problem.now.columns entry placement.now.assign.items placement.now.prices.items
+        (length_of cutoff) labels.old near other }
+    requires cutoff { IsCutoff problem.now.columns problem.now.steps.now placement.now.assign.items
+        placement.now.prices.items labels.old (consumers problem.now.columns) cutoff }
     requires closed { (label_at labels.old near).closed ≡ true }
-    ensures table { IsTable problem.now placement.now.assign.items table.new }
-    ensures asked { IsAsked problem.now entry placement.now.assign.items placement.now.prices.items cutoff near other
-        labels.old labels.new }
-    ensures cut { IsCut problem.now placement.now.loads.items other (label_at labels.new other) cutoff result }
+    ensures table { IsTable problem.now.columns placement.now.assign.items table.new }
+    ensures asked { IsAsked problem.now.columns entry placement.now.assign.items placement.now.prices.items
+        (length_of cutoff) near other labels.old labels.new }
+    ensures cutoff { IsCutoff problem.now.columns problem.now.steps.now placement.now.assign.items
+        placement.now.prices.items labels.new (consumers problem.now.columns) result }
+    ensures later { IsNoLater (length_of cutoff) (length_of result) }
 {
-    let prices = placement.prices.as_slice();
+    let (prices, loads) = (placement.prices.as_slice(), placement.loads.as_slice());
     let (from, label) = (labels[near], labels[other]);
-    let known = table.pairs[near * problem.consumers() + other];
-    if !may_be_nearer(known, from, prices[near], label, prices[other], cutoff) {
+    let known = table.pairs[near * problem.columns.consumers() + other];
+    let dist = dist_of(cutoff);
+    if !may_be_nearer(known, from, prices[near], label, prices[other], dist) {
         return cutoff;
     }
-    let Some(mover) = least_mover(problem, near, other, placement, table) else {
+    let Some(mover) = least_mover(&problem.columns, near, other, placement, table) else {
         return cutoff;
     };
-    offer(problem, near, mover, other, prices, cutoff, labels);
-    cut(problem, &placement.loads, other, labels[other], cutoff)
+    offer(&problem.columns, near, mover, other, prices, dist, labels);
+    let gap = problem.gap(other, loads[other], prices[other]);
+    cut(other, labels[other], gap, cutoff)
 }
 
 /// Offers an entry that stands at the consumer `near` to the consumer `other`.

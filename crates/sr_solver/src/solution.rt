@@ -1,11 +1,9 @@
-ghost use Rattle.std.specs.Prelude.{◌≡◌, ◌<◌, ◌≤◌, IfOk, IfSome, IsSome, true};
+ghost use Rattle.std.specs.Prelude.{◌≡◌, ◌<◌, IfOk, IfSome, IsSome, true};
 ghost use Rattle.sr_transport.specs.{sum_below, consumers};
-ghost use Rattle.sr_transport.specs.Limits.{greatest_total};
 ghost use Rattle.sr_transport.specs.plain.Problem.{room_of};
-ghost use Rattle.sr_transport.specs.plain.Assignment.{IsAssignment, total_of};
-ghost use Rattle.sr_transport.specs.plain.Solved.{IsSolution};
-ghost use Rattle.sr_transport.specs.Solved.{HasSmallPrices};
-ghost use Rattle.sr_solver.specs.Placed.{IsPlaced, IsStanding};
+ghost use Rattle.sr_solver.specs.Answered.{IsAnswer};
+ghost use Rattle.sr_solver.specs.Placed.{IsStanding};
+ghost use Rattle.sr_solver.specs.Steps.{AreSteps};
 
 use crate::label::Label;
 use crate::order::{entries_at, numbers, rename, reordered};
@@ -13,74 +11,73 @@ use crate::placement::{Placement, nowhere};
 use crate::placing::{Progress, place_all, take_all};
 use crate::sample::{is_sparse, placing_order};
 use crate::shortage::{places, stranded};
+use crate::stepped::{Answer, Stepped};
 use crate::table::unknown_table;
-use sr_transport::{Columns, Solved};
+use sr_transport::Columns;
 use std::alloc::{AllocError, Global};
 
-/// Solves a transportation problem without tiers: gives a cheapest assignment with prices that show it, or entries for
-/// which there are too few places.
+/// Solves a transportation problem with steps: places the entries at the least total, or gives entries for which there
+/// are too few places.
 ///
 /// The entries are placed one after another, each along a shortest path that makes place for it. They come in the order
 /// they have if that is quick, and else in an order of their own, on which the time depends, and not the worth of the
 /// answer.
 ///
 /// Source: the method of successive shortest paths (J. Edmonds, R. M. Karp, 1972).
-pub fn solve_columns(alloc: Global, problem: &Columns<'_>) -> Result<Solved, AllocError>
-    ensures solution { IfOk result (IsSolution problem.now) }
-    ensures prices { IfOk result HasSmallPrices }
+pub fn solve_stepped(alloc: Global, problem: &Stepped<'_>) -> Result<Answer, AllocError>
+    requires { AreSteps problem.now.columns.rooms problem.now.steps.now }
+    ensures { IfOk result (IsAnswer problem.now.columns problem.now.steps.now) }
 {
-    if places(problem) < problem.entries() as u64 {
+    if places(&problem.columns) < problem.columns.entries() as u64 {
         return all_short(alloc, problem);
     }
-    if let Some(solved) = answer(alloc, problem, false)? {
-        return Ok(solved);
+    if let Some(found) = answer(alloc, problem, false)? {
+        return Ok(found);
     }
     solve_reordered(alloc, problem)
 }
 
 /// The answer to a problem with more entries than places: all entries.
-fn all_short(alloc: Global, problem: &Columns<'_>) -> Result<Solved, AllocError>
-    requires { sum_below (room_of problem.now) (consumers problem.now) < problem.now.entries }
-    ensures solution { IfOk result (IsSolution problem.now) }
-    ensures prices { IfOk result HasSmallPrices }
+fn all_short(alloc: Global, problem: &Stepped<'_>) -> Result<Answer, AllocError>
+    requires { sum_below (room_of problem.now.columns) (consumers problem.now.columns) < problem.now.columns.entries }
+    ensures { IfOk result (IsAnswer problem.now.columns problem.now.steps.now) }
 {
-    let set = numbers(alloc, problem.entries())?;
-    Ok(Solved::Short { set })
+    let set = numbers(alloc, problem.columns.entries())?;
+    Ok(Answer::Short { set })
 }
 
 /// Solves a problem, placing its entries in an order of their own.
-fn solve_reordered(alloc: Global, problem: &Columns<'_>) -> Result<Solved, AllocError>
-    ensures solution { IfOk result (IsSolution problem.now) }
-    ensures prices { IfOk result HasSmallPrices }
+fn solve_reordered(alloc: Global, problem: &Stepped<'_>) -> Result<Answer, AllocError>
+    requires { AreSteps problem.now.columns.rooms problem.now.steps.now }
+    ensures { IfOk result (IsAnswer problem.now.columns problem.now.steps.now) }
 {
     let order = placing_order(alloc, problem)?;
-    let costs = reordered(alloc, problem, &order)?;
-    let other = Columns::new(problem.rooms(), problem.entries(), &costs).unwrap();
-    let mut renamed = vec![in alloc; 0usize; problem.entries()]?;
+    let costs = reordered(alloc, &problem.columns, &order)?;
+    let columns = Columns::new(problem.columns.rooms(), problem.columns.entries(), &costs).unwrap();
+    let other = Stepped {
+        columns,
+        steps: problem.steps,
+    };
+    let mut renamed = vec![in alloc; 0usize; problem.columns.entries()]?;
     match solve_in_order(alloc, &other)? {
-        Solved::Best {
-            assign,
-            prices,
-            total,
-        } => {
+        Answer::Placed { assign, prices } => {
             rename(&order, &assign, &mut renamed);
-            Ok(Solved::Best {
+            Ok(Answer::Placed {
                 assign: renamed,
                 prices,
-                total,
             })
         }
-        Solved::Short { set } => {
+        Answer::Short { set } => {
             let set = entries_at(alloc, &order, &set)?;
-            Ok(Solved::Short { set })
+            Ok(Answer::Short { set })
         }
     }
 }
 
 /// Solves a problem, placing its entries in the order they have.
-pub(crate) fn solve_in_order(alloc: Global, problem: &Columns<'_>) -> Result<Solved, AllocError>
-    ensures solution { IfOk result (IsSolution problem.now) }
-    ensures prices { IfOk result HasSmallPrices }
+pub(crate) fn solve_in_order(alloc: Global, problem: &Stepped<'_>) -> Result<Answer, AllocError>
+    requires { AreSteps problem.now.columns.rooms problem.now.steps.now }
+    ensures { IfOk result (IsAnswer problem.now.columns problem.now.steps.now) }
 {
     let found = answer(alloc, problem, true)?;
     Ok(found.unwrap())
@@ -90,19 +87,22 @@ pub(crate) fn solve_in_order(alloc: Global, problem: &Columns<'_>) -> Result<Sol
 /// patient go on; others get `None`.
 fn answer(
     alloc: Global,
-    problem: &Columns<'_>,
+    problem: &Stepped<'_>,
     is_patient: bool,
-) -> Result<Option<Solved>, AllocError>
-    ensures solution { IfOk result (λ found. IfSome found (IsSolution problem.now)) }
-    ensures prices { IfOk result (λ found. IfSome found HasSmallPrices) }
+) -> Result<Option<Answer>, AllocError>
+    requires { AreSteps problem.now.columns.rooms problem.now.steps.now }
+    ensures solution { IfOk result (λ found. IfSome found (IsAnswer problem.now.columns problem.now.steps.now)) }
     ensures patient { is_patient ≡ true → IfOk result (λ found. IsSome found) }
 {
     let mut placement = nowhere(alloc, problem)?;
     let taken = take_all(problem, &mut placement);
-    if taken == problem.entries() {
-        return Ok(Some(best(problem, placement.assign, placement.prices)));
+    if taken == problem.columns.entries() {
+        return Ok(Some(Answer::Placed {
+            assign: placement.assign,
+            prices: placement.prices,
+        }));
     }
-    if !is_patient && !is_sparse(problem) {
+    if !is_patient && !is_sparse(&problem.columns) {
         return Ok(None);
     }
     finish(alloc, problem, taken, is_patient, placement)
@@ -111,20 +111,19 @@ fn answer(
 /// The answer, once the entries before `first` are placed.
 fn finish(
     alloc: Global,
-    problem: &Columns<'_>,
+    problem: &Stepped<'_>,
     first: usize,
     is_patient: bool,
     placement: Placement,
-) -> Result<Option<Solved>, AllocError>
-    requires first { first < problem.now.entries }
-    requires standing { IsStanding problem.now first placement }
-    ensures solution { IfOk result (λ found. IfSome found (IsSolution problem.now)) }
-    ensures prices { IfOk result (λ found. IfSome found HasSmallPrices) }
+) -> Result<Option<Answer>, AllocError>
+    requires first { first < problem.now.columns.entries }
+    requires standing { IsStanding problem.now.columns problem.now.steps.now first placement }
+    ensures solution { IfOk result (λ found. IfSome found (IsAnswer problem.now.columns problem.now.steps.now)) }
     ensures patient { is_patient ≡ true → IfOk result (λ found. IsSome found) }
 {
     let mut placement = placement;
-    let mut table = unknown_table(alloc, problem)?;
-    let mut labels = vec![in alloc; Label::none(); problem.consumers()]?;
+    let mut table = unknown_table(alloc, &problem.columns)?;
+    let mut labels = vec![in alloc; Label::none(); problem.columns.consumers()]?;
     match place_all(
         problem,
         first,
@@ -133,38 +132,14 @@ fn finish(
         &mut table,
         &mut labels,
     ) {
-        Progress::Placed => Ok(Some(best(problem, placement.assign, placement.prices))),
+        Progress::Placed => Ok(Some(Answer::Placed {
+            assign: placement.assign,
+            prices: placement.prices,
+        })),
         Progress::Stuck { entry } => {
             let set = stranded(alloc, &placement.assign, &labels, entry)?;
-            Ok(Some(Solved::Short { set }))
+            Ok(Some(Answer::Short { set }))
         }
         Progress::Slow => Ok(None),
     }
-}
-
-/// The answer where every entry is placed.
-fn best(problem: &Columns<'_>, assign: Vec<usize>, prices: Vec<u64>) -> Solved
-    requires { IsPlaced problem.now problem.now.entries assign.items prices.items }
-    ensures solution { IsSolution problem.now result }
-    ensures prices { HasSmallPrices result }
-{
-    let total = sum_of_costs(problem, &assign);
-    Solved::Best {
-        assign,
-        prices,
-        total,
-    }
-}
-
-/// The sum of the costs of an assignment. Unlike `total` of sr_transport it need not see that it is one.
-fn sum_of_costs(problem: &Columns<'_>, assign: &[usize]) -> u64
-    requires { IsAssignment problem.now assign.now }
-    ensures total { result ≡ total_of problem.now assign.now }
-    ensures small { result ≤ greatest_total }
-{
-    let mut total = 0;
-    for (entry, consumer) in assign.iter().enumerate() {
-        total += problem.costs(entry)[*consumer].unwrap();
-    }
-    total
 }

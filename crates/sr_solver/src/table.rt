@@ -1,16 +1,16 @@
-ghost use Rattle.std.specs.Prelude.{◌≡◌, ℕ, ◌+◌, ◌*◌, ◌<◌, ◌≤◌, length, slice_index, slice_set, IfSome, IsSome, true};
-ghost use Rattle.std.specs.Prelude.{false, List, IfOk};
+ghost use Rattle.std.specs.Prelude.{◌≡◌, ℕ, ◌+◌, ◌*◌, ◌<◌, ◌≤◌, ◌⊎◌, length, slice_index, slice_set, IfSome, IsSome};
+ghost use Rattle.std.specs.Prelude.{true, false, List, IfOk, Some, None};
 ghost use Rattle.sr_transport.specs.{greatest_charge, consumers};
-ghost use Rattle.sr_solver.specs.Limits.{greatest_bound, greatest_way};
+ghost use Rattle.sr_solver.specs.Limits.{greatest_bound, greatest_way, far};
 ghost use Rattle.sr_transport.specs.plain.Problem.{IsWithinLimits, room_of, cost_at, cost_of, IsAllowed};
 ghost use Rattle.sr_transport.specs.plain.Assignment.{load};
 ghost use Rattle.sr_solver.specs.Members.{AreWide, AreMembersOf, AreMembers};
 ghost use Rattle.sr_solver.specs.Groups.{IsAt};
-ghost use Rattle.sr_solver.specs.Table.{IsUnknown, IsApart, IsKnown, IsTableOf, IsTable, IsWithout, IsLowered};
-ghost use Rattle.sr_solver.specs.Table.{IsRowChanged, IsMover, IsNoNearer};
+ghost use Rattle.sr_solver.specs.Table.{IsUnknown, IsApart, IsKnown, ArePairs, IsTableOf, IsTable, IsWithout};
+ghost use Rattle.sr_solver.specs.Table.{IsLowered, IsRowChanged, IsMover, IsNoNearer};
 
 use crate::groups::{find_in_groups, groups_of, join_group};
-use crate::label::{Label, is_beyond};
+use crate::label::Label;
 use crate::members::{add, remove};
 use crate::placement::Placement;
 use sr_transport::{Columns, MAX_CHARGE};
@@ -18,6 +18,9 @@ use std::alloc::{AllocError, Global};
 
 /// What is added to a difference of two costs, so that it is not below 0.
 pub const ABOVE: u64 = MAX_CHARGE;
+
+/// Greater than any sum that is compared with the length of a path.
+const FAR: u64 = 1 << 63;
 
 /// A consumer with more room than this has bounds for each group of its entries.
 pub const NARROW: u64 = 128;
@@ -80,6 +83,68 @@ fn forget(pairs: &mut [Option<Bound>])
     }
 }
 
+/// Looks through the entries at a narrow consumer for those that cost least more at each other one, if that was never
+/// done: then the bound of the consumer with itself is not known.
+pub fn look_over(problem: &Columns<'_>, from: usize, placement: &Placement, table: &mut Table)
+    requires limits { IsWithinLimits problem.now.rooms problem.now.entries problem.now.costs }
+    requires from { from < consumers problem.now }
+    requires placed { (i : ℕ) → IsAt placement.now.assign.items problem.now.entries from i
+        → IsAllowed problem.now i from }
+    requires members { AreMembers problem.now placement.now.width placement.now.assign.items
+        placement.now.members.items }
+    requires table { IsTable problem.now placement.now.assign.items table.old }
+    ensures { IsTable problem.now placement.now.assign.items table.new }
+{
+    let itself = from * problem.consumers() + from;
+    if problem.room(from) <= NARROW && is_unknown(table.pairs[itself]) {
+        look_through(problem, from, placement, &mut table.pairs);
+    }
+}
+
+/// Whether nothing is known of the entries that stand at one consumer and may go to another.
+fn is_unknown(known: Option<Bound>) -> bool {
+    let Some(bound) = known else {
+        return false;
+    };
+    bound.low == 0
+}
+
+/// Looks through the entries at a consumer for those that cost least more at each other one.
+fn look_through(
+    problem: &Columns<'_>,
+    from: usize,
+    placement: &Placement,
+    pairs: &mut [Option<Bound>],
+)
+    requires limits { IsWithinLimits problem.now.rooms problem.now.entries problem.now.costs }
+    requires from { from < consumers problem.now }
+    requires placed { (i : ℕ) → IsAt placement.now.assign.items problem.now.entries from i
+        → IsAllowed problem.now i from }
+    requires members { AreMembers problem.now placement.now.width placement.now.assign.items
+        placement.now.members.items }
+    requires pairs { ArePairs problem.now placement.now.assign.items pairs.old }
+    ensures { ArePairs problem.now placement.now.assign.items pairs.new }
+{
+    let members = placement.members.as_slice();
+    let row = from * placement.width;
+    blank(problem, from, pairs);
+    for place in 0..members[row] {
+        arrive(problem, members[row + 1 + place], from, pairs);
+    }
+}
+
+/// Makes a row of the table that of a consumer where no entry stands.
+fn blank(problem: &Columns<'_>, from: usize, pairs: &mut [Option<Bound>])
+    requires from { from < consumers problem.now }
+    requires each_pair { length pairs.old ≡ consumers problem.now * consumers problem.now }
+    ensures { IsRowChanged (consumers problem.now) from (consumers problem.now)
+        (λ to old new. new ≡ None) pairs.old pairs.new }
+{
+    for to in 0..problem.consumers() {
+        pairs[from * problem.consumers() + to] = None;
+    }
+}
+
 /// Whether an entry of which this is known may come nearer than the cutoff, and nearer than before, to a consumer with
 /// the label `label`, from one with the label `from`; `here` and `there` are the prices of the two.
 pub fn may_be_nearer(
@@ -102,12 +167,28 @@ pub fn may_be_nearer(
     let Some(bound) = known else {
         return false;
     };
-    if label.closed {
-        return false;
-    }
     let sum = from.dist + (bound.low + there);
     let base = ABOVE + here;
-    (label.hops == 0 || sum < label.dist + base) && !is_beyond(cutoff, base, sum)
+    if reach(label, cutoff) + base <= sum {
+        return false;
+    }
+    !label.closed
+}
+
+/// The length of a path that would not come nearer than before, or no nearer than the cutoff.
+fn reach(label: Label, cutoff: Option<u64>) -> u64
+    requires label { 0 < label.hops → label.dist ≤ greatest_way }
+    requires cutoff { IfSome cutoff (λ d. d ≤ greatest_way) }
+    ensures far { result ≤ far }
+    ensures label { 0 < label.hops → result ≤ label.dist }
+    ensures cutoff { IfSome cutoff (λ d. result ≤ d) }
+    ensures met { (result ≡ far) ⊎ ((0 < label.hops) × (result ≡ label.dist)) ⊎ (cutoff ≡ Some result) }
+{
+    let reach = if label.hops == 0 { FAR } else { label.dist };
+    let Some(dist) = cutoff else {
+        return reach;
+    };
+    if dist < reach { dist } else { reach }
 }
 
 /// The entry at `from` that costs least more at `to`, or `None` where none may go there. Where the table doesn't know

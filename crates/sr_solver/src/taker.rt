@@ -3,35 +3,37 @@ ghost use Rattle.sr_transport.specs.{greatest_charge, consumers};
 ghost use Rattle.sr_solver.specs.Limits.{greatest_way};
 ghost use Rattle.sr_solver.specs.Taker.{IsTaker, IsCompared};
 
-use sr_transport::Columns;
+use crate::stepped::Stepped;
 
 /// The cheapest of the consumers that were looked at.
 #[derive(Clone, Copy)]
 pub struct Cheapest {
     /// The least sum of cost and price.
     pub sum: u64,
-    /// A consumer with this sum that has room, if there is one.
+    /// A consumer with this sum that has a place which costs its price, if there is one.
     pub free: Option<usize>,
 }
 
-/// A consumer where the sum of cost and price is least for an entry, and that has room; `None` if all with the least
-/// sum are full.
-pub fn taker(problem: &Columns<'_>, entry: usize, prices: &[u64], loads: &[u64]) -> Option<usize>
-    requires entry { entry < problem.now.entries }
-    requires prices_each { length prices.now ≡ consumers problem.now }
-    requires loads_each { length loads.now ≡ consumers problem.now }
-    requires low { (c : ℕ) → c < consumers problem.now → slice_index prices.now c ≤ greatest_way }
-    ensures some { IfSome result (IsTaker problem.now prices.now loads.now entry) }
-    ensures none { IfNone result ((c : ℕ) → IsTaker problem.now prices.now loads.now entry c → ⊥) }
+/// A consumer where the sum of cost and price is least for an entry, and that has a place which costs its price; `None`
+/// if none with the least sum has one.
+pub fn taker(problem: &Stepped<'_>, entry: usize, prices: &[u64], loads: &[u64]) -> Option<usize>
+    requires entry { entry < problem.now.columns.entries }
+    requires steps_each { length problem.now.steps.now ≡ consumers problem.now.columns }
+    requires prices_each { length prices.now ≡ consumers problem.now.columns }
+    requires loads_each { length loads.now ≡ consumers problem.now.columns }
+    requires low { (c : ℕ) → c < consumers problem.now.columns → slice_index prices.now c ≤ greatest_way }
+    ensures some { IfSome result (IsTaker problem.now.columns problem.now.steps.now prices.now loads.now entry) }
+    ensures none { IfNone result
+        ((c : ℕ) → IsTaker problem.now.columns problem.now.steps.now prices.now loads.now entry c → ⊥) }
 {
     let mut cheapest = Cheapest {
         sum: u64::MAX,
         free: None,
     };
-    for (consumer, cost) in problem.costs(entry).iter().enumerate() {
+    for (consumer, cost) in problem.columns.costs(entry).iter().enumerate() {
         if cost.is_some() {
-            let has_room = loads[consumer] < problem.room(consumer);
-            cheapest = compared(cheapest, consumer, *cost, prices[consumer], has_room);
+            let is_vacant = problem.is_vacant(consumer, loads[consumer], prices[consumer]);
+            cheapest = compared(cheapest, consumer, *cost, prices[consumer], is_vacant);
         }
     }
     cheapest.free
@@ -43,11 +45,11 @@ fn compared(
     consumer: usize,
     cost: Option<u64>,
     price: u64,
-    has_room: bool,
+    is_vacant: bool,
 ) -> Cheapest
     requires cost { IfSome cost (λ c. c ≤ greatest_charge) }
     requires price { price ≤ greatest_way }
-    ensures { IsCompared consumer cost price has_room cheapest result }
+    ensures { IsCompared consumer cost price is_vacant cheapest result }
 {
     let Some(cost) = cost else {
         return cheapest;
@@ -56,7 +58,7 @@ fn compared(
     if cheapest.sum < sum {
         return cheapest;
     }
-    if has_room {
+    if is_vacant {
         return Cheapest {
             sum,
             free: Some(consumer),

@@ -32,34 +32,34 @@ fn join_crowds(problem: &Columns<'_>, prices: &[u64], entry: usize, crowds: &mut
     }
 }
 
-/// The price of the consumer that an entry wants. Of several it is the highest price at which fewer entries want the
-/// consumer than it has room for, or else the lowest.
-///
-/// Two that follow one another count as one, with the rooms of both and the higher price: they are mostly the tiers of
-/// one consumer, and all entries that want it want both.
-pub fn wanted_price(problem: &Columns<'_>, prices: &[u64], crowds: &[u64], entry: usize) -> u64
+/// The consumer that an entry wants. Of several it is the one with the highest price that fewer entries want than it
+/// has room for, or else the one with the lowest.
+pub fn wanted(problem: &Columns<'_>, prices: &[u64], crowds: &[u64], entry: usize) -> Option<usize>
     requires entry { entry < problem.now.entries }
     requires prices_each { length prices.now ≡ consumers problem.now }
     requires crowds_each { length crowds.now ≡ consumers problem.now }
 {
     let least = least_sum(problem, prices, entry);
-    let mut lowest = u64::MAX;
-    let mut free = None;
-    let mut before = (0, 0u64);
+    let mut lowest: Option<usize> = None;
+    let mut free: Option<usize> = None;
     for (consumer, cost) in problem.costs(entry).iter().enumerate() {
-        if sum(*cost, prices[consumer]) == least {
-            let (price, room) = (prices[consumer], problem.room(consumer));
-            let highest = price.max(before.0);
-            lowest = lowest.min(highest);
-            if crowds[consumer] < room.saturating_add(before.1) {
-                free = free.max(Some(highest));
+        if cost.is_some() && sum(*cost, prices[consumer]) == least {
+            if price_at(prices, lowest).is_none_or(|price| prices[consumer] < price) {
+                lowest = Some(consumer);
             }
-            before = (price, room);
-        } else {
-            before = (0, 0);
+            if crowds[consumer] < problem.room(consumer)
+                && price_at(prices, free).is_none_or(|price| price < prices[consumer])
+            {
+                free = Some(consumer);
+            }
         }
     }
-    free.unwrap_or(lowest)
+    free.or(lowest)
+}
+
+/// The price of a consumer, if there is one.
+fn price_at(prices: &[u64], consumer: Option<usize>) -> Option<u64> {
+    prices.get(consumer?).copied()
 }
 
 /// The least sum of cost and price over the consumers of an entry.

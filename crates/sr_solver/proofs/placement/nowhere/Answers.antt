@@ -5,9 +5,9 @@ use Rattle.sr_solver.proofs.placement.nowhere.Goals as goal
 
 pub returns : goal.returns
 returns c =
-    let p = c.args.problem.now in
+    let p = c.args.problem.now.columns in
     let many = c.consumers-consumers.ensures.count in
-    none_stands p _ c.consumers-consumers.ensures.limits
+    none_stands p c.args.problem.now.steps.now _ c.consumers-consumers.ensures.limits c.requires
     (c.in_ok-assign.ensures.items_if_clones_equal (λ y e. e)
     ∙ ap (λ (n : ℕ). replicate n c.consumers-consumers.result) c.entries.ensures
     ∙ ap (λ (n : ℕ). replicate p.entries n) many)

@@ -47,5 +47,5 @@ returns-then-not-place c = c.place.ensures.stuck c.if-not-place.true
 
 pub returns : goal.returns
 returns c =
-    let all : c.loop-entry.entry ≡ c.args.problem.now.entries = omega arith in
+    let all : c.loop-entry.entry ≡ c.args.problem.now.columns.entries = omega arith in
     rw all at c.loop-entry.invariant.standing

@@ -6,7 +6,7 @@ use Rattle.sr_solver.proofs.placing.place_all.Given as goal
 
 abbrev pub invariant-loop-entry : goal.invariant-loop-entry
 invariant-loop-entry l = record {
-  standing : IsStanding l.problem l.entry l.placement;
-  table : IsTable l.problem l.placement.assign.items l.table;
-  labels_each : length l.labels ≡ consumers l.problem;
+  standing : IsStanding l.problem.columns l.problem.steps.now l.entry l.placement;
+  table : IsTable l.problem.columns l.placement.assign.items l.table;
+  labels_each : length l.labels ≡ consumers l.problem.columns;
 }

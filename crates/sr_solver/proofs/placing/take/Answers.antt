@@ -4,16 +4,16 @@ use Rattle.std.proofs.lemmas.List.{get_or_default}
 use Rattle.sr_transport.proofs.PlainLimitLemmas.{room_small}
 use Rattle.sr_solver.specs.Taker.{IsTaker}
 use Rattle.sr_solver.proofs.OfferLemmas.{prices_low}
-use Rattle.sr_solver.proofs.TakerLemmas.{placed_taken, loads_taken, taken_in_room}
+use Rattle.sr_solver.proofs.TakerLemmas.{placed_taken, level_taken, loads_taken, taken_in_room}
 use Rattle.sr_solver.proofs.placing.take.Goals as goal
 
 pub put-requires-clause-room : goal.put-requires-clause-room
 put-requires-clause-room c =
     let s = c.requires.standing in
     let before = c.args.placement.now in
-    let taken : IsTaker c.args.problem.now before.prices.items before.loads.items c.args.entry c.in-Some.consumer =
+    let taken : IsTaker c.args.problem.now.columns c.args.problem.now.steps.now before.prices.items before.loads.items c.args.entry c.in-Some.consumer =
     rw c.deref.ensures.value at (rw c.deref-2.ensures.value at c.in-Some.ensures.some) in
-    taken_in_room c.args.problem.now c.args.entry c.in-Some.consumer before.assign.items before.prices.items
+    taken_in_room c.args.problem.now.columns c.args.problem.now.steps.now c.args.entry c.in-Some.consumer before.assign.items before.prices.items
     before.loads.items
     s.placed s.loads c.requires.entry taken
 
@@ -22,7 +22,7 @@ returns-clause-taken c =
     λ yes.
     let s = c.requires.standing in
     let before = c.args.placement.now in
-    let taken : IsTaker c.args.problem.now before.prices.items before.loads.items c.args.entry c.in-Some.consumer =
+    let taken : IsTaker c.args.problem.now.columns c.args.problem.now.steps.now before.prices.items before.loads.items c.args.entry c.in-Some.consumer =
     rw c.deref.ensures.value at (rw c.deref-2.ensures.value at c.in-Some.ensures.some) in
     let prices : c.put.new.placement.prices.items ≡ before.prices.items = ap (λ v. v.items) c.put.ensures.prices in
     let same : c.put.new.placement.loads.items ≡ before.loads.items = ap (λ v. v.items) c.put.ensures.loads in
@@ -31,12 +31,17 @@ returns-clause-taken c =
     rw same at c.index_mut.ensures.value ∙ get_or_default _ _ _ 0 within in
     record {
       placed = rw c.put.ensures.assign (rw prices (
-          placed_taken c.args.problem.now c.args.entry c.in-Some.consumer before.assign.items before.prices.items
+          placed_taken c.args.problem.now.columns c.args.problem.now.steps.now c.args.entry c.in-Some.consumer before.assign.items before.prices.items
           before.loads.items
           s.placed s.loads c.requires.entry taken
           ));
+      are_steps = s.are_steps;
+      level = rw c.put.ensures.assign (rw prices (
+          level_taken c.args.problem.now.columns c.args.problem.now.steps.now c.args.entry c.in-Some.consumer before.assign.items before.prices.items before.loads.items
+          s.placed s.level s.loads c.requires.entry taken
+          ));
       loads = rw c.put.ensures.assign (rw same (rw count (
-          loads_taken c.args.problem.now c.args.entry c.in-Some.consumer before.assign.items before.prices.items
+          loads_taken c.args.problem.now.columns c.args.problem.now.steps.now c.args.entry c.in-Some.consumer before.assign.items before.prices.items
           before.loads.items
           s.placed s.loads c.requires.entry taken
           )));
@@ -47,6 +52,9 @@ returns-clause-taken c =
 pub taker-requires-clause-entry : goal.taker-requires-clause-entry
 taker-requires-clause-entry c = c.requires.entry
 
+pub taker-requires-clause-steps_each : goal.taker-requires-clause-steps_each
+taker-requires-clause-steps_each c = c.requires.standing.are_steps.one_each
+
 pub taker-requires-clause-prices_each : goal.taker-requires-clause-prices_each
 taker-requires-clause-prices_each c = ap length c.deref.ensures.value ∙ c.requires.standing.placed.one_each
 
@@ -55,7 +63,7 @@ taker-requires-clause-loads_each c = ap length c.deref-2.ensures.value ∙ c.req
 
 pub taker-requires-clause-low : goal.taker-requires-clause-low
 taker-requires-clause-low c =
-    prices_low c.args.problem.now c.args.entry c.args.placement.now.assign.items c.args.placement.now.prices.items
+    prices_low c.args.problem.now.columns c.args.entry c.args.placement.now.assign.items c.args.placement.now.prices.items
     c.deref.result.now
     c.requires.standing.placed c.requires.entry c.deref.ensures.value
 
@@ -97,7 +105,7 @@ pub overflow_add-index_mut : goal.overflow_add-index_mut
 overflow_add-index_mut c =
     let before = c.args.placement.now in
     let loads = c.requires.standing.loads in
-    let taken : IsTaker c.args.problem.now before.prices.items before.loads.items c.args.entry c.in-Some.consumer =
+    let taken : IsTaker c.args.problem.now.columns c.args.problem.now.steps.now before.prices.items before.loads.items c.args.entry c.in-Some.consumer =
     rw c.deref.ensures.value at (rw c.deref-2.ensures.value at c.in-Some.ensures.some) in
     let same : c.put.new.placement.loads.items ≡ before.loads.items = ap (λ v. v.items) c.put.ensures.loads in
     let within : c.in-Some.consumer < length before.loads.items = omega (arith, taken.allowed.0, loads.one_each) in
@@ -106,8 +114,8 @@ overflow_add-index_mut c =
     omega (
       arith,
       count,
-      taken.room,
-      room_small c.args.problem.now c.in-Some.consumer c.requires.standing.placed.limits taken.allowed.0,
+      taken.vacant.room,
+      room_small c.args.problem.now.columns c.in-Some.consumer c.requires.standing.placed.limits taken.allowed.0,
     )
 
 pub returns-clause-left : goal.returns-clause-left

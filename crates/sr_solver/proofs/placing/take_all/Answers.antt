@@ -8,6 +8,9 @@ loop-entry-init c = c.requires.standing
 pub taker-requires-clause-entry : goal.taker-requires-clause-entry
 taker-requires-clause-entry c = omega arith
 
+pub taker-requires-clause-steps_each : goal.taker-requires-clause-steps_each
+taker-requires-clause-steps_each c = c.loop-entry.invariant.are_steps.one_each
+
 pub taker-requires-clause-prices_each : goal.taker-requires-clause-prices_each
 taker-requires-clause-prices_each c = ap length c.deref.ensures.value ∙ c.loop-entry.invariant.placed.one_each
 
@@ -18,7 +21,7 @@ taker-requires-clause-loads_each c =
 pub taker-requires-clause-low : goal.taker-requires-clause-low
 taker-requires-clause-low c =
     let now = c.loop-entry.placement in
-    prices_low c.args.problem.now c.loop-entry.entry now.assign.items now.prices.items c.deref.result.now
+    prices_low c.args.problem.now.columns c.loop-entry.entry now.assign.items now.prices.items c.deref.result.now
     c.loop-entry.invariant.placed
     (omega arith) c.deref.ensures.value
 

@@ -3,13 +3,13 @@ use Rattle.std.proofs.lemmas.Result.{IfOk-from_err}
 use Rattle.sr_solver.proofs.sample.prices_of.Goals as goal
 
 pub loop-init : goal.loop-init
-loop-init c = c.requires
+loop-init c = c.requires.below
 
 pub returns-in_err-rooms : goal.returns-in_err-rooms
 returns-in_err-rooms c = IfOk-from_err _ _ c.from_residual.ensures.0
 
 pub rows-requires : goal.rows-requires
-rows-requires c = rw c.deref.ensures.value c.loop.invariant
+rows-requires c = rw c.deref-in-loop.ensures.value c.loop.invariant
 
 pub returns-in_err-costs : goal.returns-in_err-costs
 returns-in_err-costs c = IfOk-from_err _ _ c.from_residual-in_err-costs.ensures.0
@@ -20,11 +20,11 @@ returns-in_default c = tt
 pub returns-in_err-prices : goal.returns-in_err-prices
 returns-in_err-prices c = IfOk-from_err _ _ c.from_residual-in_err-prices.ensures.0
 
-pub returns-in-Best : goal.returns-in-Best
-returns-in-Best c =
-    (rw c.in-Best.is at c.in_ok-prices.ensures.solution).shown.one_each
+pub returns-in-Placed : goal.returns-in-Placed
+returns-in-Placed c =
+    (rw c.in-Placed.is at c.in_ok-prices.ensures).one_each
     ∙ ap (λ p. length p.rooms) c.in-Some.ensures.value
-    ∙ ap length c.deref-in-loop.ensures.value
+    ∙ ap length c.deref-in-loop-2.ensures.value
     ∙ c.in_ok-rooms.ensures
 
 pub returns-in_err-sample-in-Short : goal.returns-in_err-sample-in-Short

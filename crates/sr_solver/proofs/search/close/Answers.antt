@@ -1,46 +1,31 @@
 use Rattle.std.proofs.Common.{◌+◌, refl, arith}
 use Rattle.sr_solver.proofs.CloseLemmas.{closed_start, cutoff_closing, closed_round}
-use Rattle.sr_solver.proofs.CutoffLemmas.{beyond_cut, cutoff_small}
-use Rattle.sr_solver.proofs.OfferLemmas.{closed_ask, closed_cut, cutoff_asked}
+use Rattle.sr_solver.specs.Cutoff.{length_of}
+use Rattle.sr_solver.proofs.OfferLemmas.{closed_ask, closed_cut}
 use Rattle.sr_solver.proofs.search.close.Goals as goal
 
 pub loop-other-init : goal.loop-other-init
 loop-other-init c = record {
-  table = c.requires.table;
-  closed =
-      closed_start c.args.problem.now c.args.entry c.args.placement.now.assign.items c.args.placement.now.prices.items
-      c.args.cutoff c.args.labels.now c.args.near _ c.requires.round c.requires.nearest c.requires.full
+  table = c.look_over.ensures;
+  closed = closed_start c.args.problem.now.columns c.args.entry c.args.placement.now.assign.items c.args.placement.now.prices.items _ c.args.labels.now c.args.near _ c.requires.round c.requires.nearest
       (record { hops = refl; dist = refl; mover = refl }) refl;
-  cutoff = cutoff_closing c.args.problem.now c.args.placement.now.assign.items c.args.labels.now
-      c.args.near _ _ c.args.cutoff
+  cutoff = cutoff_closing c.args.problem.now.columns c.args.problem.now.steps.now c.args.placement.now.assign.items c.args.placement.now.prices.items c.args.labels.now c.args.near _ c.args.cutoff
       (omega (arith, c.requires.nearest.consumer, c.requires.round.one_each)) c.requires.nearest.not_closed
-      (record { hops = refl; dist = refl; mover = refl }) refl c.requires.cutoff;
+      (record { hops = refl; dist = refl; mover = refl }) refl c.requires.nearer c.requires.cutoff;
 }
 
 pub loop-other-preserved : goal.loop-other-preserved
 loop-other-preserved c =
-    let standing = c.requires.standing in
-    let cut = c.ask-cutoff.ensures.cut in
     let closed =
-    closed_ask c.args.problem.now c.args.entry c.args.placement.now.assign.items c.args.placement.now.prices.items
-    c.loop-other.cutoff c.args.labels.now c.loop-other.labels c.ask-cutoff.new.labels c.args.near
-    c.loop-other.other standing.placed
-    c.requires.nearest.consumer c.loop-other.invariant.closed c.ask-cutoff.ensures.asked in
+    closed_ask c.args.problem.now.columns c.args.entry c.args.placement.now.assign.items c.args.placement.now.prices.items (length_of c.loop-other.cutoff) c.args.labels.now c.loop-other.labels
+    c.ask-cutoff.new.labels c.args.near c.loop-other.other c.requires.standing.placed c.requires.nearest.consumer
+    c.loop-other.invariant.closed c.ask-cutoff.ensures.asked in
     record {
       table = c.ask-cutoff.ensures.table;
-      closed =
-          closed_cut c.args.problem.now c.args.entry c.args.placement.now.assign.items c.args.placement.now.prices.items
-          c.loop-other.cutoff c.ask-cutoff.result c.args.labels.now c.ask-cutoff.new.labels c.args.near
-          (c.loop-other.other + 1)
-          (beyond_cut c.args.problem.now c.args.placement.now.loads.items c.loop-other.other _ c.loop-other.cutoff
-          c.ask-cutoff.result cut) closed;
-      cutoff = cutoff_asked c.args.problem.now c.args.entry c.args.placement.now.assign.items
-          c.args.placement.now.prices.items
-          c.args.placement.now.loads.items c.loop-other.cutoff c.ask-cutoff.result c.args.labels.now c.loop-other.labels
-          c.ask-cutoff.new.labels
-          c.args.near c.loop-other.other standing.placed (omega arith) standing.loads
-          (omega arith) closed c.ask-cutoff.ensures.asked cut
-          c.loop-other.invariant.cutoff;
+      closed = closed_cut c.args.problem.now.columns c.args.entry c.args.placement.now.assign.items c.args.placement.now.prices.items (length_of c.loop-other.cutoff) (length_of c.ask-cutoff.result)
+          c.args.labels.now c.ask-cutoff.new.labels c.args.near (c.loop-other.other + 1)
+          c.ask-cutoff.ensures.later closed;
+      cutoff = c.ask-cutoff.ensures.cutoff;
     }
 
 pub ask-cutoff-requires-clause-entry : goal.ask-cutoff-requires-clause-entry
@@ -62,7 +47,7 @@ pub ask-cutoff-requires-clause-search : goal.ask-cutoff-requires-clause-search
 ask-cutoff-requires-clause-search c = c.loop-other.invariant.closed.search
 
 pub ask-cutoff-requires-clause-cutoff : goal.ask-cutoff-requires-clause-cutoff
-ask-cutoff-requires-clause-cutoff c = cutoff_small _ _ _ _ c.loop-other.cutoff c.loop-other.invariant.cutoff
+ask-cutoff-requires-clause-cutoff c = c.loop-other.invariant.cutoff
 
 pub ask-cutoff-requires-clause-closed : goal.ask-cutoff-requires-clause-closed
 ask-cutoff-requires-clause-closed c = c.loop-other.invariant.closed.closed

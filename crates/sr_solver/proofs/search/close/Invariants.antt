@@ -1,13 +1,15 @@
 use Rattle.sr_transport.specs.{consumers}
 use Rattle.sr_solver.specs.Table.{IsTable}
-use Rattle.sr_solver.specs.Cutoff.{IsCutoff}
+use Rattle.sr_solver.specs.Cutoff.{length_of, IsCutoff}
 use Rattle.sr_solver.specs.Search.{IsClosed}
 use Rattle.sr_solver.proofs.search.close.Given as goal
 
 abbrev pub invariant-loop-other : goal.invariant-loop-other
 invariant-loop-other l = record {
-  table : IsTable l.problem l.placement.assign.items l.table;
-  closed : IsClosed l.problem l.entry l.placement.assign.items l.placement.prices.items l.cutoff l.fn.labels
+  table : IsTable l.problem.columns l.placement.assign.items l.table;
+  closed : IsClosed l.problem.columns l.entry l.placement.assign.items l.placement.prices.items (length_of l.cutoff)
+      l.fn.labels
       l.labels l.near l.other;
-  cutoff : IsCutoff l.problem l.placement.assign.items l.labels (consumers l.problem) l.cutoff;
+  cutoff : IsCutoff l.problem.columns l.problem.steps.now l.placement.assign.items l.placement.prices.items l.labels
+      (consumers l.problem.columns) l.cutoff;
 }

@@ -1,31 +1,24 @@
-use Rattle.std.proofs.Common.{arith, rules}
-use Rattle.sr_solver.proofs.CutoffLemmas.{cutoff_nearest}
+use Rattle.sr_solver.proofs.CutoffLemmas.{found_past, found_closed}
 use Rattle.sr_solver.proofs.SearchLemmas.{started_round}
 use Rattle.sr_solver.proofs.search.search.Goals as goal
 
 pub loop-near-init : goal.loop-near-init
 loop-near-init c = record {
   table = c.requires.table;
-  round = started_round c.args.problem.now c.args.entry c.args.placement.now.assign.items
-      c.args.placement.now.prices.items _ _
+  round = started_round c.args.problem.now.columns c.args.entry c.args.placement.now.assign.items c.args.placement.now.prices.items _ _
       c.requires.standing.placed.limits c.start-cutoff.ensures.started;
   cutoff = c.start-cutoff.ensures.cutoff;
 }
 
-pub returns-then-loads-near-clause-end : goal.returns-then-loads-near-clause-end
-returns-then-loads-near-clause-end c = record {
-  search =
-      cutoff_nearest c.args.problem.now c.args.entry c.args.placement.now.assign.items c.args.placement.now.prices.items
-      c.loop-near.cutoff c.loop-near.labels c.in-Some.near c.loop-near.invariant.round c.loop-near.invariant.cutoff
-      c.in-Some.ensures.some;
-  nearest = c.in-Some.ensures.some;
-  room = omega (
-    arith,
-    rw c.as_slice-loads.ensures.value at c.if-loads-near.true,
-    c.room.ensures,
-    c.requires.standing.loads.each c.in-Some.near c.in-Some.ensures.some.consumer,
-  );
-}
+pub nearest-requires : goal.nearest-requires
+nearest-requires c = c.loop-near.invariant.round.one_each
 
-pub loop-near-preserved : goal.loop-near-preserved
-loop-near-preserved c = search rules
+pub returns-then-is_past-clause-found : goal.returns-then-is_past-clause-found
+returns-then-is_past-clause-found c =
+    found_past c.args.problem.now.columns c.args.problem.now.steps.now c.args.entry c.args.placement.now.assign.items c.args.placement.now.prices.items c.loop-near.labels c.in-Some.near c.loop-near.cutoff c.loop-near.invariant.round
+    c.loop-near.invariant.cutoff c.in-Some.ensures.some (c.is_past.ensures.0 c.if-is_past.true)
+
+pub returns-clause-found : goal.returns-clause-found
+returns-clause-found c =
+    found_closed c.args.problem.now.columns c.args.problem.now.steps.now c.args.entry c.args.placement.now.assign.items c.args.placement.now.prices.items c.loop-near.labels c.loop-near.cutoff c.loop-near.invariant.round
+    c.loop-near.invariant.cutoff c.in_default.ensures.none

@@ -9,7 +9,7 @@ use Rattle.sr_solver.proofs.search.start.Given as goal
 abbrev pub invariant-loop-consumer : goal.invariant-loop-consumer
 invariant-loop-consumer l = record {
   each : (c : ℕ) → c < l.consumer
-      → IsOffered (cost_at l.problem l.entry c) (get_or l.placement.prices.items c 0) (first_offer l.entry) no_label
+      → IsOffered (cost_at l.problem.columns l.entry c) (get_or l.placement.prices.items c 0) (first_offer l.entry) no_label
       (label_at l.labels c);
-  cutoff : IsCutoff l.problem l.placement.assign.items l.labels l.consumer l.cutoff;
+  cutoff : IsCutoff l.problem.columns l.problem.steps.now l.placement.assign.items l.placement.prices.items l.labels l.consumer l.cutoff;
 }

@@ -1,24 +1,18 @@
 use Rattle.std.proofs.Common.{◌∙◌, arith}
 use Rattle.std.proofs.lemmas.Result.{IfOk-from_err}
+use Rattle.sr_solver.proofs.SolvedLemmas.{placed_priced}
 use Rattle.sr_solver.proofs.solution.answer.Goals as goal
 
 pub returns-in_err-placement-clause-solution : goal.returns-in_err-placement-clause-solution
 returns-in_err-placement-clause-solution c = IfOk-from_err _ _ c.from_residual.ensures.0
 
-pub returns-in_err-placement-clause-prices : goal.returns-in_err-placement-clause-prices
-returns-in_err-placement-clause-prices c = IfOk-from_err _ _ c.from_residual.ensures.0
-
 pub returns-in_err-placement-clause-patient : goal.returns-in_err-placement-clause-patient
 returns-in_err-placement-clause-patient c = λ yes. IfOk-from_err _ _ c.from_residual.ensures.0
 
-pub best-requires : goal.best-requires
-best-requires c = (rw (c.if-taken-entries.true ∙ c.entries.ensures) at c.take_all-taken.ensures.standing).placed
-
 pub returns-then-taken-entries-clause-solution : goal.returns-then-taken-entries-clause-solution
-returns-then-taken-entries-clause-solution c = c.best.ensures.solution
-
-pub returns-then-taken-entries-clause-prices : goal.returns-then-taken-entries-clause-prices
-returns-then-taken-entries-clause-prices c = c.best.ensures.prices
+returns-then-taken-entries-clause-solution c =
+    placed_priced c.args.problem.now.columns c.args.problem.now.steps.now c.take_all-taken.new.placement
+    (rw (c.if-taken-entries.true ∙ c.entries.ensures) at c.take_all-taken.ensures.standing)
 
 pub finish-requires-clause-first : goal.finish-requires-clause-first
 finish-requires-clause-first c = omega arith
@@ -28,9 +22,6 @@ finish-requires-clause-standing c = c.take_all-taken.ensures.standing
 
 pub returns-clause-solution : goal.returns-clause-solution
 returns-clause-solution c = c.finish.ensures.solution
-
-pub returns-clause-prices : goal.returns-clause-prices
-returns-clause-prices c = c.finish.ensures.prices
 
 pub returns-clause-patient : goal.returns-clause-patient
 returns-clause-patient c = c.finish.ensures.patient

@@ -4,6 +4,7 @@ use Rattle.std.proofs.lemmas.Result.{IfOk-from_err}
 use Rattle.std.proofs.lemmas.List.{take_at}
 use Rattle.sr_transport.specs.{consumers}
 use Rattle.sr_solver.proofs.ShortageLemmas.{stuck_short_is}
+use Rattle.sr_solver.proofs.SolvedLemmas.{placed_priced}
 use Rattle.sr_solver.proofs.solution.finish.Goals as goal
 
 pub place_all-requires-clause-table : goal.place_all-requires-clause-table
@@ -14,13 +15,13 @@ stranded-requires-clause-entry c = rw (c.deref.ensures.value, c.in-Stuck.ensures
 
 pub stranded-requires-clause-placed : goal.stranded-requires-clause-placed
 stranded-requires-clause-placed c i lt =
-    let many : length c.deref-in-Stuck.result.now ≡ consumers c.args.problem.now =
+    let many : length c.deref-in-Stuck.result.now ≡ consumers c.args.problem.now.columns =
     c.deref-in-Stuck.ensures.len ∙ c.in_ok-labels.ensures.len ∙ c.consumers.ensures.count in
     rw (c.deref.ensures.value, many) (c.in-Stuck.ensures.placed_below i lt).0
 
 pub returns-in_ok-set-in-Stuck-clause-solution : goal.returns-in_ok-set-in-Stuck-clause-solution
 returns-in_ok-set-in-Stuck-clause-solution c =
-    stuck_short_is c.args.problem.now c.in-Stuck.entry c.place_all.new.placement.assign.items
+    stuck_short_is c.args.problem.now.columns c.in-Stuck.entry c.place_all.new.placement.assign.items
     c.place_all.new.placement.prices.items
     c.place_all.new.labels c.deref.result.now c.deref-in-Stuck.result.now c.in_ok-set-in-Stuck.set.items
     c.in-Stuck.ensures
@@ -31,17 +32,11 @@ returns-in_ok-set-in-Stuck-clause-solution c =
 pub returns-in_err-table-clause-solution : goal.returns-in_err-table-clause-solution
 returns-in_err-table-clause-solution c = IfOk-from_err _ _ c.from_residual.ensures.0
 
-pub returns-in_err-table-clause-prices : goal.returns-in_err-table-clause-prices
-returns-in_err-table-clause-prices c = IfOk-from_err _ _ c.from_residual.ensures.0
-
 pub returns-in_err-table-clause-patient : goal.returns-in_err-table-clause-patient
 returns-in_err-table-clause-patient c = λ yes. IfOk-from_err _ _ c.from_residual.ensures.0
 
 pub returns-in_err-labels-clause-solution : goal.returns-in_err-labels-clause-solution
 returns-in_err-labels-clause-solution c = IfOk-from_err _ _ c.from_residual-in_err-labels.ensures.0
-
-pub returns-in_err-labels-clause-prices : goal.returns-in_err-labels-clause-prices
-returns-in_err-labels-clause-prices c = IfOk-from_err _ _ c.from_residual-in_err-labels.ensures.0
 
 pub returns-in_err-labels-clause-patient : goal.returns-in_err-labels-clause-patient
 returns-in_err-labels-clause-patient c = λ yes. IfOk-from_err _ _ c.from_residual-in_err-labels.ensures.0
@@ -59,23 +54,15 @@ place_all-requires-clause-labels c =
 pub place_all-requires-clause-standing : goal.place_all-requires-clause-standing
 place_all-requires-clause-standing c = c.requires.standing
 
-pub best-requires : goal.best-requires
-best-requires c = c.in-Placed.ensures.placed
-
 pub returns-in_err-set-in-Stuck-clause-solution : goal.returns-in_err-set-in-Stuck-clause-solution
 returns-in_err-set-in-Stuck-clause-solution c = IfOk-from_err _ _ c.from_residual-in_err-set-in-Stuck.ensures.0
-
-pub returns-in_err-set-in-Stuck-clause-prices : goal.returns-in_err-set-in-Stuck-clause-prices
-returns-in_err-set-in-Stuck-clause-prices c = IfOk-from_err _ _ c.from_residual-in_err-set-in-Stuck.ensures.0
 
 pub returns-in_err-set-in-Stuck-clause-patient : goal.returns-in_err-set-in-Stuck-clause-patient
 returns-in_err-set-in-Stuck-clause-patient c = λ yes. IfOk-from_err _ _ c.from_residual-in_err-set-in-Stuck.ensures.0
 
 pub returns-in-Placed-clause-solution : goal.returns-in-Placed-clause-solution
-returns-in-Placed-clause-solution c = c.best.ensures.solution
-
-pub returns-in-Placed-clause-prices : goal.returns-in-Placed-clause-prices
-returns-in-Placed-clause-prices c = c.best.ensures.prices
+returns-in-Placed-clause-solution c =
+    placed_priced c.args.problem.now.columns c.args.problem.now.steps.now c.place_all.new.placement c.in-Placed.ensures
 
 pub returns-in-Slow-clause-patient : goal.returns-in-Slow-clause-patient
 returns-in-Slow-clause-patient c = λ yes. absurd (false≢true (sym c.in-Slow.ensures ∙ yes))

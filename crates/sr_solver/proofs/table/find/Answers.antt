@@ -1,13 +1,12 @@
-use Rattle.std.proofs.Common.{◌≡◌, ℕ, ◌+◌, ◌*◌, ◌<◌, Option, List, Fits, w64, length, get_or, refl, sym, ap, ◌∙◌, arith}
+use Rattle.std.proofs.Common.{◌≡◌, ℕ, ◌+◌, ◌*◌, ◌<◌, Option, List, get_or, refl, sym, ap, ◌∙◌, arith}
 use Rattle.std.specs.Prelude.{unwrap_or}
-use Rattle.sr_transport.specs.{Transport, consumers}
-use Rattle.sr_transport.specs.plain.Problem.{IsWithinLimits, cost_of}
+use Rattle.sr_transport.specs.plain.Problem.{cost_of}
 use Rattle.sr_transport.specs.plain.Assignment.{load}
 use Rattle.sr_transport.proofs.PlainLimitLemmas.{cost_at_small, cost_small}
 use Rattle.sr_solver.specs.Members.{AreMembers}
 use Rattle.sr_solver.specs.Table.{IsAt}
 use Rattle.sr_solver.proofs.TableLemmas.{lowered_is}
-use Rattle.sr_solver.proofs.MembersLemmas.{IsRow, row_of, seen_more, seen_all}
+use Rattle.sr_solver.proofs.MembersLemmas.{row_in, first_in, other_in, seen_more, seen_all}
 use Rattle.sr_solver.proofs.table.find.Goals as goal
 
 pub loop-place-preserved : goal.loop-place-preserved
@@ -44,57 +43,39 @@ returns-clause-known c =
     c.args.from c.args.to c.loop-place.found c.requires.from are_members refl (omega arith)
     c.loop-place.invariant.known
 
--- the row of the consumer, and what fits within it
-row_in : (p : Transport) (w from : ℕ) (xs held members : List ℕ) → IsWithinLimits p.rooms p.entries p.costs
-    → members ≡ held → AreMembers p w xs held → from < consumers p → IsRow members (from * w) w (load xs from)
-row_in p w from xs held members limits same are lt =
-    row_of p w (load xs) (IsAt xs p.entries) members from (from * w) limits (rw same are) lt refl
-
-first : (members : List ℕ) (row w n : ℕ) → IsRow members row w n
-    → (row < length members) × Fits w64 (row * 8) × Fits w64 row
-first members row w n is =
-    (omega (arith, is.fits, is.room), omega (arith, is.short, is.room), omega (arith, is.short, is.room))
-
-other : (members : List ℕ) (row w n place : ℕ) → IsRow members row w n → place < get_or members row 0
-    → (row + 1 + place < length members) × Fits w64 ((row + 1 + place) * 8) × Fits w64 (row + 1 + place)
-    × Fits w64 (row + 1)
-other members row w n place is lt =
-    let within : row + 1 + place < length members = omega (arith, lt, is.count, is.fits, is.room) in
-    (within, omega (arith, within, is.short), omega (arith, within, is.short), omega (arith, within, is.short))
-
 pub bounds-members-row : goal.bounds-members-row
 bounds-members-row c =
-    (first _ _ _ _ (row_in c.args.problem.now c.args.placement.now.width c.args.from _ _ _ c.requires.limits
+    (first_in _ _ _ _ (row_in c.args.problem.now c.args.placement.now.width c.args.from _ _ _ c.requires.limits
     c.as_slice-members.ensures.value c.requires.members c.requires.from)).0
 
 pub offset_bounds-members-row : goal.offset_bounds-members-row
 offset_bounds-members-row c =
-    (first _ _ _ _ (row_in c.args.problem.now c.args.placement.now.width c.args.from _ _ _ c.requires.limits
+    (first_in _ _ _ _ (row_in c.args.problem.now c.args.placement.now.width c.args.from _ _ _ c.requires.limits
     c.as_slice-members.ensures.value c.requires.members c.requires.from)).1
 
 pub overflow_mul-row : goal.overflow_mul-row
 overflow_mul-row c =
-    (first _ _ _ _ (row_in c.args.problem.now c.args.placement.now.width c.args.from _ _ _ c.requires.limits
+    (first_in _ _ _ _ (row_in c.args.problem.now c.args.placement.now.width c.args.from _ _ _ c.requires.limits
     c.as_slice-members.ensures.value c.requires.members c.requires.from)).2
 
 pub bounds-members-row-in-loop-place : goal.bounds-members-row-in-loop-place
 bounds-members-row-in-loop-place c =
-    (other _ _ _ _ _ (row_in c.args.problem.now c.args.placement.now.width c.args.from _ _ _ c.requires.limits
+    (other_in _ _ _ _ _ (row_in c.args.problem.now c.args.placement.now.width c.args.from _ _ _ c.requires.limits
     c.as_slice-members.ensures.value c.requires.members c.requires.from) c.loop-place-test.true).0
 
 pub offset_bounds-members-row-in-loop-place : goal.offset_bounds-members-row-in-loop-place
 offset_bounds-members-row-in-loop-place c =
-    (other _ _ _ _ _ (row_in c.args.problem.now c.args.placement.now.width c.args.from _ _ _ c.requires.limits
+    (other_in _ _ _ _ _ (row_in c.args.problem.now c.args.placement.now.width c.args.from _ _ _ c.requires.limits
     c.as_slice-members.ensures.value c.requires.members c.requires.from) c.loop-place-test.true).1
 
 pub overflow_add-other-in-loop-place : goal.overflow_add-other-in-loop-place
 overflow_add-other-in-loop-place c =
-    (other _ _ _ _ _ (row_in c.args.problem.now c.args.placement.now.width c.args.from _ _ _ c.requires.limits
+    (other_in _ _ _ _ _ (row_in c.args.problem.now c.args.placement.now.width c.args.from _ _ _ c.requires.limits
     c.as_slice-members.ensures.value c.requires.members c.requires.from) c.loop-place-test.true).2
 
 pub overflow_add-other : goal.overflow_add-other
 overflow_add-other c =
-    (other _ _ _ _ _ (row_in c.args.problem.now c.args.placement.now.width c.args.from _ _ _ c.requires.limits
+    (other_in _ _ _ _ _ (row_in c.args.problem.now c.args.placement.now.width c.args.from _ _ _ c.requires.limits
     c.as_slice-members.ensures.value c.requires.members c.requires.from) c.loop-place-test.true).3
 
 pub loop-place-init : goal.loop-place-init
