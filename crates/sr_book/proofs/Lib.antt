@@ -12,5 +12,4 @@ pub mod ServeLemmas
 pub mod SessionLaws
 pub mod SessionLemmas
 pub mod SnapLemmas
-pub mod TwiceLemmas
 pub mod WatchedLemmas

@@ -18,8 +18,6 @@ use Rattle.sr_space.specs.Keys.{Keys}
 use Rattle.sr_space.specs.declared.blocking.Outcome.{Outcome}
 use Rattle.sr_space.specs.declared.blocking.Outcome.TheVariants as outcomes
 use Rattle.sr_space.specs.declared.snap.SnapFault.{SnapFault}
-use Rattle.sr_space.specs.declared.outcome.Answered.{Answered}
-use Rattle.sr_space.specs.declared.outcome.Answered.TheVariants as answers
 use Rattle.sr_waiters.specs.{Waiting, has_session}
 use Rattle.sr_book.specs.Records.{AreServings, BookState, IsHistory, IsRefusal, IsStepped, LeadsBy, Legal, Recorded, Steps, addressed, event_record, event_server, is_serving, next_index, next_moment, to_session}
 use Rattle.sr_book.specs.Server.{AreBelow, AreOpen, Server, Serving, Session, acted, board_reply, called, concluded, empty_server, fresh_snapshot, is_busy, is_open, keys_after, outdated, refusal, replied}
@@ -40,7 +38,6 @@ use Rattle.sr_book.proofs.OpenLemmas.{is_open-with_letter, open-called, open-exp
 use Rattle.sr_book.proofs.HeardLemmas.{Asks, SendsAnswer, acted-heard, asks-busy, asks-speaker}
 use Rattle.sr_book.proofs.ServeLemmas.{serving-read}
 use Rattle.sr_book.proofs.SessionLemmas.{differs-below}
-use Rattle.sr_book.proofs.TwiceLemmas.{IsTwice, at_once-twice}
 
 -- the session is open and does not wait
 abbrev pub IsIdleIn : ℕ → Server → Type 0
@@ -191,15 +188,12 @@ abbrev AreAlike : Outcome → Type 0
 AreAlike (outcomes.Reply send keep) = send ≡ keep
 AreAlike (outcomes.Blocked call deadline) = Unit {0}
 
-alike-at_once : (done : Answered) → IsTwice done → AreAlike (outcome_of done)
-alike-at_once (answers.Reply send keep) same = same
-
 executed-alike : (keys : Keys) (moment : ℕ) (call : Call) → AreAlike (executed keys moment call).outcome
 executed-alike keys moment call = by (block_of call) (finds_nothing keys moment call)
   where
     by : (block : Option ℕ) (nothing : Bool) → AreAlike (answered_or_waits block nothing keys moment call).outcome
-    by None nothing = alike-at_once (at_once keys moment call).outcome (at_once-twice keys moment call)
-    by (Some wait) false = alike-at_once (at_once keys moment call).outcome (at_once-twice keys moment call)
+    by None nothing = refl
+    by (Some wait) false = refl
     by (Some wait) true = tt
 
 to_session-own : (session : ℕ) (keep : ReplyParts) → to_session session ((session, keep) ∷ []) ≡ keep ∷ []
@@ -239,8 +233,8 @@ block_of-without_block (calls.Xread call) = refl
 block_of-without_block (calls.Xreadgroup call) = refl
 block_of-without_block call = refl
 
-called-replies : (session moment : ℕ) (server : Server) (keys : Keys) (done : Answered) → (reply : ReplyParts) × ((called session moment server keys (outcome_of done)).out ≡ outs.Reply reply)
-called-replies session moment server keys (answers.Reply send keep) = (send, refl)
+called-replies : (session moment : ℕ) (server : Server) (keys : Keys) (done : ReplyParts) → (reply : ReplyParts) × ((called session moment server keys (outcome_of done)).out ≡ outs.Reply reply)
+called-replies session moment server keys done = (done, refl)
 
 executed-unblocked : (keys : Keys) (moment : ℕ) (call : Call) → block_of call ≡ None → (executed keys moment call).outcome ≡ outcome_of (at_once keys moment call).outcome
 executed-unblocked keys moment call none = rw none refl

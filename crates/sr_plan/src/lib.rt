@@ -4,7 +4,6 @@
 mod batch;
 mod batches;
 mod calls;
-mod judgement;
 mod moves;
 mod prices;
 mod reply;

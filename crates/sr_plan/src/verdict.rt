@@ -6,14 +6,18 @@ ghost use Rattle.sr_check.specs.{verdict_answer};
 ghost use Rattle.sr_plan.specs.Verdict.{IsVerdict, IsWorth, total_in, prices_in, moves_in, shortage_in};
 
 use crate::batch::Batch;
-use crate::judgement::Judgement;
+use crate::batches::batches_of;
+use crate::calls::calls_for;
 use crate::moves::{Moves, Shortage};
 use crate::prices::Prices;
+use crate::reply::{plan_reply, shortage_reply};
 use sr_args::Call;
 use sr_bytes::Name;
 use sr_ids::Id;
-use sr_policy::Snapshot;
+use sr_policy::{Snapshot, problem};
 use sr_resp::Reply;
+use sr_solver::solve;
+use sr_transport::Solved;
 use std::alloc::{AllocError, Global};
 use std::marker::Model;
 
@@ -22,6 +26,12 @@ use std::marker::Model;
 /// It is kept in a block of its own, so that what holds a verdict, as an event does, is as small without one.
 pub struct Verdict {
     judged: Box<Judgement>,
+}
+
+#[derive(Drop)]
+struct Judgement {
+    snapshot: Snapshot,
+    solved: Solved,
 }
 
 // A function of its own, so that a caller that lets go of one is proved without looking at its parts.
@@ -33,12 +43,13 @@ impl Drop for Verdict {
 
 impl Model for Verdict {
     ghost use Rattle.sr_plan.specs.Verdict.{IsVerdict, Judged};
+    ghost use Rattle.sr_plan.specs.steps.Judged.{judged_in};
 
     ghost Value = { Judged };
 
-    ghost view = { λ v. v.judged.value };
+    ghost view = { λ v. judged_in v.judged.value };
 
-    ghost invariant = { λ v. IsVerdict v.judged.value };
+    ghost invariant = { λ v. IsVerdict (judged_in v.judged.value) };
 }
 
 impl Verdict {
@@ -48,9 +59,10 @@ impl Verdict {
     pub fn make(alloc: Global, snapshot: Snapshot) -> Result<Verdict, AllocError>
         ensures { IfOk result (λ verdict. verdict.snapshot ≡ snapshot) }
     {
-        let judged = Judgement::make(alloc, snapshot)?;
-        judged.sound();
-        let judged = Box::new(alloc, judged)?;
+        snapshot.sound();
+        let problem = problem(alloc, &snapshot)?;
+        let solved = solve(alloc, &problem)?;
+        let judged = Box::new(alloc, Judgement { snapshot, solved })?;
         Ok(Verdict { judged })
     }
 
@@ -58,7 +70,7 @@ impl Verdict {
     pub fn snapshot(&self) -> &Snapshot
         ensures { result.now ≡ self.now.snapshot }
     {
-        self.judged.as_ref().snapshot()
+        &self.judged.snapshot
     }
 
     /// Law: a verdict shows that it is right, by its prices or by its shortage. Calling this has no effect.
@@ -74,7 +86,7 @@ impl Verdict {
     pub fn optimal(&self)
         ensures { IsWorth (problem_of self.now.snapshot) self.now.answer }
     {
-        self.judged.as_ref().optimal();
+        let _ = &self.judged;
     }
 
     /// What a plan costs: the sum of rate times weight over its moves, and of the fees of entries beyond soft limits.
@@ -82,7 +94,10 @@ impl Verdict {
     pub fn total(&self) -> Option<u64>
         ensures { result ≡ total_in self.now.answer }
     {
-        self.judged.as_ref().total()
+        match &self.judged.solved {
+            Solved::Best { total, .. } => Some(*total),
+            Solved::Short { .. } => None,
+        }
     }
 
     /// The prices that show a plan to be a cheapest one: each live consumer, in their order, with one for each of its
@@ -90,14 +105,28 @@ impl Verdict {
     pub fn prices(&self) -> Option<Prices<'_>>
         ensures { result ≡ prices_in self.now.snapshot self.now.answer }
     {
-        self.judged.as_ref().prices()
+        let judged = &*self.judged;
+        match &judged.solved {
+            Solved::Best { prices, .. } => {
+                Some(Prices::new(judged.snapshot.live(), prices.as_slice()))
+            }
+            Solved::Short { .. } => None,
+        }
     }
 
     /// The moves of a plan: each stranded entry with the consumer that it goes to, by id. `None` for a shortage.
     pub fn moves(&self) -> Option<Moves<'_>>
         ensures { result ≡ moves_in self.now.snapshot self.now.answer }
     {
-        self.judged.as_ref().moves()
+        let judged = &*self.judged;
+        match &judged.solved {
+            Solved::Best { assign, .. } => Some(Moves::new(
+                judged.snapshot.stranded(),
+                assign.as_slice(),
+                judged.snapshot.live(),
+            )),
+            Solved::Short { .. } => None,
+        }
     }
 
     /// The entries of a shortage, by id: they are more than the places at all consumers that any of them is allowed.
@@ -105,7 +134,13 @@ impl Verdict {
     pub fn shortage(&self) -> Option<Shortage<'_>>
         ensures { result ≡ shortage_in self.now.snapshot self.now.answer }
     {
-        self.judged.as_ref().shortage()
+        let judged = &*self.judged;
+        match &judged.solved {
+            Solved::Best { .. } => None,
+            Solved::Short { set } => {
+                Some(Shortage::new(set.as_slice(), judged.snapshot.stranded()))
+            }
+        }
     }
 
     /// The entries that are pending for the dead and no longer in the stream, by id, each with its owner. No plan moves
@@ -113,14 +148,18 @@ impl Verdict {
     pub fn gone(&self) -> &[(Id, Name)]
         ensures { result.now ≡ self.now.snapshot.gone }
     {
-        self.judged.as_ref().gone()
+        self.judged.snapshot.gone()
     }
 
     /// What a plan gives each consumer that gets entries, in byte order of their names. A shortage gives nothing.
     pub fn batches(&self, alloc: Global) -> Result<Vec<Batch<'_>>, AllocError>
         ensures { IfOk result (λ batches. batches.items ≡ batches_in self.now.snapshot self.now.answer) }
     {
-        self.judged.as_ref().batches(alloc)
+        let judged = &*self.judged;
+        match &judged.solved {
+            Solved::Best { assign, .. } => batches_of(alloc, &judged.snapshot, assign.as_slice()),
+            Solved::Short { .. } => Ok(Vec::new(alloc)),
+        }
     }
 
     /// The calls of XCLAIM that carry out a plan: one for each consumer that gets entries, in byte order of their
@@ -130,7 +169,8 @@ impl Verdict {
     pub fn claim_calls(&self, alloc: Global) -> Result<Vec<Call>, AllocError>
         ensures { IfOk result (λ calls. calls.items ≡ claim_calls self.now.snapshot self.now.answer) }
     {
-        self.judged.as_ref().claim_calls(alloc)
+        let batches = self.batches(alloc)?;
+        calls_for(alloc, &self.judged.snapshot, batches.as_slice())
     }
 
     /// The verdict as RECOVER.PLAN replies it, or, if it was carried out, as RECOVER.RUN does.
@@ -139,6 +179,21 @@ impl Verdict {
     pub fn reply(&self, alloc: Global, applied: bool) -> Result<Reply, AllocError>
         ensures { IfOk result (λ reply. reply ≡ verdict_answer self.now.snapshot self.now.answer applied) }
     {
-        self.judged.as_ref().reply(alloc, applied)
+        let judged = &*self.judged;
+        match &judged.solved {
+            Solved::Best {
+                assign,
+                prices,
+                total,
+            } => plan_reply(
+                alloc,
+                &judged.snapshot,
+                assign.as_slice(),
+                prices.as_slice(),
+                *total,
+                applied,
+            ),
+            Solved::Short { set } => shortage_reply(alloc, &judged.snapshot, set.as_slice()),
+        }
     }
 }

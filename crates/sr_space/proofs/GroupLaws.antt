@@ -22,7 +22,7 @@ use Rattle.sr_stream.proofs.LendingLemmas.{IsStream-with_groups}
 use Rattle.sr_space.specs.declared.grouped.Missing.{Missing}
 use Rattle.sr_space.specs.declared.grouped.Missing.TheVariants.{Zero, NoGroup, NoKey}
 use Rattle.sr_space.specs.Grouped.{Regrouped, at_group, in_group, regrouped}
-use Rattle.sr_space.specs.Touched.{refuses, reply_of, writes}
+use Rattle.sr_space.specs.Touched.{refuses, writes}
 use Rattle.sr_space.specs.commands.Xack.{acknowledged, xack}
 use Rattle.sr_space.specs.commands.Xclaim.{autoclaimed, claimed, xautoclaim, xclaim}
 use Rattle.sr_space.specs.commands.Xgroup.{consumer_made, consumer_removed, id_of, made_in, xgroup_create, xgroup_create_consumer, xgroup_del_consumer, xgroup_destroy, xgroup_set_id, yes_or_no}
@@ -30,7 +30,7 @@ use Rattle.sr_space.proofs.Lawful.{IsLawful, IsStream-empty}
 
 -- a command that leaves its group where it replies an error
 abbrev LeavesOnError : (List Entry → GroupState → Regrouped) → Type 0
-LeavesOnError f = (entries : List Entry) (group : GroupState) (code : ErrCode) → (f entries group).outcome ≡ reply_of (error_reply code) → (f entries group).written ≡ None
+LeavesOnError f = (entries : List Entry) (group : GroupState) (code : ErrCode) → (f entries group).outcome ≡ error_reply code → (f entries group).written ≡ None
 
 module _ (missing : Missing) (f : List Entry → GroupState → Regrouped) (name : List ℕ) where
   IsStream-regrouped : (stream : StreamState) (written : Option GroupState) → IsStream stream → IfSome (regrouped name stream written) IsStream
@@ -41,7 +41,7 @@ module _ (missing : Missing) (f : List Entry → GroupState → Regrouped) (name
   at_group-sound stream None is = tt
   at_group-sound stream (Some group) is = IsStream-regrouped stream (f stream.entries group).written is
 
-  at_group-errors : LeavesOnError f → (stream : StreamState) (found : Option GroupState) (code : ErrCode) → (at_group missing f name stream found).outcome ≡ reply_of (error_reply code)
+  at_group-errors : LeavesOnError f → (stream : StreamState) (found : Option GroupState) (code : ErrCode) → (at_group missing f name stream found).outcome ≡ error_reply code
       → (at_group missing f name stream found).written ≡ None
   at_group-errors leaves stream None code e = refl
   at_group-errors leaves stream (Some group) code e = rw (leaves stream.entries group code e) refl
@@ -53,7 +53,7 @@ module _ (missing : Missing) (f : List Entry → GroupState → Regrouped) (name
       sound None is = tt
       sound (Some stream) is = at_group-sound stream (group_with name stream.groups) is
 
-      errors : (found : Option StreamState) (code : ErrCode) → (in_group missing f name found).outcome ≡ reply_of (error_reply code) → (in_group missing f name found).written ≡ None
+      errors : (found : Option StreamState) (code : ErrCode) → (in_group missing f name found).outcome ≡ error_reply code → (in_group missing f name found).written ≡ None
       errors None code e = refl
       errors (Some stream) code e = at_group-errors leaves stream (group_with name stream.groups) code e
 
@@ -70,7 +70,7 @@ module _ (moment : ℕ) (consumer : List ℕ) (claim : Claim) (group : List ℕ)
   IsLawful-xautoclaim start count = IsLawful-in_group NoGroup (autoclaimed moment consumer claim start count) group (λ entries g code e. absurd (cc))
 
 -- XGROUP CREATECONSUMER and DELCONSUMER
-answered_no_error : (yes : Bool) (code : ErrCode) → reply_of (yes_or_no yes) ≡ reply_of (error_reply code) → ⊥
+answered_no_error : (yes : Bool) (code : ErrCode) → yes_or_no yes ≡ error_reply code → ⊥
 answered_no_error true code e = cc
 answered_no_error false code e = cc
 
@@ -85,7 +85,7 @@ unless-sound : (refused : Bool) (code : ErrCode) (stream : StreamState) (answer 
 unless-sound true code stream answer is = tt
 unless-sound false code stream answer is = is
 
-unless-errors : (refused : Bool) (code other : ErrCode) (stream : StreamState) (word : Word) → (cond refused (refuses code) (writes stream (simple_string word))).outcome ≡ reply_of (error_reply other)
+unless-errors : (refused : Bool) (code other : ErrCode) (stream : StreamState) (word : Word) → (cond refused (refuses code) (writes stream (simple_string word))).outcome ≡ error_reply other
     → (cond refused (refuses code) (writes stream (simple_string word))).written ≡ None
 unless-errors true code other stream word e = refl
 unless-errors false code other stream word e = absurd (cc)
@@ -94,7 +94,7 @@ if-sound : (test : Bool) (code : ErrCode) (stream : StreamState) (answer : Reply
 if-sound true code stream answer is = is
 if-sound false code stream answer is = tt
 
-if-errors : (test : Bool) (code other : ErrCode) (stream : StreamState) (word : Word) → (cond test (writes stream (simple_string word)) (refuses code)).outcome ≡ reply_of (error_reply other)
+if-errors : (test : Bool) (code other : ErrCode) (stream : StreamState) (word : Word) → (cond test (writes stream (simple_string word)) (refuses code)).outcome ≡ error_reply other
     → (cond test (writes stream (simple_string word)) (refuses code)).written ≡ None
 if-errors true code other stream word e = absurd (cc)
 if-errors false code other stream word e = refl
@@ -109,7 +109,7 @@ module _ (group : List ℕ) (from : Position) where
       unless-sound (has_group group stream.groups) errors.BusyGroup (made stream) (simple_string words.Ok)
       (IsStream-with_groups stream (with_group group (new_group (id_of from stream)) stream.groups) is (AreInOrder-with_group group (new_group (id_of from stream)) stream.groups is.in_order))
 
-  made-errors : (stream : StreamState) (code : ErrCode) → (made_in group from stream).outcome ≡ reply_of (error_reply code) → (made_in group from stream).written ≡ None
+  made-errors : (stream : StreamState) (code : ErrCode) → (made_in group from stream).outcome ≡ error_reply code → (made_in group from stream).written ≡ None
   made-errors stream code e = unless-errors (has_group group stream.groups) errors.BusyGroup code (made stream) words.Ok e
 
   pub IsLawful-create : (make : Bool) → IsLawful (xgroup_create group from make)
@@ -120,7 +120,7 @@ module _ (group : List ℕ) (from : Position) where
       sound true None is = made-sound empty_stream IsStream-empty
       sound false None is = tt
 
-      refused : (make : Bool) (found : Option StreamState) (code : ErrCode) → (xgroup_create group from make found).outcome ≡ reply_of (error_reply code) → (xgroup_create group from make found).written ≡ None
+      refused : (make : Bool) (found : Option StreamState) (code : ErrCode) → (xgroup_create group from make found).outcome ≡ error_reply code → (xgroup_create group from make found).written ≡ None
       refused make (Some stream) code e = made-errors stream code e
       refused true None code e = made-errors empty_stream code e
       refused false None code e = refl
@@ -155,7 +155,7 @@ module _ (group : List ℕ) (from : Position) where
           if-sound (has_group group stream.groups) errors.NoGroup (moved stream) (simple_string words.Ok)
           (IsStream-with_groups stream (with_last group (id_of from stream) stream.groups) is (AreInOrder-last group (id_of from stream) stream.groups is.in_order))
 
-      refused : (found : Option StreamState) (code : ErrCode) → (xgroup_set_id group from found).outcome ≡ reply_of (error_reply code) → (xgroup_set_id group from found).written ≡ None
+      refused : (found : Option StreamState) (code : ErrCode) → (xgroup_set_id group from found).outcome ≡ error_reply code → (xgroup_set_id group from found).written ≡ None
       refused None code e = refl
       refused (Some stream) code e = if-errors (has_group group stream.groups) errors.NoGroup code (moved stream) words.Ok e
 
@@ -167,6 +167,6 @@ IsLawful-destroy group = record { sound = sound; errors = refused }
     sound None is = tt
     sound (Some stream) is = IsStream-with_groups stream (without_group group stream.groups) is (AreInOrder-without_group group stream.groups is.in_order)
 
-    refused : (found : Option StreamState) (code : ErrCode) → (xgroup_destroy group found).outcome ≡ reply_of (error_reply code) → (xgroup_destroy group found).written ≡ None
+    refused : (found : Option StreamState) (code : ErrCode) → (xgroup_destroy group found).outcome ≡ error_reply code → (xgroup_destroy group found).written ≡ None
     refused None code e = refl
     refused (Some stream) code e = absurd (answered_no_error (has_group group stream.groups) code e)

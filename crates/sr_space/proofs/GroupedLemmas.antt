@@ -6,7 +6,7 @@ use Rattle.sr_stream.specs.{ByName, group_with, with_group, StreamState, with_gr
 use Rattle.sr_stream.specs.Groups.{AreInOrder}
 use Rattle.sr_stream.proofs.GroupsLemmas.{with_group-same}
 use Rattle.sr_space.specs.declared.grouped.Missing.{Missing}
-use Rattle.sr_space.specs.declared.outcome.Answered.{Answered}
+use Rattle.sr_resp.specs.{ReplyParts}
 use Rattle.sr_space.specs.Grouped.{Regrouped, at_group, group_left, regrouped}
 use Rattle.sr_space.specs.Touched.{left_of}
 
@@ -25,6 +25,6 @@ module _ (missing : Missing) (f : List Entry → GroupState → Regrouped) (name
       by None same = ap (λ (g : GroupState). with_groups (with_group name g stream.groups) stream) same ∙ group-stays group order found
       by (Some written) same = ap (λ (g : GroupState). with_groups (with_group name g stream.groups) stream) same
 
-  pub outcome-left : (group : GroupState) (outcome : Answered) → group_with name stream.groups ≡ Some group → outcome ≡ (f stream.entries group).outcome
+  pub outcome-left : (group : GroupState) (outcome : ReplyParts) → group_with name stream.groups ≡ Some group → outcome ≡ (f stream.entries group).outcome
       → outcome ≡ (at_group missing f name stream (group_with name stream.groups)).outcome
   outcome-left group outcome found is = rw found is

@@ -6,7 +6,7 @@ use Rattle.sr_resp.specs.declared.code.ErrCode.{ErrCode}
 use Rattle.sr_resp.specs.{ReplyParts, error_reply}
 use Rattle.sr_stream.specs.{StreamState, IsStream}
 use Rattle.sr_space.specs.Keys.{Key, Keys, stream_at, with_stream, AreStreams}
-use Rattle.sr_space.specs.Touched.{Executed, Touched, at_key, left_at, reply_of, unchanged}
+use Rattle.sr_space.specs.Touched.{Executed, Touched, at_key, left_at, unchanged}
 use Rattle.sr_space.proofs.Lawful.{IsLawful}
 
 other_key : (a b : Key) → a ≢ b → pointwise nat_eq a b ≡ false
@@ -78,7 +78,7 @@ IsSome-left_at keys key other (Some changed) there = IsSome-with_stream keys key
 -- a command that leaves sound streams and each key that is there, and all keys if it replies an error
 pub record KeepsKeys (keys : Keys) (at_once : Executed) : Type 0 where
   pub sound : AreStreams keys → AreStreams at_once.keys
-  pub errors : (code : ErrCode) → at_once.outcome ≡ reply_of (error_reply code) → at_once.keys ≡ keys
+  pub errors : (code : ErrCode) → at_once.outcome ≡ error_reply code → at_once.keys ≡ keys
   pub stay : (key : Key) → IsSome (stream_at keys key) → IsSome (stream_at at_once.keys key)
 
 -- such are one that only reads, and a lawful one at one key

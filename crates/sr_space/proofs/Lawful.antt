@@ -4,14 +4,14 @@ use Rattle.std.specs.Prelude.{IfSome}
 use Rattle.sr_resp.specs.declared.code.ErrCode.{ErrCode}
 use Rattle.sr_resp.specs.{ReplyParts, error_reply, integer}
 use Rattle.sr_stream.specs.{StreamState, IsStream, empty_stream}
-use Rattle.sr_space.specs.Touched.{Touched, reply_of, replies}
+use Rattle.sr_space.specs.Touched.{Touched, replies}
 
 pub record IsLawful (f : Option StreamState → Touched) : Type 0 where
   pub sound : (found : Option StreamState) → IfSome found IsStream → IfSome (f found).written IsStream
-  pub errors : (found : Option StreamState) (code : ErrCode) → (f found).outcome ≡ reply_of (error_reply code) → (f found).written ≡ None
+  pub errors : (found : Option StreamState) (code : ErrCode) → (f found).outcome ≡ error_reply code → (f found).written ≡ None
 
 -- a number is no error
-pub integer_no_error : (n : ℤ) (code : ErrCode) → reply_of (integer n) ≡ reply_of (error_reply code) → ⊥
+pub integer_no_error : (n : ℤ) (code : ErrCode) → integer n ≡ error_reply code → ⊥
 integer_no_error n code e = cc
 
 -- a command that writes nothing

@@ -13,7 +13,7 @@ use Rattle.sr_pending.specs.{is_same_name}
 use Rattle.sr_stream.specs.{ByName, group_with, with_group, StreamState}
 use Rattle.sr_space.specs.Keys.{Key, Keys, stream_at, with_stream}
 use Rattle.sr_space.specs.PendingAt.{AskForNew, nacks_of, pending_at, pending_of}
-use Rattle.sr_space.specs.Touched.{left_at, reply_of, unchanged}
+use Rattle.sr_space.specs.Touched.{left_at, unchanged}
 use Rattle.sr_space.specs.commands.Xread.{listed_or_null}
 use Rattle.sr_space.specs.commands.Xreadgroup.{after_reads, have_group, listed_of_all, read_found, read_group, read_stream, xreadgroup}
 use Rattle.sr_space.proofs.KeyLaws.{stream_at-with_stream, stream_at-with_stream_other}
@@ -125,6 +125,6 @@ module _ (moment : ℕ) (name consumer : List ℕ) (count : Option ℕ) (other :
   pub noack-keeps : (keys : Keys) (streams : List (Key × ReadAsked)) (key : Key) → AskForNew streams → pending_at (xreadgroup moment name consumer count true streams keys).keys key other ≡ pending_at keys key other
   noack-keeps keys streams key new = by (have_group name keys streams)
     where
-      by : (there : Bool) → pending_at (cond there (record { keys = after_reads moment name consumer count true keys streams; outcome = reply_of (listed_or_null (listed_of_all moment name consumer count true keys streams)) }) (unchanged keys (error_reply errors.NoGroup))).keys key other ≡ pending_at keys key other
+      by : (there : Bool) → pending_at (cond there (record { keys = after_reads moment name consumer count true keys streams; outcome = listed_or_null (listed_of_all moment name consumer count true keys streams) }) (unchanged keys (error_reply errors.NoGroup))).keys key other ≡ pending_at keys key other
       by true = reads-keep keys streams key new
       by false = refl

@@ -6,7 +6,7 @@ use Rattle.sr_resp.specs.declared.code.ErrCode.TheVariants as errors
 use Rattle.sr_stream.specs.{StreamState}
 use Rattle.sr_space.specs.Keys.{Key, Keys, stream_at}
 use Rattle.sr_space.specs.Effect.{only_key}
-use Rattle.sr_space.specs.Touched.{Executed, Touched, at_key, left_at, reply_of, unchanged}
+use Rattle.sr_space.specs.Touched.{Executed, Touched, at_key, left_at, unchanged}
 use Rattle.sr_space.specs.commands.Xreadgroup.{after_reads}
 use Rattle.sr_space.specs.commands.Xreadgroup as grouped
 use Rattle.sr_space.proofs.KeyLaws.{stream_at-with_stream_other}
@@ -29,6 +29,6 @@ module _ (moment : ℕ) (name consumer : List ℕ) (count : Option ℕ) (no_ack 
   after-others (stream ∷ next ∷ streams) is = cc
 
   pub grouped-others : (there : Bool) (streams : List (Key × ReadAsked)) (answer : ReplyParts) → only_key streams ≡ Some key
-      → stream_at (cond there (let found : Executed = record { keys = after_reads moment name consumer count no_ack keys streams; outcome = reply_of answer } in found) (unchanged keys (error_reply errors.NoGroup))).keys other ≡ stream_at keys other
+      → stream_at (cond there (let found : Executed = record { keys = after_reads moment name consumer count no_ack keys streams; outcome = answer } in found) (unchanged keys (error_reply errors.NoGroup))).keys other ≡ stream_at keys other
   grouped-others true streams answer is = after-others streams is
   grouped-others false streams answer is = refl

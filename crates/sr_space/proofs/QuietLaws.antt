@@ -25,7 +25,7 @@ use Rattle.sr_space.specs.Bounds.{in_63_bits}
 use Rattle.sr_space.specs.Effect.{at_once}
 use Rattle.sr_space.specs.Keys.{Key, Keys, stream_at, with_stream}
 use Rattle.sr_space.specs.Readers.{is_read}
-use Rattle.sr_space.specs.Touched.{Executed, left_at, reply_of, unchanged}
+use Rattle.sr_space.specs.Touched.{Executed, left_at, unchanged}
 use Rattle.sr_space.specs.commands.Xread.{count_of, listed_or_null, read_streams}
 use Rattle.sr_space.specs.commands.Xreadgroup.{after_reads, has_group_in, have_group, listed_of_all, read_found, read_group}
 use Rattle.sr_space.specs.commands.Xreadgroup as grouped
@@ -175,7 +175,7 @@ module _ (moment : ℕ) (name consumer : List ℕ) (count : Option ℤ) (no_ack 
       (written-quiet stream.1 stream.0 found) (reads-quiet keys streams other)
 
   grouped-quiet : (there : Bool) (keys : Keys) (streams : List (Key × ReadAsked)) (answer : ReplyParts) (other : Key)
-      → IsAsQuiet (stream_at keys other) (stream_at (cond there (let found : Executed = record { keys = after_reads moment name consumer (count_of count) no_ack keys streams; outcome = reply_of answer } in found) (unchanged keys (error_reply errors.NoGroup))).keys other)
+      → IsAsQuiet (stream_at keys other) (stream_at (cond there (let found : Executed = record { keys = after_reads moment name consumer (count_of count) no_ack keys streams; outcome = answer } in found) (unchanged keys (error_reply errors.NoGroup))).keys other)
   grouped-quiet true keys streams answer other = reads-quiet keys streams other
   grouped-quiet false keys streams answer other = stays-quiet (stream_at keys other)
 

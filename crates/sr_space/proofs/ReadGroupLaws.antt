@@ -10,13 +10,13 @@ use Rattle.sr_stream.specs.{group_with, with_group, StreamState, IsStream}
 use Rattle.sr_stream.proofs.GroupsLemmas.{AreInOrder-with_group}
 use Rattle.sr_stream.proofs.LendingLemmas.{IsStream-with_groups}
 use Rattle.sr_space.specs.Keys.{Key, Keys, AreStreams, stream_at}
-use Rattle.sr_space.specs.Touched.{reply_of, unchanged}
+use Rattle.sr_space.specs.Touched.{unchanged}
 use Rattle.sr_space.specs.commands.Xread.{listed_or_null}
 use Rattle.sr_space.specs.commands.Xreadgroup.{after_reads, have_group, listed_of_all, read_found, read_group, read_stream, xreadgroup}
 use Rattle.sr_space.proofs.KeyLaws.{AreStreams-left_at, IsSome-left_at, KeepsKeys, KeepsKeys-unchanged, found-sound}
 
 -- what is listed is no error
-listed-no_error : (listed : List ReplyParts) (code : ErrCode) → reply_of (listed_or_null listed) ≡ reply_of (error_reply code) → ⊥
+listed-no_error : (listed : List ReplyParts) (code : ErrCode) → listed_or_null listed ≡ error_reply code → ⊥
 listed-no_error [] code e = cc
 listed-no_error (answer ∷ answers) code e = cc
 
@@ -46,7 +46,7 @@ module _ (moment : ℕ) (name consumer : List ℕ) (count : Option ℕ) (no_ack 
   pub KeepsKeys-xreadgroup : (streams : List (Key × ReadAsked)) (keys : Keys) → KeepsKeys keys (xreadgroup moment name consumer count no_ack streams keys)
   KeepsKeys-xreadgroup streams keys = by (have_group name keys streams)
     where
-      by : (there : Bool) → KeepsKeys keys (cond there (record { keys = after_reads moment name consumer count no_ack keys streams; outcome = reply_of (listed_or_null (listed_of_all moment name consumer count no_ack keys streams)) }) (unchanged keys (error_reply errors.NoGroup)))
+      by : (there : Bool) → KeepsKeys keys (cond there (record { keys = after_reads moment name consumer count no_ack keys streams; outcome = listed_or_null (listed_of_all moment name consumer count no_ack keys streams) }) (unchanged keys (error_reply errors.NoGroup)))
       by false = KeepsKeys-unchanged keys (error_reply errors.NoGroup)
       by true = record {
         sound = reads-sound keys streams;

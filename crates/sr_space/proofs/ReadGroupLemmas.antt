@@ -22,7 +22,7 @@ use Rattle.sr_stream.specs.Stream.{kept_with_group}
 use Rattle.sr_stream.proofs.GroupsLemmas.{with_group-same}
 use Rattle.sr_space.specs.Bounds.{in_63_bits}
 use Rattle.sr_space.specs.Keys.{Key, Keys, shown_keys, shown_of, stream_at, with_stream}
-use Rattle.sr_space.specs.Touched.{left_at, reply_of}
+use Rattle.sr_space.specs.Touched.{left_at}
 use Rattle.sr_space.specs.commands.Xread.{count_of, entries_of_key, listed_or_null}
 use Rattle.sr_space.specs.commands.Xreadgroup.{again_answer, has_group_in, have_group, history_answer}
 use Rattle.sr_space.specs.declared.commands.xreadgroup.GroupRead.{GroupRead}
@@ -133,7 +133,7 @@ module _ (r : GroupRead) (asked : ReadAsked) (key : Key) (rest : List (Key × Re
   others-shown before shows other apart = shows other (λ same. apart (inl same)) ∙ before other apart
 
 -- what all streams list is what the call leads to, if each of the keys has the group
-pub read-outcome : (r : GroupRead) (streams : List (Key × ReadAsked)) (keys : Keys) → have_group r.group.now keys streams ≡ true → reply_of (listed_or_null (listed_by r keys streams)) ≡ (by_read r streams keys).outcome
+pub read-outcome : (r : GroupRead) (streams : List (Key × ReadAsked)) (keys : Keys) → have_group r.group.now keys streams ≡ true → listed_or_null (listed_by r keys streams) ≡ (by_read r streams keys).outcome
 read-outcome r streams keys there = rw there refl
 
 -- what is delivered of a stream, and what is listed of it then

@@ -12,13 +12,11 @@ use Rattle.sr_resp.specs.declared.code.ErrCode.TheVariants as errors
 use Rattle.sr_resp.specs.{ReplyParts, error_reply}
 use Rattle.sr_resp.specs.Reply.{null_array}
 use Rattle.sr_space.specs.declared.blocking.Outcome.TheVariants as outcomes
-use Rattle.sr_space.specs.declared.outcome.Answered.{Answered}
-use Rattle.sr_space.specs.declared.outcome.Answered.TheVariants as answers
 use Rattle.sr_space.specs.Blocking.{answered_or_waits, executed, finds_nothing, fixed_position, is_nothing, outcome_of, waiting_as}
 use Rattle.sr_space.specs.Bounds.{in_63_bits}
 use Rattle.sr_space.specs.Effect.{at_once}
 use Rattle.sr_space.specs.Keys.{Key, Keys}
-use Rattle.sr_space.specs.Touched.{Executed, reply_of, unchanged}
+use Rattle.sr_space.specs.Touched.{Executed, unchanged}
 use Rattle.sr_space.specs.commands.Xread.{count_of, listed_or_null, read_stream, read_streams}
 use Rattle.sr_space.specs.commands.Xreadgroup.{after_reads, have_group, listed_of_all}
 use Rattle.sr_space.proofs.QuietLaws.{read-finds}
@@ -34,19 +32,19 @@ module _ (keys : Keys) (moment : ℕ) (call : Call) where
   executed-keys = same-keys (block_of call) (finds_nothing keys moment call)
 
 -- what is listed is the null array exactly if it is nothing
-null-nothing : (listed : List ReplyParts) → (reply_of (listed_or_null listed) ≡ reply_of null_array) ↔ (is_nothing listed ≡ true)
+null-nothing : (listed : List ReplyParts) → (listed_or_null listed ≡ null_array) ↔ (is_nothing listed ≡ true)
 null-nothing [] = (λ e. refl, λ e. refl)
 null-nothing (answer ∷ answers) = (λ e. cc, λ e. cc)
 
-pub null-read : (keys : Keys) (moment : ℕ) (read : Xread) → ((at_once keys moment (calls.Xread read)).outcome ≡ reply_of null_array) ↔ (finds_nothing keys moment (calls.Xread read) ≡ true)
+pub null-read : (keys : Keys) (moment : ℕ) (read : Xread) → ((at_once keys moment (calls.Xread read)).outcome ≡ null_array) ↔ (finds_nothing keys moment (calls.Xread read) ≡ true)
 null-read keys moment read = null-nothing (read_streams read.count keys read.streams)
 
 null-grouped : (there : Bool) (keys after : Keys) (listed : List ReplyParts)
-    → ((cond there (let found : Executed = record { keys = after; outcome = reply_of (listed_or_null listed) } in found) (unchanged keys (error_reply errors.NoGroup))).outcome ≡ reply_of null_array) ↔ ((there && is_nothing listed) ≡ true)
+    → ((cond there (let found : Executed = record { keys = after; outcome = listed_or_null listed } in found) (unchanged keys (error_reply errors.NoGroup))).outcome ≡ null_array) ↔ ((there && is_nothing listed) ≡ true)
 null-grouped true keys after listed = null-nothing listed
 null-grouped false keys after listed = (λ e. cc, λ e. cc)
 
-pub null-read_group : (keys : Keys) (moment : ℕ) (read : Xreadgroup) → ((at_once keys moment (calls.Xreadgroup read)).outcome ≡ reply_of null_array) ↔ (finds_nothing keys moment (calls.Xreadgroup read) ≡ true)
+pub null-read_group : (keys : Keys) (moment : ℕ) (read : Xreadgroup) → ((at_once keys moment (calls.Xreadgroup read)).outcome ≡ null_array) ↔ (finds_nothing keys moment (calls.Xreadgroup read) ≡ true)
 null-read_group keys moment read =
     null-grouped (have_group read.group keys read.streams) keys (after_reads (in_63_bits moment) read.group read.consumer (count_of read.count) read.no_ack keys read.streams) (listed_of_all (in_63_bits moment) read.group read.consumer (count_of read.count) read.no_ack keys read.streams)
 
@@ -66,8 +64,8 @@ module _ (keys : Keys) (moment later : ℕ) where
   still-nothing (calls.Xreadgroup read) none = read-finds keys moment moment later (calls.Xreadgroup read) (calls.Xreadgroup (record read { block = None })) refl none
   still-nothing call none = cc
 
-  never-blocked : (again : Call) (deadline : Option ℕ) (outcome : Answered) → outcome_of outcome ≡ outcomes.Blocked again deadline → ⊥
-  never-blocked again deadline (answers.Reply send keep) e = cc
+  never-blocked : (again : Call) (deadline : Option ℕ) (outcome : ReplyParts) → outcome_of outcome ≡ outcomes.Blocked again deadline → ⊥
+  never-blocked again deadline outcome e = cc
 
   waits-nothing : (call again : Call) (deadline block : Option ℕ) (nothing : Bool) → finds_nothing keys moment call ≡ nothing
       → (answered_or_waits block nothing keys moment call).outcome ≡ outcomes.Blocked again deadline

@@ -10,8 +10,7 @@ use Rattle.sr_args.specs.declared.call.Position.TheVariants.{At}
 use Rattle.sr_args.specs.{block_of}
 use Rattle.sr_space.specs.declared.blocking.Outcome.{Outcome}
 use Rattle.sr_space.specs.declared.blocking.Outcome.TheVariants as outcomes
-use Rattle.sr_space.specs.declared.outcome.Answered.{Answered}
-use Rattle.sr_space.specs.declared.outcome.Answered.TheVariants as answers
+use Rattle.sr_resp.specs.{ReplyParts}
 use Rattle.sr_space.specs.Bounds.{in_63_bits}
 use Rattle.sr_space.specs.Effect.{at_once}
 use Rattle.sr_space.specs.Keys.{Key, Keys, stream_at}
@@ -55,9 +54,9 @@ abbrev pub deadline_of : ℕ → ℕ → Option ℕ
 deadline_of moment zero = None
 deadline_of moment (suc wait) = if nat_lt (moment + suc wait) (2 ^ 63) then Some (moment + suc wait) else None
 
--- what was answered at once
-abbrev pub outcome_of : Answered → Outcome
-outcome_of (answers.Reply send keep) = outcomes.Reply send keep
+-- a call that was answered at once: the reply to send is the one to keep
+abbrev pub outcome_of : ReplyParts → Outcome
+outcome_of reply = outcomes.Reply reply reply
 
 abbrev pub answered : Executed → Called
 answered done = record { keys = done.keys; outcome = outcome_of done.outcome }

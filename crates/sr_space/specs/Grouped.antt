@@ -10,17 +10,16 @@ use Rattle.sr_resp.specs.{ReplyParts, error_reply, integer}
 use Rattle.sr_stream.specs.{group_with, with_group, StreamState, with_groups}
 use Rattle.sr_space.specs.declared.grouped.Missing.{Missing}
 use Rattle.sr_space.specs.declared.grouped.Missing.TheVariants.{Zero, NoGroup, NoKey}
-use Rattle.sr_space.specs.declared.outcome.Answered.{Answered}
-use Rattle.sr_space.specs.Touched.{Touched, replies, reply_of}
+use Rattle.sr_space.specs.Touched.{Touched, replies}
 
 -- what a command writes in the place of its group, if anything, and what it leads to
 pub record Regrouped : Type 0 where
   pub written : Option GroupState
-  pub outcome : Answered
+  pub outcome : ReplyParts
 
 -- the group is changed, and this is replied
 abbrev pub regroups : GroupState → ReplyParts → Regrouped
-regroups group answer = record { written = Some group; outcome = reply_of answer }
+regroups group answer = record { written = Some group; outcome = answer }
 
 -- what is replied if there is no such key: 0, or an error
 abbrev pub for_missing_key : Missing → ReplyParts

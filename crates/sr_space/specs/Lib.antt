@@ -15,7 +15,7 @@ pub mod Commit
 pub mod Snap
 -- what the crates above say most
 pub use Rattle.sr_space.specs.Blocking.{Called, executed, finds_nothing}
-pub use Rattle.sr_space.specs.Effect.{at_once, Executed, reply_of}
+pub use Rattle.sr_space.specs.Effect.{at_once, Executed}
 pub use Rattle.sr_space.specs.Keys.{entries_of, group_at, shown_of, stream_at, with_stream}
 pub use Rattle.sr_space.specs.Snap.{in_order, listed, shown_with, snapped}
 pub use Rattle.sr_space.specs.Readers.{read_at}

@@ -1,34 +1,28 @@
--- What a command leads to, and how a command on one stream is carried out at its key.
+-- What a command writes and replies, and how a command on one stream is carried out at its key.
 
 use Rattle.std.specs.Prelude.{ℕ, Option, Some, None, pos}
 use Rattle.sr_resp.specs.{ReplyParts, error_reply, integer}
 use Rattle.sr_resp.specs.declared.code.ErrCode.{ErrCode}
 use Rattle.sr_stream.specs.{StreamState}
-use Rattle.sr_space.specs.declared.outcome.Answered.{Answered}
-use Rattle.sr_space.specs.declared.outcome.Answered.TheVariants.{Reply}
 use Rattle.sr_space.specs.Keys.{Key, Keys, stream_at, with_stream}
 
--- the keys that a command leaves, and what it leads to
+-- the keys that a command leaves, and its reply
 pub record Executed : Type 0 where
   pub keys : Keys
-  pub outcome : Answered
+  pub outcome : ReplyParts
 
--- what a command on one stream writes at its key, if anything, and what it leads to
+-- what a command on one stream writes at its key, if anything, and its reply
 pub record Touched : Type 0 where
   pub written : Option StreamState
-  pub outcome : Answered
-
--- a reply: one to send, and an equal one to keep
-abbrev pub reply_of : ReplyParts → Answered
-reply_of answer = Reply answer answer
+  pub outcome : ReplyParts
 
 -- no key changes, and this is replied
 abbrev pub unchanged : Keys → ReplyParts → Executed
-unchanged keys answer = record { keys = keys; outcome = reply_of answer }
+unchanged keys answer = record { keys = keys; outcome = answer }
 
 -- nothing is written, and this is replied
 abbrev pub replies : ReplyParts → Touched
-replies answer = record { written = None; outcome = reply_of answer }
+replies answer = record { written = None; outcome = answer }
 
 -- nothing is written, and an error is replied
 abbrev pub refuses : ErrCode → Touched
@@ -36,7 +30,7 @@ refuses code = replies (error_reply code)
 
 -- the stream is written, and this is replied
 abbrev pub writes : StreamState → ReplyParts → Touched
-writes stream answer = record { written = Some stream; outcome = reply_of answer }
+writes stream answer = record { written = Some stream; outcome = answer }
 
 -- the stream is changed, and a count of it replied: 0 if the key is missing
 abbrev pub counts : (StreamState → StreamState) → (StreamState → ℕ) → Option StreamState → Touched

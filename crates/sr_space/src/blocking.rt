@@ -1,10 +1,10 @@
 ghost use Rattle.std.specs.Prelude.{◌≡◌, ◌^◌, ◌<◌};
 ghost use Rattle.sr_space.specs.Blocking as waits;
 
+use crate::Space;
 use crate::bounds::in_63_bits;
 use crate::commands::xread::{any_after, any_after_at};
 use crate::commands::xreadgroup::{any_answers_at, have_group, lists_any};
-use crate::{Answered, Space};
 use sr_args::commands::Xread;
 use sr_args::{Call, Position, Streams};
 use sr_bytes::Name;
@@ -83,7 +83,8 @@ impl Space {
         ensures outcome { IfOk result (λ outcome. outcome ≡ (answered (at_once self.old moment call.now)).outcome) }
         ensures err { OnErr result (self.new ≡ self.old) }
     {
-        let Answered::Reply { send, keep } = self.at_once(alloc, moment, call)?;
+        let answered = self.at_once(alloc, moment, call)?;
+        let (send, keep) = answered.into_replies();
         Ok(Outcome::Reply { send, keep })
     }
 

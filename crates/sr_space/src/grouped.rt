@@ -1,6 +1,5 @@
 ghost use Rattle.std.specs.Prelude.{◌≡◌};
 ghost use Rattle.sr_space.specs.Grouped.{for_missing_group, for_missing_key, in_group};
-ghost use Rattle.sr_space.specs.Touched.{reply_of};
 
 use crate::Answered;
 use crate::outcome::{numbered, refused};
@@ -74,7 +73,7 @@ impl<'a, T: TouchGroup> Touch for InGroup<'a, T> {
 
 /// The reply where there is no such key. It takes no memory.
 fn without_key(alloc: Global, missing: Missing) -> Answered
-    ensures { result ≡ reply_of (for_missing_key missing) }
+    ensures { result ≡ for_missing_key missing }
 {
     match missing {
         Missing::Zero => numbered(alloc, 0),
@@ -85,7 +84,7 @@ fn without_key(alloc: Global, missing: Missing) -> Answered
 
 /// The reply where the key has no such group. It takes no memory.
 fn without_group(alloc: Global, missing: Missing) -> Answered
-    ensures { result ≡ reply_of (for_missing_group missing) }
+    ensures { result ≡ for_missing_group missing }
 {
     match missing {
         Missing::Zero => numbered(alloc, 0),

@@ -7,7 +7,7 @@ ghost use Rattle.sr_resp.specs.declared.code.ErrCode as codes;
 ghost use Rattle.sr_resp.specs.{error_reply};
 ghost use Rattle.sr_resp.specs.Reply.{null_array};
 ghost use Rattle.sr_stream.specs.{StreamState, IsStream};
-ghost use Rattle.sr_space.specs.{at_once, executed, reply_of, stream_at, with_stream};
+ghost use Rattle.sr_space.specs.{at_once, executed, stream_at, with_stream};
 ghost use Rattle.sr_space.specs.Blocking.{finds_nothing};
 ghost use Rattle.sr_space.specs.declared.blocking.Outcome.TheVariants as outcomes;
 ghost use Rattle.sr_space.specs.Keys.{Key, Keys, AreStreams};
@@ -33,7 +33,7 @@ pub fn streams_stay_sound()
 /// Law: an error reply changes no key. Calling this has no effect.
 pub fn errors_change_nothing()
     ensures { (keys : Keys) (moment : ℕ) (call : Call) (code : codes.ErrCode) →
-        (at_once keys moment call).outcome ≡ reply_of (error_reply code) → (at_once keys moment call).keys ≡ keys }
+        (at_once keys moment call).outcome ≡ error_reply code → (at_once keys moment call).keys ≡ keys }
 {}
 
 /// Law: no command takes a key away. Calling this has no effect.
@@ -59,10 +59,10 @@ pub fn waiting_leaves_the_same()
 pub fn nothing_is_the_null_array()
     ensures xread { (keys : Keys) (moment : ℕ) (read : Xread) →
         let call = calls.Xread read in
-        ((at_once keys moment call).outcome ≡ reply_of null_array) ↔ IsTrue (finds_nothing keys moment call) }
+        ((at_once keys moment call).outcome ≡ null_array) ↔ IsTrue (finds_nothing keys moment call) }
     ensures xreadgroup { (keys : Keys) (moment : ℕ) (read : Xreadgroup) →
         let call = calls.Xreadgroup read in
-        ((at_once keys moment call).outcome ≡ reply_of null_array) ↔ IsTrue (finds_nothing keys moment call) }
+        ((at_once keys moment call).outcome ≡ null_array) ↔ IsTrue (finds_nothing keys moment call) }
 {}
 
 /// Law: a read that waits finds nothing at the keys that it left, so it is not served at once. Calling this has no

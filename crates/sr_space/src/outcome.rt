@@ -1,42 +1,68 @@
 ghost use Rattle.std.specs.Prelude.{◌≡◌, ◌^◌, ◌<◌, pos, IfOk};
 ghost use Rattle.sr_resp.specs.{integer, error_reply};
-ghost use Rattle.sr_space.specs.Touched.{reply_of};
 
 use sr_resp::{ErrCode, Reply};
 use std::alloc::{AllocError, Global};
+use std::marker::Model;
 
-/// What a command leads to.
+/// The reply to a command, made twice before the effect: one to send, and an equal one for the record of the command.
 #[derive(Drop)]
-pub enum Answered {
-    /// A reply, made twice before the effect: one to send, and an equal one for the record of the command.
-    Reply { send: Reply, keep: Reply },
+pub struct Answered {
+    send: Reply,
+    keep: Reply,
+}
+
+impl Model for Answered {
+    ghost use Rattle.std.specs.Prelude.{◌≡◌};
+    ghost use Rattle.sr_resp.specs.{ReplyParts};
+
+    ghost Value = { ReplyParts };
+
+    ghost view = { λ a. a.send };
+
+    ghost invariant = { λ a. a.keep ≡ a.send };
+}
+
+impl Answered {
+    ghost use Rattle.std.specs.Prelude.{◌≡◌};
+
+    /// A reply and an equal one. It takes no memory.
+    pub(crate) fn of(send: Reply, keep: Reply) -> Answered
+        requires { keep ≡ send }
+        ensures { result ≡ send }
+    {
+        Answered { send, keep }
+    }
+
+    /// The reply to send, and the one to keep. It takes no memory.
+    pub fn into_replies(self) -> (Reply, Reply)
+        ensures send { result.0 ≡ self }
+        ensures keep { result.1 ≡ self }
+    {
+        let Answered { send, keep } = self;
+        (send, keep)
+    }
 }
 
 /// A reply, twice.
 pub(crate) fn replied(alloc: Global, reply: Reply) -> Result<Answered, AllocError>
-    ensures { IfOk result (λ outcome. outcome ≡ reply_of reply) }
+    ensures { IfOk result (λ answered. answered ≡ reply) }
 {
     let keep = reply.copy(alloc)?;
-    Ok(Answered::Reply { send: reply, keep })
+    Ok(Answered::of(reply, keep))
 }
 
 /// A number as the reply, twice. It takes no memory.
 pub(crate) fn numbered(alloc: Global, n: u64) -> Answered
     requires { n < 2 ^ 63 }
-    ensures { result ≡ reply_of (integer (pos n)) }
+    ensures { result ≡ integer (pos n) }
 {
-    Answered::Reply {
-        send: Reply::int(alloc, n as i64),
-        keep: Reply::int(alloc, n as i64),
-    }
+    Answered::of(Reply::int(alloc, n as i64), Reply::int(alloc, n as i64))
 }
 
 /// An error as the reply, twice. It takes no memory.
 pub(crate) fn refused(alloc: Global, code: ErrCode) -> Answered
-    ensures { result ≡ reply_of (error_reply code) }
+    ensures { result ≡ error_reply code }
 {
-    Answered::Reply {
-        send: Reply::error(alloc, code),
-        keep: Reply::error(alloc, code),
-    }
+    Answered::of(Reply::error(alloc, code), Reply::error(alloc, code))
 }

@@ -9,14 +9,14 @@ ghost use Rattle.sr_space.specs.Snap.{IsSnapFault, if_few, in_order, shown_with,
 ghost use Rattle.sr_space.specs.declared.snap.SnapFault.TheVariants.{Memory, TooMany};
 ghost use Rattle.sr_space.specs.steps.Snapping.{left_in, there_in};
 
+mod left_and_live;
 mod names;
-mod parts;
 
 use crate::Space;
+pub use left_and_live::rates_by_class;
+use left_and_live::{Left, is_there, left_entries, live_consumers, pending_for};
 use names::is_among;
 pub use names::names_in_order;
-pub use parts::rates_by_class;
-use parts::{Left, is_there, left_entries, live_consumers, pending_for};
 use sr_bytes::Name;
 use sr_group::Group;
 use sr_ids::Id;

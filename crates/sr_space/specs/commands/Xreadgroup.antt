@@ -19,7 +19,7 @@ use Rattle.sr_stream.specs.{group_with, has_group, StreamState}
 use Rattle.sr_space.specs.EntryReply.{entry_answer}
 use Rattle.sr_space.specs.Grouped.{regrouped}
 use Rattle.sr_space.specs.Keys.{Key, Keys, stream_at}
-use Rattle.sr_space.specs.Touched.{Executed, left_at, reply_of, unchanged}
+use Rattle.sr_space.specs.Touched.{Executed, left_at, unchanged}
 use Rattle.sr_space.specs.commands.Xread.{entries_of_key, listed_or_null}
 
 -- what a read leaves of a group, and what it lists of its stream
@@ -93,5 +93,5 @@ module _ (moment : ℕ) (name consumer : List ℕ) (count : Option ℕ) (no_ack 
   abbrev pub xreadgroup : List (Key × ReadAsked) → Keys → Executed
   xreadgroup streams keys =
       if have_group name keys streams
-      then record { keys = after_reads keys streams; outcome = reply_of (listed_or_null (listed_of_all keys streams)) }
+      then record { keys = after_reads keys streams; outcome = listed_or_null (listed_of_all keys streams) }
       else unchanged keys (error_reply errors.NoGroup)

@@ -1,5 +1,4 @@
 ghost use Rattle.std.specs.Prelude.{◌≡◌, IfOk};
-ghost use Rattle.sr_space.specs.Touched.{reply_of};
 ghost use Rattle.sr_space.specs.commands.Ping.{ping};
 
 use crate::Answered;
@@ -12,7 +11,7 @@ use std::alloc::{AllocError, Global};
 ///
 /// Source: Redis documentation, command PING.
 pub(crate) fn answer_ping(alloc: Global, message: &Option<Name>) -> Result<Answered, AllocError>
-    ensures { IfOk result (λ outcome. outcome ≡ reply_of (ping message.now)) }
+    ensures { IfOk result (λ outcome. outcome ≡ ping message.now) }
 {
     match message {
         None => replied(alloc, Reply::simple(alloc, Word::Pong)),

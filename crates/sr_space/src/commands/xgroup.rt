@@ -2,7 +2,7 @@ ghost use Rattle.std.specs.Prelude.{◌≡◌, OnOk, OnErr, IfOk};
 ghost use Rattle.sr_resp.specs.declared.code.Word.TheVariants as words;
 ghost use Rattle.sr_resp.specs.Reply.{simple_string};
 ghost use Rattle.sr_space.specs.Bounds as bounds;
-ghost use Rattle.sr_space.specs.Touched.{left_of, reply_of};
+ghost use Rattle.sr_space.specs.Touched.{left_of};
 ghost use Rattle.sr_space.specs.commands.Xgroup.{consumer_made, consumer_removed, id_of as position_of, made_in};
 ghost use Rattle.sr_space.specs.commands.Xgroup.{xgroup_create, xgroup_destroy, xgroup_set_id, yes_or_no};
 
@@ -164,17 +164,17 @@ fn id_of(from: Position, stream: &Stream) -> Id
 
 /// OK as the reply, twice. It takes no memory.
 fn done(alloc: Global) -> Answered
-    ensures { result ≡ reply_of (simple_string words.Ok) }
+    ensures { result ≡ simple_string words.Ok }
 {
-    Answered::Reply {
-        send: Reply::simple(alloc, Word::Ok),
-        keep: Reply::simple(alloc, Word::Ok),
-    }
+    Answered::of(
+        Reply::simple(alloc, Word::Ok),
+        Reply::simple(alloc, Word::Ok),
+    )
 }
 
 /// 1 for yes and 0 for no as the reply, twice. It takes no memory.
 fn answered(alloc: Global, yes: bool) -> Answered
-    ensures { result ≡ reply_of (yes_or_no yes) }
+    ensures { result ≡ yes_or_no yes }
 {
     if yes {
         numbered(alloc, 1)

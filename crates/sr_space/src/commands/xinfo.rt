@@ -1,7 +1,7 @@
 ghost use Rattle.std.specs.Prelude.{◌≡◌, ◌^◌, ◌<◌, Some, IfOk, length, map};
 ghost use Rattle.std.specs.Option.{option_copied};
 ghost use Rattle.sr_resp.specs.{array_of};
-ghost use Rattle.sr_space.specs.{reply_of, shown_of};
+ghost use Rattle.sr_space.specs.{shown_of};
 ghost use Rattle.sr_space.specs.Bounds as bounds;
 ghost use Rattle.sr_space.specs.commands.Xinfo.{consumer_line, consumers_answer};
 ghost use Rattle.sr_space.specs.commands.Xinfo.{entry_or_null as entry_reply_or_null, group_answer, stream_answer};
@@ -20,7 +20,7 @@ use std::alloc::{AllocError, Global};
 
 /// XINFO STREAM of the stream at a key, if the key is there.
 pub(crate) fn tell_stream(alloc: Global, stream: Option<&Stream>) -> Result<Answered, AllocError>
-    ensures { IfOk result (λ outcome. outcome ≡ reply_of (xinfo_stream (shown_of (option_copied stream.entry)))) }
+    ensures { IfOk result (λ outcome. outcome ≡ xinfo_stream (shown_of (option_copied stream.entry))) }
 {
     match stream {
         None => Ok(refused(alloc, ErrCode::NoKey)),
@@ -30,7 +30,7 @@ pub(crate) fn tell_stream(alloc: Global, stream: Option<&Stream>) -> Result<Answ
 
 /// XINFO GROUPS of the stream at a key, if the key is there.
 pub(crate) fn tell_groups(alloc: Global, stream: Option<&Stream>) -> Result<Answered, AllocError>
-    ensures { IfOk result (λ outcome. outcome ≡ reply_of (xinfo_groups (shown_of (option_copied stream.entry)))) }
+    ensures { IfOk result (λ outcome. outcome ≡ xinfo_groups (shown_of (option_copied stream.entry))) }
 {
     match stream {
         None => Ok(refused(alloc, ErrCode::NoKey)),
@@ -46,7 +46,7 @@ pub(crate) fn tell_consumers(
     moment: u64,
 ) -> Result<Answered, AllocError>
     ensures { IfOk result (λ outcome. outcome
-        ≡ reply_of (xinfo_consumers (bounds.in_63_bits moment) group.now (shown_of (option_copied stream.entry)))) }
+        ≡ xinfo_consumers (bounds.in_63_bits moment) group.now (shown_of (option_copied stream.entry))) }
 {
     let Some(stream) = stream else {
         return Ok(refused(alloc, ErrCode::NoKey));

@@ -1,6 +1,6 @@
 ghost use Rattle.std.specs.Prelude.{◌≡◌};
 ghost use Rattle.std.specs.Option.{option_copied};
-ghost use Rattle.sr_space.specs.{reply_of, shown_of};
+ghost use Rattle.sr_space.specs.{shown_of};
 ghost use Rattle.sr_space.specs.commands.Xlen.{xlen};
 
 use crate::Answered;
@@ -10,7 +10,7 @@ use std::alloc::Global;
 
 /// XLEN of the stream at a key, if the key is there. It takes no memory.
 pub(crate) fn count_entries(alloc: Global, stream: Option<&Stream>) -> Answered
-    ensures { result ≡ reply_of (xlen (shown_of (option_copied stream.entry))) }
+    ensures { result ≡ xlen (shown_of (option_copied stream.entry)) }
 {
     let entries = match stream {
         Some(stream) => stream.entries().len(),

@@ -3,7 +3,7 @@ ghost use Rattle.std.specs.Option.{option_copied};
 ghost use Rattle.sr_group.specs.{counts_of};
 ghost use Rattle.sr_resp.specs.{ReplyParts, array_of};
 ghost use Rattle.sr_resp.specs.Reply.{IsArray};
-ghost use Rattle.sr_space.specs.{reply_of, shown_of};
+ghost use Rattle.sr_space.specs.{shown_of};
 ghost use Rattle.sr_space.specs.Bounds as bounds;
 ghost use Rattle.sr_space.specs.commands.Xpending.{at_least_0 as not_below_0, id_or_null as id_or_null_answer};
 ghost use Rattle.sr_space.specs.commands.Xpending.{listing_answer, listing_of, nack_answer, xpending};
@@ -31,8 +31,8 @@ pub(crate) fn tell_pending(
     moment: u64,
 ) -> Result<Answered, AllocError>
     ensures { IfOk result (λ outcome. outcome
-        ≡ reply_of (xpending (bounds.in_63_bits moment) group.now (option_copied listing.entry)
-        (shown_of (option_copied stream.entry)))) }
+        ≡ xpending (bounds.in_63_bits moment) group.now (option_copied listing.entry)
+        (shown_of (option_copied stream.entry))) }
 {
     let Some(stream) = stream else {
         return Ok(refused(alloc, ErrCode::NoGroup));

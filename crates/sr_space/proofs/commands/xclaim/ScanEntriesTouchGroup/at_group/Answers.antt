@@ -9,18 +9,16 @@ use Rattle.sr_ids.specs.{spelling}
 use Rattle.sr_resp.specs.{ReplyParts, array_of, bulk_string}
 use Rattle.sr_space.specs.Bounds.{in_63_bits}
 use Rattle.sr_space.specs.Grouped.{group_left}
-use Rattle.sr_space.specs.Touched.{reply_of}
 use Rattle.sr_space.specs.commands.Xclaim.{autoclaimed, claim_of, claimed_answer, deleted_answer}
-use Rattle.sr_space.specs.declared.outcome.Answered.{Answered}
 use Rattle.sr_space.proofs.commands.xclaim.ScanEntriesTouchGroup.at_group.Goals as goal
 
 -- what is replied, part by part
-scan-replied : (just_ids : Bool) (entries : List Entry) (acts listed : List Listed) (next behind : Id) (reply next_reply claimed deleted : ReplyParts) (outcome : Answered)
-    → outcome ≡ reply_of reply → reply ≡ array_of (next_reply ∷ claimed ∷ deleted ∷ []) → next_reply ≡ bulk_string (spelling next)
+scan-replied : (just_ids : Bool) (entries : List Entry) (acts listed : List Listed) (next behind : Id) (reply next_reply claimed deleted : ReplyParts) (outcome : ReplyParts)
+    → outcome ≡ reply → reply ≡ array_of (next_reply ∷ claimed ∷ deleted ∷ []) → next_reply ≡ bulk_string (spelling next)
     → claimed ≡ claimed_answer just_ids entries acts → deleted ≡ deleted_answer acts → acts ≡ listed → next ≡ behind
-    → outcome ≡ reply_of (array_of (bulk_string (spelling behind) ∷ claimed_answer just_ids entries listed ∷ deleted_answer listed ∷ []))
+    → outcome ≡ (array_of (bulk_string (spelling behind) ∷ claimed_answer just_ids entries listed ∷ deleted_answer listed ∷ []))
 scan-replied just_ids entries acts listed next behind reply next_reply claimed deleted outcome out is first second third are at =
-    out ∙ ap reply_of (is
+    out ∙ (is
     ∙ ap (λ (a : ReplyParts). array_of (a ∷ claimed ∷ deleted ∷ [])) (first ∙ ap (λ (id : Id). bulk_string (spelling id)) at)
     ∙ ap (λ (a : ReplyParts). array_of (bulk_string (spelling behind) ∷ a ∷ deleted ∷ [])) (second ∙ ap (claimed_answer just_ids entries) are)
     ∙ ap (λ (a : ReplyParts). array_of (bulk_string (spelling behind) ∷ claimed_answer just_ids entries listed ∷ a ∷ [])) (third ∙ ap deleted_answer are))

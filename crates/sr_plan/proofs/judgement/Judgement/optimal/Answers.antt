@@ -1,5 +1,0 @@
-use Rattle.sr_plan.proofs.VerdictLemmas.{shown_is_worth}
-use Rattle.sr_plan.proofs.judgement.Judgement.optimal.Goals as goal
-
-pub returns : goal.returns
-returns c = rw (← c.self.view_is) (shown_is_worth c.self.inside.snapshot _ c.self.invariant.shown)

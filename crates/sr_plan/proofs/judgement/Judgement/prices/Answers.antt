@@ -1,9 +1,0 @@
-use Rattle.sr_plan.proofs.BestLemmas.{ArePrices-best}
-use Rattle.sr_plan.proofs.judgement.Judgement.prices.Goals as goal
-
-pub new-requires : goal.new-requires
-new-requires c =
-    let best = (rw c.in-Best.is at c.self.invariant.shown).0 in
-    ArePrices-best c.self.inside.snapshot c.in-Best.assign.items c.in-Best.prices.items
-    c.as_slice.result.now c.in-Best.total
-    c.live.result.now best c.as_slice.ensures.value c.live.ensures
