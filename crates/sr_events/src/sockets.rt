@@ -117,6 +117,7 @@ impl<P: Planner + Drop> EventSockets<P> {
     fn comer(&mut self) -> Option<Heard>
         ensures came { IfSome result (λ heard. (heard ≡ Heard.End) ⊎ ((heard ≡ Heard.Came) × HasCome self.new)) }
         ensures fresh { self.old.came ≡ false → self.new.came ≡ true → self.new.looked ≡ false }
+        ensures looked { self.old.came ≡ true → self.new.looked ≡ self.old.looked }
         ensures kept { (self.old.came ≡ true → self.new.came ≡ true) × (self.new.kept ≡ self.old.kept) }
         ensures others { (self.new.lost ≡ self.old.lost) × (self.new.woken ≡ self.old.woken) }
     {

@@ -60,6 +60,8 @@ pub(crate) struct Keeper<'a, C> {
 }
 
 impl<'a, C: Clock> Keeper<'a, C> {
+    ghost use Rattle.std.specs.Prelude.{◌≡◌, [], ◌∷◌, ◌++◌, true, false, IfSome, IfNone};
+
     /// That of a loop which begins.
     pub(crate) fn new(alloc: Global, clock: &'a C, habits: Habits) -> Keeper<'a, C> {
         Keeper {
@@ -88,7 +90,9 @@ impl<'a, C: Clock> Keeper<'a, C> {
     }
 
     /// Looks at the clock.
-    pub(crate) fn looks_up(&mut self) {
+    pub(crate) fn looks_up(&mut self)
+        ensures { self.new.later ≡ self.old.later }
+    {
         self.moment = self.clock.now();
     }
 
@@ -111,13 +115,19 @@ impl<'a, C: Clock> Keeper<'a, C> {
 
     /// Whether a connection that has more to be answered goes on later, since its turn is long already. If memory is
     /// refused for that it goes on now.
-    pub(crate) fn puts_off(&mut self, token: usize) -> bool {
+    pub(crate) fn puts_off(&mut self, token: usize) -> bool
+        ensures later { result ≡ true → self.new.later.items ≡ self.old.later.items ++ token ∷ [] }
+        ensures now { result ≡ false → self.new.later.items ≡ self.old.later.items }
+    {
         let long = self.clock.now().saturating_sub(self.began) >= LONG;
         long && self.later.push_back(token).is_ok()
     }
 
     /// A connection that goes on now since it was put off, the one that has waited longest.
-    pub(crate) fn goes_on(&mut self) -> Option<usize> {
+    pub(crate) fn goes_on(&mut self) -> Option<usize>
+        ensures some { IfSome result (λ token. self.old.later.items ≡ token ∷ self.new.later.items) }
+        ensures none { IfNone result (self.old.later.items ≡ []) }
+    {
         let token = self.later.pop_front()?;
         self.looks_up();
         self.began = self.moment;
