@@ -4,7 +4,7 @@
 use Rattle.std.specs.Prelude.{ℕ, List, Bool}
 use Rattle.sr_policy.specs.{SnapshotState}
 use Rattle.sr_check.specs.Verified.{IsVerified, IsCheapestReply, IsShortageReply}
-use Rattle.sr_check.specs.declared.judge.Verified.TheVariants as says
+use Rattle.sr_check.specs.declared.verified.Verified.TheVariants as says
 use Rattle.plan_check.specs.declared.finding.Finding.{Finding}
 use Rattle.plan_check.specs.declared.finding.Finding.TheVariants as found
 

@@ -7,13 +7,13 @@
 
 mod fault;
 mod finding;
-mod judge;
+mod input;
 mod problem;
 mod terminal;
 mod words;
 
 use crate::finding::status_of;
-use crate::judge::judge;
+use crate::input::judge;
 use std::env;
 use std::io::{self, Read};
 use std::process::ExitCode;

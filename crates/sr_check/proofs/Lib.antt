@@ -8,4 +8,4 @@ pub mod ListLemmas
 pub mod PriceLemmas
 pub mod PlanLemmas
 pub mod ShortageLemmas
-pub mod JudgeLemmas
+pub mod VerifiedLemmas

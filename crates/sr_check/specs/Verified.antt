@@ -8,8 +8,8 @@ use Rattle.sr_transport.specs.Certificate.{IsShortage, places_of}
 use Rattle.sr_transport.specs.Solved.{IsBest}
 use Rattle.sr_check.specs.PlanAnswer.{PlanAnswer, IsShown, best, short}
 use Rattle.sr_check.specs.PlanReply.{verdict_answer}
-use Rattle.sr_check.specs.declared.judge.Verified.{Verified}
-use Rattle.sr_check.specs.declared.judge.Verified.TheVariants as says
+use Rattle.sr_check.specs.declared.verified.Verified.{Verified}
+use Rattle.sr_check.specs.declared.verified.Verified.TheVariants as says
 
 -- the text replies a plan with prices that show it to be cheapest, at this total
 pub record IsCheapestReply (shown : SnapshotState) (text : List ℕ) (done : Bool) (total : ℕ) : Type 0 where

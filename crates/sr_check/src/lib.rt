@@ -2,9 +2,9 @@
 #![tactic(auto)]
 
 mod expect;
-mod judge;
 mod plan;
 mod read;
 mod shortage;
+mod verified;
 
-pub use judge::{Reason, Verified, accepts};
+pub use verified::{Reason, Verified, accepts};

@@ -11,7 +11,7 @@ use Rattle.sr_book.specs.declared.event.Event.TheVariants as events
 use Rattle.sr_book.proofs.BaseLemmas.{all_records, history-below}
 use Rattle.sr_book.proofs.SessionLaws.{history-open, joined-idle}
 use Rattle.sr_hub.specs.declared.stage.Stage.TheVariants as stages
-use Rattle.sr_hub.specs.Told.{spoken}
+use Rattle.sr_hub.specs.OneRequest.{spoken}
 use Rattle.sr_hub.specs.Line.{ConnectionState, IsLine}
 use Rattle.sr_hub.specs.Lines.{AreAll, AreApart, AreLines, GoOn, HubState, with_none}
 use Rattle.sr_hub.proofs.FrameLemmas.{all-grows, all-history, all-reached, line-passes, opened-passes, others-say, records-pass}

@@ -15,7 +15,7 @@ use Rattle.sr_book.proofs.BaseLemmas.{all-legal, all_records}
 use Rattle.sr_hub.specs.declared.stage.Judging.{Judging}
 use Rattle.sr_hub.specs.declared.stage.Stage.{Stage}
 use Rattle.sr_hub.specs.declared.stage.Stage.TheVariants as stages
-use Rattle.sr_hub.specs.Told.{is_by, said_in, spoken}
+use Rattle.sr_hub.specs.OneRequest.{is_by, said_in, spoken}
 use Rattle.sr_hub.specs.Line.{ConnectionState, IsFree, IsJudging, IsLine, IsResting, IsWaitingFor, Stays}
 use Rattle.sr_hub.specs.Lines.{AreAll}
 use Rattle.sr_hub.specs.Said.{IsOwn}

@@ -9,7 +9,7 @@ use Rattle.sr_book.specs.Records.{rebased}
 use Rattle.sr_hub.specs.declared.hub.TakeFault.{TakeFault}
 use Rattle.sr_hub.specs.declared.hub.TakeFault.TheVariants as take_faults
 use Rattle.sr_hub.specs.declared.stage.Stage.TheVariants as stages
-use Rattle.sr_hub.specs.Told.{spoken}
+use Rattle.sr_hub.specs.OneRequest.{spoken}
 use Rattle.sr_hub.specs.Line.{ConnectionState, IsAtRest, IsLine, is_ended}
 use Rattle.sr_hub.specs.Lines.{AreAll, AreApart, AreLines, GoOn, HubState, with_more}
 use Rattle.sr_hub.specs.Said.{Says, SaysOf}

@@ -13,7 +13,7 @@ use Rattle.sr_session.specs.{AreAnswered, protocol_text}
 use Rattle.sr_session.proofs.AnsweredLemmas.{AreAnswered-push}
 use Rattle.sr_session.proofs.LetterLemmas.{HasNone}
 use Rattle.sr_book.specs.declared.event.Event.{Event}
-use Rattle.sr_hub.specs.Told.{IsSilent, IsTold, replied, spoken}
+use Rattle.sr_hub.specs.OneRequest.{IsSilent, IsAnsweredInRecords, replied, spoken}
 use Rattle.sr_hub.specs.Line.{ConnectionState, IsFree, IsJoined, IsLine, IsResting, IsWaitingFor, Stays, is_ended, last_text}
 use Rattle.sr_hub.specs.declared.stage.Stage.{Stage}
 use Rattle.sr_hub.specs.declared.stage.Stage.TheVariants as stages
@@ -45,7 +45,7 @@ pub record IsBegun (words : Words) (records : List Recorded) (taken given : List
   pub answered : List Words
   pub joined : IsJoined line.session found
   pub stands : Stands taken (answered ++ words ∷ []) line.requests
-  pub tells : AreAnswered (IsTold line.session) found answered (given ++ line.unsent) told
+  pub tells : AreAnswered (IsAnsweredInRecords line.session) found answered (given ++ line.unsent) told
   pub whole : records ≡ told ++ more
 
 abbrev pub IsBegun-held : (words : Words) (records : List Recorded) (server : Server) (taken given : List ℕ) (line : ConnectionState)
@@ -78,13 +78,13 @@ IsBegun-line words records server taken given line l one goes no_last = record {
   joined = l.joined;
   stands = subst (λ (b : List ℕ). Stands b (l.answered ++ words ∷ []) line.requests) (all-looked records server taken given line l goes)
       (subst (λ (r : List Words). Stands l.looked_at (l.answered ++ r) line.requests) one l.stands);
-  tells = subst (λ (t : List ℕ). AreAnswered (IsTold line.session) l.found l.answered t l.told) (sym (l.spelled ∙ ap (λ (t : List ℕ). l.text ++ t) no_last ∙ append-nil l.text)) l.tells;
+  tells = subst (λ (t : List ℕ). AreAnswered (IsAnsweredInRecords line.session) l.found l.answered t l.told) (sym (l.spelled ∙ ap (λ (t : List ℕ). l.text ++ t) no_last ∙ append-nil l.text)) l.tells;
   whole = l.whole;
 }
 
 module _ (words : Words) (records : List Recorded) (taken given : List ℕ) (line : ConnectionState) (begun : IsBegun words records taken given line) (more : List Recorded) (server : Server) where
   -- it is told its answer
-  pub told-line : (text : List ℕ) → IsTold line.session begun.told words text (records ++ more) → IsFree line.session server
+  pub told-line : (text : List ℕ) → IsAnsweredInRecords line.session begun.told words text (records ++ more) → IsFree line.session server
       → IsLine (records ++ more) server taken given (record line { unsent = line.unsent ++ text; stage = stages.Idle })
   told-line text told free = record {
     found = begun.found;
@@ -99,7 +99,7 @@ module _ (words : Words) (records : List Recorded) (taken given : List ℕ) (lin
     bytes = sym (append-nil taken);
     none_passed = λ goes. refl;
     stands = subst (λ (r : List Words). Stands taken r line.requests) (sym (append-nil (begun.answered ++ words ∷ []))) begun.stands;
-    tells = AreAnswered-push (IsTold line.session) begun.found begun.answered (given ++ line.unsent) begun.told words text (records ++ more) begun.tells told;
+    tells = AreAnswered-push (IsAnsweredInRecords line.session) begun.found begun.answered (given ++ line.unsent) begun.told words text (records ++ more) begun.tells told;
     spelled = sym (append_assoc given line.unsent text) ∙ sym (append-nil ((given ++ line.unsent) ++ text));
     whole = sym (append-nil (records ++ more));
     stays = record { none = refl; silent = record { says_nothing = refl; gets_nothing = refl }; free = free };
@@ -156,7 +156,7 @@ module _ (records : List Recorded) (server : Server) (taken given : List ℕ) (l
         joined = l.joined;
         stands = hands_out taken l.answered (subst (λ (b : List ℕ). Stands b l.answered line.requests) looked
             (subst (λ (r : List Words). Stands l.looked_at r line.requests) none l.stands));
-        tells = subst (λ (t : List ℕ). AreAnswered (IsTold line.session) l.found l.answered t l.told) (spelled-at stages.Idle idle refl) l.tells;
+        tells = subst (λ (t : List ℕ). AreAnswered (IsAnsweredInRecords line.session) l.found l.answered t l.told) (spelled-at stages.Idle idle refl) l.tells;
         whole = l.whole;
         silent = rests.silent;
         free = rests.free;
@@ -335,7 +335,7 @@ module _ (records : List Recorded) (server : Server) (taken given : List ℕ) (l
       by (inr told) =
           let both : Some told.0 ≡ Some given_to = sym told.2 ∙ letter in
           let same : told.0 ≡ given_to = cc in
-          let is_told : IsTold line.session l.told waits.words (reply_text given_to.reply) (records ++ []) =
+          let is_told : IsAnsweredInRecords line.session l.told waits.words (reply_text given_to.reply) (records ++ []) =
           replied (commands.Call waits.call) given_to.reply l.more waits.is refl (append-nil records ∙ l.whole) waits.said (told.3 ∙ ap (λ (g : Given). g.reply ∷ []) same) in
           subst After (append-nil records)
           (told-line waits.words records taken given line begun [] server (reply_text given_to.reply) is_told (record { opened = waits.opened; absent = told.1 }))

@@ -37,7 +37,7 @@ use Rattle.sr_book.proofs.OpenLemmas.{is_open-with_letter}
 use Rattle.sr_book.proofs.SessionLaws.{servings-open}
 use Rattle.sr_session.specs.{code_of}
 use Rattle.sr_session.proofs.LetterLemmas.{HasNone, history-none}
-use Rattle.sr_hub.specs.Told.{AreOf, AreRounds, IsBroken, IsSilent, IsTold, IsVerdictOn, broke_off, is_full, lacks_index, lacks_memory, refused, replied, spoken}
+use Rattle.sr_hub.specs.OneRequest.{AreOf, AreRounds, IsBroken, IsSilent, IsAnsweredInRecords, IsVerdictOn, broke_off, is_full, lacks_index, lacks_memory, refused, replied, spoken}
 use Rattle.sr_hub.specs.Line.{ConnectionState, IsAtRest, IsFree, IsJudging, IsLine, IsWaitingFor, Stays, is_ended, last_text}
 use Rattle.sr_hub.specs.declared.stage.Judging.{Judging}
 use Rattle.sr_hub.specs.declared.stage.Stage.{Stage}
@@ -210,7 +210,7 @@ told-requests text line after (cut_off is) = ap (λ (c : ConnectionState). c.req
 
 -- what is told of a request that is begun
 tells-line : (words : Words) (records : List Recorded) (taken given : List ℕ) (line : ConnectionState) (begun : IsBegun words records taken given line) (more : List Recorded) (server : Server)
-    (text : List ℕ) (after : ConnectionState) → Tells text line after → IsTold line.session begun.told words text (records ++ more) → IsFree line.session server
+    (text : List ℕ) (after : ConnectionState) → Tells text line after → IsAnsweredInRecords line.session begun.told words text (records ++ more) → IsFree line.session server
     → IsLine (records ++ more) server taken given after
 tells-line words records taken given line begun more server text after (told is) is_told free =
     subst (IsLine (records ++ more) server taken given) (sym is) (told-line words records taken given line begun more server text is_told free)
@@ -232,7 +232,7 @@ module _ (words : Words) (asked : Command) (old : BookState) (line : ConnectionS
         same = told-same (reply_text reply) line after tells;
         goes_on = λ records taken given all h.
             let begun = IsBegun-held words records old.server taken given line h in
-            let is_told : IsTold session h.told words (reply_text reply) (records ++ these) =
+            let is_told : IsAnsweredInRecords session h.told words (reply_text reply) (records ++ these) =
             replied asked reply (h.more ++ these) is_command refl (whole-more words records taken given line begun these new.server)
             (subst (AreOf session asked) (sym (spoken-after session h.more these h.silent ∙ heard.said)) of)
             (addressed-after session h.more these h.silent ∙ heard.gets) in
@@ -334,14 +334,14 @@ asking-busy session event server (asks of) = asks-busy session event server.wait
 
 refused-told : (session : ℕ) (told_by : List Recorded) (words : Words) (asked : Command) (fault : BookFault) (records more : List Recorded) → IsCommand words asked → records ≡ told_by ++ more
     → IsSilent session more → (fault ≡ faults.Memory) ⊎ ((fault ≡ faults.Full) × (2 ^ 63 ≤ length records + 1))
-    → IsTold session told_by words (reply_text (error_reply (refusal_code fault))) (records ++ [])
+    → IsAnsweredInRecords session told_by words (reply_text (error_reply (refusal_code fault))) (records ++ [])
 refused-told session told_by words asked fault records more is_command whole silent (inl memory) =
-    let Told : BookFault → Type 0 = λ f. IsTold session told_by words (reply_text (error_reply (refusal_code f))) (records ++ []) in
-    subst Told (sym memory) (refused call_faults.Memory more (asked, is_command) refl (append-nil records ∙ whole) silent)
+    let Response : BookFault → Type 0 = λ f. IsAnsweredInRecords session told_by words (reply_text (error_reply (refusal_code f))) (records ++ []) in
+    subst Response (sym memory) (refused call_faults.Memory more (asked, is_command) refl (append-nil records ∙ whole) silent)
 refused-told session told_by words asked fault records more is_command whole silent (inr full) =
-    let Told : BookFault → Type 0 = λ f. IsTold session told_by words (reply_text (error_reply (refusal_code f))) (records ++ []) in
+    let Response : BookFault → Type 0 = λ f. IsAnsweredInRecords session told_by words (reply_text (error_reply (refusal_code f))) (records ++ []) in
     let same : length (records ++ []) ≡ length records = ap (λ (l : List Recorded). length l) (append-nil records) in
-    subst Told (sym full.0) (is_full asked more is_command (omega (arith, full.1, same)) refl (append-nil records ∙ whole) silent)
+    subst Response (sym full.0) (is_full asked more is_command (omega (arith, full.1, same)) refl (append-nil records ∙ whole) silent)
 
 broken : (fault : BookFault) (records : List Recorded) → (fault ≡ faults.Memory) ⊎ ((fault ≡ faults.Full) × (2 ^ 63 ≤ length records + 1))
     → IsBroken (refusal_code fault) (length (records ++ []))
@@ -362,7 +362,7 @@ answers-fault words fault book line after refuses tells =
       same = told-same text line after tells;
       goes_on = λ records taken given all h.
           let begun = IsBegun-held words records book.server taken given line h in
-          let is_told : IsTold line.session h.told words text (records ++ []) =
+          let is_told : IsAnsweredInRecords line.session h.told words text (records ++ []) =
           refused fault h.more refuses refl (append-nil records ∙ h.whole) h.silent in
           tells-line words records taken given line begun [] book.server text after tells is_told h.free;
     }
@@ -383,8 +383,8 @@ answers-refused words asked event old line at code new after is_command asking b
           let begun = IsBegun-held words records old.server taken given line h in
           let busy = asking-busy session event old.server asking ∙ h.free.absent in
           let why = step-refused records old at session event by_fault.fault new all (asking-speaker session event asking) h.free.opened busy by_fault.refused in
-          let is_told : IsTold session h.told words text (records ++ []) =
-          subst (λ (c : ErrCode). IsTold session h.told words (reply_text (error_reply c)) (records ++ [])) (sym by_fault.is)
+          let is_told : IsAnsweredInRecords session h.told words text (records ++ []) =
+          subst (λ (c : ErrCode). IsAnsweredInRecords session h.told words (reply_text (error_reply c)) (records ++ [])) (sym by_fault.is)
           (refused-told session h.told words asked by_fault.fault records h.more is_command h.whole h.silent why.reason) in
           subst (λ (b : BookState). IsLine (records ++ []) b.server taken given after) (sym same)
           (tells-line words records taken given line begun [] old.server text after tells is_told h.free);
@@ -426,7 +426,7 @@ module _ (old : BookState) (line : ConnectionState) (at : ℕ) (judging : Judgin
       moves-alone old line after (told-same (reply_text (error_reply errors.Memory)) line after tells) (λ records taken given l.
       let j = judges-of records taken given l in
       let text : List ℕ = reply_text (error_reply errors.Memory) in
-      let is_told : IsTold line.session l.told j.words text (records ++ []) =
+      let is_told : IsAnsweredInRecords line.session l.told j.words text (records ++ []) =
       broke_off judging.apply j.tries j.key j.group j.dead errors.Memory l.more j.is (lacks_memory refl) refl (append-nil records ∙ l.whole)
       (j.verdicts, j.said, j.rounds) j.silent in
       subst (λ (r : List Recorded). IsLine r old.server taken given after) (append-nil records)
@@ -474,7 +474,7 @@ module _ (old : BookState) (line : ConnectionState) (at : ℕ) (judging : Judgin
           goes_on = λ records taken given all l.
               let j = judges-of records taken given l in
               let begun = begun-of records taken given l in
-              let is_told : IsTold line.session l.told j.words (reply_text reply) (records ++ these) =
+              let is_told : IsAnsweredInRecords line.session l.told j.words (reply_text reply) (records ++ these) =
               replied (commands.Recover judging.apply j.tries j.key j.group j.dead) reply (l.more ++ these) j.is refl (whole-more j.words records taken given line begun these new.server)
               (j.verdicts ++ event ∷ [], said-more old.server l.more these l.held j heard.said, AreRounds-more old.server l.more l.held j)
               (gets-more old.server l.more these l.held j (reply ∷ []) heard.gets) in
@@ -538,7 +538,7 @@ module _ (old : BookState) (line : ConnectionState) (at : ℕ) (judging : Judgin
               let j = judges-of records taken given l in
               let why = step-refused records old at line.session event by_fault.fault new all refl j.free.opened j.free.absent by_fault.refused in
               let told_this : AreOf line.session (commands.Recover judging.apply j.tries j.key j.group j.dead) (spoken line.session l.more) = (j.verdicts, j.said, j.rounds) in
-              let is_told : IsTold line.session l.told j.words text (records ++ []) =
+              let is_told : IsAnsweredInRecords line.session l.told j.words text (records ++ []) =
               broke_off judging.apply j.tries j.key j.group j.dead code l.more j.is
               (subst (λ (c : ErrCode). IsBroken c (length (records ++ []))) (sym by_fault.is) (broken by_fault.fault records why.reason)) refl (append-nil records ∙ l.whole) told_this j.silent in
               subst (λ (b : BookState). IsLine (records ++ []) b.server taken given after) (sym same)

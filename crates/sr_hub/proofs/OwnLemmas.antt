@@ -25,7 +25,7 @@ use Rattle.sr_book.specs.declared.event.Out.TheVariants as outs
 use Rattle.sr_book.proofs.HeardLemmas.{Asks, asks-speaker}
 use Rattle.sr_book.proofs.OpenLemmas.{is_open-with_letter}
 use Rattle.sr_book.proofs.SessionLaws.{IsIdleIn, accepted-idle, asked-addressed, asked-idle, called-addressed, called-idle, snapped-silent, stale-silent}
-use Rattle.sr_hub.specs.Told.{is_by, said_in, spoken}
+use Rattle.sr_hub.specs.OneRequest.{is_by, said_in, spoken}
 use Rattle.sr_hub.specs.Line.{IsFree}
 use Rattle.sr_hub.specs.Lines.{AreAll}
 use Rattle.sr_hub.specs.steps.Moves.{Adds}

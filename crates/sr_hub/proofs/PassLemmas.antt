@@ -24,7 +24,7 @@ use Rattle.sr_book.proofs.HeardLemmas.{Asks, SendsAnswer, acted-heard}
 use Rattle.sr_book.proofs.OpenLemmas.{has_session-filter, is_open-with_letter, is_open-with_nothing}
 use Rattle.sr_book.proofs.ServeLemmas.{serving-read}
 use Rattle.sr_session.proofs.LetterLemmas.{letter_of-other}
-use Rattle.sr_hub.specs.Told.{is_by, said_in}
+use Rattle.sr_hub.specs.OneRequest.{is_by, said_in}
 use Rattle.sr_hub.proofs.SoundLemmas.{IsSound, once-filter}
 
 -- ---- how a session goes on

@@ -1,7 +1,7 @@
 -- The replies that each connection of an event loop gets are those of the one-thread server to the lines that it
 -- sent.
 
-pub mod Told
+pub mod OneRequest
 pub mod Line
 pub mod Lines
 pub mod Said

@@ -21,7 +21,7 @@ use Rattle.sr_session.specs.{AreAnswered, protocol_text}
 use Rattle.sr_hub.specs.declared.stage.Judging.{Judging}
 use Rattle.sr_hub.specs.declared.stage.Stage.{Stage}
 use Rattle.sr_hub.specs.declared.stage.Stage.TheVariants as stages
-use Rattle.sr_hub.specs.Told.{IsSilent, IsTold, AreRounds, spoken}
+use Rattle.sr_hub.specs.OneRequest.{IsSilent, IsAnsweredInRecords, AreRounds, spoken}
 
 -- ---- what contracts see
 
@@ -131,7 +131,7 @@ pub record IsLine (records : List Recorded) (server : Server) (taken given : Lis
   pub bytes : taken ≡ looked_at ++ passed_over
   pub none_passed : is_ended line.stage ≡ false → passed_over ≡ []
   pub stands : Stands looked_at (answered ++ held) line.requests
-  pub tells : AreAnswered (IsTold line.session) found answered text told
+  pub tells : AreAnswered (IsAnsweredInRecords line.session) found answered text told
   pub spelled : given ++ line.unsent ≡ text ++ last_text line.stage
   pub whole : records ≡ told ++ more
   pub stays : Stays line.session server more held line.requests line.stage

@@ -2,7 +2,7 @@ ghost use Rattle.std.specs.Prelude.{◌≡◌, ◌++◌, ℕ, List, []};
 ghost use Rattle.sr_book.specs.Server.{Server};
 ghost use Rattle.sr_book.specs.{BookState, Recorded, next_index};
 ghost use Rattle.sr_book.specs.Records.{Legal};
-ghost use Rattle.sr_hub.specs.Told.{spoken};
+ghost use Rattle.sr_hub.specs.OneRequest.{spoken};
 ghost use Rattle.sr_hub.specs.Line.{ConnectionState, IsLine};
 ghost use Rattle.sr_hub.specs.Lines.{AreAll};
 

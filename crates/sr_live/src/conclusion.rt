@@ -77,7 +77,7 @@ fn run_script<P: Peer>(
 /// Whether Redis does not have the script.
 fn is_missing(said: &Result<Concluded, Misread>) -> bool {
     match said {
-        Err(Misread::Told(text)) => text.as_slice().starts_with(b"NOSCRIPT"),
+        Err(Misread::ErrorReply(text)) => text.as_slice().starts_with(b"NOSCRIPT"),
         _ => false,
     }
 }

@@ -23,7 +23,7 @@ pub enum LiveFault {
     /// Redis was not reached, or what it sent is no reply.
     Peer(PeerFault),
     /// Redis replied an error: its text, without the `-`.
-    Told(LiveCall, Name),
+    ErrorReply(LiveCall, Name),
     /// Redis replied something else than the call's page says.
     Shape(LiveCall),
     /// More entries are pending for the dead than are looked up, or more are stranded than a snapshot may have.

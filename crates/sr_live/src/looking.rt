@@ -298,7 +298,7 @@ pub(crate) fn understood<T>(call: LiveCall, said: Result<T, Misread>) -> Result<
     match said {
         Ok(value) => Ok(value),
         Err(Misread::Memory) => Err(LiveFault::Memory),
-        Err(Misread::Told(text)) => Err(LiveFault::Told(call, text)),
+        Err(Misread::ErrorReply(text)) => Err(LiveFault::ErrorReply(call, text)),
         Err(Misread::Shape) => Err(LiveFault::Shape(call)),
     }
 }

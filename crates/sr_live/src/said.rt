@@ -20,7 +20,7 @@ pub(crate) enum Misread {
     /// A failed allocation.
     Memory,
     /// It is an error, with this text.
-    Told(Name),
+    ErrorReply(Name),
     /// It has another shape.
     Shape,
 }
@@ -244,7 +244,7 @@ fn header(alloc: Global, parts: &mut Parts<'_>) -> Result<usize, Misread>
 {
     match parts.next() {
         Some(Part::Array(count)) => Ok(count),
-        Some(Part::Error(text)) => Err(Misread::Told(name_of(alloc, text)?)),
+        Some(Part::Error(text)) => Err(Misread::ErrorReply(name_of(alloc, text)?)),
         _ => Err(Misread::Shape),
     }
 }

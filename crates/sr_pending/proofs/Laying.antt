@@ -5,7 +5,7 @@ use Rattle.std.proofs.lemmas.List.{length-append, length-drop, length-take}
 use Rattle.std.specs.List.{insert}
 use Rattle.std.specs.VecDeque.{deque_capacity, deque_len}
 use Rattle.std.specs.declared.collections.VecDeque.{VecDeque}
-use Rattle.sr_pending.specs.declared.parts.TheConstants.{BLOCK}
+use Rattle.sr_pending.specs.declared.closed_blocks.TheConstants.{BLOCK}
 use Rattle.sr_pending.specs.steps.Blocks.{AreFilled, AreSpare, IsLaid, Rotates, held_in}
 
 longer : {X : Type 0} (xs : List X) (i : ℕ) (x : X) → length (insert xs i x) ≡ length xs + 1

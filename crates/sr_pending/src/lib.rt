@@ -2,6 +2,7 @@
 #![tactic(auto)]
 
 mod blocks;
+mod closed_blocks;
 mod edit;
 mod firsts;
 mod held;
@@ -9,7 +10,6 @@ mod nack;
 mod nacks;
 mod owned;
 mod owner;
-mod parts;
 mod pending;
 mod room;
 mod run;

@@ -1,6 +1,6 @@
-use crate::judge::is_snapshot;
 use crate::live::Live;
 use crate::rates::Rates;
+use crate::snapshot_rules::is_snapshot;
 use crate::stranded::Stranded;
 use sr_bytes::Name;
 use sr_ids::Id;

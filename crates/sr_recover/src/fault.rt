@@ -33,7 +33,7 @@ pub(crate) enum Fault {
     #[error("redis: the key is on another node: {0}")]
     Moved(String),
     #[error("redis: {0} is answered with an error: {1}{2}")]
-    Told(&'static str, String, &'static str),
+    ErrorReply(&'static str, String, &'static str),
     #[error("redis: {0} is answered with a reply of another shape")]
     Shape(&'static str),
     #[error("redis: {0}")]
@@ -80,7 +80,7 @@ pub(crate) fn live_fault(alloc: Global, fault: LiveFault) -> Fault {
     match fault {
         LiveFault::Memory => Fault::Memory,
         LiveFault::Peer(fault) => peer_fault(fault),
-        LiveFault::Told(call, text) => told(alloc, call, text.as_slice()),
+        LiveFault::ErrorReply(call, text) => told(alloc, call, text.as_slice()),
         // A script that was answered so may have run.
         LiveFault::Shape(LiveCall::Script) => Fault::Unknown("the answer has another shape"),
         LiveFault::Shape(call) => Fault::Shape(call_text(call)),
@@ -134,7 +134,7 @@ fn told(alloc: Global, call: LiveCall, text: &[u8]) -> Fault {
         }
     }
     match text_of(alloc, text) {
-        Ok(said) => Fault::Told(call_text(call), said, advice_for(text)),
+        Ok(said) => Fault::ErrorReply(call_text(call), said, advice_for(text)),
         Err(_) => Fault::Memory,
     }
 }

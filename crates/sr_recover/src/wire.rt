@@ -116,7 +116,7 @@ pub(crate) fn select(wire: &mut Wire, alloc: Global, database: u64) -> Result<()
     append_number(&mut request, database)?;
     match refusal(wire, alloc, request.as_slice(), "SELECT")? {
         None => Ok(()),
-        Some(text) => Err(Fault::Told("SELECT", text, "")),
+        Some(text) => Err(Fault::ErrorReply("SELECT", text, "")),
     }
 }
 

@@ -8,5 +8,5 @@ pub mod LetterLemmas
 pub mod RoundLemmas
 pub mod RunLemmas
 pub mod TakenLemmas
-pub mod ToldLemmas
+pub mod ResponseLemmas
 pub mod UnderwayLemmas

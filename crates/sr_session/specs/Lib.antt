@@ -8,7 +8,7 @@ pub mod Session
 pub mod Whole
 pub mod Source
 pub mod steps
-pub mod Told
+pub mod Responses
 -- what the crates above say most
 pub use Rattle.sr_session.specs.Session.{AreAnswered, protocol_text}
 pub use Rattle.sr_session.specs.Answered.{code_of}

@@ -8,7 +8,7 @@ use Rattle.sr_book.specs.{is_open, BookState, Recorded, next_index}
 use Rattle.sr_book.specs.Server.{Server}
 use Rattle.sr_book.specs.Records.{Legal}
 use Rattle.sr_session.specs.{AreAnswered}
-use Rattle.sr_hub.specs.Told.{IsSilent, IsTold}
+use Rattle.sr_hub.specs.OneRequest.{IsSilent, IsAnsweredInRecords}
 use Rattle.sr_hub.specs.Line.{ConnectionState, IsFree, IsJoined, IsLine}
 use Rattle.sr_hub.specs.Lines.{AreAll}
 use Rattle.sr_hub.specs.Said.{IsOwn}
@@ -42,7 +42,7 @@ pub record IsHolding (words : Words) (records : List Recorded) (server : Server)
   pub answered : List Words
   pub joined : IsJoined line.session found
   pub stands : Stands taken (answered ++ words ∷ []) line.requests
-  pub tells : AreAnswered (IsTold line.session) found answered (given ++ line.unsent) told
+  pub tells : AreAnswered (IsAnsweredInRecords line.session) found answered (given ++ line.unsent) told
   pub whole : records ≡ told ++ more
   pub silent : IsSilent line.session more
   pub free : IsFree line.session server

@@ -7,7 +7,7 @@ use Rattle.std.specs.Coded.{Coded, code_by, coded×, coded_ℕ, coded_list}
 use Rattle.std.specs.VecDeque.{deque_items, deque_capacity, deque_len}
 use Rattle.std.specs.declared.collections.VecDeque.{VecDeque}
 use Rattle.sr_pending.specs.declared.blocks.Place.{Place}
-use Rattle.sr_pending.specs.declared.parts.TheConstants.{BLOCK, FREE}
+use Rattle.sr_pending.specs.declared.closed_blocks.TheConstants.{BLOCK, FREE}
 
 -- what contracts see: the closed blocks, the open one, and for how many more elements there is room
 pub record Laid (T : Type 0) : Type 0 where

@@ -4,7 +4,8 @@ ghost use Rattle.std.specs.Prelude.{◌≡◌};
 
 use super::records::{are_driven, driven};
 use super::rows::{
-    CHECKPOINT, DEADLINE, OPENED, READERS, RECOVERY, Row, SCRIPTS, TWO_SEATS, Told, WAITED, play,
+    CHECKPOINT, DEADLINE, OPENED, READERS, RECOVERY, Row, SCRIPTS, TWO_SEATS, Transcript, WAITED,
+    play,
 };
 use super::{TWO, book_under};
 use sr_book::{Book, Out};
@@ -43,7 +44,7 @@ struct Spare {
 }
 
 /// Alters what was told, or, the second time, puts it back.
-fn alter(told: &mut Told, spare: &mut Spare, altered: Altered) {
+fn alter(told: &mut Transcript, spare: &mut Spare, altered: Altered) {
     match altered {
         Altered::Nothing | Altered::Seat => {}
         Altered::Outcome(at) => {
@@ -78,7 +79,7 @@ fn close<L: Ledger>(
     alloc: Global,
     shared: Shared<L>,
     mut seats: Vec<Seat<L>>,
-    told: &mut Told,
+    told: &mut Transcript,
     altered: Altered,
 ) -> Result<(Option<CloseFault>, Closed), Fail> {
     let mut spare = Spare {
@@ -106,7 +107,7 @@ fn close_again<L: Ledger>(
     alloc: Global,
     unclosed: Unclosed<L>,
     seat: Option<Seat<L>>,
-    told: &Told,
+    told: &Transcript,
 ) -> Result<Closed, Fail> {
     let (shared, mut seats) = unclosed.reopened();
     if let Some(seat) = seat {
@@ -123,7 +124,7 @@ fn play_shared<L: Ledger, R: AllocGlobal + Abort + Wait>(
     rt: &R,
     shared: Shared<L>,
     mut seats: Vec<Seat<L>>,
-    told: &mut Told,
+    told: &mut Transcript,
     row: Row,
     altered: Altered,
 ) -> Result<(Option<CloseFault>, Closed), Fail> {
@@ -163,7 +164,7 @@ fn closes_by<L: Ledger, R: AllocGlobal + Abort + RandomSource + Wait>(
     requires parts { blank.parts ≡ 2 }
 {
     let (shared, seats) = open::<L>(rt.alloc(), book_before(rt, row)?, 2, blank)?;
-    let mut told = Told::new(rt.alloc());
+    let mut told = Transcript::new(rt.alloc());
     let (fault, closed) = play_shared(rt, shared, seats, &mut told, row, altered)?;
     let is_right = is_of_row(rt, &closed, row)?;
     assert!(rt; is_right && fault == want);

@@ -199,15 +199,15 @@ pub(super) const WAITED: Row = Row {
 
 /// What a run was told. Of its snapshots the last.
 #[derive(Drop)]
-pub(super) struct Told {
+pub(super) struct Transcript {
     pub(super) receipts: Vec<Receipt>,
     pub(super) letters: Vec<Letter>,
     pub(super) snapshot: Option<Snapshot>,
 }
 
-impl Told {
-    pub(super) fn new(alloc: Global) -> Told {
-        Told {
+impl Transcript {
+    pub(super) fn new(alloc: Global) -> Transcript {
+        Transcript {
             receipts: Vec::new(alloc),
             letters: Vec::new(alloc),
             snapshot: None,
@@ -308,7 +308,7 @@ fn call<L: Ledger, R: AllocGlobal + Wait>(
     rt: &R,
     shared: &Shared<L>,
     seat: &mut Seat<L>,
-    told: &mut Told,
+    told: &mut Transcript,
     moment: u64,
     session: u64,
     call: &Call,
@@ -337,7 +337,7 @@ fn made<L: Ledger, R: AllocGlobal + Wait>(
 }
 
 /// Keeps a receipt, and says what its outcome is.
-fn keep_receipt(alloc: Global, told: &mut Told, receipt: Receipt) -> Result<Vec<u8>, Fail> {
+fn keep_receipt(alloc: Global, told: &mut Transcript, receipt: Receipt) -> Result<Vec<u8>, Fail> {
     let text = out_text(alloc, &receipt.out);
     let kept = told.receipts.push(receipt).is_ok();
     if kept {
@@ -423,7 +423,7 @@ fn act<L: Ledger, R: AllocGlobal + Wait>(
     rt: &R,
     shared: &Shared<L>,
     seat: &mut Seat<L>,
-    told: &mut Told,
+    told: &mut Transcript,
     moment: u64,
     event: Event,
 ) -> Result<Vec<u8>, Fail> {
@@ -438,7 +438,7 @@ fn letter<L: Ledger, R: AllocGlobal + Wait>(
     rt: &R,
     shared: &Shared<L>,
     seat: &mut Seat<L>,
-    told: &mut Told,
+    told: &mut Transcript,
     session: u64,
 ) -> Result<Vec<u8>, Fail> {
     match shared.await_reply(rt, rt.alloc(), seat, session) {
@@ -466,7 +466,7 @@ fn play_line<L: Ledger, R: AllocGlobal + Wait>(
     rt: &R,
     shared: &Shared<L>,
     seat: &mut Seat<L>,
-    told: &mut Told,
+    told: &mut Transcript,
     (moment, session, line, _): Line,
 ) -> Result<Vec<u8>, Fail> {
     match line {
@@ -503,7 +503,7 @@ pub(super) fn play<L: Ledger, R: AllocGlobal + Abort + Wait>(
     rt: &R,
     shared: &Shared<L>,
     seats: &mut [Seat<L>],
-    told: &mut Told,
+    told: &mut Transcript,
     lines: &[Line],
 ) -> Result<(), Fail> {
     for played in lines {

@@ -14,21 +14,21 @@ use std::test::Fail;
 
 /// Keeps what it gets, and tells others how much.
 #[derive(Drop)]
-pub(super) struct Told<'a> {
+pub(super) struct CountingSink<'a> {
     pub(super) bytes: Vec<u8>,
     count: &'a Cell<usize>,
 }
 
-impl<'a> Told<'a> {
-    pub(super) fn new(alloc: Global, count: &'a Cell<usize>) -> Told<'a> {
-        Told {
+impl<'a> CountingSink<'a> {
+    pub(super) fn new(alloc: Global, count: &'a Cell<usize>) -> CountingSink<'a> {
+        CountingSink {
             bytes: Vec::new(alloc),
             count,
         }
     }
 }
 
-impl Sink for Told<'_> {
+impl Sink for CountingSink<'_> {
     ghost contents = { λ _. None };
 
     ghost failed = { λ _. false };
@@ -166,7 +166,7 @@ fn ends(
     text: &str,
 ) -> bool {
     let count = Cell::new(0);
-    let mut writer = Told::new(alloc, &count);
+    let mut writer = CountingSink::new(alloc, &count);
     let mut desk = Noting {
         count: &count,
         refused,
@@ -411,7 +411,7 @@ fn notes(alloc: Global, hasher: RandomState, bytes: &[u8], want: &str) -> bool {
     let _ended = run_session(
         alloc,
         &mut Pieces::whole(bytes),
-        &mut Told::new(alloc, &count),
+        &mut CountingSink::new(alloc, &count),
         &mut desk,
         &clock,
         &Passed { passed: &passed },

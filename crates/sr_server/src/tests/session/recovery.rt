@@ -1,7 +1,7 @@
 // Recoveries while another session goes on. What they reply otherwise is in tests/commands.
 ghost use Rattle.std.specs.Prelude.{None};
 
-use super::desks::Told;
+use super::desks::CountingSink;
 use super::{Pieces, Stopped, spelled};
 use crate::tests::run::TWO;
 use sr_book::{Answer, Book, Event, Letter};
@@ -39,7 +39,7 @@ fn meddle(alloc: Global, book: &mut Book, requests: &[u8]) {
     let _ended = run_session(
         alloc,
         &mut Pieces::whole(requests),
-        &mut Told::new(alloc, &count),
+        &mut CountingSink::new(alloc, &count),
         &mut PlainDesk::new(book),
         &Stopped,
         &NoGate,
@@ -302,7 +302,7 @@ fn is_answered(
         is_full: row.is_full,
     };
     let count = Cell::new(0);
-    let mut writer = Told::new(alloc, &count);
+    let mut writer = CountingSink::new(alloc, &count);
     let ended = run_session(
         alloc,
         &mut Pieces::whole(sent.commands),

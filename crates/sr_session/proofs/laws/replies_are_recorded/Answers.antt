@@ -1,4 +1,4 @@
-use Rattle.sr_session.proofs.ToldLemmas.{answered-told}
+use Rattle.sr_session.proofs.ResponseLemmas.{answered-told}
 use Rattle.sr_session.proofs.laws.replies_are_recorded.Goals as goal
 
 pub returns : goal.returns

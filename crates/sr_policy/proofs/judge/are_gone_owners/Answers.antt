@@ -1,5 +1,0 @@
-use Rattle.std.proofs.Common.{rules}
-use Rattle.sr_policy.proofs.judge.are_gone_owners.Goals as goal
-
-pub returns : goal.returns
-returns c = search rules
