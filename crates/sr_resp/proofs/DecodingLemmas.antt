@@ -12,7 +12,7 @@ use Rattle.sr_resp.specs.declared.code.ErrCode.{ErrCode}
 use Rattle.sr_resp.specs.declared.code.ErrCode.TheVariants as errors
 use Rattle.sr_resp.specs.Code.{error_text}
 use Rattle.sr_resp.specs.Reply.{Part, Bulk, NullBulk, AreReplies, items_of, part_text, reply_text}
-use Rattle.sr_resp.specs.Spelled.{AreSpellable}
+use Rattle.sr_resp.specs.Spelled.{AreSpellable, Spells}
 use Rattle.sr_resp.specs.steps.OneSpelling.{each_error, IsAbove, IsAbove-decimal, IsAbove-line, mark, line, tail, part_text-lines, one_part}
 use Rattle.sr_resp.specs.steps.Decoding.{IsLine, HasLine, HasForm, HasPart, SpellsReplies, AreSpelledReplies}
 use Rattle.sr_resp.proofs.DraftLemmas.{part_text-some, reply_text-long}
@@ -206,6 +206,11 @@ none-left text e = ([], record { spells = record { spelled = e; fit = tt }; whol
 pub some-left : (n : ℕ) (text : List ℕ) → n ≡ 0 → AreSpelledReplies n text → text ≡ []
 some-left n text none ([], is) = is.spells.spelled
 some-left n text none (part ∷ parts, is) = absurd (subst (λ (m : ℕ). AreReplies m (part ∷ parts)) none is.whole)
+
+-- what no items spell is no parts
+pub no_items : (text : List ℕ) (parts : List Part) → AreSpelledReplies 0 text → Spells text parts → parts ≡ []
+no_items text [] are spells = refl
+no_items text (part ∷ parts) are spells = absurd (omega (arith, reply_text-long (part ∷ parts), ap length spells.spelled, ap length (some-left 0 text refl are)))
 
 -- the first part of some replies, and the rest
 pub replies-after : (n : ℕ) (text after : List ℕ) (part : Part) → HasPart text part after → AreSpelledReplies (suc n) text → AreSpelledReplies (items_of part + n) after

@@ -3,12 +3,9 @@ use Rattle.std.proofs.Common.{◌≡◌, ℕ, ◌+◌, ◌≤◌, Bool, true, fa
 use Rattle.std.specs.Bool.{Decides}
 use Rattle.std.specs.Prelude.{OnOk, OnErr}
 use Rattle.std.proofs.lemmas.List.Concat.{flat_map-append}
-use Rattle.sr_resp.specs.declared.first.First.{First}
-use Rattle.sr_resp.specs.declared.first.First.TheVariants as firsts
 use Rattle.sr_resp.specs.Reply.{Part, Simple, Error, Int, Bulk, NullBulk, NullArray, Array, part_text, reply_text}
 use Rattle.sr_resp.specs.Spelled.{AreSpellable, IsSpelled, parts_of}
 use Rattle.sr_resp.specs.steps.OneSpelling.{one_spelling}
-use Rattle.sr_resp.specs.steps.Pieces.{first_part}
 
 AreSpellable-append : (ps qs : List Part) → AreSpellable ps → AreSpellable qs → AreSpellable (ps ++ qs)
 AreSpellable-append [] qs fit more = more
@@ -69,24 +66,12 @@ reply_text-long (part ∷ parts) = omega (arith, reply_text-long parts, part_tex
 pub parts-few : (text : List ℕ) (is : IsSpelled text) → length (parts_of text is) ≤ length text
 parts-few text is = omega (arith, reply_text-long (parts_of text is), ap length (text-spelled text is))
 
--- a first part is known by the part that it is
-pub first_part-injective : (f g : First) → first_part f ≡ first_part g → f ≡ g
-first_part-injective (firsts.Simple v) (firsts.Simple w) e = cc e
-first_part-injective (firsts.Error c) (firsts.Error d) e = cc e
-first_part-injective (firsts.Int m) (firsts.Int n) e = cc e
-first_part-injective (firsts.Bulk a) (firsts.Bulk b) e = cc e
-first_part-injective firsts.NullBulk firsts.NullBulk e = refl
-first_part-injective firsts.NullArray firsts.NullArray e = refl
-first_part-injective (firsts.Array m) (firsts.Array n) e = cc e
-first_part-injective f g e = absurd (cc e)
-
--- a header that is raised by one
-pub header-raised : (first : First) (n items : ℕ) (parts others whole : List Part) → first ≡ firsts.Array n → first_part first ∷ parts ≡ whole → whole ≡ Array items ∷ others → Array (n + 1) ∷ parts ≡ Array (items + 1) ∷ others
-header-raised first n items parts others whole is view e =
-    let header : Array n ∷ parts ≡ Array items ∷ others = ap (λ (f : First). first_part f ∷ parts) (sym is) ∙ view ∙ e in
-    let count : n ≡ items = cc header in
-    let behind : parts ≡ others = cc header in
-    cc (count, behind)
+-- an array with an item more
+pub header-raised : (n items : ℕ) (parts others item grown : List Part) → grown ≡ parts ++ item → Array n ∷ parts ≡ Array items ∷ others → Array (n + 1) ∷ grown ≡ Array (items + 1) ∷ (others ++ item)
+header-raised n items parts others item grown more e =
+    let count : n ≡ items = cc e in
+    let behind : parts ≡ others = cc e in
+    cc (count, behind, more)
 
 -- two tests of one fact answer the same
 pub same_answer : (s t : Bool) (P : Type 0) → Decides s P → Decides t P → s ≡ t

@@ -10,7 +10,7 @@ ghost use Rattle.sr_resp.specs.steps.Decoding.{HasLine, HasForm, HasPart, AreSpe
 ghost use Rattle.sr_resp.specs.steps.Pieces.{part_of};
 
 use crate::piece::Piece;
-use crate::{Draft, ErrCode, Reply, Word};
+use crate::{ErrCode, Reply, Word};
 use itoa::Buffer;
 use sr_bytes::read_decimal;
 use std::alloc::{AllocError, Global};
@@ -55,8 +55,7 @@ pub fn decode(alloc: Global, bytes: &[u8]) -> Result<Option<Reply>, AllocError>
     if !are_replies(others, items_after(piece)) {
         return Ok(None);
     }
-    let draft = Draft::read(alloc, piece, others)?;
-    Ok(Some(draft.finish()))
+    Ok(Some(Reply::read(alloc, piece, others)?))
 }
 
 /// Whether these bytes spell this many replies, one after another, and nothing more.

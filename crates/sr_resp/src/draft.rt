@@ -1,24 +1,23 @@
-ghost use Rattle.std.specs.Prelude.{◌≡◌, ◌∷◌, [], ◌++◌, ◌+◌, ◌<◌, ℕ, List, length, IfOk, OnOk, OnErr, IsTrue, ◌↔◌};
+ghost use Rattle.std.specs.Prelude.{◌≡◌, ◌∷◌, [], ◌++◌, ◌+◌, ℕ, List, IfOk, OnOk, OnErr};
 ghost use Rattle.sr_resp.specs.Reply.{Part, Array, IsReply, bulk_string, integer, null_string, null_array};
-ghost use Rattle.sr_resp.specs.Reply.{array_header, reply_text};
+ghost use Rattle.sr_resp.specs.Reply.{array_header};
 ghost use Rattle.sr_resp.specs.Spelled.{Spells, IsSpelled};
 ghost use Rattle.sr_resp.specs.steps.OneSpelling.{IsSpelled-prop};
-ghost use Rattle.sr_resp.specs.steps.Pieces.{first_part, part_of};
+ghost use Rattle.sr_resp.specs.steps.Pieces.{part_of, AreHeldAs};
 
 use crate::Reply;
-use crate::encoding::{append_parts, append_piece};
-use crate::first::First;
+use crate::encoding::append_piece;
 use crate::piece::Piece;
 use std::alloc::{AllocError, Global};
 use std::marker::Model;
 
-/// A reply that is written part by part: the headers of arrays, and their items after them.
+/// An array that is written part by part: the headers of arrays, and their items after them.
 ///
-/// Its first part is kept as it is, and the others as their text, so that it fills one buffer.
+/// Its own header is kept as a number, and the parts after it as their text, so that it fills one buffer.
 ///
 /// Source: RESP2 protocol specification, "RESP protocol description".
 pub struct Draft {
-    first: First,
+    items: usize,
     rest: Vec<u8>,
     ghost others: { IsSpelled rest.items } by { IsSpelled-prop rest.items },
 }
@@ -26,20 +25,18 @@ pub struct Draft {
 // A function of its own, so that a caller that lets go of one is proved without looking at its parts.
 impl Drop for Draft {
     fn drop(self) {
-        let Draft { first: _, rest: _ } = self;
+        let Draft { items: _, rest: _ } = self;
     }
 }
 
 impl Model for Draft {
     ghost use Rattle.std.specs.Prelude.{List, ◌∷◌};
-    ghost use Rattle.sr_resp.specs.Reply.{Part};
+    ghost use Rattle.sr_resp.specs.Reply.{Part, Array};
     ghost use Rattle.sr_resp.specs.Spelled.{parts_of};
 
     ghost Value = { List Part };
 
-    ghost use Rattle.sr_resp.specs.steps.Pieces.{first_part};
-
-    ghost view = { λ d. first_part d.first ∷ parts_of d.rest.items d.others };
+    ghost view = { λ d. Array d.items ∷ parts_of d.rest.items d.others };
 }
 
 impl Draft {
@@ -47,7 +44,10 @@ impl Draft {
     pub fn array(alloc: Global, items: usize) -> Draft
         ensures { result ≡ array_header items }
     {
-        Draft::of(alloc, First::Array(items))
+        Draft {
+            items,
+            rest: Vec::new(alloc),
+        }
     }
 
     /// The same with room for this many bytes of the spelling of its items.
@@ -55,30 +55,19 @@ impl Draft {
         ensures { IfOk result (λ draft. draft ≡ array_header items) }
     {
         Ok(Draft {
-            first: First::Array(items),
+            items,
             rest: Vec::with_capacity(alloc, bytes)?,
         })
     }
 
-    /// A draft of one part. Takes no memory.
-    pub(crate) fn of(alloc: Global, first: First) -> Draft
-        ensures { result ≡ first_part first ∷ [] }
-    {
-        Draft {
-            first,
-            rest: Vec::new(alloc),
-        }
-    }
-
-    /// A draft of this part, followed by the parts that the bytes spell. It copies the bytes.
-    pub(crate) fn read(alloc: Global, first: Piece<'_>, others: &[u8]) -> Result<Draft, AllocError>
+    /// A draft of the header of an array, followed by the parts that the bytes spell. It copies the bytes.
+    pub(crate) fn read(alloc: Global, items: usize, others: &[u8]) -> Result<Draft, AllocError>
         requires { IsSpelled others.now }
-        ensures { (parts : List Part) → Spells others.now parts
-            → IfOk result (λ draft. draft ≡ part_of first.entry ∷ parts) }
+        ensures { (parts : List Part) → Spells others.now parts → IfOk result (λ draft. draft ≡ Array items ∷ parts) }
     {
         Ok(Draft {
+            items,
             rest: Vec::from_slice(alloc, others)?,
-            first: First::of(alloc, first)?,
         })
     }
 
@@ -138,46 +127,30 @@ impl Draft {
         Ok(())
     }
 
-    /// Adds the parts of another draft.
-    pub(crate) fn append(&mut self, other: &Draft) -> Result<(), AllocError>
-        ensures ok { OnOk result (self.new ≡ self.old ++ other.now) }
+    /// Adds a reply as one item more of the array. An `Err` leaves the array as it was.
+    pub(crate) fn push(&mut self, item: &Reply) -> Result<(), AllocError>
+        requires { IsReply self.old }
+        ensures ok { OnOk result ((items : ℕ) (others : List Part) → self.old ≡ Array items ∷ others
+            → self.new ≡ Array (items + 1) ∷ others ++ item.now) }
         ensures err { OnErr result (self.new ≡ self.old) }
+        ensures one { IsReply self.new }
     {
-        append_parts(&mut self.rest, &other.first, other.rest.as_slice())?;
+        item.append_to(&mut self.rest)?;
+        self.items += 1;
         Ok(())
     }
 
-    /// Appends the spelling to `out`. An `Err` leaves `out` as it was.
-    pub(crate) fn append_to(&self, out: &mut Vec<u8>) -> Result<(), AllocError>
-        ensures ok { OnOk result (out.new.items ≡ out.old.items ++ reply_text self.now) }
-        ensures err { OnErr result (out.new.items ≡ out.old.items) }
+    /// The header, and the text of the parts after it.
+    pub(crate) fn split(&self) -> (Piece<'_>, &[u8])
+        ensures { AreHeldAs self.now (part_of result.0) result.1.now }
     {
-        append_parts(out, &self.first, self.rest.as_slice())?;
-        Ok(())
-    }
-
-    /// Counts one item more in the header that the draft begins with.
-    pub(crate) fn count_item(&mut self)
-        requires { (items : ℕ) (others : List Part) → self.old ≡ Array items ∷ others → items < length others }
-        ensures { (items : ℕ) (others : List Part) → self.old ≡ Array items ∷ others
-            → self.new ≡ Array (items + 1) ∷ others }
-    {
-        if let First::Array(items) = &mut self.first {
-            *items += 1;
-        }
+        (Piece::Array(self.items), self.rest.as_slice())
     }
 
     /// A copy of this draft.
     pub(crate) fn copy(&self, alloc: Global) -> Result<Draft, AllocError>
         ensures { IfOk result (λ d. d ≡ self.now) }
     {
-        Draft::read(alloc, self.first.piece(), self.rest.as_slice())
-    }
-
-    /// Whether both have the same parts.
-    pub(crate) fn is_same(&self, other: &Draft) -> bool
-        ensures { IsTrue result ↔ (self.now ≡ other.now) }
-    {
-        self.first == other.first && self.rest.as_slice() == other.rest.as_slice()
+        Draft::read(alloc, self.items, self.rest.as_slice())
     }
 }

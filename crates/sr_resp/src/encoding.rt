@@ -3,10 +3,9 @@ ghost use Rattle.std.specs.Io.{StartsWith};
 ghost use Rattle.sr_resp.specs.Reply.{line_end, part_text, reply_text};
 ghost use Rattle.sr_resp.specs.Spelled.{IsSpellable};
 ghost use Rattle.sr_resp.specs.steps.OneSpelling.{mark, line};
-ghost use Rattle.sr_resp.specs.steps.Pieces.{part_of, first_part};
+ghost use Rattle.sr_resp.specs.steps.Pieces.{part_of};
 
 use crate::Reply;
-use crate::first::First;
 use crate::piece::Piece;
 use itoa::Buffer;
 use std::alloc::{AllocError, Global};
@@ -18,7 +17,7 @@ pub fn append_reply(out: &mut Vec<u8>, reply: &Reply) -> Result<(), AllocError>
     ensures ok { OnOk result (out.new.items ≡ out.old.items ++ reply_text reply.now) }
     ensures err { OnErr result (out.new.items ≡ out.old.items) }
 {
-    reply.draft().append_to(out)
+    reply.append_to(out)
 }
 
 /// The spelling of a reply.
@@ -47,13 +46,17 @@ pub(crate) fn append_piece(out: &mut Vec<u8>, piece: Piece<'_>) -> Result<(), Al
 }
 
 /// Appends the spelling of a first part, and then a text. An `Err` leaves `out` as it was.
-pub(crate) fn append_parts(out: &mut Vec<u8>, first: &First, rest: &[u8]) -> Result<(), AllocError>
-    ensures ok { OnOk result (out.new.items ≡ out.old.items ++ part_text (first_part first.now) ++ rest.now) }
+pub(crate) fn append_parts(
+    out: &mut Vec<u8>,
+    first: Piece<'_>,
+    rest: &[u8],
+) -> Result<(), AllocError>
+    ensures ok { OnOk result (out.new.items ≡ out.old.items ++ part_text (part_of first.entry) ++ rest.now) }
     ensures err { OnErr result (out.new.items ≡ out.old.items) }
-    ensures fit { IsSpellable (first_part first.now) }
+    ensures fit { IsSpellable (part_of first.entry) }
 {
     let start = out.len();
-    append_piece(out, first.piece())?;
+    append_piece(out, first)?;
     let appended = out.extend_from_slice(rest);
     if appended.is_err() {
         out.truncate(start);

@@ -6,7 +6,7 @@ mod code;
 mod decoding;
 mod draft;
 mod encoding;
-mod first;
+mod form;
 mod piece;
 mod reader;
 mod reply;

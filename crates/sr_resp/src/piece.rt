@@ -3,7 +3,7 @@ use crate::{ErrCode, Word};
 /// One part of a reply, as it is sent. An array is a header followed by its items.
 ///
 /// Source: RESP2 protocol specification, "RESP protocol description".
-#[derive(Clone, Copy)]
+#[derive(Clone, Copy, PartialEq, Eq)]
 pub(crate) enum Piece<'a> {
     /// A simple string.
     Simple(Word),

@@ -2,10 +2,13 @@ ghost use Rattle.std.specs.Prelude.{◌≡◌, ◌↔◌, ◌∷◌, [], ◌++�
 ghost use Rattle.sr_resp.specs.Equality.{same_reply, same_reply-equivalence, same_reply-partial_equivalence};
 
 use crate::bytes::Bytes;
-use crate::first::First;
+use crate::encoding::append_parts;
+use crate::form::Form;
+use crate::piece::Piece;
 use crate::{Draft, ErrCode, Word};
 use itoa::Buffer;
 use sr_bytes::Name;
+use sr_ids::Id;
 use std::alloc::{AllocError, Global};
 use std::marker::Model;
 
@@ -15,77 +18,87 @@ use std::marker::Model;
 ///
 /// Source: RESP2 protocol specification, "RESP protocol description".
 pub struct Reply {
-    draft: Draft,
+    form: Form,
 }
 
 // A function of its own, so that a caller that lets go of one is proved without looking at its parts.
 impl Drop for Reply {
     fn drop(self) {
-        let Reply { draft: _ } = self;
+        let Reply { form: _ } = self;
     }
 }
 
 impl Model for Reply {
     ghost use Rattle.std.specs.Prelude.{List};
     ghost use Rattle.sr_resp.specs.Reply.{Part, IsReply};
+    ghost use Rattle.sr_resp.specs.steps.Forms.{parts_of_form};
 
     ghost Value = { List Part };
 
-    ghost view = { λ r. r.draft };
+    ghost view = { λ r. parts_of_form r.form };
 
-    ghost invariant = { λ r. IsReply r.draft };
+    ghost invariant = { λ r. IsReply (parts_of_form r.form) };
 }
 
 impl Reply {
     ghost use Rattle.std.specs.Prelude.{◌≡◌, ◌≤◌, ◌∷◌, [], ◌++◌, List, decimal, length, IfOk, OnOk, OnErr};
-    ghost use Rattle.sr_resp.specs.Reply.{ReplyParts, IsReply, IsArray, simple_string, error_reply, integer};
-    ghost use Rattle.sr_resp.specs.Reply.{bulk_string};
-    ghost use Rattle.sr_resp.specs.Reply.{null_string, null_array, array_of};
-    ghost use Rattle.sr_resp.specs.steps.Pieces.{first_part};
+    ghost use Rattle.sr_ids.specs.Spelling.{spelling};
+    ghost use Rattle.sr_resp.specs.Reply.{Part, ReplyParts, IsReply, IsArray, items_of, simple_string, error_reply};
+    ghost use Rattle.sr_resp.specs.Reply.{integer, bulk_string, null_string, null_array, array_of, reply_text};
+    ghost use Rattle.sr_resp.specs.Spelled.{AreSpellable, Spells};
+    ghost use Rattle.sr_resp.specs.steps.Decoding.{AreSpelledReplies};
+    ghost use Rattle.sr_resp.specs.steps.Pieces.{part_of};
 
     /// A simple string. Takes no memory.
-    pub fn simple(alloc: Global, word: Word) -> Reply
+    pub fn simple(_alloc: Global, word: Word) -> Reply
         ensures { result ≡ simple_string word }
     {
         Reply {
-            draft: Draft::of(alloc, First::Simple(word)),
+            form: Form::Simple(word),
         }
     }
 
     /// An error. Takes no memory.
-    pub fn error(alloc: Global, code: ErrCode) -> Reply
+    pub fn error(_alloc: Global, code: ErrCode) -> Reply
         ensures { result ≡ error_reply code }
     {
         Reply {
-            draft: Draft::of(alloc, First::Error(code)),
+            form: Form::Error(code),
         }
     }
 
     /// An integer. Takes no memory.
-    pub fn int(alloc: Global, n: i64) -> Reply
+    pub fn int(_alloc: Global, n: i64) -> Reply
         ensures { result ≡ integer n }
     {
-        Reply {
-            draft: Draft::of(alloc, First::Int(n)),
-        }
+        Reply { form: Form::Int(n) }
     }
 
     /// A bulk string of these bytes. Takes no memory.
-    pub fn bulk(alloc: Global, bytes: Name) -> Reply
+    pub fn bulk(_alloc: Global, bytes: Name) -> Reply
         ensures { result ≡ bulk_string bytes }
     {
         Reply {
-            draft: Draft::of(alloc, First::Bulk(Bytes::long(bytes))),
+            form: Form::Bulk(Bytes::long(bytes)),
         }
     }
 
-    /// A bulk string of at most 41 bytes, which the spelling of an entry id has. Takes no memory.
-    pub fn short(alloc: Global, bytes: &[u8]) -> Reply
-        requires { length bytes.now ≤ 41 }
+    /// An entry id as a bulk string. Takes no memory.
+    pub fn id(_alloc: Global, id: Id) -> Reply
+        ensures { result ≡ bulk_string (spelling id) }
+    {
+        Reply {
+            form: Form::Bulk(Bytes::id(id)),
+        }
+    }
+
+    /// A bulk string of at most 23 bytes. Takes no memory.
+    pub fn short(_alloc: Global, bytes: &[u8]) -> Reply
+        requires { length bytes.now ≤ 23 }
         ensures { result ≡ bulk_string bytes.now }
     {
         Reply {
-            draft: Draft::of(alloc, First::Bulk(Bytes::short(bytes))),
+            form: Form::Bulk(Bytes::short(bytes)),
         }
     }
 
@@ -98,20 +111,20 @@ impl Reply {
     }
 
     /// The null bulk string. Takes no memory.
-    pub fn null_bulk(alloc: Global) -> Reply
+    pub fn null_bulk(_alloc: Global) -> Reply
         ensures { result ≡ null_string }
     {
         Reply {
-            draft: Draft::of(alloc, First::NullBulk),
+            form: Form::NullBulk,
         }
     }
 
     /// The null array. Takes no memory.
-    pub fn no_array(alloc: Global) -> Reply
+    pub fn no_array(_alloc: Global) -> Reply
         ensures { result ≡ null_array }
     {
         Reply {
-            draft: Draft::of(alloc, First::NullArray),
+            form: Form::NullArray,
         }
     }
 
@@ -120,7 +133,7 @@ impl Reply {
         ensures { result ≡ array_of [] }
     {
         Reply {
-            draft: Draft::array(alloc, 0),
+            form: Form::Array(Draft::array(alloc, 0)),
         }
     }
 
@@ -143,9 +156,10 @@ impl Reply {
             → self.new ≡ array_of (items ++ item ∷ [])) }
         ensures err { OnErr result (self.new ≡ self.old) }
     {
-        self.draft.append(&item.draft)?;
-        self.draft.count_item();
-        Ok(())
+        match &mut self.form {
+            Form::Array(draft) => draft.push(&item),
+            _ => Ok(()),
+        }
     }
 
     /// A copy of this reply.
@@ -153,7 +167,7 @@ impl Reply {
         ensures { IfOk result (λ r. r ≡ self.now) }
     {
         Ok(Reply {
-            draft: self.draft.copy(alloc)?,
+            form: self.form.copy(alloc)?,
         })
     }
 
@@ -162,14 +176,32 @@ impl Reply {
         requires { IsReply draft }
         ensures { result ≡ draft }
     {
-        Reply { draft }
+        Reply {
+            form: Form::Array(draft),
+        }
     }
 
-    /// The draft that it was.
-    pub(crate) fn draft(&self) -> &Draft
-        ensures { result.now ≡ self.now }
+    /// The reply of this part and the items that the text spells. It copies the bytes.
+    pub(crate) fn read(alloc: Global, first: Piece<'_>, items: &[u8]) -> Result<Reply, AllocError>
+        requires { AreSpelledReplies (items_of (part_of first)) items.now }
+        ensures { (parts : List Part) → Spells items.now parts
+            → IfOk result (λ reply. reply ≡ part_of first.entry ∷ parts) }
     {
-        &self.draft
+        Ok(Reply {
+            form: Form::read(alloc, first, items)?,
+        })
+    }
+
+    /// Appends the spelling to `out`. An `Err` leaves `out` as it was.
+    pub(crate) fn append_to(&self, out: &mut Vec<u8>) -> Result<(), AllocError>
+        ensures ok { OnOk result (out.new.items ≡ out.old.items ++ reply_text self.now) }
+        ensures err { OnErr result (out.new.items ≡ out.old.items) }
+        ensures fit { AreSpellable self.now }
+        ensures one { IsReply self.now }
+    {
+        let mut spelled = [0; 41];
+        let (first, items) = self.form.split(&mut spelled);
+        append_parts(out, first, items)
     }
 }
 
@@ -182,7 +214,7 @@ impl PartialEq for Reply {
         ensures value { result ≡ same_reply self.now other.now }
         ensures exact { IsTrue result ↔ (self.now ≡ other.now) }
     {
-        self.draft.is_same(&other.draft)
+        self.form.is_same(&other.form)
     }
 }
 

@@ -17,9 +17,7 @@ const USUAL_ENTRY: usize = 64;
 pub(crate) fn id_reply(alloc: Global, id: Id) -> Reply
     ensures { result ≡ bulk_string (spelling id) }
 {
-    let mut text = [0; 41];
-    let len = write_id(id, &mut text);
-    Reply::short(alloc, &text[..len])
+    Reply::id(alloc, id)
 }
 
 /// The number as an integer. Takes no memory.

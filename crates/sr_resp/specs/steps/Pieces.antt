@@ -1,10 +1,11 @@
--- The parts that the code's own types show. Only private clauses cite this.
+-- The parts that pieces are, and parts of which the first is a piece and the others are text. Only private clauses cite
+-- this.
 
+use Rattle.std.specs.Prelude.{◌≡◌, ℕ, List, ◌∷◌}
 use Rattle.sr_resp.specs.declared.piece.Piece.{Piece}
 use Rattle.sr_resp.specs.declared.piece.Piece.TheVariants as pieces
-use Rattle.sr_resp.specs.declared.first.First.{First}
-use Rattle.sr_resp.specs.declared.first.First.TheVariants as firsts
 use Rattle.sr_resp.specs.Reply.{Part, Simple, Error, Int, Bulk, NullBulk, NullArray, Array}
+use Rattle.sr_resp.specs.Spelled.{Spells}
 
 -- the part that a piece is
 abbrev pub part_of : Piece → Part
@@ -16,12 +17,8 @@ part_of pieces.NullBulk = NullBulk
 part_of pieces.NullArray = NullArray
 part_of (pieces.Array items) = Array items
 
--- the first part of a reply
-abbrev pub first_part : First → Part
-first_part (firsts.Simple word) = Simple word
-first_part (firsts.Error code) = Error code
-first_part (firsts.Int n) = Int n
-first_part (firsts.Bulk bytes) = Bulk bytes
-first_part firsts.NullBulk = NullBulk
-first_part firsts.NullArray = NullArray
-first_part (firsts.Array items) = Array items
+-- the parts are this one, and then those that the text spells
+pub record AreHeldAs (parts : List Part) (first : Part) (text : List ℕ) : Type 0 where
+  pub others : List Part
+  pub whole : parts ≡ first ∷ others
+  pub spells : Spells text others

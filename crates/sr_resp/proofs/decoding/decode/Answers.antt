@@ -39,5 +39,5 @@ returns-clause-back c = λ reply one fit e.
     let others = c.in-Some.others.now in
     let has : HasPart c.args.bytes.now part others = c.in-Some.ensures.found in
     let split = reply-split c.args.bytes.now others part has reply one fit e in
-    let read : c.in_ok-draft.draft ≡ part ∷ split.0 = c.in_ok-draft.ensures split.0 split.1.spells.spells in
-    ap Some (c.finish.ensures ∙ read ∙ sym split.1.is)
+    let read : c.in_ok-read.field-0 ≡ part ∷ split.0 = c.in_ok-read.ensures split.0 split.1.spells.spells in
+    ap Some (read ∙ sym split.1.is)

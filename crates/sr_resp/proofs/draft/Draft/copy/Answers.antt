@@ -1,4 +1,4 @@
-use Rattle.std.proofs.Common.{List, ◌≡◌, ◌∷◌, ap, sym, subst, ◌∙◌}
+use Rattle.std.proofs.Common.{List, ◌≡◌, sym, subst, ◌∙◌}
 use Rattle.std.specs.Prelude.{IfOk}
 use Rattle.sr_resp.specs.Reply.{Part}
 use Rattle.sr_resp.specs.Spelled.{IsSpelled, parts_of}
@@ -16,4 +16,4 @@ returns c =
       spelled = c.as_slice.ensures.value ∙ text-spelled rest c.self.inside.others;
       fit = fit-spelled rest c.self.inside.others;
     }) in
-    subst (λ (l : List Part). IfOk c.read.result (λ d. d ≡ l)) (ap (λ (p : Part). p ∷ parts) c.piece.ensures ∙ c.self.view_is) copied
+    subst (λ (l : List Part). IfOk c.read.result (λ d. d ≡ l)) c.self.view_is copied
