@@ -102,6 +102,7 @@ closing_search p k xs prices cutoff old new t search nearest closing =
               (closing.same t).dist,
             )
       ];
+      unreached = λ c lt none. omega (arith, search.unreached c lt (omega (arith, none, (closing.same c).hops)), (closing.same c).dist);
       new_offered = λ c allowed. within 0 0 k c (search.new_offered c allowed);
       offered = λ i c lt now upto allowed. elim (closing.back (get_or xs i 0) now) [
         | inl e ↦ absurd (omega (arith, upto e))
@@ -174,6 +175,7 @@ closed_round p k xs prices cutoff labels t upto all search = record {
   reached = search.reached;
   nearer = search.nearer;
   latest = λ c lt now ltt. absurd (omega arith);
+  unreached = search.unreached;
   new_offered = search.new_offered;
   offered = λ i c lt now within allowed. search.offered i c lt now (λ here. rw all allowed.0) allowed;
 }

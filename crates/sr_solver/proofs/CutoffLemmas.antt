@@ -51,6 +51,7 @@ search_cut p k xs prices old new labels t upto later search = record {
   reached = search.reached;
   nearer = search.nearer;
   latest = search.latest;
+  unreached = search.unreached;
   new_offered = search.new_offered;
   offered = λ i c lt is_closed within allowed. elim (search.offered i c lt is_closed within allowed) [
     | inl near ↦ inl near

@@ -13,12 +13,12 @@ use Rattle.sr_transport.specs.plain.Certificate.{IsLeast}
 use Rattle.sr_solver.specs.declared.label.Label.{Label}
 use Rattle.sr_solver.specs.declared.search.End.{End}
 use Rattle.sr_solver.specs.declared.stepped.Step.{Step}
-use Rattle.sr_solver.specs.Labels.{label_at, open_count, priced}
+use Rattle.sr_solver.specs.Labels.{label_at, open_count, priced, AreFarOrReached}
 use Rattle.sr_solver.specs.declared.table.Bound.{Bound}
 use Rattle.sr_solver.specs.Offers.{IsOfferedAt, offer_of}
 use Rattle.sr_solver.specs.Table.{IsAt, IsKnown, ArePairs, IsLeastMore, IsMover, IsNoNearer}
 use Rattle.sr_solver.specs.Placed.{IsPlaced}
-use Rattle.sr_solver.specs.Search.{IsWithin, IsCovered, IsSearch, IsNewAt, IsAsked}
+use Rattle.sr_solver.specs.Search.{IsWithin, IsCovered, IsSearch, IsNewAt, IsAsked, AreNoNearer}
 use Rattle.sr_solver.specs.Cutoff.{length_of, IsNoLater, IsCutoff, IsCut}
 use Rattle.sr_solver.proofs.CutoffLemmas.{beyond_more, search_cut, IsGapAt, cutoff_cut}
 use Rattle.sr_solver.proofs.LabelLemmas.{offered_split, open_count_same, IsSameWay, way_kept, same_way}
@@ -45,27 +45,6 @@ skip_at p prices at t b cutoff labels (Some bound) known far i here allowed =
           (priced p prices i t) ((label_at labels t).dist + priced p prices i b) (omega (arith, below)) beyond
           ))
     ]
-
-pub asked_far : (p : Transport) (k : ℕ) (xs prices : List ℕ) (t b q : ℕ) (cutoff : Option ℕ) (labels : List Label)
-    (table : List (Option Bound))
-    → k ≤ p.entries → t < consumers p → b < consumers p → q ≡ t * consumers p + b → ArePairs p xs table
-    → IsNoNearer (get_or table q None) (label_at labels t) (get_or prices t 0) (label_at labels b)
-    (get_or prices b 0) cutoff
-    → IsAsked p k xs prices cutoff t b labels labels
-asked_far p k xs prices t b q cutoff labels table le ltt ltb is_pair table_is far =
-    let known : IsKnown p (IsAt xs p.entries t) t b (get_or table q None) = rw is_pair (table_is.each t b ltt ltb) in
-    record {
-      one_each = refl;
-      here = inl (
-          record {
-            same = refl;
-            no_nearer = λ i lti stands allowed.
-                skip_at p prices (IsAt xs p.entries t) t b cutoff labels (get_or table q None) known far i
-                (omega arith, stands) allowed;
-          }
-          );
-      others = λ d ne. refl;
-    }
 
 -- no entry at t may go to consumer b
 pub asked_none : (p : Transport) (k : ℕ) (xs prices : List ℕ) (t b : ℕ) (cutoff : Option ℕ) (labels : List Label)
@@ -297,6 +276,11 @@ ask_search p k xs prices cutoff old new t b placed search ltt closed asked offer
       latest = λ c lt now ltt'.
           let was = offering.back c now in
           omega (arith, search.latest c lt was ltt, (kept_same c was).dist, (kept_same t closed).dist);
+      unreached = λ c lt none. elim (offering.at c) [
+        | inl left ↦
+            omega (arith, search.unreached c lt (omega (arith, none, (same c left).hops)), (same c left).dist)
+        | inr fresh ↦ absurd (omega (arith, fresh.hops, none))
+      ];
       new_offered = λ c allowed. within_kept p k xs prices t old new offering 0 0 k c (search.new_offered c allowed);
       offered = λ j c lt now upto allowed.
           let was = offering.back (get_or xs j 0) now in
@@ -333,6 +317,49 @@ closed_ask p k xs prices cutoff old before after t b placed ltt closed asked =
       search = ask_search p k xs prices cutoff before after t b placed closed.search ltt closed.closed asked done;
       closed = ap (λ l. l.closed) (done.kept t closed.closed) ∙ closed.closed;
       fewer = omega (arith, closed.fewer, done.count);
+    }
+
+-- and where consumers are passed over to which no entry comes nearer
+pub closed_passed : (p : Transport) (k : ℕ) (xs prices : List ℕ) (cutoff : Option ℕ) (old now : List Label)
+    (pairs : List (Option Bound)) (t first upto : ℕ)
+    → IsPlaced p k xs prices → k ≤ p.entries → t < consumers p → ArePairs p xs pairs
+    → AreNoNearer p prices cutoff pairs now t first upto
+    → IsClosed p k xs prices cutoff old now t first → IsClosed p k xs prices cutoff old now t upto
+closed_passed p k xs prices cutoff old now pairs t first upto placed le ltt are none closed =
+    let search = closed.search in
+    record {
+      search = record {
+        one_each = search.one_each;
+        way = search.way;
+        long = search.long;
+        few = search.few;
+        few_closed = search.few_closed;
+        reached = search.reached;
+        nearer = search.nearer;
+        latest = search.latest;
+        unreached = search.unreached;
+        new_offered = search.new_offered;
+        offered = λ i c lt is_closed within allowed. elim (cases_eq (get_or xs i 0) t) [
+          | inr ne ↦ search.offered i c lt is_closed (λ h. absurd (ne h)) allowed
+          | inl stands ↦ elim (cases_lt c first) [
+            | inl before ↦ search.offered i c lt is_closed (λ h. before) allowed
+            | inr past ↦
+                let least : IsLeast p prices i t = rw (← stands) (placed.least i lt) in
+                let covered : IsCovered p prices cutoff now (label_at now t).dist (priced p prices i t) i c =
+                elim (skip_at p prices (IsAt xs p.entries t) t c cutoff now _ (are.each t c ltt allowed.0)
+                (none c (omega (arith, past)) (within stands)) i (omega arith, stands) allowed) [
+                  | inl was ↦ inl (
+                    search.reached c allowed.0 was,
+                    omega (arith, search.latest c allowed.0 was ltt, least c allowed),
+                  )
+                  | inr far ↦ far
+                ] in
+                rw stands covered
+          ]
+        ];
+      };
+      closed = closed.closed;
+      fewer = closed.fewer;
     }
 
 -- what the cutoff becomes
@@ -380,6 +407,18 @@ way_small p k xs prices cutoff labels t upto placed le search c lt up =
       search.long c lt up,
     )
 
+-- each consumer is reached by a path that is not long, or its label is far
+pub far_or_reached : (p : Transport) (k : ℕ) (xs prices : List ℕ) (cutoff : Option ℕ) (labels : List Label)
+    (t upto : ℕ)
+    → IsPlaced p k xs prices → k ≤ p.entries → IsSearch p k xs prices cutoff labels t upto → AreFarOrReached p labels
+far_or_reached p k xs prices cutoff labels t upto placed le search c lt =
+    elim (cases_eq (label_at labels c).hops 0) [
+      | inl none ↦ inl (none, search.unreached c lt none)
+      | inr some ↦
+          let up : 0 < (label_at labels c).hops = omega arith in
+          inr (up, omega (arith, way_small p k xs prices cutoff labels t upto placed le search c lt up))
+    ]
+
 -- the prices as they were read
 pub prices_low : (p : Transport) (k : ℕ) (xs prices read : List ℕ) → IsPlaced p k xs prices → k < p.entries
     → read ≡ prices
@@ -400,35 +439,6 @@ pub stands_least : (p : Transport) (k : ℕ) (xs prices read : List ℕ) (t i : 
     → read ≡ prices → IsAt xs p.entries t i → IsLeast p read i t
 stands_least p k xs prices read t i placed ltt same at =
     rw same (rw at.1 at (placed.least i (placed_at p k xs prices t i placed ltt at)))
-
-known_small : (p : Transport) (at : ℕ → Type 0) (a b : ℕ) (known : Option Bound) → IsKnown p at a b known
-    → IfSome known (λ bound. bound.low ≤ greatest_bound)
-known_small p at a b None known = tt
-known_small p at a b (Some bound) known = known.small
-
--- a pair of consumers has a place in the table
-pub pair_within : (p : Transport) (a b n : ℕ) → n ≡ consumers p → a < consumers p → b < consumers p
-    → a * n + b < consumers p * consumers p
-pair_within p a b n same lta ltb = rw same (mul-add-lt a (consumers p) b (consumers p) lta ltb)
-
--- and its number is small
-pub pair_small : (p : Transport) (a b n : ℕ) → IsWithinLimits p.rooms p.entries p.costs → n ≡ consumers p
-    → a < consumers p → b < consumers p
-    → a * n + b < most_tiers * most_tiers
-pair_small p a b n limits same lta ltb =
-    omega (
-      arith,
-      pair_within p a b n same lta ltb,
-      mul-le-mul_left (consumers p) limits.consumers,
-      limits.consumers,
-    )
-
--- a bound of the table is small
-pub bound_small : (p : Transport) (xs : List ℕ) (a b q : ℕ) (table : List (Option Bound)) → ArePairs p xs table
-    → a < consumers p → b < consumers p → q ≡ a * consumers p + b
-    → IfSome (get_or table q None) (λ bound. bound.low ≤ greatest_bound)
-bound_small p xs a b q table table_is lta ltb is_pair =
-    rw is_pair (known_small p (IsAt xs p.entries a) a b _ (table_is.each a b lta ltb))
 
 -- consumer b, once it was asked, is not far
 pub asked_small : (p : Transport) (k : ℕ) (xs prices : List ℕ) (old new : List Label) (t b : ℕ) (cutoff : Option ℕ)

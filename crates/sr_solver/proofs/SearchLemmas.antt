@@ -6,13 +6,13 @@ use Rattle.std.proofs.lemmas.Bool.{cases_eq, cases_lt, false≢true}
 use Rattle.std.proofs.lemmas.List.{get_or_past, get_or-set_same, get_or-set_other}
 use Rattle.sr_transport.specs.{greatest_price, Transport, consumers}
 use Rattle.sr_transport.specs.Limits.{greatest_fee}
-use Rattle.sr_solver.specs.Limits.{greatest_way}
+use Rattle.sr_solver.specs.Limits.{greatest_way, far}
 use Rattle.sr_transport.specs.plain.Problem.{IsWithinLimits, cost_at, IsAllowed}
 pub use Rattle.sr_transport.proofs.PlainLimitLemmas.{cost_at_small, cost_small}
 use Rattle.sr_solver.specs.declared.label.Label.{Label}
 use Rattle.sr_solver.specs.declared.search.End.{End}
 use Rattle.sr_solver.specs.declared.stepped.Step.{Step}
-use Rattle.sr_solver.specs.Labels.{no_label, label_at}
+use Rattle.sr_solver.specs.Labels.{no_label, unreached, label_at}
 use Rattle.sr_solver.specs.Offers.{IsOffered}
 use Rattle.sr_solver.specs.Search.{IsFirstStep, IsRound, first_offer, IsStarted}
 use Rattle.sr_solver.specs.Cutoff.{IsCutoff, IsCut}
@@ -26,17 +26,19 @@ past_label labels c past = get_or_past labels c no_label past
 -- the label of a consumer to which the new entry alone was offered
 record IsFresh (p : Transport) (k : ℕ) (prices : List ℕ) (label : Label) (c : ℕ) : Type 0 where
   still_open : label.closed ≡ false
+  unreached : label.hops ≡ 0 → label.dist ≡ far
   reached : 0 < label.hops → IsAllowed p k c × IsFirstStep p k prices label c
   offered : IsAllowed p k c → 0 < label.hops
 
 fresh : (p : Transport) (k : ℕ) (prices : List ℕ) (label : Label) (c : ℕ) → c < consumers p
-    → IsOffered (cost_at p k c) (get_or prices c 0) (first_offer k) no_label label → IsFresh p k prices label c
+    → IsOffered (cost_at p k c) (get_or prices c 0) (first_offer k) unreached label → IsFresh p k prices label c
 fresh p k prices label c lt offered =
-    elim (offered_split (cost_at p k c) (get_or prices c 0) (first_offer k) no_label label offered) [
+    elim (offered_split (cost_at p k c) (get_or prices c 0) (first_offer k) unreached label offered) [
       | inl left ↦
-          let none : label ≡ no_label = left.same in
+          let none : label ≡ unreached = left.same in
           record {
             still_open = ap (λ l. l.closed) none;
+            unreached = λ zero. ap (λ l. l.dist) none;
             reached = λ above. absurd (let hops : label.hops ≡ 0 = ap (λ l. l.hops) none in omega arith);
             offered = λ allowed. absurd (
                 elim (left.no_nearer allowed.1) [
@@ -50,6 +52,7 @@ fresh p k prices label c lt offered =
           let taken = changed.taken in
           record {
             still_open = taken.still_open;
+            unreached = λ zero. absurd (omega (arith, taken.hops, zero));
             reached = λ above. (
               (lt, changed.allowed),
               record { mover = taken.mover; hops = taken.hops; dist = omega (arith, taken.dist) },
@@ -84,6 +87,7 @@ started_round p k xs prices cutoff labels limits started =
       reached = λ c lt is_closed. absurd (none_closed c is_closed);
       nearer = λ c d lt ltd is_closed not_closed above. absurd (none_closed c is_closed);
       latest = λ c lt is_closed ltt. absurd (none_closed c is_closed);
+      unreached = λ c lt none. (each c lt).unreached none;
       new_offered = λ c allowed.
           let above = (each c allowed.0).offered allowed in
           let first = ((each c allowed.0).reached above).1 in
@@ -93,10 +97,10 @@ started_round p k xs prices cutoff labels limits started =
 
 -- the new entry was offered to one consumer more
 pub offered_more : (p : Transport) (k n : ℕ) (prices : List ℕ) (labels : List Label) (label : Label) → n < length labels
-    → ((c : ℕ) → c < n → IsOffered (cost_at p k c) (get_or prices c 0) (first_offer k) no_label (label_at labels c))
-    → IsOffered (cost_at p k n) (get_or prices n 0) (first_offer k) no_label label
+    → ((c : ℕ) → c < n → IsOffered (cost_at p k c) (get_or prices c 0) (first_offer k) unreached (label_at labels c))
+    → IsOffered (cost_at p k n) (get_or prices n 0) (first_offer k) unreached label
     → (c : ℕ) → c < n + 1
-    → IsOffered (cost_at p k c) (get_or prices c 0) (first_offer k) no_label (label_at (set labels n label) c)
+    → IsOffered (cost_at p k c) (get_or prices c 0) (first_offer k) unreached (label_at (set labels n label) c)
 offered_more p k n prices labels label lt each offered c ltc =
     elim (cases_eq c n) [
       | inl e ↦ rw e (rw (get_or-set_same labels n label no_label lt) offered)
@@ -106,7 +110,7 @@ offered_more p k n prices labels label lt each offered c ltc =
 -- its way there is short
 pub first_small : (p : Transport) (k c : ℕ) (prices : List ℕ) (label : Label) → IsWithinLimits p.rooms p.entries p.costs
     → get_or prices c 0 ≤ greatest_price → c < consumers p
-    → IsOffered (cost_at p k c) (get_or prices c 0) (first_offer k) no_label label → 0 < label.hops
+    → IsOffered (cost_at p k c) (get_or prices c 0) (first_offer k) unreached label → 0 < label.hops
     → label.dist + greatest_fee ≤ greatest_way
 first_small p k c prices label limits low lt offered above =
     let first = ((fresh p k prices label c lt offered).reached above).1 in
@@ -114,7 +118,7 @@ first_small p k c prices label limits low lt offered above =
 
 -- and its label is open
 first_open : (p : Transport) (k n : ℕ) (prices : List ℕ) (labels : List Label) → n ≤ consumers p
-    → ((c : ℕ) → c < n → IsOffered (cost_at p k c) (get_or prices c 0) (first_offer k) no_label (label_at labels c))
+    → ((c : ℕ) → c < n → IsOffered (cost_at p k c) (get_or prices c 0) (first_offer k) unreached (label_at labels c))
     → (c : ℕ) → c < n → (label_at labels c).closed ≡ false
 first_open p k n prices labels le each c lt =
     (fresh p k prices (label_at labels c) c (omega arith) (each c lt)).still_open
@@ -124,8 +128,8 @@ pub cutoff_more : (p : Transport) (s : List Step) (k n : ℕ) (xs prices : List 
     (gap : Option ℕ) (cutoff next : Option End)
     → IsWithinLimits p.rooms p.entries p.costs → n < length labels → n < consumers p
     → get_or prices n 0 ≤ greatest_price
-    → ((c : ℕ) → c < n → IsOffered (cost_at p k c) (get_or prices c 0) (first_offer k) no_label (label_at labels c))
-    → IsOffered (cost_at p k n) (get_or prices n 0) (first_offer k) no_label label → IsGapAt p s xs prices n gap
+    → ((c : ℕ) → c < n → IsOffered (cost_at p k c) (get_or prices c 0) (first_offer k) unreached (label_at labels c))
+    → IsOffered (cost_at p k n) (get_or prices n 0) (first_offer k) unreached label → IsGapAt p s xs prices n gap
     → IsCut n label gap cutoff next → IsCutoff p s xs prices labels n cutoff
     → IsCutoff p s xs prices (set labels n label) (n + 1) next
 cutoff_more p s k n xs prices labels label gap cutoff next limits lt ltn low each offered at cut is =

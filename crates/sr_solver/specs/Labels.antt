@@ -1,16 +1,29 @@
 -- The labels of consumers in a search, as lists.
 
-use Rattle.std.specs.Prelude.{ℕ, ◌+◌, List, false, slice_index, slice_index_or, not, count_by}
-use Rattle.sr_transport.specs.{Transport}
+use Rattle.std.specs.Prelude.{◌≡◌, ℕ, ◌+◌, ◌<◌, ◌≤◌, ◌⊎◌, List, false, slice_index, slice_index_or, not, count_by}
+use Rattle.sr_transport.specs.{Transport, consumers}
+use Rattle.sr_solver.specs.Limits.{greatest_way, far}
 use Rattle.sr_transport.specs.plain.Problem.{cost_of}
 use Rattle.sr_solver.specs.declared.label.Label.{Label}
 
 -- the label of a consumer that is not reached
+abbrev pub unreached : Label
+unreached = record { hops = 0; dist = far; mover = 0; closed = false }
+
+-- what stands past the last consumer
 abbrev pub no_label : Label
 no_label = record { hops = 0; dist = 0; mover = 0; closed = false }
 
 abbrev pub label_at : List Label → ℕ → Label
 label_at labels c = slice_index_or labels c no_label
+
+-- a consumer is reached by a path that is not long, or it is not reached, and its label is far
+abbrev pub IsFarOrReached : Label → Type 0
+IsFarOrReached label = ((label.hops ≡ 0) × (label.dist ≡ far)) ⊎ ((0 < label.hops) × (label.dist ≤ greatest_way))
+
+-- so is each consumer
+abbrev pub AreFarOrReached : Transport → List Label → Type 0
+AreFarOrReached p labels = (c : ℕ) → c < consumers p → IsFarOrReached (label_at labels c)
 
 -- how many labels are not closed
 abbrev pub open_count : List Label → ℕ

@@ -1,17 +1,20 @@
 -- The state of the search of a path that makes place for entry k, where the entries xs are placed.
 -- Source: the invariants of Dijkstra's search over reduced costs.
 
-use Rattle.std.specs.Prelude.{◌≡◌, ℕ, ◌+◌, ◌*◌, ◌<◌, ◌≤◌, List, length, slice_index, ◌⊎◌, Bool, true, false, Option}
-use Rattle.std.specs.Prelude.{Some, None}
+use Rattle.std.specs.Prelude.{◌≡◌, ℕ, ◌+◌, ◌*◌, ◌<◌, ◌≤◌, List, length, slice_index, slice_index_or, ◌⊎◌, true, false}
+use Rattle.std.specs.Prelude.{Option, Some, None}
 use Rattle.sr_transport.specs.{greatest_charge, Transport, consumers}
 use Rattle.sr_transport.specs.plain.Problem.{cost_at, cost_of, IsAllowed}
 use Rattle.sr_solver.specs.declared.label.Label.{Label}
 use Rattle.sr_solver.specs.declared.label.Offer.{Offer}
 use Rattle.sr_solver.specs.declared.search.End.{End}
 use Rattle.sr_solver.specs.declared.stepped.Step.{Step}
-use Rattle.sr_solver.specs.Labels.{no_label, label_at, open_count, priced}
+use Rattle.sr_solver.specs.Labels.{unreached, label_at, open_count, priced}
 use Rattle.sr_solver.specs.Cutoff.{IsBeyond, IsShortest, AreFull}
 use Rattle.sr_solver.specs.Offers.{IsOffered}
+use Rattle.sr_solver.specs.declared.table.Bound.{Bound}
+use Rattle.sr_solver.specs.Limits.{far}
+use Rattle.sr_solver.specs.Table.{IsNoNearer}
 
 -- consumer c is reached by the new entry itself
 pub record IsFirstStep (p : Transport) (k : ℕ) (prices : List ℕ) (label : Label) (c : ℕ) : Type 0 where
@@ -61,6 +64,7 @@ pub record IsSearch (p : Transport) (k : ℕ) (xs prices : List ℕ) (cutoff : O
       → (label_at labels c).dist ≤ (label_at labels d).dist
   pub latest : (c : ℕ) → c < consumers p → (label_at labels c).closed ≡ true → t < consumers p
       → (label_at labels c).dist ≤ (label_at labels t).dist
+  pub unreached : (c : ℕ) → c < consumers p → (label_at labels c).hops ≡ 0 → (label_at labels c).dist ≡ far
   pub new_offered : (c : ℕ) → IsAllowed p k c → IsWithin p prices labels 0 0 k c
   pub offered : (i c : ℕ) → i < k → (label_at labels (slice_index xs i)).closed ≡ true
       → (slice_index xs i ≡ t → c < upto)
@@ -121,6 +125,13 @@ pub record IsAsked (p : Transport) (k : ℕ) (xs prices : List ℕ) (cutoff : Op
   pub here : IsLeftAt p k xs prices cutoff t old new c ⊎ IsNewAt p k xs prices t old new c
   pub others : (d : ℕ) → (d ≡ c → ⊥) → label_at new d ≡ label_at old d
 
+-- to none of the consumers from `first` on and below `upto` does an entry at t come nearer, by what the pairs tell
+abbrev pub AreNoNearer : Transport → List ℕ → Option ℕ → List (Option Bound) → List Label → ℕ → ℕ → ℕ → Type 0
+AreNoNearer p prices cutoff pairs labels t first upto =
+    (c : ℕ) → first ≤ c → c < upto
+    → IsNoNearer (slice_index_or pairs (t * consumers p + c) None) (label_at labels t) (slice_index prices t)
+    (label_at labels c) (slice_index prices c) cutoff
+
 -- the search found a shortest path to a consumer with room: its length is the cutoff, and no open consumer is nearer
 pub record IsEnd (p : Transport) (steps : List Step) (k : ℕ) (xs prices : List ℕ) (labels : List Label)
     (end : End) : Type 0 where
@@ -156,14 +167,7 @@ first_offer k = record { mover = k; dist = 0; base = 0; hops = 1; cutoff = None 
 pub record IsStarted (p : Transport) (k : ℕ) (prices : List ℕ) (labels : List Label) : Type 0 where
   pub one_each : length labels ≡ consumers p
   pub each : (c : ℕ) → c < consumers p
-      → IsOffered (cost_at p k c) (slice_index prices c) (first_offer k) no_label (label_at labels c)
-
--- a consumer that is better than the best so far is as near; one that is not is no nearer
-abbrev pub IsBetter : List Label → ℕ → Bool → Option ℕ → Type 0
-IsBetter labels c better None = better ≡ true
-IsBetter labels c better (Some best) =
-    (better ≡ true → (label_at labels c).dist ≤ (label_at labels best).dist)
-    × (better ≡ false → (label_at labels best).dist ≤ (label_at labels c).dist)
+      → IsOffered (cost_at p k c) (slice_index prices c) (first_offer k) unreached (label_at labels c)
 
 -- the best of the consumers below n
 pub record IsBestBelow (labels : List Label) (n best : ℕ) : Type 0 where

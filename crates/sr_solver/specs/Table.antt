@@ -39,6 +39,12 @@ abbrev pub IsKnown : Transport → (ℕ → Type 0) → ℕ → ℕ → Option B
 IsKnown p at a b None = (i : ℕ) → at i → IsAllowed p i b → ⊥
 IsKnown p at a b (Some bound) = IsBound p at a b bound.low bound.best
 
+-- in the row of consumer a no bound is above the greatest
+abbrev pub IsSmallRow : Transport → ℕ → List (Option Bound) → Type 0
+IsSmallRow p a pairs =
+    (b : ℕ) → b < consumers p
+    → IfSome (slice_index_or pairs (a * consumers p + b) None) (λ bound. bound.low ≤ greatest_bound)
+
 -- what is known of each ordered pair, where `at a` says which entries stand at consumer a
 pub record ArePairsOf (p : Transport) (at : ℕ → ℕ → Type 0) (pairs : List (Option Bound)) : Type 0 where
   pub each_pair : length pairs ≡ consumers p * consumers p

@@ -1,16 +1,19 @@
-ghost use Rattle.std.specs.Prelude.{◌≡◌, ◌+◌, ◌*◌, ◌<◌, ◌≤◌, ◌&&◌, not, nat_lt, IfSome, true, false};
+ghost use Rattle.std.specs.Prelude.{◌≡◌, ◌+◌, ◌*◌, ◌<◌, ◌≤◌, IfSome, true, false};
 ghost use Rattle.sr_transport.specs.{greatest_charge};
-ghost use Rattle.sr_solver.specs.Limits.{greatest_way};
-ghost use Rattle.sr_solver.specs.Labels.{no_label};
+ghost use Rattle.sr_solver.specs.Limits.{greatest_way, far};
+ghost use Rattle.sr_solver.specs.Labels.{unreached};
 ghost use Rattle.sr_solver.specs.Cutoff.{IsBeyond};
 ghost use Rattle.sr_solver.specs.Offers.{IsOffered};
+
+/// Greater than the length of any path.
+pub const FAR: u64 = 1 << 63;
 
 /// What a search knows of a consumer.
 #[derive(Clone, Copy)]
 pub struct Label {
     /// How many entries move along the path to it, or 0 where the search has not reached it.
     pub hops: usize,
-    /// The length of that path.
+    /// The length of that path, or `FAR`.
     pub dist: u64,
     /// The entry that the path's last step moves to it.
     pub mover: usize,
@@ -21,28 +24,22 @@ pub struct Label {
 impl Label {
     /// The label of a consumer that the search has not reached.
     pub fn none() -> Label
-        ensures { result ≡ no_label }
+        ensures { result ≡ unreached }
     {
         Label {
             hops: 0,
-            dist: 0,
+            dist: FAR,
             mover: 0,
             closed: false,
         }
     }
 
-    /// Whether the consumer is reached, and its entries have not been offered.
-    pub fn is_open(self) -> bool
-        ensures { result ≡ (nat_lt 0 self.hops && not self.closed) }
-    {
-        0 < self.hops && !self.closed
-    }
-
-    /// The length of the path to it, or a number that is not below any, if it is not open.
+    /// The length of the path to it, or a number that is greater than any, if it is closed.
     pub fn open_dist(self) -> u64
-        ensures { 0 < self.hops → self.closed ≡ false → result ≡ self.dist }
+        ensures open { self.closed ≡ false → result ≡ self.dist }
+        ensures closed { self.closed ≡ true → far ≤ result }
     {
-        if self.is_open() { self.dist } else { u64::MAX }
+        if self.closed { FAR } else { self.dist }
     }
 }
 

@@ -1,21 +1,21 @@
-ghost use Rattle.std.specs.Prelude.{◌≡◌, ℕ, ◌<◌, ◌≤◌, ◌↔◌, length, slice_index, IfSome, IfNone, IsTrue, true};
+ghost use Rattle.std.specs.Prelude.{◌≡◌, ℕ, ◌*◌, ◌<◌, ◌≤◌, ◌↔◌, length, slice_index, IfSome, IfNone, IsTrue, true};
 ghost use Rattle.sr_transport.specs.{most_tiers, consumers};
 ghost use Rattle.sr_transport.specs.Limits.{greatest_fee};
 ghost use Rattle.sr_solver.specs.Limits.{greatest_way};
 ghost use Rattle.sr_transport.specs.plain.Problem.{IsWithinLimits, IsAllowed};
 ghost use Rattle.sr_transport.specs.plain.Certificate.{IsLeast};
-ghost use Rattle.sr_solver.specs.Labels.{label_at, open_count};
+ghost use Rattle.sr_solver.specs.Labels.{label_at, open_count, AreFarOrReached};
 ghost use Rattle.sr_solver.specs.Placed.{IsStanding};
 ghost use Rattle.sr_solver.specs.Cutoff.{length_of, IsPast, IsCutoff, IsCut, IsNoLater};
 ghost use Rattle.sr_solver.specs.Offers.{IsOfferedAt, offer_of};
-ghost use Rattle.sr_solver.specs.Table.{IsTable};
-ghost use Rattle.sr_solver.specs.Search.{IsStarted, IsBetter, IsNearest, AreAllClosed, IsSearch, IsRound, IsAsked};
+ghost use Rattle.sr_solver.specs.Table.{IsTable, IsSmallRow};
+ghost use Rattle.sr_solver.specs.Search.{AreNoNearer, IsStarted, IsNearest, AreAllClosed, IsSearch, IsRound, IsAsked};
 ghost use Rattle.sr_solver.specs.Search.{IsFound};
 
-use crate::label::{Label, Offer, offered};
+use crate::label::{FAR, Label, Offer, offered};
 use crate::placement::Placement;
 use crate::stepped::Stepped;
-use crate::table::{Table, least_mover, look_over, may_be_nearer};
+use crate::table::{Bound, Table, least_mover, look_over, may_be_nearer};
 use sr_transport::Columns;
 
 /// Where a path may end.
@@ -132,33 +132,21 @@ fn dist_of(cutoff: Option<End>) -> Option<u64>
 
 /// The nearest open consumer; `None` where none is open.
 fn nearest(problem: &Columns<'_>, labels: &[Label]) -> Option<usize>
-    requires { length labels.now ≡ consumers problem.now }
+    requires each { length labels.now ≡ consumers problem.now }
+    requires marked { AreFarOrReached problem.now labels.now }
     ensures some { IfSome result (IsNearest problem.now labels.now) }
     ensures none { IfNone result (AreAllClosed problem.now labels.now) }
 {
     let mut best = None;
-    let mut least = u64::MAX;
+    let mut least = FAR;
     for consumer in 0..problem.consumers() {
-        let label = labels[consumer];
-        let dist = label.open_dist();
-        if dist <= least && label.is_open() && is_better(labels, consumer, best) {
+        let dist = labels[consumer].open_dist();
+        if dist < least {
             best = Some(consumer);
             least = dist;
         }
     }
     best
-}
-
-/// Whether a consumer is nearer than the best so far.
-fn is_better(labels: &[Label], consumer: usize, best: Option<usize>) -> bool
-    requires consumer { consumer < length labels.now }
-    requires best { IfSome best (λ b. b < length labels.now) }
-    ensures { IsBetter labels.now consumer result best }
-{
-    let Some(best) = best else {
-        return true;
-    };
-    labels[consumer].dist < labels[best].dist
 }
 
 /// Closes a consumer: offers the entries that stand there to the others, and gives the next cutoff.
@@ -194,16 +182,68 @@ fn close(
         ..label
     };
     let mut cutoff = cutoff;
-    for other in 0..problem.columns.consumers() {
+    let mut first = 0;
+    while let Some(other) = next_nearer(
+        &problem.columns,
+        near,
+        first,
+        dist_of(cutoff),
+        &placement.prices,
+        &table.pairs,
+        labels,
+    ) {
         cutoff = ask(
             problem, entry, near, other, cutoff, placement, table, labels,
         );
+        first = other + 1;
     }
     cutoff
 }
 
-/// Offers to the consumer `other` the entry at `near` that costs least more there, where the table lets it come nearer,
-/// and nearer than the cutoff; gives the next cutoff.
+/// The first consumer from `first` on to which an entry at `near` may come nearer than before, and nearer than the
+/// cutoff, by what the table knows; `None` if there is none.
+fn next_nearer(
+    problem: &Columns<'_>,
+    near: usize,
+    first: usize,
+    cutoff: Option<u64>,
+    prices: &[u64],
+    pairs: &[Option<Bound>],
+    labels: &[Label],
+) -> Option<usize>
+    requires limits { IsWithinLimits problem.now.rooms problem.now.entries problem.now.costs }
+    requires near { near < consumers problem.now }
+    requires prices_each { length prices.now ≡ consumers problem.now }
+    requires labels_each { length labels.now ≡ consumers problem.now }
+    requires each_pair { length pairs.now ≡ consumers problem.now * consumers problem.now }
+    requires low { (c : ℕ) → c < consumers problem.now → slice_index prices.now c ≤ greatest_way }
+    requires marked { AreFarOrReached problem.now labels.now }
+    requires dist { (label_at labels.now near).dist ≤ greatest_way }
+    requires small { IsSmallRow problem.now near pairs.now }
+    requires cutoff { IfSome cutoff (λ d. d ≤ greatest_way) }
+    ensures some { IfSome result (λ other. (first ≤ other) × (other < consumers problem.now)
+        × AreNoNearer problem.now prices.now cutoff pairs.now labels.now near first other) }
+    ensures none { IfNone result
+        (AreNoNearer problem.now prices.now cutoff pairs.now labels.now near first (consumers problem.now)) }
+{
+    let (from, here) = (labels[near], prices[near]);
+    let row = near * problem.consumers();
+    for other in first..problem.consumers() {
+        if may_be_nearer(
+            pairs[row + other],
+            from,
+            here,
+            labels[other],
+            prices[other],
+            cutoff,
+        ) {
+            return Some(other);
+        }
+    }
+    None
+}
+
+/// Offers to the consumer `other` the entry at `near` that costs least more there; gives the next cutoff.
 fn ask(
     problem: &Stepped<'_>,
     entry: usize,
@@ -232,12 +272,7 @@ fn ask(
     ensures later { IsNoLater (length_of cutoff) (length_of result) }
 {
     let (prices, loads) = (placement.prices.as_slice(), placement.loads.as_slice());
-    let (from, label) = (labels[near], labels[other]);
-    let known = table.pairs[near * problem.columns.consumers() + other];
     let dist = dist_of(cutoff);
-    if !may_be_nearer(known, from, prices[near], label, prices[other], dist) {
-        return cutoff;
-    }
     let Some(mover) = least_mover(&problem.columns, near, other, placement, table) else {
         return cutoff;
     };

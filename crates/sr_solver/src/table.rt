@@ -1,13 +1,14 @@
 ghost use Rattle.std.specs.Prelude.{◌≡◌, ℕ, ◌+◌, ◌*◌, ◌<◌, ◌≤◌, ◌⊎◌, length, slice_index, slice_set, IfSome, IsSome};
 ghost use Rattle.std.specs.Prelude.{true, false, List, IfOk, Some, None};
 ghost use Rattle.sr_transport.specs.{greatest_charge, consumers};
-ghost use Rattle.sr_solver.specs.Limits.{greatest_bound, greatest_way, far};
+ghost use Rattle.sr_solver.specs.Limits.{greatest_bound, greatest_way};
 ghost use Rattle.sr_transport.specs.plain.Problem.{IsWithinLimits, room_of, cost_at, cost_of, IsAllowed};
 ghost use Rattle.sr_transport.specs.plain.Assignment.{load};
 ghost use Rattle.sr_solver.specs.Members.{AreWide, AreMembersOf, AreMembers};
 ghost use Rattle.sr_solver.specs.Groups.{IsAt};
 ghost use Rattle.sr_solver.specs.Table.{IsUnknown, IsApart, IsKnown, ArePairs, IsTableOf, IsTable, IsWithout};
 ghost use Rattle.sr_solver.specs.Table.{IsLowered, IsRowChanged, IsMover, IsNoNearer};
+ghost use Rattle.sr_solver.specs.Labels.{IsFarOrReached};
 
 use crate::groups::{find_in_groups, groups_of, join_group};
 use crate::label::Label;
@@ -19,11 +20,11 @@ use std::alloc::{AllocError, Global};
 /// What is added to a difference of two costs, so that it is not below 0.
 pub const ABOVE: u64 = MAX_CHARGE;
 
-/// Greater than any sum that is compared with the length of a path.
-const FAR: u64 = 1 << 63;
-
 /// A consumer with more room than this has bounds for each group of its entries.
 pub const NARROW: u64 = 128;
+
+/// A bound that holds for any entries, and is less than that of any that were looked at.
+const LEAST_BOUND: u64 = 0;
 
 /// What is known of the entries that stand at each consumer, for each other one.
 #[derive(Drop)]
@@ -53,7 +54,10 @@ impl Bound {
     pub fn unknown() -> Bound
         ensures { result ≡ unknown }
     {
-        Bound { low: 0, best: None }
+        Bound {
+            low: LEAST_BOUND,
+            best: None,
+        }
     }
 }
 
@@ -101,12 +105,12 @@ pub fn look_over(problem: &Columns<'_>, from: usize, placement: &Placement, tabl
     }
 }
 
-/// Whether nothing is known of the entries that stand at one consumer and may go to another.
+/// Whether the entries that stand at one consumer and may go to another were never looked at.
 fn is_unknown(known: Option<Bound>) -> bool {
     let Some(bound) = known else {
         return false;
     };
-    bound.low == 0
+    bound.low == LEAST_BOUND
 }
 
 /// Looks through the entries at a consumer for those that cost least more at each other one.
@@ -158,37 +162,33 @@ pub fn may_be_nearer(
     requires dist { from.dist ≤ greatest_way }
     requires here { here ≤ greatest_way }
     requires there { there ≤ greatest_way }
-    requires label { 0 < label.hops → label.dist ≤ greatest_way }
+    requires label { IsFarOrReached label }
     requires low { IfSome known (λ bound. bound.low ≤ greatest_bound) }
     requires cutoff { IfSome cutoff (λ d. d ≤ greatest_way) }
     ensures no { result ≡ false → IsNoNearer known from here label there cutoff }
     ensures yes { result ≡ true → IsNoNearer known from here label there cutoff → ⊥ }
 {
+    if label.closed {
+        return false;
+    }
     let Some(bound) = known else {
         return false;
     };
     let sum = from.dist + (bound.low + there);
     let base = ABOVE + here;
-    if reach(label, cutoff) + base <= sum {
-        return false;
-    }
-    !label.closed
+    sum < reach(label.dist, cutoff) + base
 }
 
 /// The length of a path that would not come nearer than before, or no nearer than the cutoff.
-fn reach(label: Label, cutoff: Option<u64>) -> u64
-    requires label { 0 < label.hops → label.dist ≤ greatest_way }
-    requires cutoff { IfSome cutoff (λ d. d ≤ greatest_way) }
-    ensures far { result ≤ far }
-    ensures label { 0 < label.hops → result ≤ label.dist }
+fn reach(before: u64, cutoff: Option<u64>) -> u64
+    ensures before { result ≤ before }
     ensures cutoff { IfSome cutoff (λ d. result ≤ d) }
-    ensures met { (result ≡ far) ⊎ ((0 < label.hops) × (result ≡ label.dist)) ⊎ (cutoff ≡ Some result) }
+    ensures met { (result ≡ before) ⊎ (cutoff ≡ Some result) }
 {
-    let reach = if label.hops == 0 { FAR } else { label.dist };
     let Some(dist) = cutoff else {
-        return reach;
+        return before;
     };
-    if dist < reach { dist } else { reach }
+    if dist < before { dist } else { before }
 }
 
 /// The entry at `from` that costs least more at `to`, or `None` where none may go there. Where the table doesn't know

@@ -1,3 +1,4 @@
+use Rattle.std.proofs.Common.{◌-◌, ◌≤◌}
 use Rattle.sr_transport.specs.{consumers}
 use Rattle.sr_solver.specs.Table.{IsTable}
 use Rattle.sr_solver.specs.Cutoff.{length_of, IsCutoff}
@@ -9,7 +10,11 @@ invariant-loop-other l = record {
   table : IsTable l.problem.columns l.placement.assign.items l.table;
   closed : IsClosed l.problem.columns l.entry l.placement.assign.items l.placement.prices.items (length_of l.cutoff)
       l.fn.labels
-      l.labels l.near l.other;
+      l.labels l.near l.first;
+  within : l.first ≤ consumers l.problem.columns;
   cutoff : IsCutoff l.problem.columns l.problem.steps.now l.placement.assign.items l.placement.prices.items l.labels
       (consumers l.problem.columns) l.cutoff;
 }
+
+abbrev pub decreases-loop-other : goal.decreases-loop-other
+decreases-loop-other l = consumers l.problem.columns - l.first

@@ -1,4 +1,6 @@
 use Rattle.sr_solver.proofs.CutoffLemmas.{found_past, found_closed}
+use Rattle.std.proofs.Common.{arith}
+use Rattle.sr_solver.proofs.OfferLemmas.{far_or_reached}
 use Rattle.sr_solver.proofs.SearchLemmas.{started_round}
 use Rattle.sr_solver.proofs.search.search.Goals as goal
 
@@ -10,8 +12,14 @@ loop-near-init c = record {
   cutoff = c.start-cutoff.ensures.cutoff;
 }
 
-pub nearest-requires : goal.nearest-requires
-nearest-requires c = c.loop-near.invariant.round.one_each
+pub nearest-requires-clause-each : goal.nearest-requires-clause-each
+nearest-requires-clause-each c = c.loop-near.invariant.round.one_each
+
+pub nearest-requires-clause-marked : goal.nearest-requires-clause-marked
+nearest-requires-clause-marked c =
+    far_or_reached c.args.problem.now.columns c.args.entry c.args.placement.now.assign.items
+    c.args.placement.now.prices.items _ c.loop-near.labels _ _ c.requires.standing.placed (omega (arith, c.requires.entry))
+    c.loop-near.invariant.round
 
 pub returns-then-is_past-clause-found : goal.returns-then-is_past-clause-found
 returns-then-is_past-clause-found c =

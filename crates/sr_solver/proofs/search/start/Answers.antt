@@ -1,7 +1,7 @@
 use Rattle.std.proofs.Common.{◌≡◌, ℕ, ◌<◌, List, get_or, ◌∙◌, arith}
 use Rattle.sr_transport.specs.{consumers}
 use Rattle.sr_transport.specs.plain.Problem.{cost_at}
-use Rattle.sr_solver.specs.Labels.{no_label}
+use Rattle.sr_solver.specs.Labels.{unreached}
 use Rattle.sr_solver.specs.Offers.{IsOffered}
 use Rattle.sr_solver.specs.Search.{first_offer}
 use Rattle.sr_solver.proofs.CutoffLemmas.{IsGapAt, level_read, gap_read, gap_small}
@@ -71,7 +71,7 @@ cut-cutoff-requires-clause-label c =
     let placed = c.requires.standing.placed in
     let lt : n < consumers p = omega arith in
     let offered : IsOffered (cost_at p c.args.entry n) (get_or prices n 0)
-    (first_offer c.args.entry) no_label c.offered-label.result =
+    (first_offer c.args.entry) unreached c.offered-label.result =
     rw (c.costs-cost-items.ensures.costs n lt) at
     (rw c.as_slice-prices.ensures.value at (rw c.none.ensures at c.offered-label.ensures)) in
     λ up. omega (
@@ -107,7 +107,7 @@ loop-consumer-preserved c =
     let placed = c.requires.standing.placed in
     let lt : n < consumers p = omega arith in
     let offered : IsOffered (cost_at p c.args.entry n) (get_or prices n 0)
-    (first_offer c.args.entry) no_label c.offered-label.result =
+    (first_offer c.args.entry) unreached c.offered-label.result =
     rw (c.costs-cost-items.ensures.costs n lt) at
     (rw c.as_slice-prices.ensures.value at (rw c.none.ensures at c.offered-label.ensures)) in
     let at : IsGapAt c.args.problem.now.columns c.args.problem.now.steps.now c.args.placement.now.assign.items c.args.placement.now.prices.items c.loop-consumer.consumer c.gap-gap.result =

@@ -1,6 +1,6 @@
 use Rattle.std.proofs.Common.{ℕ, ◌<◌, get_or}
 use Rattle.sr_transport.specs.plain.Problem.{cost_at}
-use Rattle.sr_solver.specs.Labels.{no_label, label_at}
+use Rattle.sr_solver.specs.Labels.{unreached, label_at}
 use Rattle.sr_solver.specs.Cutoff.{IsCutoff}
 use Rattle.sr_solver.specs.Offers.{IsOffered}
 use Rattle.sr_solver.specs.Search.{first_offer}
@@ -9,7 +9,7 @@ use Rattle.sr_solver.proofs.search.start.Given as goal
 abbrev pub invariant-loop-consumer : goal.invariant-loop-consumer
 invariant-loop-consumer l = record {
   each : (c : ℕ) → c < l.consumer
-      → IsOffered (cost_at l.problem.columns l.entry c) (get_or l.placement.prices.items c 0) (first_offer l.entry) no_label
+      → IsOffered (cost_at l.problem.columns l.entry c) (get_or l.placement.prices.items c 0) (first_offer l.entry) unreached
       (label_at l.labels c);
   cutoff : IsCutoff l.problem.columns l.problem.steps.now l.placement.assign.items l.placement.prices.items l.labels l.consumer l.cutoff;
 }
