@@ -407,32 +407,36 @@ fn leave(problem: &Columns<'_>, entry: usize, from: usize, pairs: &mut [Option<B
 {
     for to in 0..problem.consumers() {
         let pair = from * problem.consumers() + to;
-        let known = without(pairs[pair], entry);
-        pairs[pair] = known;
+        if is_best(pairs[pair], entry) {
+            pairs[pair] = without_best(pairs[pair]);
+        }
     }
 }
 
-/// What is known once an entry has left.
-fn without(known: Option<Bound>, entry: usize) -> Option<Bound>
-    ensures { IsWithout entry known result }
+/// Whether an entry is the best of those of which this is known.
+fn is_best(known: Option<Bound>, entry: usize) -> bool
+    ensures { result ≡ false → IsWithout entry known known }
+{
+    let Some(bound) = known else {
+        return false;
+    };
+    let Some(best) = bound.best else {
+        return false;
+    };
+    best == entry
+}
+
+/// What is known once the best entry has left.
+fn without_best(known: Option<Bound>) -> Option<Bound>
+    ensures { (entry : ℕ) → IsWithout entry known result }
 {
     let Some(bound) = known else {
         return None;
     };
     Some(Bound {
-        best: other_than(bound.best, entry),
+        best: None,
         ..bound
     })
-}
-
-/// The best entry, unless it is this one.
-fn other_than(best: Option<usize>, entry: usize) -> Option<usize>
-    ensures { (k : ℕ) → result ≡ Some k → (best ≡ Some k) × (k ≡ entry → ⊥) }
-{
-    let Some(best) = best else {
-        return None;
-    };
-    if best == entry { None } else { Some(best) }
 }
 
 /// Notes that an entry has come to a consumer.

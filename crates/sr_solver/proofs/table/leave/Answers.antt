@@ -1,15 +1,28 @@
 use Rattle.std.proofs.Common.{◌≡◌, ◌+◌, ◌*◌, refl, ap, arith}
 use Rattle.std.proofs.lemmas.Nat.{mul-add-lt}
 use Rattle.sr_transport.specs.{consumers}
-use Rattle.sr_solver.proofs.TableLemmas.{row_more}
+use Rattle.sr_solver.proofs.TableLemmas.{row_more, row_stays}
 use Rattle.sr_solver.proofs.table.leave.Goals as goal
+use Rattle.sr_solver.proofs.table.leave.Goals.{then-is_best, else-is_best}
 
 pub loop-to-preserved : goal.loop-to-preserved
 loop-to-preserved c =
-    row_more (consumers c.args.problem.now) c.args.from c.loop-to.to _ _ c.args.pairs.now c.loop-to.pairs
-    c.without-known.result
-    c.loop-to.invariant c.requires.from (omega arith) c.requires.each_pair
-    (ap (λ n. c.args.from * n + c.loop-to.to) c.consumers.ensures.count) c.without-known.ensures
+    let p = c.args.problem.now in
+    let pair : c.args.from * c.consumers.result + c.loop-to.to ≡ c.args.from * consumers p + c.loop-to.to =
+    ap (λ n. c.args.from * n + c.loop-to.to) c.consumers.ensures.count in
+    elim c.if-is_best.branch [
+      | then-is_best w ↦
+          rw w.pairs-is (
+          row_more (consumers p) c.args.from c.loop-to.to _ _ c.args.pairs.now c.loop-to.pairs w.without_best.result
+          c.loop-to.invariant c.requires.from (omega arith) c.requires.each_pair pair
+          (w.without_best.ensures c.args.entry)
+          )
+      | else-is_best w ↦
+          rw w.pairs-is (
+          row_stays (consumers p) c.args.from c.loop-to.to _ _ c.args.pairs.now c.loop-to.pairs c.loop-to.invariant
+          pair (c.is_best.ensures w.if-is_best.false)
+          )
+    ]
 
 pub loop-to-init : goal.loop-to-init
 loop-to-init c = record {
@@ -33,8 +46,8 @@ bounds-pairs-pair c =
       c.requires.each_pair,
     )
 
-pub slice_copy_out-without : goal.slice_copy_out-without
-slice_copy_out-without c =
+pub slice_copy_out-is_best : goal.slice_copy_out-is_best
+slice_copy_out-is_best c =
     let n = c.consumers.result in
     omega (
       arith,
