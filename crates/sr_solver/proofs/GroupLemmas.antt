@@ -1,5 +1,5 @@
 -- The bounds by group: what entries that come and go make of them, and what the least of them tells.
-use Rattle.std.proofs.Common.{◌≡◌, ℕ, ◌+◌, ◌*◌, ◌/◌, ◌^◌, ◌<◌, ◌≤◌, ◌⊎◌, List, length, get_or}
+use Rattle.std.proofs.Common.{◌≡◌, ℕ, ◌+◌, ◌-◌, ◌*◌, ◌/◌, ◌^◌, ◌<◌, ◌≤◌, ◌⊎◌, List, length, get_or}
 use Rattle.std.proofs.Common.{Option, Some, None, sym, ap, ◌∙◌, inl, inr, arith}
 use Rattle.std.specs.Prelude.{IfSome, IfNone}
 use Rattle.std.proofs.Math.ListN.{set, length-set, replicate}
@@ -11,7 +11,8 @@ use Rattle.sr_transport.specs.{greatest_charge, Transport, consumers}
 use Rattle.sr_transport.specs.plain.Problem.{IsWithinLimits, room_of, cost_at, cost_of, IsAllowed}
 use Rattle.sr_solver.specs.Limits.{group_size, narrow_room, greatest_bound}
 use Rattle.sr_solver.specs.declared.table.Bound.{Bound}
-use Rattle.sr_solver.specs.Groups.{IsAt, IsInGroup, IsBetween, IsAtIn, AreGroups, AreLowsOf, AreLowered}
+use Rattle.sr_solver.specs.declared.groups.Groups.{Groups}
+use Rattle.sr_solver.specs.Groups.{IsAt, IsInGroup, IsBetween, IsAtIn, AreGroups, low_row, AreLowsOf, AreLowered}
 use Rattle.sr_solver.specs.Table.{IsApart, IsKnown, IsTight, IsLowered}
 use Rattle.sr_solver.proofs.SearchLemmas.{cost_small}
 use Rattle.sr_solver.proofs.TableLemmas.{rows_apart, HasCome, known_lowered, known_same}
@@ -22,22 +23,27 @@ row_within n x rows lt =
     let up : x + 1 ≤ rows = omega arith in
     omega (arith, mul-le-mul_left n up)
 
--- what the row of bounds of an ordered pair is
+-- a row of bounds is in the list
 pub record IsLowRow (long row groups : ℕ) : Type 0 where
   pub short : long ≤ 2 ^ 32
   pub within : row + groups ≤ long
 
-pub low_row : (p : Transport) (groups a b row : ℕ) (lows : List ℕ) → IsWithinLimits p.rooms p.entries p.costs
-    → AreGroups p groups → length lows ≡ consumers p * consumers p * groups → a < consumers p → b < consumers p
-    → row ≡ (a * consumers p + b) * groups → IsLowRow (length lows) row groups
-low_row p groups a b row lows limits are long lta ltb is =
+pub row_fits : (p : Transport) (groups : Groups) (a b row : ℕ) (lows : List ℕ)
+    → IsWithinLimits p.rooms p.entries p.costs
+    → AreGroups p groups → length lows ≡ consumers p * groups.span * groups.count → a < consumers p
+    → narrow_room < room_of p a → b < consumers p
+    → row ≡ low_row (consumers p) groups a b → IsLowRow (length lows) row groups.count
+row_fits p groups a b row lows limits are long lta wide ltb is =
     let m : ℕ = consumers p in
-    let pair : a * m + b < m * m = mul-add-lt a m b m lta ltb in
-    let some : m * m ≤ m * 128 = omega (arith, mul-le-mul_left m limits.consumers) in
-    let few : m * m ≤ 16384 = omega (arith, some, limits.consumers) in
+    let x : ℕ = a - groups.first in
+    let at = are.spanned a lta wide in
+    let pair : x * m + b < m * groups.span = mul-add-lt x m b groups.span (omega (arith, at.0, at.1)) ltb in
+    let small : groups.span ≤ 128 = omega (arith, are.within, limits.consumers) in
+    let some : m * groups.span ≤ m * 128 = omega (arith, mul-le-mul_left m small) in
+    let few : m * groups.span ≤ 16384 = omega (arith, some, limits.consumers) in
     record {
-      short = omega (arith, long, mul-le-mul_left groups few, are.few);
-      within = rw is (rw long (row_within groups (a * m + b) (m * m) pair));
+      short = omega (arith, long, mul-le-mul_left groups.count few, are.few);
+      within = rw is (rw long (row_within groups.count (x * m + b) (m * groups.span) pair));
     }
 
 -- two places that are not in the same column of the same row
@@ -59,19 +65,19 @@ zero_at n q = elim (cases_lt q n) [
   | inr past ↦ get_or_past (replicate {A = ℕ} n 0) q 0 (omega (arith, length-replicate {A = ℕ} n 0, past))
 ]
 
-pub lows_unknown : (p : Transport) (at : ℕ → ℕ → Type 0) (groups n : ℕ) (lows : List ℕ)
+pub lows_unknown : (p : Transport) (at : ℕ → ℕ → Type 0) (groups : Groups) (n : ℕ) (lows : List ℕ)
     → IsWithinLimits p.rooms p.entries p.costs → AreGroups p groups → lows ≡ replicate {A = ℕ} n 0
-    → n ≡ consumers p * consumers p * groups → AreLowsOf p at groups lows
+    → n ≡ consumers p * groups.span * groups.count → AreLowsOf p at groups lows
 lows_unknown p at groups n lows limits are is long = record {
   each_group = ap length is ∙ length-replicate {A = ℕ} n 0 ∙ long;
   grouped = are;
   below = λ a b g i lta ltb ltg wide here member may.
-      let place : ℕ = (a * consumers p + b) * groups + g in
+      let place : ℕ = low_row (consumers p) groups a b + g in
       omega (arith, ap (λ xs. get_or xs place 0) is, zero_at n place, cost_small p limits i a);
 }
 
 -- fewer entries
-pub lows_fewer : (p : Transport) (at at' : ℕ → ℕ → Type 0) (groups : ℕ) (lows : List ℕ)
+pub lows_fewer : (p : Transport) (at at' : ℕ → ℕ → Type 0) (groups : Groups) (lows : List ℕ)
     → ((a i : ℕ) → at' a i → at a i) → AreLowsOf p at groups lows → AreLowsOf p at' groups lows
 lows_fewer p at at' groups lows from are = record {
   each_group = are.each_group;
@@ -80,7 +86,7 @@ lows_fewer p at at' groups lows from are = record {
 }
 
 -- the bounds once entry i has come to consumer c
-pub lows_come : (p : Transport) (xs : List ℕ) (i c groups : ℕ) (old new : List ℕ) → length xs ≡ p.entries
+pub lows_come : (p : Transport) (xs : List ℕ) (i c : ℕ) (groups : Groups) (old new : List ℕ) → length xs ≡ p.entries
     → i < p.entries → AreLowsOf p (IsApart (IsAt xs p.entries) i) groups old → AreLowered p c i groups old new
     → AreLowsOf p (IsAt (set xs i c) p.entries) groups new
 lows_come p xs i c groups old new every lti are lowered = record {
@@ -96,38 +102,41 @@ lows_come p xs i c groups old new every lti are lowered = record {
         ((here.0, sym (get_or-set_other xs i j c 0 ne) ∙ here.1), ne) in
         omega (
           arith,
-          lowered.none_higher ((a * consumers p + b) * groups + g),
+          lowered.none_higher (low_row (consumers p) groups a b + g),
           are.below a b g j lta ltb ltg wide before member may,
         )
   ];
 }
 
 -- another bound for one group
-note_low : (p : Transport) (at : ℕ → ℕ → Type 0) (groups a b g low : ℕ) (old : List ℕ)
-    → a < consumers p → b < consumers p → g < groups → AreLowsOf p at groups old
-    → (a * consumers p + b) * groups + g < length old
+note_low : (p : Transport) (at : ℕ → ℕ → Type 0) (groups : Groups) (a b g low : ℕ) (old : List ℕ)
+    → a < consumers p → narrow_room < room_of p a → b < consumers p → g < groups.count → AreLowsOf p at groups old
+    → low_row (consumers p) groups a b + g < length old
     → ((i : ℕ) → at a i → IsInGroup g i → IsAllowed p i b → low + cost_of p i a ≤ cost_of p i b + greatest_charge)
-    → AreLowsOf p at groups (set old ((a * consumers p + b) * groups + g) low)
-note_low p at groups a b g low old lta ltb ltg are within holds =
+    → AreLowsOf p at groups (set old (low_row (consumers p) groups a b + g) low)
+note_low p at groups a b g low old lta wide_a ltb ltg are within holds =
     let m : ℕ = consumers p in
-    let q : ℕ = (a * m + b) * groups + g in
+    let from : ℕ → ℕ = λ c. c - groups.first in
+    let q : ℕ = low_row m groups a b + g in
     record {
       each_group = length-set old q low ∙ are.each_group;
       grouped = are.grouped;
       below = λ c d k i ltc ltd ltk wide here member may.
-          let x : ℕ = (c * m + d) * groups + k in
+          let x : ℕ = low_row m groups c d + k in
           let keep : (x ≡ q → ⊥) → get_or (set old q low) x 0 + cost_of p i c ≤ cost_of p i d + greatest_charge =
           λ apart. rw (get_or-set_other old q x low 0 apart) (are.below c d k i ltc ltd ltk wide here member may) in
+          let same : c - groups.first ≡ a - groups.first → c ≡ a = λ e.
+          omega (arith, e, (are.grouped.spanned c ltc wide).0, (are.grouped.spanned a lta wide_a).0) in
           elim (cases_eq k g) [
-            | inr ne ↦ keep (place_apart groups (c * m + d) (a * m + b) k g ltk ltg (λ s t. ne t))
+            | inr ne ↦ keep (place_apart groups.count (from c * m + d) (from a * m + b) k g ltk ltg (λ s t. ne t))
             | inl same_group ↦ elim (cases_eq c a) [
               | inr ne ↦
-                  keep (place_apart groups (c * m + d) (a * m + b) k g ltk ltg
-                  (λ s t. place_apart m c a d b ltd ltb (λ u v. ne u) s))
+                  keep (place_apart groups.count (from c * m + d) (from a * m + b) k g ltk ltg
+                  (λ s t. place_apart m (from c) (from a) d b ltd ltb (λ u v. ne (same u)) s))
               | inl same_from ↦ elim (cases_eq d b) [
                 | inr ne ↦
-                    keep (place_apart groups (c * m + d) (a * m + b) k g ltk ltg
-                    (λ s t. place_apart m c a d b ltd ltb (λ u v. ne v) s))
+                    keep (place_apart groups.count (from c * m + d) (from a * m + b) k g ltk ltg
+                    (λ s t. place_apart m (from c) (from a) d b ltd ltb (λ u v. ne v) s))
                 | inl same_to ↦
                     let stands : at a i = rw same_from at here in
                     let member' : IsInGroup g i = rw same_group at member in
@@ -143,10 +152,9 @@ note_low p at groups a b g low old lta ltb ltg are within holds =
 in_group : (i : ℕ) → IsInGroup (i / group_size) i
 in_group i = (div-mul-le_self i group_size, lt-div-mul-add {a = i} {b = group_size} (omega arith))
 
-pub group_below : (p : Transport) (groups a i : ℕ) → AreGroups p groups → a < consumers p → narrow_room < room_of p a
-    → i < p.entries → i / group_size < groups
-group_below p groups a i are lta wide lti =
-    omega (arith, div-mul-le_self i group_size, are.enough a lta wide)
+pub group_below : (p : Transport) (groups : Groups) (i : ℕ) → AreGroups p groups → i < p.entries
+    → i / group_size < groups.count
+group_below p groups i are lti = omega (arith, div-mul-le_self i group_size, are.enough)
 
 -- what was found in a group holds for each of its entries
 known_below : (p : Transport) (xs : List ℕ) (a b g low i : ℕ) (found : Option Bound)
@@ -156,33 +164,33 @@ known_below p xs a b g low i None known is here may = absurd (known i here may)
 known_below p xs a b g low i (Some bound) known is here may = omega (arith, known.below i here may, is)
 
 -- what was found in a group is its bound
-pub lows_noted : (p : Transport) (xs : List ℕ) (groups a b g row low : ℕ) (old : List ℕ) (found : Option Bound)
+pub lows_noted : (p : Transport) (xs : List ℕ) (groups : Groups) (a b g row low : ℕ) (old : List ℕ) (found : Option Bound)
     → IsWithinLimits p.rooms p.entries p.costs
-    → a < consumers p → b < consumers p → g < groups → row ≡ (a * consumers p + b) * groups
-    → AreLowsOf p (IsAt xs p.entries) groups old → IsKnown p (IsAtIn xs p.entries a g) a b found
+    → a < consumers p → narrow_room < room_of p a → b < consumers p → g < groups.count
+    → row ≡ low_row (consumers p) groups a b → AreLowsOf p (IsAt xs p.entries) groups old → IsKnown p (IsAtIn xs p.entries a g) a b found
     → IfSome found (λ bound. low ≡ bound.low)
     → AreLowsOf p (IsAt xs p.entries) groups (set old (row + g) low)
-lows_noted p xs groups a b g row low old found limits lta ltb ltg is are known is_low =
-    let fits = low_row p groups a b row old limits are.grouped are.each_group lta ltb is in
-    let within : (a * consumers p + b) * groups + g < length old =
+lows_noted p xs groups a b g row low old found limits lta wide ltb ltg is are known is_low =
+    let fits = row_fits p groups a b row old limits are.grouped are.each_group lta wide ltb is in
+    let within : low_row (consumers p) groups a b + g < length old =
     (let end : row + g < length old = omega (arith, fits.within, ltg) in rw is at end) in
     rw is (
-    note_low p (IsAt xs p.entries) groups a b g low old lta ltb ltg are within
+    note_low p (IsAt xs p.entries) groups a b g low old lta wide ltb ltg are within
     (λ i here member may. known_below p xs a b g low i found known is_low (here, member.0, member.1) may)
     )
 
 -- each bound is at least what was found in the group with the least one
-pub least_of_all : (p : Transport) (xs : List ℕ) (groups a b g row low : ℕ) (lows : List ℕ) (found : Option Bound)
+pub least_of_all : (p : Transport) (xs : List ℕ) (groups : Groups) (a b g row low : ℕ) (lows : List ℕ) (found : Option Bound)
     → IsWithinLimits p.rooms p.entries p.costs
-    → a < consumers p → b < consumers p → narrow_room < room_of p a → row ≡ (a * consumers p + b) * groups
-    → AreLowsOf p (IsAt xs p.entries) groups lows → IsKnown p (IsAtIn xs p.entries a g) a b found
+    → a < consumers p → b < consumers p → narrow_room < room_of p a
+    → row ≡ low_row (consumers p) groups a b → AreLowsOf p (IsAt xs p.entries) groups lows → IsKnown p (IsAtIn xs p.entries a g) a b found
     → IfSome found (λ bound. low ≡ bound.low) → IfNone found (greatest_bound < low)
-    → ((k : ℕ) → k < groups → low ≤ get_or lows (row + k) 0)
+    → ((k : ℕ) → k < groups.count → low ≤ get_or lows (row + k) 0)
     → IsKnown p (IsAt xs p.entries a) a b found
 least_of_all p xs groups a b g row low lows None limits lta ltb wide is are known is_low is_great least =
     λ i here may.
     let member : IsInGroup (i / group_size) i = in_group i in
-    let ltk : i / group_size < groups = group_below p groups a i are.grouped lta wide here.0 in
+    let ltk : i / group_size < groups.count = group_below p groups i are.grouped here.0 in
     let held = are.below a b (i / group_size) i lta ltb ltk wide here member may in
     let more = rw is at (least (i / group_size) ltk) in
     absurd (omega (arith, held, more, is_great, cost_small p limits i b))
@@ -191,7 +199,7 @@ least_of_all p xs groups a b g row low lows (Some bound) limits lta ltb wide is 
       small = known.small;
       below = λ i here may.
           let member : IsInGroup (i / group_size) i = in_group i in
-          let ltk : i / group_size < groups = group_below p groups a i are.grouped lta wide here.0 in
+          let ltk : i / group_size < groups.count = group_below p groups i are.grouped here.0 in
           let held = are.below a b (i / group_size) i lta ltb ltk wide here member may in
           let more = rw is at (least (i / group_size) ltk) in
           omega (arith, held, more, is_low);

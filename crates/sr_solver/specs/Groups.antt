@@ -1,7 +1,8 @@
 -- The bounds by group: for each ordered pair of consumers of which the first is wide, and each group of entries, what
 -- those of the group that stand at the one cost more at the other, with the greatest charge added.
 
-use Rattle.std.specs.Prelude.{◌≡◌, ℕ, ◌+◌, ◌*◌, ◌<◌, ◌≤◌, List, length, slice_index}
+use Rattle.std.specs.Prelude.{◌≡◌, ℕ, ◌+◌, ◌-◌, ◌*◌, ◌<◌, ◌≤◌, List, length, slice_index}
+use Rattle.sr_solver.specs.declared.groups.Groups.{Groups}
 use Rattle.sr_transport.specs.{most_entries, greatest_charge, Transport, consumers}
 use Rattle.sr_solver.specs.Limits.{group_size, narrow_room}
 use Rattle.sr_transport.specs.plain.Problem.{room_of, cost_of, IsAllowed}
@@ -22,23 +23,30 @@ IsBetween xs n a first end i = IsAt xs n a i × (first ≤ i) × (i < end)
 abbrev pub IsAtIn : List ℕ → ℕ → ℕ → ℕ → ℕ → Type 0
 IsAtIn xs n a g i = IsBetween xs n a (g * group_size) (g * group_size + group_size) i
 
--- wide consumers have so many groups that each entry is in one
-pub record AreGroups (p : Transport) (groups : ℕ) : Type 0 where
-  pub few : groups ≤ most_entries
-  pub enough : (a : ℕ) → a < consumers p → narrow_room < room_of p a → p.entries < groups * group_size
+-- each entry is in a group, and each wide consumer in the span
+pub record AreGroups (p : Transport) (groups : Groups) : Type 0 where
+  pub few : groups.count ≤ most_entries
+  pub enough : p.entries < groups.count * group_size
+  pub within : groups.first + groups.span ≤ consumers p
+  pub spanned : (a : ℕ) → a < consumers p → narrow_room < room_of p a
+      → (groups.first ≤ a) × (a < groups.first + groups.span)
 
--- the bounds of so many groups, where `at a` says which entries stand at consumer a: of those in a group that stand at
+-- where the row of bounds of consumer a, of the span, and consumer b of n begins
+abbrev pub low_row : ℕ → Groups → ℕ → ℕ → ℕ
+low_row n groups a b = ((a - groups.first) * n + b) * groups.count
+
+-- the bounds of these groups, where `at a` says which entries stand at consumer a: of those in a group that stand at
 -- a wide consumer, none costs less than the bound more at the other one
-pub record AreLowsOf (p : Transport) (at : ℕ → ℕ → Type 0) (groups : ℕ) (lows : List ℕ) : Type 0 where
-  pub each_group : length lows ≡ consumers p * consumers p * groups
+pub record AreLowsOf (p : Transport) (at : ℕ → ℕ → Type 0) (groups : Groups) (lows : List ℕ) : Type 0 where
+  pub each_group : length lows ≡ consumers p * groups.span * groups.count
   pub grouped : AreGroups p groups
-  pub below : (a b g i : ℕ) → a < consumers p → b < consumers p → g < groups → narrow_room < room_of p a → at a i
+  pub below : (a b g i : ℕ) → a < consumers p → b < consumers p → g < groups.count → narrow_room < room_of p a → at a i
       → IsInGroup g i → IsAllowed p i b
-      → slice_index lows ((a * consumers p + b) * groups + g) + cost_of p i a ≤ cost_of p i b + greatest_charge
+      → slice_index lows (low_row (consumers p) groups a b + g) + cost_of p i a ≤ cost_of p i b + greatest_charge
 
 -- the bounds once entry i has come to consumer a: none has risen, and those of its group hold for it, too
-pub record AreLowered (p : Transport) (a i groups : ℕ) (old new : List ℕ) : Type 0 where
+pub record AreLowered (p : Transport) (a i : ℕ) (groups : Groups) (old new : List ℕ) : Type 0 where
   pub each_group : length new ≡ length old
   pub none_higher : (q : ℕ) → slice_index new q ≤ slice_index old q
   pub below : (b g : ℕ) → b < consumers p → narrow_room < room_of p a → IsInGroup g i → IsAllowed p i b
-      → slice_index new ((a * consumers p + b) * groups + g) + cost_of p i a ≤ cost_of p i b + greatest_charge
+      → slice_index new (low_row (consumers p) groups a b + g) + cost_of p i a ≤ cost_of p i b + greatest_charge

@@ -5,7 +5,7 @@ ghost use Rattle.sr_transport.specs.{most_entries, consumers};
 ghost use Rattle.sr_transport.specs.plain.Problem.{IsWithinLimits, room_of, IsAllowed};
 ghost use Rattle.sr_solver.specs.Limits.{group_size, narrow_room, greatest_bound};
 ghost use Rattle.sr_solver.specs.Members.{AreMembers};
-ghost use Rattle.sr_solver.specs.Groups.{IsAt, IsAtIn, AreGroups, AreLowsOf, AreLowered};
+ghost use Rattle.sr_solver.specs.Groups.{IsAt, IsAtIn, AreGroups, low_row, AreLowsOf, AreLowered};
 ghost use Rattle.sr_solver.specs.Table.{IsKnown};
 
 use crate::placement::Placement;
@@ -15,16 +15,46 @@ use sr_transport::Columns;
 /// How many entries in a row make a group.
 const GROUP: usize = 64;
 
-/// How many groups of entries have bounds: none if no consumer is wide.
-pub fn groups_of(problem: &Columns<'_>) -> usize
+/// Which bounds by group there are: a row for each consumer of the span, each other one and each group.
+#[derive(Clone, Copy)]
+pub struct Groups {
+    /// How many groups of entries there are.
+    pub count: usize,
+    /// The first consumer of the span.
+    pub first: usize,
+    /// How many consumers the span has. Each wide one is among them.
+    pub span: usize,
+}
+
+/// The groups of entries, and the span from the first wide consumer to the last one: none if no consumer is wide.
+pub fn groups_of(problem: &Columns<'_>) -> Groups
     ensures { AreGroups problem.now result }
 {
+    let mut first = problem.consumers();
+    let mut end = 0;
     for consumer in 0..problem.consumers() {
         if NARROW < problem.room(consumer) {
-            return problem.entries() / GROUP + 1;
+            first = first.min(consumer);
+            end = consumer + 1;
         }
     }
-    0
+    Groups {
+        count: problem.entries() / GROUP + 1,
+        first,
+        span: end.saturating_sub(first),
+    }
+}
+
+/// Where the row of bounds of the wide consumer `from` and another one begins.
+fn row_of(problem: &Columns<'_>, from: usize, to: usize, groups: Groups) -> usize
+    requires limits { IsWithinLimits problem.now.rooms problem.now.entries problem.now.costs }
+    requires groups { AreGroups problem.now groups }
+    requires from { from < consumers problem.now }
+    requires wide { narrow_room < room_of problem.now from }
+    requires to { to < consumers problem.now }
+    ensures { result ≡ low_row (consumers problem.now) groups from to }
+{
+    ((from - groups.first) * problem.consumers() + to) * groups.count
 }
 
 /// Looks for the entry at the wide consumer `from` that costs least more at `to`.
@@ -35,7 +65,7 @@ pub fn find_in_groups(
     from: usize,
     to: usize,
     placement: &Placement,
-    groups: usize,
+    groups: Groups,
     lows: &mut [u64],
 ) -> Option<Bound>
     requires limits { IsWithinLimits problem.now.rooms problem.now.entries problem.now.costs }
@@ -53,12 +83,12 @@ pub fn find_in_groups(
     ensures lows { AreLowsOf problem.now (IsAt placement.now.assign.items problem.now.entries) groups lows.new }
 {
     let assign = placement.assign.as_slice();
-    let row = (from * problem.consumers() + to) * groups;
-    let mut group = least(lows, row, groups);
-    for _ in 0..groups {
+    let row = row_of(problem, from, to, groups);
+    let mut group = least(lows, row, groups.count);
+    for _ in 0..groups.count {
         let found = find_in_group(problem, from, to, assign, group);
         lows[row + group] = low_of(found);
-        let next = least(lows, row, groups);
+        let next = least(lows, row, groups.count);
         if lows[row + group] <= lows[row + next] {
             return found;
         }
@@ -140,11 +170,11 @@ fn low_of(found: Option<Bound>) -> u64
 }
 
 /// Notes that an entry has come to a consumer, if that is a wide one: the bounds of its group fall.
-pub fn join_group(problem: &Columns<'_>, entry: usize, to: usize, groups: usize, lows: &mut [u64])
+pub fn join_group(problem: &Columns<'_>, entry: usize, to: usize, groups: Groups, lows: &mut [u64])
     requires limits { IsWithinLimits problem.now.rooms problem.now.entries problem.now.costs }
     requires entry { entry < problem.now.entries }
     requires allowed { IsAllowed problem.now entry to }
-    requires each_group { length lows.old ≡ consumers problem.now * consumers problem.now * groups }
+    requires each_group { length lows.old ≡ consumers problem.now * groups.span * groups.count }
     requires groups { AreGroups problem.now groups }
     ensures { AreLowered problem.now to entry groups lows.old lows.new }
 {
@@ -155,8 +185,8 @@ pub fn join_group(problem: &Columns<'_>, entry: usize, to: usize, groups: usize,
     let here = problem.cost(entry, to).unwrap();
     for (next, there) in problem.costs(entry).iter().enumerate() {
         if let Some(there) = *there {
-            let place = (to * problem.consumers() + next) * groups + group;
-            lower(lows, place, there + ABOVE - here);
+            let row = row_of(problem, to, next, groups);
+            lower(lows, row + group, there + ABOVE - here);
         }
     }
 }

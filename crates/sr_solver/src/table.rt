@@ -10,7 +10,7 @@ ghost use Rattle.sr_solver.specs.Table.{IsUnknown, IsApart, IsKnown, ArePairs, I
 ghost use Rattle.sr_solver.specs.Table.{IsLowered, IsRowChanged, IsMover, IsNoNearer};
 ghost use Rattle.sr_solver.specs.Labels.{IsFarOrReached};
 
-use crate::groups::{find_in_groups, groups_of, join_group};
+use crate::groups::{Groups, find_in_groups, groups_of, join_group};
 use crate::label::Label;
 use crate::members::{add, remove};
 use crate::placement::Placement;
@@ -31,9 +31,10 @@ const LEAST_BOUND: u64 = 0;
 pub struct Table {
     /// What is known of each ordered pair of consumers: a row for each consumer.
     pub pairs: Vec<Option<Bound>>,
-    /// In how many groups the entries are, if any consumer is wide.
-    pub groups: usize,
-    /// For each ordered pair a row of bounds, with one for each group of entries. Those of wide consumers hold.
+    /// The groups of entries, and which consumers have bounds for them.
+    pub groups: Groups,
+    /// For each ordered pair of which the first is of the span a row of bounds, with one for each group of entries.
+    /// Those of wide consumers hold.
     pub lows: Vec<u64>,
 }
 
@@ -69,7 +70,7 @@ pub fn unknown_table(alloc: Global, problem: &Columns<'_>) -> Result<Table, Allo
     let groups = groups_of(problem);
     let mut pairs: Vec<Option<Bound>> = vec![in alloc; None; consumers * consumers]?;
     forget(&mut pairs);
-    let lows = vec![in alloc; 0u64; consumers * consumers * groups]?;
+    let lows = vec![in alloc; 0u64; consumers * groups.span * groups.count]?;
     Ok(Table {
         pairs,
         groups,

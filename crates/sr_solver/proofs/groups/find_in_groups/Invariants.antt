@@ -4,7 +4,7 @@ use Rattle.sr_solver.proofs.groups.find_in_groups.Given as goal
 
 abbrev pub invariant-loop : goal.invariant-loop
 invariant-loop l = record {
-  group : l.group < l.groups;
+  group : l.group < l.groups.count;
   length : length l.lows ≡ length l.fn.lows;
   lows : AreLowsOf l.problem (IsAt l.placement.assign.items l.problem.entries) l.groups l.lows;
 }

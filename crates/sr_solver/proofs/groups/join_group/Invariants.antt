@@ -1,6 +1,7 @@
-use Rattle.std.proofs.Common.{◌≡◌, ℕ, ◌+◌, ◌*◌, ◌<◌, ◌≤◌, length, slice_index}
+use Rattle.std.proofs.Common.{◌≡◌, ℕ, ◌+◌, ◌<◌, ◌≤◌, length, slice_index}
 use Rattle.sr_transport.specs.{greatest_charge, consumers}
 use Rattle.sr_transport.specs.plain.Problem.{cost_of, IsAllowed}
+use Rattle.sr_solver.specs.Groups.{low_row}
 use Rattle.sr_solver.proofs.groups.join_group.Given as goal
 
 abbrev pub invariant-loop-next : goal.invariant-loop-next
@@ -8,6 +9,6 @@ invariant-loop-next l = record {
   each_group : length l.lows ≡ length l.fn.lows;
   none_higher : (q : ℕ) → slice_index l.lows q ≤ slice_index l.fn.lows q;
   below : (b : ℕ) → b < l.next → IsAllowed l.problem l.entry b
-      → slice_index l.lows ((l.to * consumers l.problem + b) * l.groups + l.group) + cost_of l.problem l.entry l.to
+      → slice_index l.lows (low_row (consumers l.problem) l.groups l.to b + l.group) + cost_of l.problem l.entry l.to
       ≤ cost_of l.problem l.entry b + greatest_charge;
 }

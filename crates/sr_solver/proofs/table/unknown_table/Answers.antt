@@ -20,5 +20,5 @@ returns c = λ xs.
           c.forget.ensures.unknown);
       lows = lows_unknown p (IsAt xs p.entries) c.groups_of-groups.result _ c.in_ok-lows.lows.items limits
           c.groups_of-groups.ensures (c.in_ok-lows.ensures.items_if_clones_equal (λ y e. e))
-          (ap (λ n. n * n * c.groups_of-groups.result) many);
+          (ap (λ n. n * c.groups_of-groups.result.span * c.groups_of-groups.result.count) many);
     }
