@@ -1,10 +1,10 @@
 #!/usr/bin/env python3
-"""Measures how much memory a server's entries and pending entries take, which no contract says.
+"""Measures how much memory a server's entries, pending entries and records take, which no contract says.
 
 usage: tests/room.py PROGRAM
 
 PROGRAM is sr_server. A server gets the same commands twice, so that it keeps the same records of them; only once do entries, or pending
-entries, stay. What its resident memory grows by then is what they take. Prints each figure with its bound; the status is 1 if one is above it.
+entries, stay. What its resident memory grows by then is what they take. A record stays each time: it is measured against no commands. Prints each figure with its bound; the status is 1 if one is above it.
 """
 
 import subprocess
@@ -60,8 +60,10 @@ def delivered(*options):
 
 # What is measured, the bytes for one that are allowed, and the commands after which they stay and after which none stay.
 FIGURES = [
-    ("an entry `f v`", 20, added(), added("MAXLEN", "1")),
+    ("an entry `f v`", 20, added("MAXLEN", f"{2 * MANY}"), added("MAXLEN", "1")),
     ("a pending entry", 87, delivered(), delivered("NOACK")),
+    ("the record of a `PING`", 130, [["PING"]] * MANY, []),
+    ("an `XADD s * f v`, its record and its entry", 220, added(), []),
 ]
 
 

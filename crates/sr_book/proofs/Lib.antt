@@ -4,6 +4,7 @@ pub mod BookLemmas
 pub mod DueLemmas
 pub mod FreshLemmas
 pub mod HeardLemmas
+pub mod KeptLemmas
 pub mod LegalLemmas
 pub mod OpenLemmas
 pub mod RecoveredLemmas

@@ -2,6 +2,7 @@
 -- rules.
 
 pub mod Concluded
+pub mod Kept
 pub mod Layout
 pub mod Records
 pub mod Recovered

@@ -1,7 +1,6 @@
 -- What is known of the waiting reads that have an answer. No public clause cites this.
 use Rattle.std.specs.Prelude.{⊤, ◌≡◌, ◌↔◌, ◌&&◌, ◌||◌, not, Bool, true, false, IsTrue, Option, Some, None, is_none}
 use Rattle.std.specs.List.{AllByRecursion}
-use Rattle.sr_args.specs.declared.call.Call.{Call}
 use Rattle.sr_space.specs.{finds_nothing, read_at}
 use Rattle.sr_space.specs.Keys.{Key}
 use Rattle.sr_space.specs.Effect.{key_of}

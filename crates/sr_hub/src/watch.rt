@@ -2,7 +2,7 @@ ghost use Rattle.std.specs.Prelude.{IfSome};
 ghost use Rattle.sr_hub.specs.Lines.{IsLettered, state_of};
 
 use crate::Hub;
-use sr_book::{Act, Book, Event};
+use sr_book::{Book, Kind};
 use std::alloc::{AllocError, Global};
 
 /// A connection may hold this many bytes of unanswered requests before they are counted.
@@ -167,7 +167,7 @@ impl Watch {
         }
         let seen = (self.looked - base) as usize;
         for record in book.records().iter().skip(seen) {
-            if gives_letters(&record.act)
+            if gives_letters(record.kind())
                 && let Some((session, _)) = record.replies.as_slice().get(self.replies)
             {
                 self.replies = self.replies.saturating_add(1);
@@ -186,17 +186,6 @@ fn counted(unanswered: usize) -> u64 {
 }
 
 /// Whether a record of this gives replies to sessions that wait.
-fn gives_letters(act: &Act) -> bool {
-    match act {
-        Act::Serve { .. } => true,
-        Act::Event(event) => match event {
-            Event::Expire => true,
-            Event::Join
-            | Event::Leave { .. }
-            | Event::Call { .. }
-            | Event::Board { .. }
-            | Event::Snapshot { .. }
-            | Event::Conclude { .. } => false,
-        },
-    }
+fn gives_letters(kind: Kind) -> bool {
+    matches!(kind, Kind::Serve | Kind::Expire)
 }

@@ -30,7 +30,7 @@ pub struct Xack {
 
 impl Xack {
     /// A copy with the same parts.
-    pub(crate) fn copy(&self, alloc: Global) -> Result<Xack, AllocError>
+    pub fn copy(&self, alloc: Global) -> Result<Xack, AllocError>
         ensures { IfOk result (λ copy. copy ≡ self.now) }
     {
         let key = self.key.copy(alloc)?;
@@ -40,7 +40,7 @@ impl Xack {
     }
 
     /// Whether the other has the same parts.
-    pub(crate) fn equals(&self, other: &Xack) -> bool
+    pub fn equals(&self, other: &Xack) -> bool
         ensures { IsTrue result ↔ (self.now ≡ other.now) }
     {
         self.key == other.key && self.group == other.group && same_ids(&self.ids, &other.ids)

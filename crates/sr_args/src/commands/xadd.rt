@@ -40,7 +40,7 @@ pub struct Xadd {
 
 impl Xadd {
     /// A copy with the same parts.
-    pub(crate) fn copy(&self, alloc: Global) -> Result<Xadd, AllocError>
+    pub fn copy(&self, alloc: Global) -> Result<Xadd, AllocError>
         ensures { IfOk result (λ copy. copy ≡ self.now) }
     {
         let key = self.key.copy(alloc)?;
@@ -55,7 +55,7 @@ impl Xadd {
     }
 
     /// Whether the other has the same parts.
-    pub(crate) fn equals(&self, other: &Xadd) -> bool
+    pub fn equals(&self, other: &Xadd) -> bool
         ensures { IsTrue result ↔ (self.now ≡ other.now) }
     {
         self.key == other.key

@@ -39,7 +39,7 @@ pub struct Xreadgroup {
 
 impl Xreadgroup {
     /// A copy with the same parts.
-    pub(crate) fn copy(&self, alloc: Global) -> Result<Xreadgroup, AllocError>
+    pub fn copy(&self, alloc: Global) -> Result<Xreadgroup, AllocError>
         ensures { IfOk result (λ copy. copy ≡ self.now) }
     {
         let group = self.group.copy(alloc)?;
@@ -66,7 +66,7 @@ impl Xreadgroup {
     }
 
     /// Whether the other has the same parts.
-    pub(crate) fn equals(&self, other: &Xreadgroup) -> bool
+    pub fn equals(&self, other: &Xreadgroup) -> bool
         ensures { IsTrue result ↔ (self.now ≡ other.now) }
     {
         self.group == other.group

@@ -1,7 +1,6 @@
 // The records of a book that seats use are those of a book that is driven by the same events.
 use super::rows::{Line, event_of};
-use sr_args::Call;
-use sr_book::{Act, Answer, Book, BookFault, Event, Out, Record};
+use sr_book::{Answer, Book, BookFault, Event, Out, Record};
 use sr_policy::{Policy, Snapshot};
 use std::alloc::{AllocError, Global};
 use std::hash::RandomState;
@@ -63,53 +62,31 @@ fn is_look(line: &str, said: &str) -> bool {
     line == "letter" || line == "compact" || said == "false"
 }
 
-/// What an act is, and whose.
-fn kind_of(act: &Act) -> (&'static str, u64) {
-    match act {
-        Act::Event(Event::Join) => ("join", 0),
-        Act::Event(Event::Call { session, .. }) => ("call", *session),
-        Act::Event(Event::Board { session, .. }) => ("board", *session),
-        Act::Event(Event::Snapshot { session, .. }) => ("snapshot", *session),
-        Act::Event(Event::Conclude { session, .. }) => ("conclude", *session),
-        Act::Event(Event::Expire) => ("expire", 0),
-        Act::Event(Event::Leave { session }) => ("leave", *session),
-        Act::Serve { session } => ("serve", *session),
-    }
-}
-
-/// The call that an act is.
-fn call_of(act: &Act) -> Option<&Call> {
-    match act {
-        Act::Event(Event::Call { call, .. }) => Some(call),
-        _ => None,
-    }
-}
-
-/// Whether two acts are the same event. Snapshots and conclusions are so by what they reply.
-fn same_act(one: &Act, other: &Act) -> bool {
-    let same_call = match (call_of(one), call_of(other)) {
-        (Some(left), Some(right)) => left.equals(right),
+/// Whether two records are of the same act. Snapshots and conclusions are so by what they reply.
+fn same_act(alloc: Global, one: &Record, other: &Record) -> Result<bool, AllocError> {
+    let same_call = match (one.call(alloc)?, one.session()) {
+        (Some(call), Some(session)) => other.is_call(session, &call),
         _ => true,
     };
-    same_call && kind_of(one) == kind_of(other)
+    Ok(same_call && one.kind() == other.kind() && one.session() == other.session())
 }
 
 /// Whether two records are the same.
-fn same_record(one: &Record, other: &Record) -> bool {
-    one.index == other.index
+fn same_record(alloc: Global, one: &Record, other: &Record) -> Result<bool, AllocError> {
+    let same = one.index == other.index
         && one.moment == other.moment
-        && same_act(&one.act, &other.act)
-        && one.replies.as_slice() == other.replies.as_slice()
+        && one.replies.as_slice() == other.replies.as_slice();
+    Ok(same_act(alloc, one, other)? && same)
 }
 
 /// Whether two lists of records are the same.
-fn same_records(one: &[Record], other: &[Record]) -> bool {
+fn same_records(alloc: Global, one: &[Record], other: &[Record]) -> Result<bool, AllocError> {
     for (left, right) in one.iter().zip(other) {
-        if !same_record(left, right) {
-            return false;
+        if !same_record(alloc, left, right)? {
+            return Ok(false);
         }
     }
-    one.len() == other.len()
+    Ok(one.len() == other.len())
 }
 
 /// The last snapshot that the events of lines give, if no verdict was made of it. The book is dropped here alone.
@@ -147,14 +124,14 @@ pub(super) fn are_driven(
 ) -> Result<bool, Fail> {
     let mut book = book;
     let driven = drive_all(alloc, &mut book, lines, &mut None);
-    let same = book.events() == closed.events()
-        && match book.records().get(closed.base().index as usize..) {
-            Some(records) => same_records(records, closed.records()),
-            None => false,
-        };
+    let same_count = book.events() == closed.events();
+    let same = match book.records().get(closed.base().index as usize..) {
+        Some(records) => same_records(alloc, records, closed.records()),
+        None => Ok(false),
+    };
     drop(book);
     driven?;
-    Ok(same)
+    Ok(same? && same_count)
 }
 
 /// Whether each of these events has a record then. Refused memory for the list, the book is to have none.
