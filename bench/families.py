@@ -4,8 +4,8 @@ usage: families.py [costly | small | small-tiers | tiers BITS]
 
 With no argument these are the families of docs/BENCH.md, of 4,096 entries and 64 consumers, and with `tiers` the same, where each
 consumer has half of its room at a fee below 2^BITS, or at none for 0. With `costly` they are others of this size, made to take long:
-few allowed pairs, from 2 to 12 for each entry, with a dear outlet that all are allowed and without, and one great room beside small
-ones; the rooms are exact or have some to spare, and the entries are shuffled. With `small` they are 10,000 random problems of all
+few allowed pairs, from 2 to 12 for each entry, with a dear outlet that all are allowed and without, one great room beside small
+ones, and both; the rooms are exact or have some to spare, and the entries are shuffled. With `small` they are 10,000 random problems of all
 shapes, of at most 16 entries, and with `small-tiers` others where a consumer may have two tiers. A problem is a line: its name and a
 colon, how often it is to be timed, how many entries and consumers it has, the room of each consumer, `FIRST+NEXT@FEE` if it has two
 tiers, and for each entry its cost at each consumer, `-` where it is not allowed.
@@ -309,6 +309,47 @@ def great_room(great, entries):
     return [great] + [rest * (number + 1) // others - rest * number // others for number in range(others)]
 
 
+def mixed_counts(least, most, has_outlet):
+    """Entries that are each allowed from `least` to `most` consumers at random costs, and perhaps the last one, which costs the most
+    that a pair may; shuffled."""
+    rng = Pcg32(SEED, 7)
+    rows = []
+    for entry in range(ENTRIES):
+        row = [None] * CONSUMERS
+        for consumer in chosen(rng, least + entry % (most - least + 1), CONSUMERS - 1):
+            row[consumer] = rng.next_u64() % (MAX_COST // 2)
+        if has_outlet:
+            row[-1] = MAX_COST
+        rows.append(row)
+    return shuffled(rows)
+
+
+def with_great_consumer(count, has_outlet):
+    """Entries that are each allowed the first consumer, at random costs, and this many others at their rates times the weight of the
+    entry, perhaps the last one too, which costs the most that a pair may; shuffled."""
+    rng = Pcg32(SEED, 8)
+    rows = []
+    for row in masked():
+        numbers = chosen(rng, count, CONSUMERS - 2)
+        kept = [cost if consumer in numbers else None for consumer, cost in enumerate(row[1:-1])]
+        rows.append([rng.next_u64() % MAX_COST, *kept, MAX_COST if has_outlet else None])
+    return shuffled(rows)
+
+
+def mixed_families():
+    """Each problem: its name, its rooms and its rows of costs. One great room, from 2 to 12 allowed consumers, an outlet or none."""
+    small = [52] * (CONSUMERS - 1)
+    yield "2 to 12 allowed, spare", [72] * (CONSUMERS - 1) + [0], mixed_counts(2, 12, False)
+    yield "2 to 4 allowed, spare", [72] * (CONSUMERS - 1) + [0], mixed_counts(2, 4, False)
+    yield "2 to 12 allowed and an outlet, exact", small + [ENTRIES - sum(small)], mixed_counts(2, 12, True)
+    yield "2 to 4 allowed and an outlet, spare", [32] * (CONSUMERS - 1) + [ENTRIES], mixed_counts(2, 4, True)
+    yield "8 to 12 allowed and an outlet, spare", small + [ENTRIES], mixed_counts(8, 12, True)
+    for great, count in ((512, 3), (1024, 8), (3072, 2), (3900, 12)):
+        rooms = great_room(great, ENTRIES)
+        yield f"a room of {great}, {count} allowed and an outlet", rooms[:-1] + [ENTRIES], with_great_consumer(count, True)
+    yield "a room of 2,048, 6 allowed, spare", great_room(2048, ENTRIES + 2048), with_great_consumer(6, False)
+
+
 def costly_families():
     """Each problem: its name, its rooms and its rows of costs."""
     spare = ENTRIES + ENTRIES // 16
@@ -322,6 +363,7 @@ def costly_families():
         for kind, rows in (("masked", shuffled(masked())), ("rising", shuffled(rising()))):
             yield f"a room of {great}, {kind} weights, exact", great_room(great, ENTRIES), rows
             yield f"a room of {great}, {kind} weights, spare", great_room(great, spare), rows
+    yield from mixed_families()
 
 
 def tiered(room, fee):
