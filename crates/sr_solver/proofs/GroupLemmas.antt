@@ -1,7 +1,6 @@
 -- The bounds by group: what entries that come and go make of them, and what the least of them tells.
 use Rattle.std.proofs.Common.{◌≡◌, ℕ, ◌+◌, ◌-◌, ◌*◌, ◌/◌, ◌^◌, ◌<◌, ◌≤◌, ◌⊎◌, List, length, get_or}
-use Rattle.std.proofs.Common.{Option, Some, None, sym, ap, ◌∙◌, inl, inr, arith}
-use Rattle.std.specs.Prelude.{IfSome, IfNone}
+use Rattle.std.proofs.Common.{sym, ap, ◌∙◌, inl, inr, arith}
 use Rattle.std.proofs.Math.ListN.{set, length-set, replicate}
 use Rattle.std.proofs.Math.Nat.{mul-le-mul_left, div-mul-le_self, lt-div-mul-add}
 use Rattle.std.proofs.lemmas.Nat.{mul-add-lt}
@@ -9,13 +8,13 @@ use Rattle.std.proofs.lemmas.Bool.{cases_eq, cases_lt}
 use Rattle.std.proofs.lemmas.List.{get_or_past, get_or-set_same, get_or-set_other, get_or-replicate, length-replicate}
 use Rattle.sr_transport.specs.{greatest_charge, Transport, consumers}
 use Rattle.sr_transport.specs.plain.Problem.{IsWithinLimits, room_of, cost_at, cost_of, IsAllowed}
-use Rattle.sr_solver.specs.Limits.{group_size, narrow_room, greatest_bound}
+use Rattle.sr_solver.specs.Limits.{group_size, narrow_room}
 use Rattle.sr_solver.specs.declared.table.Bound.{Bound}
 use Rattle.sr_solver.specs.declared.groups.Groups.{Groups}
 use Rattle.sr_solver.specs.Groups.{IsAt, IsInGroup, IsBetween, IsAtIn, AreGroups, low_row, AreLowsOf, AreLowered}
-use Rattle.sr_solver.specs.Table.{IsApart, IsKnown, IsTight, IsLowered}
+use Rattle.sr_solver.specs.Table.{no_entry, IsApart, IsKnown, IsTight, IsLowered}
 use Rattle.sr_solver.proofs.SearchLemmas.{cost_small}
-use Rattle.sr_solver.proofs.TableLemmas.{rows_apart, HasCome, known_lowered, known_same}
+use Rattle.sr_solver.proofs.TableLemmas.{rows_apart, HasCome, known_lowered, known_same, none_known}
 
 -- a row of n places ends before the list does
 row_within : (n x rows : ℕ) → x < rows → x * n + n ≤ rows * n
@@ -156,45 +155,28 @@ pub group_below : (p : Transport) (groups : Groups) (i : ℕ) → AreGroups p gr
     → i / group_size < groups.count
 group_below p groups i are lti = omega (arith, div-mul-le_self i group_size, are.enough)
 
--- what was found in a group holds for each of its entries
-known_below : (p : Transport) (xs : List ℕ) (a b g low i : ℕ) (found : Option Bound)
-    → IsKnown p (IsAtIn xs p.entries a g) a b found → IfSome found (λ bound. low ≡ bound.low)
-    → IsAtIn xs p.entries a g i → IsAllowed p i b → low + cost_of p i a ≤ cost_of p i b + greatest_charge
-known_below p xs a b g low i None known is here may = absurd (known i here may)
-known_below p xs a b g low i (Some bound) known is here may = omega (arith, known.below i here may, is)
-
 -- what was found in a group is its bound
-pub lows_noted : (p : Transport) (xs : List ℕ) (groups : Groups) (a b g row low : ℕ) (old : List ℕ) (found : Option Bound)
+pub lows_noted : (p : Transport) (xs : List ℕ) (groups : Groups) (a b g row : ℕ) (old : List ℕ) (found : Bound)
     → IsWithinLimits p.rooms p.entries p.costs
     → a < consumers p → narrow_room < room_of p a → b < consumers p → g < groups.count
     → row ≡ low_row (consumers p) groups a b → AreLowsOf p (IsAt xs p.entries) groups old → IsKnown p (IsAtIn xs p.entries a g) a b found
-    → IfSome found (λ bound. low ≡ bound.low)
-    → AreLowsOf p (IsAt xs p.entries) groups (set old (row + g) low)
-lows_noted p xs groups a b g row low old found limits lta wide ltb ltg is are known is_low =
+    → AreLowsOf p (IsAt xs p.entries) groups (set old (row + g) found.low)
+lows_noted p xs groups a b g row old found limits lta wide ltb ltg is are known =
     let fits = row_fits p groups a b row old limits are.grouped are.each_group lta wide ltb is in
     let within : low_row (consumers p) groups a b + g < length old =
     (let end : row + g < length old = omega (arith, fits.within, ltg) in rw is at end) in
     rw is (
-    note_low p (IsAt xs p.entries) groups a b g low old lta wide ltb ltg are within
-    (λ i here member may. known_below p xs a b g low i found known is_low (here, member.0, member.1) may)
+    note_low p (IsAt xs p.entries) groups a b g found.low old lta wide ltb ltg are within
+    (λ i here member may. known.below i (here, member.0, member.1) may)
     )
 
 -- each bound is at least what was found in the group with the least one
-pub least_of_all : (p : Transport) (xs : List ℕ) (groups : Groups) (a b g row low : ℕ) (lows : List ℕ) (found : Option Bound)
-    → IsWithinLimits p.rooms p.entries p.costs
+pub least_of_all : (p : Transport) (xs : List ℕ) (groups : Groups) (a b g row : ℕ) (lows : List ℕ) (found : Bound)
     → a < consumers p → b < consumers p → narrow_room < room_of p a
     → row ≡ low_row (consumers p) groups a b → AreLowsOf p (IsAt xs p.entries) groups lows → IsKnown p (IsAtIn xs p.entries a g) a b found
-    → IfSome found (λ bound. low ≡ bound.low) → IfNone found (greatest_bound < low)
-    → ((k : ℕ) → k < groups.count → low ≤ get_or lows (row + k) 0)
+    → ((k : ℕ) → k < groups.count → found.low ≤ get_or lows (row + k) 0)
     → IsKnown p (IsAt xs p.entries a) a b found
-least_of_all p xs groups a b g row low lows None limits lta ltb wide is are known is_low is_great least =
-    λ i here may.
-    let member : IsInGroup (i / group_size) i = in_group i in
-    let ltk : i / group_size < groups.count = group_below p groups i are.grouped here.0 in
-    let held = are.below a b (i / group_size) i lta ltb ltk wide here member may in
-    let more = rw is at (least (i / group_size) ltk) in
-    absurd (omega (arith, held, more, is_great, cost_small p limits i b))
-least_of_all p xs groups a b g row low lows (Some bound) limits lta ltb wide is are known is_low is_great least =
+least_of_all p xs groups a b g row lows found lta ltb wide is are known least =
     record {
       small = known.small;
       below = λ i here may.
@@ -202,19 +184,20 @@ least_of_all p xs groups a b g row low lows (Some bound) limits lta ltb wide is 
           let ltk : i / group_size < groups.count = group_below p groups i are.grouped here.0 in
           let held = are.below a b (i / group_size) i lta ltb ltk wide here member may in
           let more = rw is at (least (i / group_size) ltk) in
-          omega (arith, held, more, is_low);
-      best = λ k same.
-          let best : IsTight p (IsAtIn xs p.entries a g) a b bound.low k = known.best k same in
+          omega (arith, held, more);
+      best = λ lt.
+          let best : IsTight p (IsAtIn xs p.entries a g) a b found.low found.best = known.best lt in
           record { stands = best.stands.0; allowed = best.allowed; tight = best.tight };
     }
 
 -- no entry was looked at
-pub between_none : (p : Transport) (xs : List ℕ) (a b first : ℕ)
-    → IsKnown p (IsBetween xs p.entries a first first) a b None
-between_none p xs a b first = λ i here may. absurd (omega (arith, here.1, here.2))
+pub between_none : (p : Transport) (xs : List ℕ) (a b first : ℕ) → IsWithinLimits p.rooms p.entries p.costs
+    → IsKnown p (IsBetween xs p.entries a first first) a b no_entry
+between_none p xs a b first limits =
+    none_known p (IsBetween xs p.entries a first first) a b limits (λ i here. omega (arith, here.1, here.2))
 
 -- one entry more is looked at, which stands there
-pub between_more : (p : Transport) (xs : List ℕ) (a b first i : ℕ) (old new : Option Bound)
+pub between_more : (p : Transport) (xs : List ℕ) (a b first i : ℕ) (old new : Bound)
     → IsWithinLimits p.rooms p.entries p.costs → b < consumers p → i < p.entries → get_or xs i 0 ≡ a → first ≤ i
     → IsKnown p (IsBetween xs p.entries a first i) a b old → IsLowered i (cost_of p i a) (cost_at p i b) old new
     → IsKnown p (IsBetween xs p.entries a first (i + 1)) a b new
@@ -232,7 +215,7 @@ between_more p xs a b first i old new limits ltb lti stands from known lowered =
     limits come ltb known lowered
 
 -- one that does not stand there
-pub between_other : (p : Transport) (xs : List ℕ) (a b first i : ℕ) (known : Option Bound)
+pub between_other : (p : Transport) (xs : List ℕ) (a b first i : ℕ) (known : Bound)
     → (get_or xs i 0 ≡ a → ⊥)
     → IsKnown p (IsBetween xs p.entries a first i) a b known
     → IsKnown p (IsBetween xs p.entries a first (i + 1)) a b known
@@ -245,7 +228,7 @@ between_other p xs a b first i known elsewhere is =
     is
 
 -- all entries of a group were looked at
-pub between_all : (p : Transport) (xs : List ℕ) (a b g end i : ℕ) (known : Option Bound)
+pub between_all : (p : Transport) (xs : List ℕ) (a b g end i : ℕ) (known : Bound)
     → end ≤ g * group_size + group_size → (p.entries ≤ end) ⊎ (g * group_size + group_size ≤ end)
     → end ≤ i → (i ≤ end) ⊎ (i ≡ g * group_size)
     → IsKnown p (IsBetween xs p.entries a (g * group_size) i) a b known → IsKnown p (IsAtIn xs p.entries a g) a b known

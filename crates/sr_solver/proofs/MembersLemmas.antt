@@ -1,6 +1,6 @@
 -- The rows of members: an entry that is taken out, and one that is added.
 use Rattle.std.proofs.Common.{◌≡◌, ℕ, ◌+◌, ◌*◌, ◌^◌, ◌<◌, ◌≤◌, ◌==◌, ◌⊎◌, cond, List, length, get_or, take, ◌++◌}
-use Rattle.std.proofs.Common.{Option, None, Fits, w64, refl, sym, ap, ◌∙◌, inl, inr, arith}
+use Rattle.std.proofs.Common.{Fits, w64, refl, sym, ap, ◌∙◌, inl, inr, arith}
 use Rattle.std.proofs.Math.ListN.{set, length-set}
 use Rattle.std.proofs.lemmas.Bool.{cases_eq, cases_lt}
 use Rattle.std.proofs.Math.Nat.{mul-le-mul_left}
@@ -10,10 +10,10 @@ use Rattle.sr_transport.specs.{Transport, consumers}
 use Rattle.sr_transport.specs.plain.Problem.{IsWithinLimits, room_of, cost_at, cost_of}
 use Rattle.sr_transport.specs.plain.Assignment.{load}
 use Rattle.sr_solver.specs.declared.table.Bound.{Bound}
-use Rattle.sr_solver.specs.Table.{IsAt, IsApart, IsKnown, IsLowered, IsRowChanged, ArePairs}
+use Rattle.sr_solver.specs.Table.{no_entry, IsAt, IsApart, IsKnown, IsLowered, IsRowChanged, ArePairs}
 use Rattle.sr_solver.specs.Members.{IsListed, AreApart, IsSeen, AreLookedThrough, AreWide, AreMembersOf, AreMembers, IsRemoved}
 use Rattle.sr_solver.proofs.PathLemmas.{one_at_same, one_at_other, load-set}
-use Rattle.sr_solver.proofs.TableLemmas.{rows_apart, HasCome, known_lowered, known_same}
+use Rattle.sr_solver.proofs.TableLemmas.{rows_apart, HasCome, known_lowered, known_same, none_known}
 
 -- no more entries stand at a consumer than there are
 load_fits : (xs : List ℕ) (c : ℕ) → load xs c ≤ length xs
@@ -421,7 +421,7 @@ members_come p w xs i c row count old every lti ltc wide room members is_row is_
     }
 
 -- one member more is looked at
-pub seen_more : (p : Transport) (xs members : List ℕ) (row n i a b : ℕ) (old new : Option Bound)
+pub seen_more : (p : Transport) (xs members : List ℕ) (row n i a b : ℕ) (old new : Bound)
     → IsWithinLimits p.rooms p.entries p.costs → b < consumers p → i < p.entries → get_or xs i 0 ≡ a
     → i ≡ get_or members (row + 1 + n) 0
     → IsKnown p (IsSeen p xs members row n a) a b old → IsLowered i (cost_of p i a) (cost_at p i b) old new
@@ -440,7 +440,7 @@ seen_more p xs members row n i a b old new limits ltb lti stands is known lowere
     (IsSeen p xs members row (n + 1) a) a b i old new limits come ltb known lowered
 
 -- all members were looked at
-pub seen_all : (p : Transport) (w : ℕ) (xs members : List ℕ) (row n a b : ℕ) (known : Option Bound) → a < consumers p
+pub seen_all : (p : Transport) (w : ℕ) (xs members : List ℕ) (row n a b : ℕ) (known : Bound) → a < consumers p
     → AreMembers p w xs members → row ≡ a * w → n ≡ get_or members row 0
     → IsKnown p (IsSeen p xs members row n a) a b known → IsKnown p (IsAt xs p.entries a) a b known
 seen_all p w xs members row n a b known lta are is_row is_count =
@@ -468,17 +468,20 @@ pub members_written : (p : Transport) (w n : ℕ) (count : ℕ → ℕ) (at : �
 members_written p w n count at members rest all are = rw (take_at members rest n all) are
 
 -- no member was looked at
-pub looked_none : (p : Transport) (xs members : List ℕ) (row a : ℕ) (old new : List (Option Bound))
-    → IsRowChanged (consumers p) a (consumers p) (λ to was now. now ≡ None) old new
+pub looked_none : (p : Transport) (xs members : List ℕ) (row a : ℕ) (old new : List Bound)
+    → IsWithinLimits p.rooms p.entries p.costs
+    → IsRowChanged (consumers p) a (consumers p) (λ to was now. now ≡ no_entry) old new
     → AreLookedThrough p xs members row 0 a old new
-looked_none p xs members row a old new blank = record {
+looked_none p xs members row a old new limits blank = record {
   one_each = blank.one_each;
-  row_known = λ b ltb. rw (blank.row b ltb) (λ i seen allowed. absurd (omega (arith, seen.1.1)));
+  row_known = λ b ltb. rw (blank.row b ltb) (
+      none_known p (IsSeen p xs members row 0 a) a b limits (λ i seen. omega (arith, seen.1.1))
+      );
   others = blank.others;
 }
 
 -- one member more was looked at
-pub looked_more : (p : Transport) (xs members : List ℕ) (row n i a : ℕ) (old now new : List (Option Bound))
+pub looked_more : (p : Transport) (xs members : List ℕ) (row n i a : ℕ) (old now new : List Bound)
     → IsWithinLimits p.rooms p.entries p.costs → i < p.entries → get_or xs i 0 ≡ a
     → i ≡ get_or members (row + 1 + n) 0
     → AreLookedThrough p xs members row n a old now
@@ -492,7 +495,7 @@ looked_more p xs members row n i a old now new limits lti stands is looked chang
 }
 
 -- all members were looked at
-pub looked_all : (p : Transport) (w : ℕ) (xs members : List ℕ) (row n a : ℕ) (old new : List (Option Bound))
+pub looked_all : (p : Transport) (w : ℕ) (xs members : List ℕ) (row n a : ℕ) (old new : List Bound)
     → a < consumers p → AreMembers p w xs members → row ≡ a * w → n ≡ get_or members row 0
     → ArePairs p xs old → AreLookedThrough p xs members row n a old new → ArePairs p xs new
 looked_all p w xs members row n a old new lta are is_row is_count pairs looked = record {

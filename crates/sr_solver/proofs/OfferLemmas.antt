@@ -1,11 +1,11 @@
 -- One consumer more is asked whether an entry of the closed one comes nearer.
-use Rattle.std.proofs.Common.{◌≡◌, ℕ, ◌+◌, ◌<◌, ◌≤◌, ◌⊎◌, true, false, List, length, get_or, Option, Some, None}
+use Rattle.std.proofs.Common.{◌≡◌, ℕ, ◌+◌, ◌<◌, ◌≤◌, ◌⊎◌, true, false, List, length, get_or, Option, None}
 use Rattle.std.proofs.Common.{refl, sym, ap, ◌∙◌, inl, inr, arith}
 use Rattle.sr_transport.specs.{greatest_charge, greatest_price, most_tiers, Transport, consumers}
 use Rattle.sr_transport.specs.Limits.{greatest_fee}
-use Rattle.sr_solver.specs.Limits.{greatest_way}
+use Rattle.sr_solver.specs.Limits.{greatest_way, lift, greatest_base}
 use Rattle.std.proofs.lemmas.Bool.{cases_eq, cases_lt, false≢true}
-use Rattle.sr_transport.specs.plain.Problem.{cost_at, cost_of, IsAllowed}
+use Rattle.sr_transport.specs.plain.Problem.{IsWithinLimits, cost_at, cost_of, IsAllowed}
 use Rattle.sr_transport.specs.plain.Certificate.{IsLeast}
 use Rattle.sr_solver.specs.declared.label.Label.{Label}
 use Rattle.sr_solver.specs.declared.search.End.{End}
@@ -13,34 +13,37 @@ use Rattle.sr_solver.specs.declared.stepped.Step.{Step}
 use Rattle.sr_solver.specs.Labels.{label_at, open_count, priced, AreFarOrReached}
 use Rattle.sr_solver.specs.declared.table.Bound.{Bound}
 use Rattle.sr_solver.specs.Offers.{IsOfferedAt, offer_of}
-use Rattle.sr_solver.specs.Table.{IsAt, IsKnown, ArePairs, IsLeastMore, IsMover, IsNoNearer}
+use Rattle.sr_solver.specs.Table.{IsAt, IsKnown, ArePairs, IsLeastMore, IsMover}
 use Rattle.sr_solver.specs.Placed.{IsPlaced}
-use Rattle.sr_solver.specs.Search.{IsWithin, IsCovered, IsSearch, IsNewAt, IsAsked, AreNoNearer}
+use Rattle.sr_solver.specs.Search.{IsWithin, IsCovered, IsSearch, IsNewAt, IsAsked}
+use Rattle.sr_solver.specs.Bars.{IsBar, AreBars, AreKeptOut}
 use Rattle.sr_solver.specs.Cutoff.{length_of, IsNoLater, IsCutoff, IsCut}
-use Rattle.sr_solver.proofs.CutoffLemmas.{beyond_more, search_cut, IsGapAt, cutoff_cut}
+use Rattle.sr_solver.proofs.CutoffLemmas.{cases_bool, beyond_more, search_cut, IsGapAt, cutoff_cut}
 use Rattle.sr_solver.proofs.LabelLemmas.{offered_split, open_count_same, IsSameWay, way_kept, same_way}
 use Rattle.sr_solver.proofs.SearchLemmas.{cost_small}
 use Rattle.sr_solver.specs.Search.{IsClosed}
 
--- what the table tells of an entry at t: it comes no nearer to consumer b
-skip_at : (p : Transport) (prices : List ℕ) (at : ℕ → Type 0) (t b : ℕ) (cutoff : Option ℕ) (labels : List Label)
-    (known : Option Bound)
-    → IsKnown p at t b known
-    → IsNoNearer known (label_at labels t) (get_or prices t 0) (label_at labels b) (get_or prices b 0) cutoff
+-- what the table tells of an entry at t that does not come below the bar of consumer b: it comes no nearer
+kept_out : (p : Transport) (prices : List ℕ) (at : ℕ → Type 0) (t b : ℕ) (cutoff : Option ℕ) (labels : List Label)
+    (known : Bound) (bar base : ℕ)
+    → IsWithinLimits p.rooms p.entries p.costs → IsKnown p at t b known
+    → IsBar (get_or prices b 0) (label_at labels b) cutoff bar → bar ≤ known.low + base
+    → base + (greatest_charge + get_or prices t 0) ≡ (label_at labels t).dist + lift → base ≤ greatest_base
     → (i : ℕ) → at i → IsAllowed p i b
     → ((label_at labels b).closed ≡ true)
     ⊎ IsCovered p prices cutoff labels (label_at labels t).dist (priced p prices i t) i b
-skip_at p prices at t b cutoff labels None known far i here allowed = absurd (known i here allowed)
-skip_at p prices at t b cutoff labels (Some bound) known far i here allowed =
-    let below = known.below i here allowed in
-    elim far [
+kept_out p prices at t b cutoff labels known bar base limits is is_bar out is_base small i here allowed =
+    let below = is.below i here allowed in
+    elim (cases_bool (label_at labels b).closed) [
       | inl closed ↦ inl closed
-      | inr (inl near) ↦ inr (inl (near.0, omega (arith, near.1, below)))
-      | inr (inr beyond) ↦ inr (inr (
-          beyond_more cutoff (greatest_charge + get_or prices t 0)
-          ((label_at labels t).dist + (bound.low + get_or prices b 0))
-          (priced p prices i t) ((label_at labels t).dist + priced p prices i b) (omega (arith, below)) beyond
-          ))
+      | inr is_open ↦ elim (is_bar.high is_open) [
+        | inl far ↦ absurd (omega (arith, far, out, small, below, cost_small p limits i b))
+        | inr (inl near) ↦ inr (inl (near.0, omega (arith, near.1, out, is_base, below)))
+        | inr (inr beyond) ↦ inr (inr (
+            beyond_more cutoff lift (bar + get_or prices b 0) (priced p prices i t)
+            ((label_at labels t).dist + priced p prices i b) (omega (arith, out, is_base, below)) beyond
+            ))
+      ]
     ]
 
 -- no entry at t may go to consumer b
@@ -301,6 +304,12 @@ ask_search p k xs prices cutoff old new t b placed search ltt closed asked offer
           );
     }
 
+-- a closed consumer keeps its label
+pub asked_stays : (p : Transport) (k : ℕ) (xs prices : List ℕ) (cutoff : Option ℕ) (old new : List Label) (t b c : ℕ)
+    → IsAsked p k xs prices cutoff t b old new → (label_at old c).closed ≡ true → label_at new c ≡ label_at old c
+asked_stays p k xs prices cutoff old new t b c asked closed =
+    (offering p k xs prices t b cutoff old new asked).kept c closed
+
 -- what the loop over the consumers keeps
 pub closed_ask : (p : Transport) (k : ℕ) (xs prices : List ℕ) (cutoff : Option ℕ)
     (old before after : List Label) (t b : ℕ)
@@ -318,11 +327,13 @@ closed_ask p k xs prices cutoff old before after t b placed ltt closed asked =
 
 -- and where consumers are passed over to which no entry comes nearer
 pub closed_passed : (p : Transport) (k : ℕ) (xs prices : List ℕ) (cutoff : Option ℕ) (old now : List Label)
-    (pairs : List (Option Bound)) (t first upto : ℕ)
+    (pairs : List Bound) (bars : List ℕ) (t base first upto : ℕ)
     → IsPlaced p k xs prices → k ≤ p.entries → t < consumers p → ArePairs p xs pairs
-    → AreNoNearer p prices cutoff pairs now t first upto
+    → AreBars p prices cutoff now bars
+    → base + (greatest_charge + get_or prices t 0) ≡ (label_at now t).dist + lift → base ≤ greatest_base
+    → AreKeptOut t base pairs bars first upto
     → IsClosed p k xs prices cutoff old now t first → IsClosed p k xs prices cutoff old now t upto
-closed_passed p k xs prices cutoff old now pairs t first upto placed le ltt are none closed =
+closed_passed p k xs prices cutoff old now pairs bars t base first upto placed le ltt are are_bars is_base small none closed =
     let search = closed.search in
     record {
       search = record {
@@ -343,8 +354,10 @@ closed_passed p k xs prices cutoff old now pairs t first upto placed le ltt are 
             | inr past ↦
                 let least : IsLeast p prices i t = rw (← stands) (placed.least i lt) in
                 let covered : IsCovered p prices cutoff now (label_at now t).dist (priced p prices i t) i c =
-                elim (skip_at p prices (IsAt xs p.entries t) t c cutoff now _ (are.each t c ltt allowed.0)
-                (none c (omega (arith, past)) (within stands)) i (omega arith, stands) allowed) [
+                elim (kept_out p prices (IsAt xs p.entries t) t c cutoff now _ (get_or bars c 0) base placed.limits
+                (are.each t c ltt allowed.0) (are_bars.each c allowed.0)
+                (rw are_bars.one_each at (none c (omega (arith, past)) (within stands))) is_base small
+                i (omega arith, stands) allowed) [
                   | inl was ↦ inl (
                     search.reached c allowed.0 was,
                     omega (arith, search.latest c allowed.0 was ltt, least c allowed),

@@ -9,6 +9,7 @@ pub mod Offers
 pub mod Placed
 pub mod Groups
 pub mod Table
+pub mod Bars
 pub mod Members
 pub mod Taker
 pub mod Search

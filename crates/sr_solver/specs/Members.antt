@@ -1,12 +1,12 @@
 -- The members of each consumer: the entries that stand there, in one list with a row for each consumer. Rows are of one
 -- width. A row begins with how many members follow.
 
-use Rattle.std.specs.Prelude.{◌≡◌, ℕ, ◌+◌, ◌*◌, ◌<◌, ◌≤◌, List, length, slice_index, slice_index_or, ◌⊎◌, Option, None}
+use Rattle.std.specs.Prelude.{◌≡◌, ℕ, ◌+◌, ◌*◌, ◌<◌, ◌≤◌, List, length, slice_index, ◌⊎◌}
 use Rattle.sr_transport.specs.{Transport, consumers}
 use Rattle.sr_transport.specs.plain.Problem.{room_of}
 use Rattle.sr_transport.specs.plain.Assignment.{load}
 use Rattle.sr_solver.specs.declared.table.Bound.{Bound}
-use Rattle.sr_solver.specs.Table.{IsAt, IsKnown}
+use Rattle.sr_solver.specs.Table.{IsAt, IsKnown, bound_at}
 
 -- entry i is among the first n members of the row that begins at `row`
 abbrev pub IsListed : List ℕ → ℕ → ℕ → ℕ → Type 0
@@ -23,13 +23,13 @@ IsSeen p xs members row n a i = IsAt xs p.entries a i × IsListed members row n 
 
 -- of the row of consumer a in the table, what is known of the first n members of the row of members that begins at
 -- `row`; the other rows of the table are as before
-pub record AreLookedThrough (p : Transport) (xs members : List ℕ) (row n a : ℕ) (old new : List (Option Bound)) : Type 0
+pub record AreLookedThrough (p : Transport) (xs members : List ℕ) (row n a : ℕ) (old new : List Bound) : Type 0
   where
     pub one_each : length new ≡ length old
     pub row_known : (b : ℕ) → b < consumers p
-        → IsKnown p (IsSeen p xs members row n a) a b (slice_index_or new (a * consumers p + b) None)
+        → IsKnown p (IsSeen p xs members row n a) a b (bound_at new (a * consumers p + b))
     pub others : (q : ℕ) → (q < a * consumers p) ⊎ (a * consumers p + consumers p ≤ q)
-        → slice_index_or new q None ≡ slice_index_or old q None
+        → bound_at new q ≡ bound_at old q
 
 -- rows of w numbers are wide enough for the members that any consumer can have, and no wider than for all entries
 pub record AreWide (p : Transport) (w : ℕ) : Type 0 where

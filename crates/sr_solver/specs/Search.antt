@@ -1,7 +1,7 @@
 -- The state of the search of a path that makes place for entry k, where the entries xs are placed.
 -- Source: the invariants of Dijkstra's search over reduced costs.
 
-use Rattle.std.specs.Prelude.{◌≡◌, ℕ, ◌+◌, ◌*◌, ◌<◌, ◌≤◌, List, length, slice_index, slice_index_or, ◌⊎◌, true, false}
+use Rattle.std.specs.Prelude.{◌≡◌, ℕ, ◌+◌, ◌*◌, ◌<◌, ◌≤◌, List, length, slice_index, ◌⊎◌, true, false}
 use Rattle.std.specs.Prelude.{Option, Some, None}
 use Rattle.sr_transport.specs.{greatest_charge, Transport, consumers}
 use Rattle.sr_transport.specs.plain.Problem.{cost_at, cost_of, IsAllowed}
@@ -12,9 +12,7 @@ use Rattle.sr_solver.specs.declared.stepped.Step.{Step}
 use Rattle.sr_solver.specs.Labels.{unreached, label_at, open_count, priced}
 use Rattle.sr_solver.specs.Cutoff.{IsBeyond, IsShortest, AreFull}
 use Rattle.sr_solver.specs.Offers.{IsOffered}
-use Rattle.sr_solver.specs.declared.table.Bound.{Bound}
 use Rattle.sr_solver.specs.Limits.{far}
-use Rattle.sr_solver.specs.Table.{IsNoNearer}
 
 -- consumer c is reached by the new entry itself
 pub record IsFirstStep (p : Transport) (k : ℕ) (prices : List ℕ) (label : Label) (c : ℕ) : Type 0 where
@@ -124,13 +122,6 @@ pub record IsAsked (p : Transport) (k : ℕ) (xs prices : List ℕ) (cutoff : Op
   pub one_each : length new ≡ length old
   pub here : IsLeftAt p k xs prices cutoff t old new c ⊎ IsNewAt p k xs prices t old new c
   pub others : (d : ℕ) → (d ≡ c → ⊥) → label_at new d ≡ label_at old d
-
--- to none of the consumers from `first` on and below `upto` does an entry at t come nearer, by what the pairs tell
-abbrev pub AreNoNearer : Transport → List ℕ → Option ℕ → List (Option Bound) → List Label → ℕ → ℕ → ℕ → Type 0
-AreNoNearer p prices cutoff pairs labels t first upto =
-    (c : ℕ) → first ≤ c → c < upto
-    → IsNoNearer (slice_index_or pairs (t * consumers p + c) None) (label_at labels t) (slice_index prices t)
-    (label_at labels c) (slice_index prices c) cutoff
 
 -- the search found a shortest path to a consumer with room: its length is the cutoff, and no open consumer is nearer
 pub record IsEnd (p : Transport) (steps : List Step) (k : ℕ) (xs prices : List ℕ) (labels : List Label)

@@ -1,12 +1,12 @@
 //! Bounds for groups of entries: where many entries stand, the one that costs least more elsewhere is looked for in the
 //! group with the least bound, and not among all.
-ghost use Rattle.std.specs.Prelude.{◌≡◌, ℕ, ◌+◌, ◌*◌, ◌<◌, ◌≤◌, ◌⊎◌, ◌^◌, length, slice_index, IfSome, IfNone, IsSome};
+ghost use Rattle.std.specs.Prelude.{◌≡◌, ℕ, ◌+◌, ◌*◌, ◌<◌, ◌≤◌, ◌⊎◌, ◌^◌, length, slice_index};
 ghost use Rattle.sr_transport.specs.{most_entries, consumers};
 ghost use Rattle.sr_transport.specs.plain.Problem.{IsWithinLimits, room_of, IsAllowed};
-ghost use Rattle.sr_solver.specs.Limits.{group_size, narrow_room, greatest_bound};
+ghost use Rattle.sr_solver.specs.Limits.{group_size, narrow_room};
 ghost use Rattle.sr_solver.specs.Members.{AreMembers};
 ghost use Rattle.sr_solver.specs.Groups.{IsAt, IsAtIn, AreGroups, low_row, AreLowsOf, AreLowered};
-ghost use Rattle.sr_solver.specs.Table.{IsKnown};
+ghost use Rattle.sr_solver.specs.Table.{IsKnown, IsFound};
 
 use crate::placement::Placement;
 use crate::table::{ABOVE, Bound, NARROW, find, lowered};
@@ -67,7 +67,7 @@ pub fn find_in_groups(
     placement: &Placement,
     groups: Groups,
     lows: &mut [u64],
-) -> Option<Bound>
+) -> Bound
     requires limits { IsWithinLimits problem.now.rooms problem.now.entries problem.now.costs }
     requires every { length placement.now.assign.items ≡ problem.now.entries }
     requires from { from < consumers problem.now }
@@ -79,7 +79,7 @@ pub fn find_in_groups(
         placement.now.members.items }
     requires lows { AreLowsOf problem.now (IsAt placement.now.assign.items problem.now.entries) groups lows.old }
     ensures known { IsKnown problem.now (IsAt placement.now.assign.items problem.now.entries from) from to result }
-    ensures best { IfSome result (λ bound. IsSome bound.best) }
+    ensures found { IsFound problem.now result }
     ensures lows { AreLowsOf problem.now (IsAt placement.now.assign.items problem.now.entries) groups lows.new }
 {
     let assign = placement.assign.as_slice();
@@ -87,7 +87,7 @@ pub fn find_in_groups(
     let mut group = least(lows, row, groups.count);
     for _ in 0..groups.count {
         let found = find_in_group(problem, from, to, assign, group);
-        lows[row + group] = low_of(found);
+        lows[row + group] = found.low;
         let next = least(lows, row, groups.count);
         if lows[row + group] <= lows[row + next] {
             return found;
@@ -124,7 +124,7 @@ fn find_in_group(
     to: usize,
     assign: &[usize],
     group: usize,
-) -> Option<Bound>
+) -> Bound
     requires limits { IsWithinLimits problem.now.rooms problem.now.entries problem.now.costs }
     requires every { length assign.now ≡ problem.now.entries }
     requires from { from < consumers problem.now }
@@ -132,11 +132,11 @@ fn find_in_group(
     requires placed { (i : ℕ) → IsAt assign.now problem.now.entries from i → IsAllowed problem.now i from }
     requires group { group < most_entries }
     ensures known { IsKnown problem.now (IsAtIn assign.now problem.now.entries from group) from to result }
-    ensures best { IfSome result (λ bound. IsSome bound.best) }
+    ensures found { IsFound problem.now result }
 {
     let first = group * GROUP;
     let end = end_of(group, problem.entries());
-    let mut found = None;
+    let mut found = Bound::none();
     for entry in first..end {
         if assign[entry] == from {
             let here = problem.cost(entry, from).unwrap();
@@ -156,17 +156,6 @@ fn end_of(group: usize, entries: usize) -> usize
 {
     let end = group * GROUP + GROUP;
     if end < entries { end } else { entries }
-}
-
-/// The bound of a group where this was found: greater than that of any entry, if none was.
-fn low_of(found: Option<Bound>) -> u64
-    ensures some { IfSome found (λ bound. result ≡ bound.low) }
-    ensures none { IfNone found (greatest_bound < result) }
-{
-    match found {
-        Some(bound) => bound.low,
-        None => u64::MAX,
-    }
 }
 
 /// Notes that an entry has come to a consumer, if that is a wide one: the bounds of its group fall.

@@ -3,6 +3,7 @@
 //! Source: the method of successive shortest paths (R. G. Busacker, P. J. Gowen, 1961; J. Edmonds, R. M. Karp, 1972).
 #![tactic(auto)]
 
+mod front;
 mod groups;
 mod label;
 mod members;

@@ -3,14 +3,15 @@ ghost use Rattle.sr_transport.specs.{consumers};
 ghost use Rattle.sr_solver.specs.Placed.{IsStanding};
 ghost use Rattle.sr_solver.specs.Table.{IsTable};
 ghost use Rattle.sr_solver.specs.Taker.{IsTaker};
-ghost use Rattle.sr_solver.specs.Search.{IsStuck};
+ghost use Rattle.sr_solver.specs.Search.{IsStuck, IsEnd};
 ghost use Rattle.sr_solver.specs.Progress.{IsEndOf};
 
+use crate::front::Front;
 use crate::label::Label;
 use crate::members::add;
 use crate::path::{raise, shift};
 use crate::placement::Placement;
-use crate::search::search;
+use crate::search::{End, search};
 use crate::stepped::Stepped;
 use crate::table::{Table, put};
 use crate::taker::taker;
@@ -72,13 +73,15 @@ pub fn place_all(
     is_patient: bool,
     placement: &mut Placement,
     table: &mut Table,
-    labels: &mut [Label],
+    front: &mut Front,
 ) -> Progress
     requires first { first ≤ problem.now.columns.entries }
     requires standing { IsStanding problem.now.columns problem.now.steps.now first placement.old }
     requires table { IsTable problem.now.columns placement.old.assign.items table.old }
-    requires labels { length labels.old ≡ consumers problem.now.columns }
-    ensures { IsEndOf problem.now.columns problem.now.steps.now is_patient placement.new labels.new result }
+    requires labels { length front.old.labels.items ≡ consumers problem.now.columns }
+    requires bars { length front.old.bars.items ≡ consumers problem.now.columns }
+    ensures { IsEndOf problem.now.columns problem.now.steps.now is_patient placement.new front.new.labels.items
+        result }
 {
     let mut searches = 0usize;
     for entry in first..problem.columns.entries() {
@@ -89,7 +92,7 @@ pub fn place_all(
         if !is_patient && are_many(searches, entry, problem.columns.entries()) {
             return Progress::Slow;
         }
-        if !place(problem, entry, placement, table, labels) {
+        if !place(problem, entry, placement, table, front) {
             return Progress::Stuck { entry };
         }
     }
@@ -125,21 +128,46 @@ fn place(
     entry: usize,
     placement: &mut Placement,
     table: &mut Table,
-    labels: &mut [Label],
+    front: &mut Front,
 ) -> bool
     requires entry { entry < problem.now.columns.entries }
     requires standing { IsStanding problem.now.columns problem.now.steps.now entry placement.old }
     requires table { IsTable problem.now.columns placement.old.assign.items table.old }
-    requires labels { length labels.old ≡ consumers problem.now.columns }
+    requires labels { length front.old.labels.items ≡ consumers problem.now.columns }
+    requires bars { length front.old.bars.items ≡ consumers problem.now.columns }
     ensures standing { result ≡ true → IsStanding problem.now.columns problem.now.steps.now (entry + 1)
         placement.new }
     ensures table { result ≡ true → IsTable problem.now.columns placement.new.assign.items table.new }
     ensures stuck { result ≡ false
-        → IsStuck problem.now.columns entry placement.new.assign.items placement.new.prices.items labels.new }
+        → IsStuck problem.now.columns entry placement.new.assign.items placement.new.prices.items
+        front.new.labels.items }
+    ensures labels { length front.new.labels.items ≡ consumers problem.now.columns }
+    ensures bars { length front.new.bars.items ≡ consumers problem.now.columns }
 {
-    let Some(end) = search(problem, entry, placement, table, labels) else {
+    let Some(end) = search(problem, entry, placement, table, front) else {
         return false;
     };
+    settle(problem, entry, end, &front.labels, placement, table);
+    true
+}
+
+/// Moves the entries of the path that was found, and raises the prices.
+fn settle(
+    problem: &Stepped<'_>,
+    entry: usize,
+    end: End,
+    labels: &[Label],
+    placement: &mut Placement,
+    table: &mut Table,
+)
+    requires entry { entry < problem.now.columns.entries }
+    requires standing { IsStanding problem.now.columns problem.now.steps.now entry placement.old }
+    requires table { IsTable problem.now.columns placement.old.assign.items table.old }
+    requires found { IsEnd problem.now.columns problem.now.steps.now entry placement.old.assign.items
+        placement.old.prices.items labels.now end }
+    ensures standing { IsStanding problem.now.columns problem.now.steps.now (entry + 1) placement.new }
+    ensures table { IsTable problem.now.columns placement.new.assign.items table.new }
+{
     raise(&mut placement.prices, labels, end.dist);
     shift(
         &problem.columns,
@@ -150,5 +178,4 @@ fn place(
         table,
     );
     placement.loads[end.consumer] += 1;
-    true
 }

@@ -8,14 +8,16 @@ ghost use Rattle.sr_solver.specs.Labels.{label_at, open_count, AreFarOrReached};
 ghost use Rattle.sr_solver.specs.Placed.{IsStanding};
 ghost use Rattle.sr_solver.specs.Cutoff.{length_of, IsPast, IsCutoff, IsCut, IsNoLater};
 ghost use Rattle.sr_solver.specs.Offers.{IsOfferedAt, offer_of};
-ghost use Rattle.sr_solver.specs.Table.{IsTable, IsSmallRow};
-ghost use Rattle.sr_solver.specs.Search.{AreNoNearer, IsStarted, IsNearest, AreAllClosed, IsSearch, IsRound, IsAsked};
+ghost use Rattle.sr_solver.specs.Table.{IsTable};
+ghost use Rattle.sr_solver.specs.Bars.{AreBars};
+ghost use Rattle.sr_solver.specs.Search.{IsStarted, IsNearest, AreAllClosed, IsSearch, IsRound, IsAsked};
 ghost use Rattle.sr_solver.specs.Search.{IsFound};
 
+use crate::front::{Front, LIFT, lower_bars, next_below, set_bars};
 use crate::label::{FAR, Label, Offer, offered};
 use crate::placement::Placement;
 use crate::stepped::Stepped;
-use crate::table::{Bound, Table, least_mover, look_over, may_be_nearer};
+use crate::table::{ABOVE, Table, least_mover, look_over};
 use sr_transport::Columns;
 
 /// Where a path may end.
@@ -36,22 +38,30 @@ pub fn search(
     entry: usize,
     placement: &Placement,
     table: &mut Table,
-    labels: &mut [Label],
+    front: &mut Front,
 ) -> Option<End>
     requires entry { entry < problem.now.columns.entries }
     requires standing { IsStanding problem.now.columns problem.now.steps.now entry placement.now }
     requires table { IsTable problem.now.columns placement.now.assign.items table.old }
-    requires labels { length labels.old ≡ consumers problem.now.columns }
+    requires labels { length front.old.labels.items ≡ consumers problem.now.columns }
+    requires bars { length front.old.bars.items ≡ consumers problem.now.columns }
     ensures table { IsTable problem.now.columns placement.now.assign.items table.new }
     ensures found { IsFound problem.now.columns problem.now.steps.now entry placement.now.assign.items
-        placement.now.prices.items labels.new result }
+        placement.now.prices.items front.new.labels.items result }
+    ensures bars { length front.new.bars.items ≡ consumers problem.now.columns }
 {
-    let mut cutoff = start(problem, entry, placement, labels);
-    while let Some(near) = nearest(&problem.columns, labels) {
-        if is_past(cutoff, labels[near].dist) {
+    let mut cutoff = start(problem, entry, placement, &mut front.labels);
+    set_bars(
+        &front.labels,
+        &placement.prices,
+        dist_of(cutoff),
+        &mut front.bars,
+    );
+    while let Some(near) = nearest(&problem.columns, &front.labels) {
+        if is_past(cutoff, front.labels[near].dist) {
             return cutoff;
         }
-        cutoff = close(problem, entry, near, cutoff, placement, table, labels);
+        cutoff = close(problem, entry, near, cutoff, placement, table, front);
     }
     cutoff
 }
@@ -157,90 +167,54 @@ fn close(
     cutoff: Option<End>,
     placement: &Placement,
     table: &mut Table,
-    labels: &mut [Label],
+    front: &mut Front,
 ) -> Option<End>
     requires entry { entry < problem.now.columns.entries }
     requires standing { IsStanding problem.now.columns problem.now.steps.now entry placement.now }
     requires table { IsTable problem.now.columns placement.now.assign.items table.old }
     requires round { IsRound problem.now.columns entry placement.now.assign.items placement.now.prices.items
-        (length_of cutoff) labels.old }
+        (length_of cutoff) front.old.labels.items }
     requires cutoff { IsCutoff problem.now.columns problem.now.steps.now placement.now.assign.items
-        placement.now.prices.items labels.old (consumers problem.now.columns) cutoff }
-    requires nearest { IsNearest problem.now.columns labels.old near }
-    requires nearer { IsPast cutoff (label_at labels.old near).dist → ⊥ }
+        placement.now.prices.items front.old.labels.items (consumers problem.now.columns) cutoff }
+    requires nearest { IsNearest problem.now.columns front.old.labels.items near }
+    requires nearer { IsPast cutoff (label_at front.old.labels.items near).dist → ⊥ }
+    requires bars { AreBars problem.now.columns placement.now.prices.items (length_of cutoff)
+        front.old.labels.items front.old.bars.items }
     ensures table { IsTable problem.now.columns placement.now.assign.items table.new }
     ensures round { IsRound problem.now.columns entry placement.now.assign.items placement.now.prices.items
-        (length_of result) labels.new }
+        (length_of result) front.new.labels.items }
     ensures cutoff { IsCutoff problem.now.columns problem.now.steps.now placement.now.assign.items
-        placement.now.prices.items labels.new (consumers problem.now.columns) result }
-    ensures fewer { open_count labels.new < open_count labels.old }
+        placement.now.prices.items front.new.labels.items (consumers problem.now.columns) result }
+    ensures bars { AreBars problem.now.columns placement.now.prices.items (length_of result)
+        front.new.labels.items front.new.bars.items }
+    ensures fewer { open_count front.new.labels.items < open_count front.old.labels.items }
 {
     look_over(&problem.columns, near, placement, table);
-    let label = labels[near];
-    labels[near] = Label {
+    let label = front.labels[near];
+    front.labels[near] = Label {
         closed: true,
         ..label
     };
+    front.bars[near] = 0;
+    let base = label.dist + LIFT - (ABOVE + placement.prices[near]);
     let mut cutoff = cutoff;
     let mut first = 0;
-    while let Some(other) = next_nearer(
-        &problem.columns,
-        near,
-        first,
-        dist_of(cutoff),
-        &placement.prices,
-        &table.pairs,
-        labels,
-    ) {
+    while let Some(other) = next_below(near, first, base, &table.pairs, &front.bars) {
+        let before = dist_of(cutoff);
         cutoff = ask(
-            problem, entry, near, other, cutoff, placement, table, labels,
+            problem,
+            entry,
+            near,
+            other,
+            cutoff,
+            placement,
+            table,
+            &mut front.labels,
         );
+        lower_bars(other, &placement.prices, before, dist_of(cutoff), front);
         first = other + 1;
     }
     cutoff
-}
-
-/// The first consumer from `first` on to which an entry at `near` may come nearer than before, and nearer than the
-/// cutoff, by what the table knows; `None` if there is none.
-fn next_nearer(
-    problem: &Columns<'_>,
-    near: usize,
-    first: usize,
-    cutoff: Option<u64>,
-    prices: &[u64],
-    pairs: &[Option<Bound>],
-    labels: &[Label],
-) -> Option<usize>
-    requires limits { IsWithinLimits problem.now.rooms problem.now.entries problem.now.costs }
-    requires near { near < consumers problem.now }
-    requires prices_each { length prices.now ≡ consumers problem.now }
-    requires labels_each { length labels.now ≡ consumers problem.now }
-    requires each_pair { length pairs.now ≡ consumers problem.now * consumers problem.now }
-    requires low { (c : ℕ) → c < consumers problem.now → slice_index prices.now c ≤ greatest_way }
-    requires marked { AreFarOrReached problem.now labels.now }
-    requires dist { (label_at labels.now near).dist ≤ greatest_way }
-    requires small { IsSmallRow problem.now near pairs.now }
-    requires cutoff { IfSome cutoff (λ d. d ≤ greatest_way) }
-    ensures some { IfSome result (λ other. (first ≤ other) × (other < consumers problem.now)
-        × AreNoNearer problem.now prices.now cutoff pairs.now labels.now near first other) }
-    ensures none { IfNone result
-        (AreNoNearer problem.now prices.now cutoff pairs.now labels.now near first (consumers problem.now)) }
-{
-    let (from, here) = (labels[near], prices[near]);
-    let row = near * problem.consumers();
-    for other in first..problem.consumers() {
-        if may_be_nearer(
-            pairs[row + other],
-            from,
-            here,
-            labels[other],
-            prices[other],
-            cutoff,
-        ) {
-            return Some(other);
-        }
-    }
-    None
 }
 
 /// Offers to the consumer `other` the entry at `near` that costs least more there; gives the next cutoff.

@@ -5,7 +5,7 @@ ghost use Rattle.sr_solver.specs.Answered.{IsAnswer};
 ghost use Rattle.sr_solver.specs.Placed.{IsStanding};
 ghost use Rattle.sr_solver.specs.Steps.{AreSteps};
 
-use crate::label::Label;
+use crate::front::fresh_front;
 use crate::order::{entries_at, numbers, rename, reordered};
 use crate::placement::{Placement, nowhere};
 use crate::placing::{Progress, place_all, take_all};
@@ -123,21 +123,21 @@ fn finish(
 {
     let mut placement = placement;
     let mut table = unknown_table(alloc, &problem.columns)?;
-    let mut labels = vec![in alloc; Label::none(); problem.columns.consumers()]?;
+    let mut front = fresh_front(alloc, problem.columns.consumers())?;
     match place_all(
         problem,
         first,
         is_patient,
         &mut placement,
         &mut table,
-        &mut labels,
+        &mut front,
     ) {
         Progress::Placed => Ok(Some(Answer::Placed {
             assign: placement.assign,
             prices: placement.prices,
         })),
         Progress::Stuck { entry } => {
-            let set = stranded(alloc, &placement.assign, &labels, entry)?;
+            let set = stranded(alloc, &placement.assign, &front.labels, entry)?;
             Ok(Some(Answer::Short { set }))
         }
         Progress::Slow => Ok(None),

@@ -1,17 +1,13 @@
-ghost use Rattle.std.specs.Prelude.{◌≡◌, ℕ, ◌+◌, ◌*◌, ◌<◌, ◌≤◌, ◌⊎◌, length, slice_index, slice_set, IfSome, IsSome};
-ghost use Rattle.std.specs.Prelude.{true, false, List, IfOk, Some, None};
+ghost use Rattle.std.specs.Prelude.{◌≡◌, ℕ, ◌+◌, ◌*◌, ◌<◌, ◌≤◌, length, slice_set, IfSome, List, IfOk};
 ghost use Rattle.sr_transport.specs.{greatest_charge, consumers};
-ghost use Rattle.sr_solver.specs.Limits.{greatest_bound, greatest_way};
 ghost use Rattle.sr_transport.specs.plain.Problem.{IsWithinLimits, room_of, cost_at, cost_of, IsAllowed};
 ghost use Rattle.sr_transport.specs.plain.Assignment.{load};
 ghost use Rattle.sr_solver.specs.Members.{AreWide, AreMembersOf, AreMembers};
 ghost use Rattle.sr_solver.specs.Groups.{IsAt};
-ghost use Rattle.sr_solver.specs.Table.{IsUnknown, IsApart, IsKnown, ArePairs, IsTableOf, IsTable, IsWithout};
-ghost use Rattle.sr_solver.specs.Table.{IsLowered, IsRowChanged, IsMover, IsNoNearer};
-ghost use Rattle.sr_solver.specs.Labels.{IsFarOrReached};
+ghost use Rattle.sr_solver.specs.Table.{no_entry, IsApart, IsKnown, IsFound, ArePairs, IsTableOf, IsTable, IsWithout};
+ghost use Rattle.sr_solver.specs.Table.{IsLowered, IsRowChanged, IsMover};
 
 use crate::groups::{Groups, find_in_groups, groups_of, join_group};
-use crate::label::Label;
 use crate::members::{add, remove};
 use crate::placement::Placement;
 use sr_transport::{Columns, MAX_CHARGE};
@@ -26,11 +22,17 @@ pub const NARROW: u64 = 128;
 /// A bound that holds for any entries, and is less than that of any that were looked at.
 const LEAST_BOUND: u64 = 0;
 
+/// The bound where no entry may go. It is greater than that of any entry.
+const UNBOUNDED: u64 = 1 << 63;
+
+/// The best where none is known. It is no entry.
+const NOBODY: usize = 1 << 32;
+
 /// What is known of the entries that stand at each consumer, for each other one.
 #[derive(Drop)]
 pub struct Table {
     /// What is known of each ordered pair of consumers: a row for each consumer.
-    pub pairs: Vec<Option<Bound>>,
+    pub pairs: Vec<Bound>,
     /// The groups of entries, and which consumers have bounds for them.
     pub groups: Groups,
     /// For each ordered pair of which the first is of the span a row of bounds, with one for each group of entries.
@@ -41,15 +43,16 @@ pub struct Table {
 /// What is known of the entries that stand at one consumer and may go to another.
 #[derive(Clone, Copy)]
 pub struct Bound {
-    /// None of them costs less than this more at the other consumer, where `ABOVE` is added.
+    /// None of them costs less than this more at the other consumer, where `ABOVE` is added. It is greater than that of
+    /// any entry if none of them may go there.
     pub low: u64,
-    /// An entry that costs exactly this more, where one is known.
-    pub best: Option<usize>,
+    /// An entry that costs exactly this more. It is no entry if none is known.
+    pub best: usize,
 }
 
 impl Bound {
     ghost use Rattle.std.specs.Prelude.{◌≡◌};
-    ghost use Rattle.sr_solver.specs.Table.{unknown};
+    ghost use Rattle.sr_solver.specs.Table.{no_entry, unknown};
 
     /// What is known of entries that were never looked at.
     pub fn unknown() -> Bound
@@ -57,7 +60,17 @@ impl Bound {
     {
         Bound {
             low: LEAST_BOUND,
-            best: None,
+            best: NOBODY,
+        }
+    }
+
+    /// What is known where no entry may go.
+    pub fn none() -> Bound
+        ensures { result ≡ no_entry }
+    {
+        Bound {
+            low: UNBOUNDED,
+            best: NOBODY,
         }
     }
 }
@@ -68,24 +81,13 @@ pub fn unknown_table(alloc: Global, problem: &Columns<'_>) -> Result<Table, Allo
 {
     let consumers = problem.consumers();
     let groups = groups_of(problem);
-    let mut pairs: Vec<Option<Bound>> = vec![in alloc; None; consumers * consumers]?;
-    forget(&mut pairs);
+    let pairs = vec![in alloc; Bound::unknown(); consumers * consumers]?;
     let lows = vec![in alloc; 0u64; consumers * groups.span * groups.count]?;
     Ok(Table {
         pairs,
         groups,
         lows,
     })
-}
-
-/// Makes each bound one that holds for any entries.
-fn forget(pairs: &mut [Option<Bound>])
-    ensures length { length pairs.new ≡ length pairs.old }
-    ensures unknown { IsUnknown (length pairs.old) pairs.new }
-{
-    for pair in 0..pairs.len() {
-        pairs[pair] = Some(Bound::unknown());
-    }
 }
 
 /// Looks through the entries at a narrow consumer for those that cost least more at each other one, if that was never
@@ -101,26 +103,13 @@ pub fn look_over(problem: &Columns<'_>, from: usize, placement: &Placement, tabl
     ensures { IsTable problem.now placement.now.assign.items table.new }
 {
     let itself = from * problem.consumers() + from;
-    if problem.room(from) <= NARROW && is_unknown(table.pairs[itself]) {
+    if problem.room(from) <= NARROW && table.pairs[itself].low == LEAST_BOUND {
         look_through(problem, from, placement, &mut table.pairs);
     }
 }
 
-/// Whether the entries that stand at one consumer and may go to another were never looked at.
-fn is_unknown(known: Option<Bound>) -> bool {
-    let Some(bound) = known else {
-        return false;
-    };
-    bound.low == LEAST_BOUND
-}
-
 /// Looks through the entries at a consumer for those that cost least more at each other one.
-fn look_through(
-    problem: &Columns<'_>,
-    from: usize,
-    placement: &Placement,
-    pairs: &mut [Option<Bound>],
-)
+fn look_through(problem: &Columns<'_>, from: usize, placement: &Placement, pairs: &mut [Bound])
     requires limits { IsWithinLimits problem.now.rooms problem.now.entries problem.now.costs }
     requires from { from < consumers problem.now }
     requires placed { (i : ℕ) → IsAt placement.now.assign.items problem.now.entries from i
@@ -139,57 +128,15 @@ fn look_through(
 }
 
 /// Makes a row of the table that of a consumer where no entry stands.
-fn blank(problem: &Columns<'_>, from: usize, pairs: &mut [Option<Bound>])
+fn blank(problem: &Columns<'_>, from: usize, pairs: &mut [Bound])
     requires from { from < consumers problem.now }
     requires each_pair { length pairs.old ≡ consumers problem.now * consumers problem.now }
     ensures { IsRowChanged (consumers problem.now) from (consumers problem.now)
-        (λ to old new. new ≡ None) pairs.old pairs.new }
+        (λ to old new. new ≡ no_entry) pairs.old pairs.new }
 {
     for to in 0..problem.consumers() {
-        pairs[from * problem.consumers() + to] = None;
+        pairs[from * problem.consumers() + to] = Bound::none();
     }
-}
-
-/// Whether an entry of which this is known may come nearer than the cutoff, and nearer than before, to a consumer with
-/// the label `label`, from one with the label `from`; `here` and `there` are the prices of the two.
-pub fn may_be_nearer(
-    known: Option<Bound>,
-    from: Label,
-    here: u64,
-    label: Label,
-    there: u64,
-    cutoff: Option<u64>,
-) -> bool
-    requires dist { from.dist ≤ greatest_way }
-    requires here { here ≤ greatest_way }
-    requires there { there ≤ greatest_way }
-    requires label { IsFarOrReached label }
-    requires low { IfSome known (λ bound. bound.low ≤ greatest_bound) }
-    requires cutoff { IfSome cutoff (λ d. d ≤ greatest_way) }
-    ensures no { result ≡ false → IsNoNearer known from here label there cutoff }
-    ensures yes { result ≡ true → IsNoNearer known from here label there cutoff → ⊥ }
-{
-    if label.closed {
-        return false;
-    }
-    let Some(bound) = known else {
-        return false;
-    };
-    let sum = from.dist + (bound.low + there);
-    let base = ABOVE + here;
-    sum < reach(label.dist, cutoff) + base
-}
-
-/// The length of a path that would not come nearer than before, or no nearer than the cutoff.
-fn reach(before: u64, cutoff: Option<u64>) -> u64
-    ensures before { result ≤ before }
-    ensures cutoff { IfSome cutoff (λ d. result ≤ d) }
-    ensures met { (result ≡ before) ⊎ (cutoff ≡ Some result) }
-{
-    let Some(dist) = cutoff else {
-        return before;
-    };
-    if dist < before { dist } else { before }
 }
 
 /// The entry at `from` that costs least more at `to`, or `None` where none may go there. Where the table doesn't know
@@ -214,17 +161,16 @@ pub fn least_mover(
     ensures table { IsTable problem.now placement.now.assign.items table.new }
 {
     let pair = from * problem.consumers() + to;
-    if let Some(bound) = table.pairs[pair]
-        && let Some(mover) = bound.best
-    {
-        return Some(mover);
+    let best = table.pairs[pair].best;
+    if best < problem.entries() {
+        return Some(best);
     }
     let found = look_up(problem, from, to, placement, table);
     table.pairs[pair] = found;
-    let Some(bound) = found else {
-        return None;
-    };
-    bound.best
+    if found.best < problem.entries() {
+        return Some(found.best);
+    }
+    None
 }
 
 /// Looks for the entry at `from` that costs least more at `to`: by groups, if `from` is wide.
@@ -234,7 +180,7 @@ fn look_up(
     to: usize,
     placement: &Placement,
     table: &mut Table,
-) -> Option<Bound>
+) -> Bound
     requires limits { IsWithinLimits problem.now.rooms problem.now.entries problem.now.costs }
     requires every { length placement.now.assign.items ≡ problem.now.entries }
     requires from { from < consumers problem.now }
@@ -245,7 +191,7 @@ fn look_up(
         placement.now.members.items }
     requires table { IsTable problem.now placement.now.assign.items table.old }
     ensures known { IsKnown problem.now (IsAt placement.now.assign.items problem.now.entries from) from to result }
-    ensures best { IfSome result (λ bound. IsSome bound.best) }
+    ensures found { IsFound problem.now result }
     ensures table { IsTable problem.now placement.now.assign.items table.new }
 {
     if problem.room(from) <= NARROW {
@@ -255,7 +201,7 @@ fn look_up(
 }
 
 /// Looks through the entries at `from` for the one that costs least more at `to`.
-pub fn find(problem: &Columns<'_>, from: usize, to: usize, placement: &Placement) -> Option<Bound>
+pub fn find(problem: &Columns<'_>, from: usize, to: usize, placement: &Placement) -> Bound
     requires limits { IsWithinLimits problem.now.rooms problem.now.entries problem.now.costs }
     requires every { length placement.now.assign.items ≡ problem.now.entries }
     requires from { from < consumers problem.now }
@@ -265,11 +211,11 @@ pub fn find(problem: &Columns<'_>, from: usize, to: usize, placement: &Placement
     requires members { AreMembers problem.now placement.now.width placement.now.assign.items
         placement.now.members.items }
     ensures known { IsKnown problem.now (IsAt placement.now.assign.items problem.now.entries from) from to result }
-    ensures best { IfSome result (λ bound. IsSome bound.best) }
+    ensures found { IsFound problem.now result }
 {
     let members = placement.members.as_slice();
     let row = from * placement.width;
-    let mut found = None;
+    let mut found = Bound::none();
     for place in 0..members[row] {
         let other = members[row + 1 + place];
         let here = problem.cost(other, from).unwrap();
@@ -280,25 +226,19 @@ pub fn find(problem: &Columns<'_>, from: usize, to: usize, placement: &Placement
 }
 
 /// What is known once an entry has come that costs `here` where it stands, and `there` at the other consumer.
-pub fn lowered(known: Option<Bound>, entry: usize, here: u64, there: Option<u64>) -> Option<Bound>
+pub fn lowered(known: Bound, entry: usize, here: u64, there: Option<u64>) -> Bound
     requires here { here ≤ greatest_charge }
     requires there { IfSome there (λ c. c ≤ greatest_charge) }
-    ensures lowered { IsLowered entry here there known result }
-    ensures best { IfSome known (λ bound. IsSome bound.best) → IfSome result (λ bound. IsSome bound.best) }
+    ensures { IsLowered entry here there known result }
 {
     let Some(there) = there else {
         return known;
     };
     let low = there + ABOVE - here;
-    if let Some(bound) = known
-        && bound.low <= low
-    {
+    if known.low <= low {
         return known;
     }
-    Some(Bound {
-        low,
-        best: Some(entry),
-    })
+    Bound { low, best: entry }
 }
 
 /// Moves an entry to a consumer, from the one where it stands, if it stands anywhere.
@@ -400,7 +340,7 @@ fn bring_in(
 }
 
 /// Notes that an entry has left a consumer: it is no longer the best of those that may go elsewhere.
-fn leave(problem: &Columns<'_>, entry: usize, from: usize, pairs: &mut [Option<Bound>])
+fn leave(problem: &Columns<'_>, entry: usize, from: usize, pairs: &mut [Bound])
     requires from { from < consumers problem.now }
     requires each_pair { length pairs.old ≡ consumers problem.now * consumers problem.now }
     ensures { IsRowChanged (consumers problem.now) from (consumers problem.now)
@@ -408,40 +348,15 @@ fn leave(problem: &Columns<'_>, entry: usize, from: usize, pairs: &mut [Option<B
 {
     for to in 0..problem.consumers() {
         let pair = from * problem.consumers() + to;
-        if is_best(pairs[pair], entry) {
-            pairs[pair] = without_best(pairs[pair]);
+        if pairs[pair].best == entry {
+            let low = pairs[pair].low;
+            pairs[pair] = Bound { low, best: NOBODY };
         }
     }
 }
 
-/// Whether an entry is the best of those of which this is known.
-fn is_best(known: Option<Bound>, entry: usize) -> bool
-    ensures { result ≡ false → IsWithout entry known known }
-{
-    let Some(bound) = known else {
-        return false;
-    };
-    let Some(best) = bound.best else {
-        return false;
-    };
-    best == entry
-}
-
-/// What is known once the best entry has left.
-fn without_best(known: Option<Bound>) -> Option<Bound>
-    ensures { (entry : ℕ) → IsWithout entry known result }
-{
-    let Some(bound) = known else {
-        return None;
-    };
-    Some(Bound {
-        best: None,
-        ..bound
-    })
-}
-
 /// Notes that an entry has come to a consumer.
-fn arrive(problem: &Columns<'_>, entry: usize, to: usize, pairs: &mut [Option<Bound>])
+fn arrive(problem: &Columns<'_>, entry: usize, to: usize, pairs: &mut [Bound])
     requires limits { IsWithinLimits problem.now.rooms problem.now.entries problem.now.costs }
     requires entry { entry < problem.now.entries }
     requires allowed { IsAllowed problem.now entry to }

@@ -1,7 +1,7 @@
 use Rattle.std.proofs.Common.{◌≡◌, ℕ, ◌*◌, Option, sym, ap, ◌∙◌, inl, arith}
 use Rattle.std.specs.Prelude.{unwrap_or}
 use Rattle.sr_transport.specs.plain.Problem.{cost_of}
-use Rattle.sr_solver.proofs.TableLemmas.{lowered_is}
+use Rattle.sr_solver.proofs.TableLemmas.{lowered_is, found_lowered}
 use Rattle.sr_solver.proofs.GroupLemmas.{between_more, between_other, between_all}
 use Rattle.sr_solver.proofs.groups.find_in_group.Goals as goal
 use Rattle.sr_solver.proofs.groups.find_in_group.Goals.{then-assign-entry, else-assign-entry}
@@ -23,15 +23,17 @@ loop-entry-preserved c =
                 w.lowered-found.result c.requires.limits c.requires.to
                 (omega (arith, c.loop-entry-test.true, c.end_of-end.ensures.few, c.entries.ensures))
                 w.if-assign-entry.true c.loop-entry.invariant.from c.loop-entry.invariant.known
-                (lowered_is i _ _ _ _ _ _ same (sym w.cost-there.ensures) w.lowered-found.ensures.lowered));
-            best = rw w.found-is (w.lowered-found.ensures.best c.loop-entry.invariant.best);
+                (lowered_is i _ _ _ _ _ _ same (sym w.cost-there.ensures) w.lowered-found.ensures));
+            found = rw w.found-is (found_lowered p i _ _ _ _
+                (omega (arith, c.loop-entry-test.true, c.end_of-end.ensures.few, c.entries.ensures))
+                w.lowered-found.ensures c.loop-entry.invariant.found);
           }
       | else-assign-entry w ↦ record {
         from = omega (arith, c.loop-entry.invariant.from);
         upto = inl (omega (arith, c.loop-entry-test.true));
         known = rw w.found-is (between_other p c.args.assign.now c.args.from c.args.to first i c.loop-entry.found
             w.if-assign-entry.false c.loop-entry.invariant.known);
-        best = rw w.found-is c.loop-entry.invariant.best;
+        found = rw w.found-is c.loop-entry.invariant.found;
       }
     ]
 

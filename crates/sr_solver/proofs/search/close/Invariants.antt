@@ -1,7 +1,10 @@
-use Rattle.std.proofs.Common.{◌-◌, ◌≤◌}
+use Rattle.std.proofs.Common.{◌-◌, ◌≤◌, slice_index}
 use Rattle.sr_transport.specs.{consumers}
 use Rattle.sr_solver.specs.Table.{IsTable}
 use Rattle.sr_solver.specs.Cutoff.{length_of, IsCutoff}
+use Rattle.sr_solver.specs.Bars.{AreBars}
+use Rattle.sr_solver.specs.Labels.{label_at}
+use Rattle.sr_solver.proofs.BarLemmas.{IsBase}
 use Rattle.sr_solver.specs.Search.{IsClosed}
 use Rattle.sr_solver.proofs.search.close.Given as goal
 
@@ -9,10 +12,12 @@ abbrev pub invariant-loop-other : goal.invariant-loop-other
 invariant-loop-other l = record {
   table : IsTable l.problem.columns l.placement.assign.items l.table;
   closed : IsClosed l.problem.columns l.entry l.placement.assign.items l.placement.prices.items (length_of l.cutoff)
-      l.fn.labels
-      l.labels l.near l.first;
+      l.fn.front.labels.items
+      l.front.labels.items l.near l.first;
+  bars : AreBars l.problem.columns l.placement.prices.items (length_of l.cutoff) l.front.labels.items l.front.bars.items;
+  base : IsBase (slice_index l.placement.prices.items l.near) (label_at l.front.labels.items l.near).dist l.base;
   within : l.first ≤ consumers l.problem.columns;
-  cutoff : IsCutoff l.problem.columns l.problem.steps.now l.placement.assign.items l.placement.prices.items l.labels
+  cutoff : IsCutoff l.problem.columns l.problem.steps.now l.placement.assign.items l.placement.prices.items l.front.labels.items
       (consumers l.problem.columns) l.cutoff;
 }
 

@@ -1,7 +1,6 @@
-use Rattle.std.proofs.Common.{◌≡◌, ℕ, ◌<◌, ◌≤◌, length, ◌∙◌, sym, arith}
+use Rattle.std.proofs.Common.{◌≡◌, ℕ, ◌<◌, ◌≤◌, length, ap, ◌∙◌, sym, arith}
 use Rattle.std.proofs.lemmas.Bool.{false≢true}
 use Rattle.std.proofs.lemmas.Result.{IfOk-from_err}
-use Rattle.std.proofs.lemmas.List.{take_at}
 use Rattle.sr_transport.specs.{consumers}
 use Rattle.sr_solver.proofs.ShortageLemmas.{stuck_short_is}
 use Rattle.sr_solver.proofs.SolvedLemmas.{placed_priced}
@@ -16,17 +15,17 @@ stranded-requires-clause-entry c = rw (c.deref.ensures.value, c.in-Stuck.ensures
 pub stranded-requires-clause-placed : goal.stranded-requires-clause-placed
 stranded-requires-clause-placed c i lt =
     let many : length c.deref-in-Stuck.result.now ≡ consumers c.args.problem.now.columns =
-    c.deref-in-Stuck.ensures.len ∙ c.in_ok-labels.ensures.len ∙ c.consumers.ensures.count in
+    ap length c.deref-in-Stuck.ensures.value ∙ c.in-Stuck.ensures.lost.search.one_each in
     rw (c.deref.ensures.value, many) (c.in-Stuck.ensures.placed_below i lt).0
 
 pub returns-in_ok-set-in-Stuck-clause-solution : goal.returns-in_ok-set-in-Stuck-clause-solution
 returns-in_ok-set-in-Stuck-clause-solution c =
     stuck_short_is c.args.problem.now.columns c.in-Stuck.entry c.place_all.new.placement.assign.items
     c.place_all.new.placement.prices.items
-    c.place_all.new.labels c.deref.result.now c.deref-in-Stuck.result.now c.in_ok-set-in-Stuck.set.items
+    c.place_all.new.front.labels.items c.deref.result.now c.deref-in-Stuck.result.now c.in_ok-set-in-Stuck.set.items
     c.in-Stuck.ensures
     c.deref.ensures.value
-    (c.deref-in-Stuck.ensures.value ∙ take_at c.place_all.new.labels _ c.in_ok-labels.labels.len (omega arith))
+    c.deref-in-Stuck.ensures.value
     c.in_ok-set-in-Stuck.ensures
 
 pub returns-in_err-table-clause-solution : goal.returns-in_err-table-clause-solution
@@ -35,11 +34,11 @@ returns-in_err-table-clause-solution c = IfOk-from_err _ _ c.from_residual.ensur
 pub returns-in_err-table-clause-patient : goal.returns-in_err-table-clause-patient
 returns-in_err-table-clause-patient c = λ yes. IfOk-from_err _ _ c.from_residual.ensures.0
 
-pub returns-in_err-labels-clause-solution : goal.returns-in_err-labels-clause-solution
-returns-in_err-labels-clause-solution c = IfOk-from_err _ _ c.from_residual-in_err-labels.ensures.0
+pub returns-in_err-front-clause-solution : goal.returns-in_err-front-clause-solution
+returns-in_err-front-clause-solution c = IfOk-from_err _ _ c.from_residual-in_err-front.ensures.0
 
-pub returns-in_err-labels-clause-patient : goal.returns-in_err-labels-clause-patient
-returns-in_err-labels-clause-patient c = λ yes. IfOk-from_err _ _ c.from_residual-in_err-labels.ensures.0
+pub returns-in_err-front-clause-patient : goal.returns-in_err-front-clause-patient
+returns-in_err-front-clause-patient c = λ yes. IfOk-from_err _ _ c.from_residual-in_err-front.ensures.0
 
 below : (a b : ℕ) → a < b → a ≤ b
 below a b lt = omega arith
@@ -48,8 +47,10 @@ pub place_all-requires-clause-first : goal.place_all-requires-clause-first
 place_all-requires-clause-first c = below c.args.first _ c.requires.first
 
 pub place_all-requires-clause-labels : goal.place_all-requires-clause-labels
-place_all-requires-clause-labels c =
-    c.deref_mut.ensures.len ∙ c.in_ok-labels.ensures.len ∙ c.consumers.ensures.count
+place_all-requires-clause-labels c = c.in_ok-front.ensures.0 ∙ c.consumers.ensures.count
+
+pub place_all-requires-clause-bars : goal.place_all-requires-clause-bars
+place_all-requires-clause-bars c = c.in_ok-front.ensures.1 ∙ c.consumers.ensures.count
 
 pub place_all-requires-clause-standing : goal.place_all-requires-clause-standing
 place_all-requires-clause-standing c = c.requires.standing

@@ -25,7 +25,7 @@ loop-next-preserved c =
           row_more (consumers c.args.problem.now) c.args.to c.loop-next.next _ _ c.args.pairs.now c.loop-next.pairs
           w.lowered-known.result
           c.loop-next.invariant c.requires.allowed.0 below c.requires.each_pair pair
-          (lowered_is c.args.entry _ _ _ _ _ _ same (sym there) w.lowered-known.ensures.lowered)
+          (lowered_is c.args.entry _ _ _ _ _ _ same (sym there) w.lowered-known.ensures)
           )
       | else-is_some w ↦
           rw w.pairs-is (

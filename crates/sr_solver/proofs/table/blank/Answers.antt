@@ -7,7 +7,7 @@ pub loop-to-preserved : goal.loop-to-preserved
 loop-to-preserved c =
     row_more (consumers c.args.problem.now) c.args.from c.loop-to.to _ _ c.args.pairs.now c.loop-to.pairs _
     c.loop-to.invariant c.requires.from (omega arith) c.requires.each_pair
-    (ap (λ n. c.args.from * n + c.loop-to.to) c.consumers.ensures.count) refl
+    (ap (λ n. c.args.from * n + c.loop-to.to) c.consumers.ensures.count) c.none.ensures
 
 pub loop-to-init : goal.loop-to-init
 loop-to-init c = record {

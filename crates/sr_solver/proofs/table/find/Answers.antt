@@ -1,11 +1,11 @@
-use Rattle.std.proofs.Common.{◌≡◌, ℕ, ◌+◌, ◌*◌, ◌<◌, Option, List, get_or, refl, sym, ap, ◌∙◌, arith}
+use Rattle.std.proofs.Common.{◌≡◌, ℕ, ◌+◌, ◌*◌, ◌<◌, Option, List, get_or, refl, sym, ap, ◌∙◌, inr, arith}
 use Rattle.std.specs.Prelude.{unwrap_or}
 use Rattle.sr_transport.specs.plain.Problem.{cost_of}
 use Rattle.sr_transport.specs.plain.Assignment.{load}
 use Rattle.sr_transport.proofs.PlainLimitLemmas.{cost_at_small, cost_small}
 use Rattle.sr_solver.specs.Members.{AreMembers}
 use Rattle.sr_solver.specs.Table.{IsAt}
-use Rattle.sr_solver.proofs.TableLemmas.{lowered_is}
+use Rattle.sr_solver.proofs.TableLemmas.{lowered_is, none_known, found_lowered}
 use Rattle.sr_solver.proofs.MembersLemmas.{row_in, first_in, other_in, seen_more, seen_all}
 use Rattle.sr_solver.proofs.table.find.Goals as goal
 
@@ -28,8 +28,8 @@ loop-place-preserved c =
       known =
           seen_more c.args.problem.now xs members row c.loop-place.place other c.args.from c.args.to c.loop-place.found
           c.lowered-found.result c.requires.limits c.requires.to stands.0 stands.1 refl c.loop-place.invariant.known
-          (lowered_is other _ _ _ _ _ _ same (sym c.cost-there.ensures) c.lowered-found.ensures.lowered);
-      best = c.lowered-found.ensures.best c.loop-place.invariant.best;
+          (lowered_is other _ _ _ _ _ _ same (sym c.cost-there.ensures) c.lowered-found.ensures);
+      found = found_lowered c.args.problem.now other _ _ _ _ stands.0 c.lowered-found.ensures c.loop-place.invariant.found;
     }
 
 pub returns-clause-known : goal.returns-clause-known
@@ -79,7 +79,12 @@ overflow_add-other c =
     c.as_slice-members.ensures.value c.requires.members c.requires.from) c.loop-place-test.true).3
 
 pub loop-place-init : goal.loop-place-init
-loop-place-init c = record { known = λ i seen allowed. absurd (omega (arith, seen.1.1)); best = tt }
+loop-place-init c = record {
+  known = rw c.none-found.ensures (
+      none_known c.args.problem.now _ c.args.from c.args.to c.requires.limits (λ i seen. omega (arith, seen.1.1))
+      );
+  found = rw c.none-found.ensures (inr (omega arith));
+}
 
 pub cost-requires-clause-entry : goal.cost-requires-clause-entry
 cost-requires-clause-entry c =
@@ -130,5 +135,5 @@ pub lowered-found-requires-clause-there : goal.lowered-found-requires-clause-the
 lowered-found-requires-clause-there c =
     rw c.cost-there.ensures (cost_at_small c.args.problem.now c.requires.limits _ c.args.to)
 
-pub returns-clause-best : goal.returns-clause-best
-returns-clause-best c = c.loop-place.invariant.best
+pub returns-clause-found : goal.returns-clause-found
+returns-clause-found c = c.loop-place.invariant.found

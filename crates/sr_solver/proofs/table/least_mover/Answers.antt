@@ -1,24 +1,28 @@
-use Rattle.std.proofs.Common.{◌≡◌, ℕ, ◌+◌, ◌*◌, ◌<◌, None, length, get_or, sym, ap, ◌∙◌}
+use Rattle.std.proofs.Common.{◌≡◌, ℕ, ◌+◌, ◌*◌, ◌<◌, length, ap, ◌∙◌, arith}
 use Rattle.std.proofs.lemmas.List.{get_or_default}
-use Rattle.sr_solver.proofs.TableLemmas.{table_noted, mover_known, found_moves, pair_in}
+use Rattle.sr_solver.proofs.TableLemmas.{table_noted, mover_known, found_moves, none_moves, pair_in}
+use Rattle.sr_solver.specs.Table.{bound_at}
 use Rattle.sr_solver.proofs.table.least_mover.Goals as goal
 
-pub returns-clause-mover : goal.returns-clause-mover
-returns-clause-mover c =
+pub returns-then-best-entries-clause-mover : goal.returns-then-best-entries-clause-mover
+returns-then-best-entries-clause-mover c =
     let pair : ℕ = c.args.from * c.consumers.result + c.args.to in
     let within : pair < length c.args.table.now.pairs.items =
     pair_in c.args.problem.now _ c.args.from c.args.to c.consumers.result c.args.table.now.pairs.items
     c.requires.table.pairs c.requires.from c.requires.to c.consumers.ensures.count in
-    let is : c.index.result.now ≡ get_or c.args.table.now.pairs.items pair None =
-    c.index.ensures ∙ get_or_default _ _ _ None within in
+    let is : c.index.result.now ≡ bound_at c.args.table.now.pairs.items pair =
+    c.index.ensures ∙ get_or_default _ _ _ _ within in
+    rw is (
     mover_known c.args.problem.now c.args.placement.now.assign.items c.args.from c.args.to pair
-    c.args.table.now.pairs.items c.in-Some.bound c.in-Some-best.mover
-    c.requires.from c.requires.to
+    c.args.table.now.pairs.items c.requires.from c.requires.to
     (ap (λ n. c.args.from * n + c.args.to) c.consumers.ensures.count) c.requires.table.pairs
-    (sym is ∙ c.in-Some.is) c.in-Some-best.is
+    (rw is at (rw c.entries.ensures at c.if-best-entries.true)))
 
-pub returns-in_default-clause-table : goal.returns-in_default-clause-table
-returns-in_default-clause-table c = record {
+pub returns-then-best-entries-clause-table : goal.returns-then-best-entries-clause-table
+returns-then-best-entries-clause-table c = c.requires.table
+
+pub returns-then-found-entries-clause-table : goal.returns-then-found-entries-clause-table
+returns-then-found-entries-clause-table c = record {
   pairs = table_noted c.args.problem.now c.args.placement.now.assign.items c.args.from c.args.to
       (c.args.from * c.consumers.result + c.args.to) c.look_up-found.new.table.pairs.items c.look_up-found.result
       c.requires.from c.requires.to
@@ -27,8 +31,8 @@ returns-in_default-clause-table c = record {
   lows = c.look_up-found.ensures.table.lows;
 }
 
-pub returns-2-clause-table : goal.returns-2-clause-table
-returns-2-clause-table c = record {
+pub returns-clause-table : goal.returns-clause-table
+returns-clause-table c = record {
   pairs = table_noted c.args.problem.now c.args.placement.now.assign.items c.args.from c.args.to
       (c.args.from * c.consumers.result + c.args.to) c.look_up-found.new.table.pairs.items c.look_up-found.result
       c.requires.from c.requires.to
@@ -37,10 +41,16 @@ returns-2-clause-table c = record {
   lows = c.look_up-found.ensures.table.lows;
 }
 
-pub returns-2-clause-mover : goal.returns-2-clause-mover
-returns-2-clause-mover c =
-    found_moves c.args.problem.now _ c.args.from c.args.to c.in-Some-found.bound c.in-Some-found.ensures.known
-    c.in-Some-found.ensures.best
+pub returns-then-found-entries-clause-mover : goal.returns-then-found-entries-clause-mover
+returns-then-found-entries-clause-mover c =
+    found_moves c.args.problem.now _ c.args.from c.args.to c.look_up-found.result c.look_up-found.ensures.known
+    (rw c.entries-2.ensures at c.if-found-entries.true)
+
+pub returns-clause-mover : goal.returns-clause-mover
+returns-clause-mover c =
+    none_moves c.args.problem.now _ c.args.from c.args.to c.look_up-found.result c.requires.limits
+    c.look_up-found.ensures.known c.look_up-found.ensures.found
+    (λ lt. omega (arith, lt, c.if-found-entries.false, c.entries-2.ensures))
 
 pub look_up-found-requires-clause-limits : goal.look_up-found-requires-clause-limits
 look_up-found-requires-clause-limits c = c.requires.limits
@@ -59,9 +69,3 @@ look_up-found-requires-clause-placed c = c.requires.placed
 
 pub look_up-found-requires-clause-members : goal.look_up-found-requires-clause-members
 look_up-found-requires-clause-members c = c.requires.members
-
-pub returns-clause-table : goal.returns-clause-table
-returns-clause-table c = c.requires.table
-
-pub returns-in_default-clause-mover : goal.returns-in_default-clause-mover
-returns-in_default-clause-mover c = c.in_default-2.ensures.known

@@ -46,7 +46,7 @@ pub returns-clause-table : goal.returns-clause-table
 returns-clause-table c =
     let left =
     table_left c.args.problem.now c.args.assign.now c.args.entry c.args.table.now.pairs.items c.leave.new.pairs
-    c.requires.table.pairs (rw c.deref_mut.ensures.value at c.leave.ensures) in
+    c.requires.limits c.requires.table.pairs (rw c.deref_mut.ensures.value at c.leave.ensures) in
     record {
       pairs = rw (with_items_is c.args.table.now.pairs c.leave.new.pairs
           (omega (arith, left.each_pair, c.requires.table.pairs.each_pair))) left;

@@ -1,0 +1,9 @@
+use Rattle.std.proofs.Common.{◌≤◌}
+use Rattle.sr_solver.specs.Bars.{AreKeptOut}
+use Rattle.sr_solver.proofs.front.next_below.Given as goal
+
+abbrev pub invariant-loop-other : goal.invariant-loop-other
+invariant-loop-other l = record {
+  from : l.first ≤ l.other;
+  none : AreKeptOut l.near l.base l.pairs l.bars l.first l.other;
+}

@@ -1,0 +1,132 @@
+//! How near an entry has to come to a consumer to be of use in a search.
+ghost use Rattle.std.specs.Prelude.{◌≡◌, ℕ, ◌*◌, ◌<◌, ◌≤◌, ◌⊎◌, length, slice_index, IfOk, IfSome, IfNone, Some};
+ghost use Rattle.sr_solver.specs.Limits.{greatest_way, greatest_base};
+ghost use Rattle.sr_solver.specs.Labels.{label_at, IsFarOrReached};
+ghost use Rattle.sr_solver.specs.Bars.{IsBar, AreBarsOf, AreKeptOut};
+ghost use Rattle.sr_solver.specs.Table.{IsSmallRow};
+
+use crate::label::{FAR, Label};
+use crate::table::Bound;
+use std::alloc::{AllocError, Global};
+
+/// What is added to a bar, so that it is not below 0.
+pub const LIFT: u64 = 1 << 62;
+
+/// What a search knows of the consumers.
+#[derive(Drop)]
+pub struct Front {
+    /// The label of each consumer.
+    pub labels: Vec<Label>,
+    /// The bar of each consumer: a path that would come there at its bar or above, `LIFT` added and the price taken off,
+    /// is no shorter than the one that is known, or than the cutoff.
+    pub bars: Vec<u64>,
+}
+
+/// The front of a search that has not begun.
+pub fn fresh_front(alloc: Global, consumers: usize) -> Result<Front, AllocError>
+    ensures { IfOk result (λ front. (length front.labels.items ≡ consumers) × (length front.bars.items ≡ consumers)) }
+{
+    let labels = vec![in alloc; Label::none(); consumers]?;
+    let bars = vec![in alloc; 0u64; consumers]?;
+    Ok(Front { labels, bars })
+}
+
+/// The bar of a consumer with this label and this price: 0 once it is closed, and else where a path would be as long as
+/// the one that is known, or as the cutoff, if that is less.
+pub fn bar_of(label: Label, price: u64, cutoff: Option<u64>) -> u64
+    requires label { IsFarOrReached label }
+    requires price { price ≤ greatest_way }
+    requires cutoff { IfSome cutoff (λ d. d ≤ greatest_way) }
+    ensures { IsBar price label cutoff result }
+{
+    if label.closed {
+        return 0;
+    }
+    let dist = reach(label.dist, cutoff);
+    if dist == FAR {
+        return FAR;
+    }
+    dist + LIFT - price
+}
+
+/// The length of a path that would not come nearer than before, or no nearer than the cutoff.
+fn reach(before: u64, cutoff: Option<u64>) -> u64
+    ensures before { result ≤ before }
+    ensures cutoff { IfSome cutoff (λ d. result ≤ d) }
+    ensures met { (result ≡ before) ⊎ (cutoff ≡ Some result) }
+{
+    let Some(dist) = cutoff else {
+        return before;
+    };
+    if dist < before { dist } else { before }
+}
+
+/// Sets the bar of each consumer.
+pub fn set_bars(labels: &[Label], prices: &[u64], cutoff: Option<u64>, bars: &mut [u64])
+    requires labels_each { length labels.now ≡ length bars.old }
+    requires prices_each { length prices.now ≡ length bars.old }
+    requires marked { (c : ℕ) → c < length bars.old → IsFarOrReached (label_at labels.now c) }
+    requires low { (c : ℕ) → c < length bars.old → slice_index prices.now c ≤ greatest_way }
+    requires cutoff { IfSome cutoff (λ d. d ≤ greatest_way) }
+    ensures length { length bars.new ≡ length bars.old }
+    ensures bars { AreBarsOf (length bars.old) prices.now cutoff labels.now bars.new }
+{
+    for consumer in 0..bars.len() {
+        bars[consumer] = bar_of(labels[consumer], prices[consumer], cutoff);
+    }
+}
+
+/// Sets the bar of a consumer that has a new label, or those of all if the cutoff is another one.
+pub fn lower_bars(
+    consumer: usize,
+    prices: &[u64],
+    before: Option<u64>,
+    cutoff: Option<u64>,
+    front: &mut Front,
+)
+    requires consumer { consumer < length front.old.bars.items }
+    requires labels_each { length front.old.labels.items ≡ length front.old.bars.items }
+    requires prices_each { length prices.now ≡ length front.old.bars.items }
+    requires marked { (c : ℕ) → c < length front.old.bars.items → IsFarOrReached (label_at front.old.labels.items c) }
+    requires low { (c : ℕ) → c < length front.old.bars.items → slice_index prices.now c ≤ greatest_way }
+    requires cutoff { IfSome cutoff (λ d. d ≤ greatest_way) }
+    requires others { (c : ℕ) → c < length front.old.bars.items → (c ≡ consumer → ⊥)
+        → IsBar (slice_index prices.now c) (label_at front.old.labels.items c) before
+        (slice_index front.old.bars.items c) }
+    ensures labels { front.new.labels ≡ front.old.labels }
+    ensures length { length front.new.bars.items ≡ length front.old.bars.items }
+    ensures bars { AreBarsOf (length front.old.bars.items) prices.now cutoff front.new.labels.items
+        front.new.bars.items }
+{
+    if cutoff == before {
+        front.bars[consumer] = bar_of(front.labels[consumer], prices[consumer], cutoff);
+    } else {
+        set_bars(&front.labels, prices, cutoff, &mut front.bars);
+    }
+}
+
+/// The first consumer from `first` on where an entry at `near` may come below the bar, by what the table knows; `None`
+/// if there is none. An entry would come there at its bound and `base`.
+pub fn next_below(
+    near: usize,
+    first: usize,
+    base: u64,
+    pairs: &[Bound],
+    bars: &[u64],
+) -> Option<usize>
+    requires near { near < length bars.now }
+    requires each_pair { length pairs.now ≡ length bars.now * length bars.now }
+    requires small { IsSmallRow (length bars.now) near pairs.now }
+    requires base { base ≤ greatest_base }
+    ensures some { IfSome result (λ other. (first ≤ other) × (other < length bars.now)
+        × AreKeptOut near base pairs.now bars.now first other) }
+    ensures none { IfNone result (AreKeptOut near base pairs.now bars.now first (length bars.now)) }
+{
+    let row = near * bars.len();
+    for other in first..bars.len() {
+        if pairs[row + other].low + base < bars[other] {
+            return Some(other);
+        }
+    }
+    None
+}
