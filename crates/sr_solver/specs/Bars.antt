@@ -33,6 +33,17 @@ pub record AreBars (p : Transport) (prices : List ℕ) (cutoff : Option ℕ) (la
     pub one_each : length bars ≡ consumers p
     pub each : AreBarsOf (consumers p) prices cutoff labels bars
 
+-- each bar fell to where a path is as long as this, if it was higher
+pub record IsCutAt (price dist old new : ℕ) : Type 0 where
+  pub no_higher : new ≤ old
+  pub cut : new + price ≤ dist + lift
+  pub met : (new ≡ old) ⊎ (new + price ≡ dist + lift)
+
+pub record AreCut (prices : List ℕ) (dist : ℕ) (old new : List ℕ) : Type 0 where
+  pub one_each : length new ≡ length old
+  pub each : (c : ℕ) → c < length old
+      → IsCutAt (slice_index prices c) dist (slice_index old c) (slice_index new c)
+
 -- at no consumer from `first` on and below `upto` does an entry at t come below the bar, by what the pairs tell
 abbrev pub AreKeptOut : ℕ → ℕ → List Bound → List ℕ → ℕ → ℕ → Type 0
 AreKeptOut t base pairs bars first upto =

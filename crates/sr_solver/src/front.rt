@@ -2,7 +2,8 @@
 ghost use Rattle.std.specs.Prelude.{◌≡◌, ℕ, ◌*◌, ◌<◌, ◌≤◌, ◌⊎◌, length, slice_index, IfOk, IfSome, IfNone, Some};
 ghost use Rattle.sr_solver.specs.Limits.{greatest_way, greatest_base};
 ghost use Rattle.sr_solver.specs.Labels.{label_at, IsFarOrReached};
-ghost use Rattle.sr_solver.specs.Bars.{IsBar, AreBarsOf, AreKeptOut};
+ghost use Rattle.sr_solver.specs.Bars.{IsBar, AreBarsOf, AreCut, AreKeptOut};
+ghost use Rattle.sr_solver.specs.Cutoff.{IsNoLater};
 ghost use Rattle.sr_solver.specs.Table.{IsSmallRow};
 
 use crate::label::{FAR, Label};
@@ -76,7 +77,7 @@ pub fn set_bars(labels: &[Label], prices: &[u64], cutoff: Option<u64>, bars: &mu
     }
 }
 
-/// Sets the bar of a consumer that has a new label, or those of all if the cutoff is another one.
+/// Sets the bar of a consumer that has a new label, and lowers those of all if the cutoff fell.
 pub fn lower_bars(
     consumer: usize,
     prices: &[u64],
@@ -87,9 +88,10 @@ pub fn lower_bars(
     requires consumer { consumer < length front.old.bars.items }
     requires labels_each { length front.old.labels.items ≡ length front.old.bars.items }
     requires prices_each { length prices.now ≡ length front.old.bars.items }
-    requires marked { (c : ℕ) → c < length front.old.bars.items → IsFarOrReached (label_at front.old.labels.items c) }
+    requires marked { IsFarOrReached (label_at front.old.labels.items consumer) }
     requires low { (c : ℕ) → c < length front.old.bars.items → slice_index prices.now c ≤ greatest_way }
     requires cutoff { IfSome cutoff (λ d. d ≤ greatest_way) }
+    requires later { IsNoLater before cutoff }
     requires others { (c : ℕ) → c < length front.old.bars.items → (c ≡ consumer → ⊥)
         → IsBar (slice_index prices.now c) (label_at front.old.labels.items c) before
         (slice_index front.old.bars.items c) }
@@ -98,10 +100,24 @@ pub fn lower_bars(
     ensures bars { AreBarsOf (length front.old.bars.items) prices.now cutoff front.new.labels.items
         front.new.bars.items }
 {
-    if cutoff == before {
-        front.bars[consumer] = bar_of(front.labels[consumer], prices[consumer], cutoff);
-    } else {
-        set_bars(&front.labels, prices, cutoff, &mut front.bars);
+    front.bars[consumer] = bar_of(front.labels[consumer], prices[consumer], cutoff);
+    if let Some(dist) = cutoff
+        && cutoff != before
+    {
+        cut_bars(prices, dist, &mut front.bars);
+    }
+}
+
+/// Lowers each bar to where a path is as long as the cutoff.
+fn cut_bars(prices: &[u64], dist: u64, bars: &mut [u64])
+    requires prices_each { length prices.now ≡ length bars.old }
+    requires low { (c : ℕ) → c < length bars.old → slice_index prices.now c ≤ greatest_way }
+    requires dist { dist ≤ greatest_way }
+    ensures { AreCut prices.now dist bars.old bars.new }
+{
+    for consumer in 0..bars.len() {
+        let most = dist + LIFT - prices[consumer];
+        bars[consumer] = bars[consumer].min(most);
     }
 }
 
@@ -123,10 +139,12 @@ pub fn next_below(
     ensures none { IfNone result (AreKeptOut near base pairs.now bars.now first (length bars.now)) }
 {
     let row = near * bars.len();
-    for other in first..bars.len() {
+    let mut other = first;
+    while other < bars.len() {
         if pairs[row + other].low + base < bars[other] {
             return Some(other);
         }
+        other += 1;
     }
     None
 }

@@ -1,4 +1,4 @@
-use Rattle.std.proofs.Common.{◌≤◌}
+use Rattle.std.proofs.Common.{◌≤◌, ◌-◌, length}
 use Rattle.sr_solver.specs.Bars.{AreKeptOut}
 use Rattle.sr_solver.proofs.front.next_below.Given as goal
 
@@ -7,3 +7,6 @@ invariant-loop-other l = record {
   from : l.first ≤ l.other;
   none : AreKeptOut l.near l.base l.pairs l.bars l.first l.other;
 }
+
+abbrev pub decreases-loop-other : goal.decreases-loop-other
+decreases-loop-other l = length l.bars - l.other

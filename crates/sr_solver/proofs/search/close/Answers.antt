@@ -124,11 +124,14 @@ lower_bars-requires-clause-marked c =
     c.loop-other.first c.in-Some.other c.requires.standing.placed (omega (arith, c.requires.entry))
     c.requires.nearest.consumer c.loop-other.invariant.table.pairs c.loop-other.invariant.bars
     c.loop-other.invariant.base.is c.loop-other.invariant.base.small some.2 c.loop-other.invariant.closed) asked in
-    λ d lt. rw written (
+    rw written (
     far_or_reached p c.args.entry xs prices (length_of c.loop-other.cutoff) c.ask-cutoff.new.labels c.args.near
-    (c.in-Some.other + 1) c.requires.standing.placed (omega (arith, c.requires.entry)) closed.search d
-    (omega (arith, lt, c.loop-other.invariant.bars.one_each))
+    (c.in-Some.other + 1) c.requires.standing.placed (omega (arith, c.requires.entry)) closed.search c.in-Some.other
+    (omega (arith, some.1, c.loop-other.invariant.bars.one_each))
     )
+
+pub lower_bars-requires-clause-later : goal.lower_bars-requires-clause-later
+lower_bars-requires-clause-later c = rw (c.dist_of-before.ensures, c.dist_of.ensures) c.ask-cutoff.ensures.later
 
 pub lower_bars-requires-clause-others : goal.lower_bars-requires-clause-others
 lower_bars-requires-clause-others c =
