@@ -6,6 +6,7 @@ pub mod SearchLemmas
 pub mod TableLemmas
 pub mod GroupLemmas
 pub mod MembersLemmas
+pub mod SetLemmas
 pub mod BarLemmas
 pub mod CloseLemmas
 pub mod OfferLemmas

@@ -10,6 +10,7 @@ pub mod Placed
 pub mod Groups
 pub mod Table
 pub mod Bars
+pub mod Sets
 pub mod Members
 pub mod Taker
 pub mod Search

@@ -70,18 +70,25 @@ pub record IsSearch (p : Transport) (k : ℕ) (xs prices : List ℕ) (cutoff : O
       → IsCovered p prices cutoff labels (label_at labels (slice_index xs i)).dist
       (priced p prices i (slice_index xs i)) i c
 
--- consumer t is the nearest of those that are reached and not closed
-pub record IsNearest (p : Transport) (labels : List Label) (t : ℕ) : Type 0 where
-  pub consumer : t < consumers p
+-- of n consumers, t is the nearest of those that are reached and not closed
+pub record IsNearestOf (n : ℕ) (labels : List Label) (t : ℕ) : Type 0 where
+  pub consumer : t < n
   pub reached : 0 < (label_at labels t).hops
   pub not_closed : (label_at labels t).closed ≡ false
-  pub least : (c : ℕ) → c < consumers p → 0 < (label_at labels c).hops → (label_at labels c).closed ≡ false
+  pub least : (c : ℕ) → c < n → 0 < (label_at labels c).hops → (label_at labels c).closed ≡ false
       → (label_at labels t).dist ≤ (label_at labels c).dist
 
--- no consumer is reached and not closed
+-- of all
+abbrev pub IsNearest : Transport → List Label → ℕ → Type 0
+IsNearest p labels t = IsNearestOf (consumers p) labels t
+
+-- none of n consumers is reached and not closed
+abbrev pub AreAllClosedOf : ℕ → List Label → Type 0
+AreAllClosedOf n labels = (c : ℕ) → c < n → 0 < (label_at labels c).hops → (label_at labels c).closed ≡ true
+
+-- none at all
 abbrev pub AreAllClosed : Transport → List Label → Type 0
-AreAllClosed p labels =
-    (c : ℕ) → c < consumers p → 0 < (label_at labels c).hops → (label_at labels c).closed ≡ true
+AreAllClosed p labels = AreAllClosedOf (consumers p) labels
 
 -- the search between two rounds
 abbrev pub IsRound : Transport → ℕ → List ℕ → List ℕ → Option ℕ → List Label → Type 0
@@ -159,15 +166,3 @@ pub record IsStarted (p : Transport) (k : ℕ) (prices : List ℕ) (labels : Lis
   pub one_each : length labels ≡ consumers p
   pub each : (c : ℕ) → c < consumers p
       → IsOffered (cost_at p k c) (slice_index prices c) (first_offer k) unreached (label_at labels c)
-
--- the best of the consumers below n
-pub record IsBestBelow (labels : List Label) (n best : ℕ) : Type 0 where
-  pub consumer : best < n
-  pub reached : 0 < (label_at labels best).hops
-  pub not_closed : (label_at labels best).closed ≡ false
-  pub least : (c : ℕ) → c < n → 0 < (label_at labels c).hops → (label_at labels c).closed ≡ false
-      → (label_at labels best).dist ≤ (label_at labels c).dist
-
-abbrev pub IsBestSoFar : List Label → ℕ → Option ℕ → Type 0
-IsBestSoFar labels n None = (c : ℕ) → c < n → 0 < (label_at labels c).hops → (label_at labels c).closed ≡ true
-IsBestSoFar labels n (Some best) = IsBestBelow labels n best

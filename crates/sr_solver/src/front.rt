@@ -1,12 +1,15 @@
 //! How near an entry has to come to a consumer to be of use in a search.
-ghost use Rattle.std.specs.Prelude.{◌≡◌, ℕ, ◌*◌, ◌<◌, ◌≤◌, ◌⊎◌, length, slice_index, IfOk, IfSome, IfNone, Some};
+ghost use Rattle.std.specs.Prelude.{◌≡◌, ℕ, ◌*◌, ◌<◌, ◌≤◌, ◌⊎◌, ◌↔◌, length, slice_index, IfOk, IfSome, IfNone, Some, None, false};
 ghost use Rattle.sr_solver.specs.Limits.{greatest_way, greatest_base};
 ghost use Rattle.sr_solver.specs.Labels.{label_at, IsFarOrReached};
 ghost use Rattle.sr_solver.specs.Bars.{IsBar, AreBarsOf, AreCut, AreKeptOut};
 ghost use Rattle.sr_solver.specs.Cutoff.{IsNoLater};
+ghost use Rattle.sr_solver.specs.Sets.{IsIn, IsWaitingAt, AreWaiting};
+ghost use Rattle.sr_transport.specs.Limits.{most_consumers};
 ghost use Rattle.sr_solver.specs.Table.{IsSmallRow};
 
 use crate::label::{FAR, Label};
+use crate::set::ConsumerSet;
 use crate::table::Bound;
 use std::alloc::{AllocError, Global};
 
@@ -21,6 +24,8 @@ pub struct Front {
     /// The bar of each consumer: a path that would come there at its bar or above, `LIFT` added and the price taken off,
     /// is no shorter than the one that is known, or than the cutoff.
     pub bars: Vec<u64>,
+    /// The consumers that are reached, and not closed.
+    pub waiting: ConsumerSet,
 }
 
 /// The front of a search that has not begun.
@@ -29,7 +34,11 @@ pub fn fresh_front(alloc: Global, consumers: usize) -> Result<Front, AllocError>
 {
     let labels = vec![in alloc; Label::none(); consumers]?;
     let bars = vec![in alloc; 0u64; consumers]?;
-    Ok(Front { labels, bars })
+    Ok(Front {
+        labels,
+        bars,
+        waiting: ConsumerSet::none(),
+    })
 }
 
 /// The bar of a consumer with this label and this price: 0 once it is closed, and else where a path would be as long as
@@ -62,29 +71,51 @@ fn reach(before: u64, cutoff: Option<u64>) -> u64
     if dist < before { dist } else { before }
 }
 
-/// Sets the bar of each consumer.
-pub fn set_bars(labels: &[Label], prices: &[u64], cutoff: Option<u64>, bars: &mut [u64])
-    requires labels_each { length labels.now ≡ length bars.old }
-    requires prices_each { length prices.now ≡ length bars.old }
-    requires marked { (c : ℕ) → c < length bars.old → IsFarOrReached (label_at labels.now c) }
-    requires low { (c : ℕ) → c < length bars.old → slice_index prices.now c ≤ greatest_way }
+/// Sets the bar of each consumer, and which of them wait, once all labels are new and none is closed.
+pub fn begin(prices: &[u64], cutoff: Option<u64>, front: &mut Front)
+    requires few { length front.old.bars.items ≤ most_consumers }
+    requires labels_each { length front.old.labels.items ≡ length front.old.bars.items }
+    requires prices_each { length prices.now ≡ length front.old.bars.items }
+    requires marked { (c : ℕ) → c < length front.old.bars.items → IsFarOrReached (label_at front.old.labels.items c) }
+    requires low { (c : ℕ) → c < length front.old.bars.items → slice_index prices.now c ≤ greatest_way }
     requires cutoff { IfSome cutoff (λ d. d ≤ greatest_way) }
-    ensures length { length bars.new ≡ length bars.old }
-    ensures bars { AreBarsOf (length bars.old) prices.now cutoff labels.now bars.new }
+    ensures labels { front.new.labels ≡ front.old.labels }
+    ensures length { length front.new.bars.items ≡ length front.old.bars.items }
+    ensures bars { AreBarsOf (length front.old.bars.items) prices.now cutoff front.new.labels.items
+        front.new.bars.items }
+    ensures waiting { AreWaiting (length front.old.bars.items) front.new.labels.items front.new.waiting }
 {
-    for consumer in 0..bars.len() {
-        bars[consumer] = bar_of(labels[consumer], prices[consumer], cutoff);
+    front.waiting = ConsumerSet::none();
+    for consumer in 0..front.bars.len() {
+        let label = front.labels[consumer];
+        front.bars[consumer] = bar_of(label, prices[consumer], cutoff);
+        front.waiting = with_label(front.waiting, consumer, label);
     }
 }
 
-/// Sets the bar of a consumer that has a new label, and lowers those of all if the cutoff fell.
-pub fn lower_bars(
+/// The set of those that wait, with a consumer that has this label, if it is reached and not closed.
+fn with_label(set: ConsumerSet, consumer: usize, label: Label) -> ConsumerSet
+    requires consumer { consumer < most_consumers }
+    requires still { IsIn set consumer → (0 < label.hops) × (label.closed ≡ false) }
+    ensures at { IsWaitingAt label result consumer }
+    ensures others { (d : ℕ) → (d ≡ consumer → ⊥) → IsIn result d ↔ IsIn set d }
+{
+    if label.hops == 0 || label.closed {
+        return set;
+    }
+    set.with(consumer)
+}
+
+/// Notes that a consumer has another label, and that the cutoff may have fallen: sets its bar, and whether it waits, and
+/// lowers the bars of all.
+pub fn note_label(
     consumer: usize,
     prices: &[u64],
     before: Option<u64>,
     cutoff: Option<u64>,
     front: &mut Front,
 )
+    requires few { length front.old.bars.items ≤ most_consumers }
     requires consumer { consumer < length front.old.bars.items }
     requires labels_each { length front.old.labels.items ≡ length front.old.bars.items }
     requires prices_each { length prices.now ≡ length front.old.bars.items }
@@ -95,16 +126,37 @@ pub fn lower_bars(
     requires others { (c : ℕ) → c < length front.old.bars.items → (c ≡ consumer → ⊥)
         → IsBar (slice_index prices.now c) (label_at front.old.labels.items c) before
         (slice_index front.old.bars.items c) }
+    requires within { (c : ℕ) → IsIn front.old.waiting c → c < length front.old.bars.items }
+    requires still { IsIn front.old.waiting consumer → (0 < (label_at front.old.labels.items consumer).hops)
+        × ((label_at front.old.labels.items consumer).closed ≡ false) }
+    requires waiting { (c : ℕ) → c < length front.old.bars.items → (c ≡ consumer → ⊥)
+        → IsWaitingAt (label_at front.old.labels.items c) front.old.waiting c }
     ensures labels { front.new.labels ≡ front.old.labels }
     ensures length { length front.new.bars.items ≡ length front.old.bars.items }
     ensures bars { AreBarsOf (length front.old.bars.items) prices.now cutoff front.new.labels.items
         front.new.bars.items }
+    ensures waiting { AreWaiting (length front.old.bars.items) front.new.labels.items front.new.waiting }
 {
-    front.bars[consumer] = bar_of(front.labels[consumer], prices[consumer], cutoff);
-    if let Some(dist) = cutoff
-        && cutoff != before
-    {
-        cut_bars(prices, dist, &mut front.bars);
+    let label = front.labels[consumer];
+    front.bars[consumer] = bar_of(label, prices[consumer], cutoff);
+    front.waiting = with_label(front.waiting, consumer, label);
+    lower_bars(prices, before, cutoff, &mut front.bars);
+}
+
+/// Lowers each bar to the cutoff, if that is another one.
+fn lower_bars(prices: &[u64], before: Option<u64>, cutoff: Option<u64>, bars: &mut [u64])
+    requires prices_each { length prices.now ≡ length bars.old }
+    requires low { (c : ℕ) → c < length bars.old → slice_index prices.now c ≤ greatest_way }
+    requires cutoff { IfSome cutoff (λ d. d ≤ greatest_way) }
+    ensures same { cutoff ≡ before → bars.new ≡ bars.old }
+    ensures none { cutoff ≡ None → bars.new ≡ bars.old }
+    ensures some { (d : ℕ) → cutoff ≡ Some d → (before ≡ Some d → ⊥) → AreCut prices.now d bars.old bars.new }
+{
+    if cutoff == before {
+        return;
+    }
+    if let Some(dist) = cutoff {
+        cut_bars(prices, dist, bars);
     }
 }
 

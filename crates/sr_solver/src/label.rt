@@ -33,14 +33,6 @@ impl Label {
             closed: false,
         }
     }
-
-    /// The length of the path to it, or a number that is greater than any, if it is closed.
-    pub fn open_dist(self) -> u64
-        ensures open { self.closed ≡ false → result ≡ self.dist }
-        ensures closed { self.closed ≡ true → far ≤ result }
-    {
-        if self.closed { FAR } else { self.dist }
-    }
 }
 
 /// An entry that may leave its consumer.

@@ -13,6 +13,7 @@ mod placement;
 mod placing;
 mod sample;
 mod search;
+mod set;
 mod shortage;
 mod solution;
 mod stepped;

@@ -4,18 +4,21 @@ ghost use Rattle.sr_transport.specs.Limits.{greatest_fee};
 ghost use Rattle.sr_solver.specs.Limits.{greatest_way};
 ghost use Rattle.sr_transport.specs.plain.Problem.{IsWithinLimits, IsAllowed};
 ghost use Rattle.sr_transport.specs.plain.Certificate.{IsLeast};
-ghost use Rattle.sr_solver.specs.Labels.{label_at, open_count, AreFarOrReached};
+ghost use Rattle.sr_solver.specs.Labels.{label_at, open_count, IsFarOrReached};
 ghost use Rattle.sr_solver.specs.Placed.{IsStanding};
 ghost use Rattle.sr_solver.specs.Cutoff.{length_of, IsPast, IsCutoff, IsCut, IsNoLater};
 ghost use Rattle.sr_solver.specs.Offers.{IsOfferedAt, offer_of};
 ghost use Rattle.sr_solver.specs.Table.{IsTable};
 ghost use Rattle.sr_solver.specs.Bars.{AreBars};
-ghost use Rattle.sr_solver.specs.Search.{IsStarted, IsNearest, AreAllClosed, IsSearch, IsRound, IsAsked};
+ghost use Rattle.sr_solver.specs.Sets.{AreWaiting};
+ghost use Rattle.sr_transport.specs.Limits.{most_consumers};
+ghost use Rattle.sr_solver.specs.Search.{IsStarted, IsNearest, IsNearestOf, AreAllClosedOf, IsSearch, IsRound, IsAsked};
 ghost use Rattle.sr_solver.specs.Search.{IsFound};
 
-use crate::front::{Front, LIFT, lower_bars, next_below, set_bars};
+use crate::front::{Front, LIFT, begin, next_below, note_label};
 use crate::label::{FAR, Label, Offer, offered};
 use crate::placement::Placement;
+use crate::set::ConsumerSet;
 use crate::stepped::Stepped;
 use crate::table::{ABOVE, Table, least_mover, look_over};
 use sr_transport::Columns;
@@ -51,13 +54,8 @@ pub fn search(
     ensures bars { length front.new.bars.items ≡ consumers problem.now.columns }
 {
     let mut cutoff = start(problem, entry, placement, &mut front.labels);
-    set_bars(
-        &front.labels,
-        &placement.prices,
-        dist_of(cutoff),
-        &mut front.bars,
-    );
-    while let Some(near) = nearest(&problem.columns, &front.labels) {
+    begin(&placement.prices, dist_of(cutoff), front);
+    while let Some(near) = nearest(front.waiting, &front.labels) {
         if is_past(cutoff, front.labels[near].dist) {
             return cutoff;
         }
@@ -140,17 +138,20 @@ fn dist_of(cutoff: Option<End>) -> Option<u64>
     Some(end.dist)
 }
 
-/// The nearest open consumer; `None` where none is open.
-fn nearest(problem: &Columns<'_>, labels: &[Label]) -> Option<usize>
-    requires each { length labels.now ≡ consumers problem.now }
-    requires marked { AreFarOrReached problem.now labels.now }
-    ensures some { IfSome result (IsNearest problem.now labels.now) }
-    ensures none { IfNone result (AreAllClosed problem.now labels.now) }
+/// The nearest of the consumers that wait; `None` where none does.
+fn nearest(waiting: ConsumerSet, labels: &[Label]) -> Option<usize>
+    requires few { length labels.now ≤ most_consumers }
+    requires marked { (c : ℕ) → c < length labels.now → IsFarOrReached (label_at labels.now c) }
+    requires waiting { AreWaiting (length labels.now) labels.now waiting }
+    ensures some { IfSome result (IsNearestOf (length labels.now) labels.now) }
+    ensures none { IfNone result (AreAllClosedOf (length labels.now) labels.now) }
 {
+    let mut rest = waiting;
     let mut best = None;
     let mut least = FAR;
-    for consumer in 0..problem.consumers() {
-        let dist = labels[consumer].open_dist();
+    while let Some(consumer) = rest.first() {
+        rest = rest.without(consumer);
+        let dist = labels[consumer].dist;
         if dist < least {
             best = Some(consumer);
             least = dist;
@@ -180,6 +181,7 @@ fn close(
     requires nearer { IsPast cutoff (label_at front.old.labels.items near).dist → ⊥ }
     requires bars { AreBars problem.now.columns placement.now.prices.items (length_of cutoff)
         front.old.labels.items front.old.bars.items }
+    requires waiting { AreWaiting (consumers problem.now.columns) front.old.labels.items front.old.waiting }
     ensures table { IsTable problem.now.columns placement.now.assign.items table.new }
     ensures round { IsRound problem.now.columns entry placement.now.assign.items placement.now.prices.items
         (length_of result) front.new.labels.items }
@@ -187,6 +189,7 @@ fn close(
         placement.now.prices.items front.new.labels.items (consumers problem.now.columns) result }
     ensures bars { AreBars problem.now.columns placement.now.prices.items (length_of result)
         front.new.labels.items front.new.bars.items }
+    ensures waiting { AreWaiting (consumers problem.now.columns) front.new.labels.items front.new.waiting }
     ensures fewer { open_count front.new.labels.items < open_count front.old.labels.items }
 {
     look_over(&problem.columns, near, placement, table);
@@ -196,6 +199,7 @@ fn close(
         ..label
     };
     front.bars[near] = 0;
+    front.waiting = front.waiting.without(near);
     let base = label.dist + LIFT - (ABOVE + placement.prices[near]);
     let mut cutoff = cutoff;
     let mut first = 0;
@@ -211,7 +215,7 @@ fn close(
             table,
             &mut front.labels,
         );
-        lower_bars(other, &placement.prices, before, dist_of(cutoff), front);
+        note_label(other, &placement.prices, before, dist_of(cutoff), front);
         first = other + 1;
     }
     cutoff

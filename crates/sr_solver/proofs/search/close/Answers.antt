@@ -10,6 +10,7 @@ use Rattle.sr_solver.proofs.CloseLemmas.{closed_start, cutoff_closing, closed_ro
 use Rattle.sr_solver.proofs.OfferLemmas.{asked_stays, closed_passed, closed_ask, closed_cut, price_small, way_small}
 use Rattle.sr_solver.proofs.OfferLemmas.{far_or_reached}
 use Rattle.sr_solver.specs.Search.{IsAsked}
+use Rattle.sr_solver.proofs.SetLemmas.{waiting_closing, waits_asked, waiting_others}
 use Rattle.sr_solver.proofs.search.close.Goals as goal
 
 pub ask-cutoff-requires-clause-entry : goal.ask-cutoff-requires-clause-entry
@@ -73,6 +74,8 @@ loop-other-init c =
       bars = bars_closing p c.args.placement.now.prices.items (length_of c.args.cutoff) old
           c.args.front.now.bars.items c.args.near label c.requires.round.one_each c.requires.nearest.consumer refl
           c.requires.bars;
+      waiting = waiting_closing (consumers p) old c.args.front.now.waiting c.without-front.result c.args.near label
+          within refl c.without-front.ensures c.requires.waiting;
       base = rw (get_or-set_same old c.args.near label no_label within) (
           rw price (
           base_is (get_or c.args.placement.now.prices.items c.args.near 0) label.dist
@@ -104,8 +107,8 @@ ask-cutoff-requires-clause-search c =
     c.loop-other.invariant.base.small some.2 c.loop-other.invariant.closed).search
     )
 
-pub lower_bars-requires-clause-marked : goal.lower_bars-requires-clause-marked
-lower_bars-requires-clause-marked c =
+pub note_label-requires-clause-marked : goal.note_label-requires-clause-marked
+note_label-requires-clause-marked c =
     let p = c.args.problem.now.columns in
     let xs : List ℕ = c.args.placement.now.assign.items in
     let prices : List ℕ = c.args.placement.now.prices.items in
@@ -130,11 +133,11 @@ lower_bars-requires-clause-marked c =
     (omega (arith, some.1, c.loop-other.invariant.bars.one_each))
     )
 
-pub lower_bars-requires-clause-later : goal.lower_bars-requires-clause-later
-lower_bars-requires-clause-later c = rw (c.dist_of-before.ensures, c.dist_of.ensures) c.ask-cutoff.ensures.later
+pub note_label-requires-clause-later : goal.note_label-requires-clause-later
+note_label-requires-clause-later c = rw (c.dist_of-before.ensures, c.dist_of.ensures) c.ask-cutoff.ensures.later
 
-pub lower_bars-requires-clause-others : goal.lower_bars-requires-clause-others
-lower_bars-requires-clause-others c =
+pub note_label-requires-clause-others : goal.note_label-requires-clause-others
+note_label-requires-clause-others c =
     let p = c.args.problem.now.columns in
     let xs : List ℕ = c.args.placement.now.assign.items in
     let prices : List ℕ = c.args.placement.now.prices.items in
@@ -161,8 +164,8 @@ loop-other-preserved c =
     let written = with_items_is c.loop-other.front.labels c.ask-cutoff.new.labels
     (c.ask-cutoff.ensures.asked.one_each ∙ c.deref_mut.ensures.len) in
     let some = rw (c.deref.ensures.value, c.deref-in-loop-other.ensures.value) at c.in-Some.ensures.some in
-    let is : c.lower_bars.new.front.labels.items ≡ c.ask-cutoff.new.labels =
-    ap (λ v. v.items) c.lower_bars.ensures.labels ∙ written in
+    let is : c.note_label.new.front.labels.items ≡ c.ask-cutoff.new.labels =
+    ap (λ v. v.items) c.note_label.ensures.labels ∙ written in
     let closed =
     closed_ask p c.args.entry xs prices (length_of c.loop-other.cutoff) c.args.front.now.labels.items old
     c.ask-cutoff.new.labels c.args.near c.in-Some.other c.requires.standing.placed c.requires.nearest.consumer
@@ -182,10 +185,11 @@ loop-other-preserved c =
           c.ask-cutoff.ensures.later closed
           );
       bars = record {
-        one_each = c.lower_bars.ensures.length ∙ c.loop-other.invariant.bars.one_each;
-        each = λ d lt. rw (c.deref-in-Some.ensures.value, c.dist_of.ensures) at c.lower_bars.ensures.bars d
+        one_each = c.note_label.ensures.length ∙ c.loop-other.invariant.bars.one_each;
+        each = λ d lt. rw (c.deref-in-Some.ensures.value, c.dist_of.ensures) at c.note_label.ensures.bars d
             (omega (arith, lt, c.loop-other.invariant.bars.one_each));
       };
+      waiting = rw c.loop-other.invariant.bars.one_each at c.note_label.ensures.waiting;
       base = rw (is, stays) c.loop-other.invariant.base;
       within = omega (arith, some.1, c.loop-other.invariant.bars.one_each);
       cutoff = rw is c.ask-cutoff.ensures.cutoff;
@@ -201,3 +205,44 @@ returns-clause-round c =
     c.loop-other.first (length c.loop-other.front.bars.items) c.requires.standing.placed (omega (arith, c.requires.entry)) c.requires.nearest.consumer
     c.loop-other.invariant.table.pairs c.loop-other.invariant.bars c.loop-other.invariant.base.is
     c.loop-other.invariant.base.small none c.loop-other.invariant.closed).search
+
+pub note_label-requires-clause-few : goal.note_label-requires-clause-few
+note_label-requires-clause-few c = rw c.loop-other.invariant.bars.one_each c.requires.standing.are_steps.few
+
+pub note_label-requires-clause-within : goal.note_label-requires-clause-within
+note_label-requires-clause-within c = λ d is.
+    rw c.loop-other.invariant.bars.one_each (c.loop-other.invariant.waiting.within d is)
+
+pub note_label-requires-clause-still : goal.note_label-requires-clause-still
+note_label-requires-clause-still c =
+    let p = c.args.problem.now.columns in
+    let xs : List ℕ = c.args.placement.now.assign.items in
+    let prices : List ℕ = c.args.placement.now.prices.items in
+    let old : List Label = c.loop-other.front.labels.items in
+    let asked : IsAsked p c.args.entry xs prices (length_of c.loop-other.cutoff) c.args.near c.in-Some.other old
+    c.ask-cutoff.new.labels =
+    rw c.deref_mut.ensures.value at c.ask-cutoff.ensures.asked in
+    let written = with_items_is c.loop-other.front.labels c.ask-cutoff.new.labels
+    (c.ask-cutoff.ensures.asked.one_each ∙ c.deref_mut.ensures.len) in
+    λ waits. rw written (
+    waits_asked p c.args.entry xs prices (length_of c.loop-other.cutoff) c.args.near c.in-Some.other (consumers p) old
+    c.ask-cutoff.new.labels c.loop-other.front.waiting
+    (omega (arith, c.in-Some.ensures.some.1, ap length c.deref-in-loop-other.ensures.value,
+    c.loop-other.invariant.bars.one_each)) c.loop-other.invariant.waiting asked waits
+    )
+
+pub note_label-requires-clause-waiting : goal.note_label-requires-clause-waiting
+note_label-requires-clause-waiting c =
+    let p = c.args.problem.now.columns in
+    let xs : List ℕ = c.args.placement.now.assign.items in
+    let prices : List ℕ = c.args.placement.now.prices.items in
+    let old : List Label = c.loop-other.front.labels.items in
+    let asked : IsAsked p c.args.entry xs prices (length_of c.loop-other.cutoff) c.args.near c.in-Some.other old
+    c.ask-cutoff.new.labels =
+    rw c.deref_mut.ensures.value at c.ask-cutoff.ensures.asked in
+    let written = with_items_is c.loop-other.front.labels c.ask-cutoff.new.labels
+    (c.ask-cutoff.ensures.asked.one_each ∙ c.deref_mut.ensures.len) in
+    λ d lt ne. rw written (
+    waiting_others (consumers p) old c.ask-cutoff.new.labels c.loop-other.front.waiting c.in-Some.other
+    c.loop-other.invariant.waiting asked.others d (omega (arith, lt, c.loop-other.invariant.bars.one_each)) ne
+    )

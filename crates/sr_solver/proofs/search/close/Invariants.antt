@@ -3,6 +3,7 @@ use Rattle.sr_transport.specs.{consumers}
 use Rattle.sr_solver.specs.Table.{IsTable}
 use Rattle.sr_solver.specs.Cutoff.{length_of, IsCutoff}
 use Rattle.sr_solver.specs.Bars.{AreBars}
+use Rattle.sr_solver.specs.Sets.{AreWaiting}
 use Rattle.sr_solver.specs.Labels.{label_at}
 use Rattle.sr_solver.proofs.BarLemmas.{IsBase}
 use Rattle.sr_solver.specs.Search.{IsClosed}
@@ -15,6 +16,7 @@ invariant-loop-other l = record {
       l.fn.front.labels.items
       l.front.labels.items l.near l.first;
   bars : AreBars l.problem.columns l.placement.prices.items (length_of l.cutoff) l.front.labels.items l.front.bars.items;
+  waiting : AreWaiting (consumers l.problem.columns) l.front.labels.items l.front.waiting;
   base : IsBase (slice_index l.placement.prices.items l.near) (label_at l.front.labels.items l.near).dist l.base;
   within : l.first ≤ consumers l.problem.columns;
   cutoff : IsCutoff l.problem.columns l.problem.steps.now l.placement.assign.items l.placement.prices.items l.front.labels.items

@@ -1,0 +1,52 @@
+//! Sets of consumers.
+
+/// Some of the consumers: a bit for each.
+#[derive(Clone, Copy)]
+pub struct ConsumerSet {
+    /// The bit of consumer c is 2^c.
+    pub bits: u64,
+}
+
+impl ConsumerSet {
+    ghost use Rattle.std.specs.Prelude.{◌≡◌, ℕ, ◌<◌, IfSome, IfNone};
+    ghost use Rattle.sr_transport.specs.Limits.{most_consumers};
+    ghost use Rattle.sr_solver.specs.Sets.{IsIn, IsWith, IsWithout};
+
+    /// No consumer.
+    pub fn none() -> ConsumerSet
+        ensures { (c : ℕ) → IsIn result c → ⊥ }
+    {
+        ConsumerSet { bits: 0 }
+    }
+
+    /// These, and this one.
+    pub fn with(self, consumer: usize) -> ConsumerSet
+        requires { consumer < most_consumers }
+        ensures { IsWith consumer self result }
+    {
+        ConsumerSet {
+            bits: self.bits | (1 << consumer),
+        }
+    }
+
+    /// These but for this one.
+    pub fn without(self, consumer: usize) -> ConsumerSet
+        requires { consumer < most_consumers }
+        ensures { IsWithout consumer self result }
+    {
+        ConsumerSet {
+            bits: self.bits & !(1 << consumer),
+        }
+    }
+
+    /// One of them, if there is any.
+    pub fn first(self) -> Option<usize>
+        ensures some { IfSome result (IsIn self) }
+        ensures none { IfNone result ((c : ℕ) → IsIn self c → ⊥) }
+    {
+        if self.bits == 0 {
+            return None;
+        }
+        Some(self.bits.trailing_zeros() as usize)
+    }
+}
