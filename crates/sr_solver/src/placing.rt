@@ -29,11 +29,8 @@ pub enum Progress {
 /// So many searches are never too many.
 const FEW_SEARCHES: usize = 16;
 
-/// More than one search for this many entries is too many, but for the last entries.
+/// More than one search for this many entries is too many, among the first half of them.
 const SEARCH_STEP: usize = 8;
-
-/// At the last entry more than one search for this many entries is too many.
-const LAST_STEP: usize = 4;
 
 /// Places the first entries, as long as each has a consumer that takes it, and gives how many these are.
 pub fn take_all(problem: &Stepped<'_>, placement: &mut Placement) -> usize
@@ -99,10 +96,9 @@ pub fn place_all(
     Progress::Placed
 }
 
-/// Whether this many searches up to an entry are too many. Late ones count less: most entries are placed by then.
+/// Whether this many searches up to an entry are too many. Once half of the entries are placed, none are.
 fn are_many(searches: usize, entry: usize, entries: usize) -> bool {
-    let late = entry.saturating_mul(entry) / entries.saturating_mul(LAST_STEP).max(1);
-    FEW_SEARCHES + entry / SEARCH_STEP < searches && late < searches
+    entry < entries / 2 && FEW_SEARCHES + entry / SEARCH_STEP < searches
 }
 
 /// Places an entry at a consumer that takes it, if there is one.

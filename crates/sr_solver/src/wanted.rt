@@ -1,45 +1,83 @@
 //! Which consumer an entry wants at given prices. No clause mentions it: only the order of placement depends on it.
-ghost use Rattle.std.specs.Prelude.{◌≡◌, ◌<◌, length, IfOk};
+ghost use Rattle.std.specs.Prelude.{◌≡◌, ◌<◌, length, IfOk, IfSome};
 ghost use Rattle.sr_transport.specs.{consumers};
 
 use sr_transport::Columns;
 use std::alloc::{AllocError, Global};
 
-/// How many entries want each consumer: cost and price are least for them there.
-pub fn crowds(alloc: Global, problem: &Columns<'_>, prices: &[u64]) -> Result<Vec<u64>, AllocError>
-    requires one_each { length prices.now ≡ consumers problem.now }
-    ensures { IfOk result (λ crowds. length crowds.items ≡ consumers problem.now) }
-{
-    let mut crowds = vec![in alloc; 0u64; problem.consumers()]?;
-    for entry in 0..problem.entries() {
-        join_crowds(problem, prices, entry, &mut crowds);
-    }
-    Ok(crowds)
+/// What entries want at some prices.
+#[derive(Drop)]
+pub struct Wishes {
+    /// How many entries want each consumer: cost and price are least for them there.
+    pub crowds: Vec<u64>,
+    /// The consumer that an entry wants, if it is one alone.
+    pub only: Vec<Option<usize>>,
 }
 
-/// Counts an entry at each consumer that it wants.
-fn join_crowds(problem: &Columns<'_>, prices: &[u64], entry: usize, crowds: &mut [u64])
+/// What the entries want.
+pub fn wishes_at(alloc: Global, problem: &Columns<'_>, prices: &[u64]) -> Result<Wishes, AllocError>
+    requires one_each { length prices.now ≡ consumers problem.now }
+    ensures { IfOk result (λ wishes. length wishes.crowds.items ≡ consumers problem.now) }
+{
+    let mut crowds = vec![in alloc; 0u64; problem.consumers()]?;
+    let mut only = Vec::with_capacity(alloc, problem.entries())?;
+    for entry in 0..problem.entries() {
+        only.push(join_crowds(problem, prices, entry, &mut crowds))?;
+    }
+    Ok(Wishes { crowds, only })
+}
+
+/// Counts an entry at each consumer that it wants, and gives the one, if it is one alone.
+fn join_crowds(
+    problem: &Columns<'_>,
+    prices: &[u64],
+    entry: usize,
+    crowds: &mut [u64],
+) -> Option<usize>
     requires entry { entry < problem.now.entries }
     requires prices_each { length prices.now ≡ consumers problem.now }
     requires crowds_each { length crowds.old ≡ consumers problem.now }
     ensures { length crowds.new ≡ length crowds.old }
 {
-    let least = least_sum(problem, prices, entry);
+    let least = least_of(problem, prices, entry);
+    if let Some(consumer) = least.only {
+        crowds[consumer] = crowds[consumer].saturating_add(1);
+        return Some(consumer);
+    }
     for (consumer, cost) in problem.costs(entry).iter().enumerate() {
-        if sum(*cost, prices[consumer]) == least {
+        if sum(*cost, prices[consumer]) == least.sum {
             crowds[consumer] = crowds[consumer].saturating_add(1);
         }
     }
+    None
+}
+
+/// The consumer that an entry wants, at the prices for which the wishes are.
+pub fn wanted(problem: &Columns<'_>, prices: &[u64], wishes: &Wishes, entry: usize) -> Option<usize>
+    requires entry { entry < problem.now.entries }
+    requires prices_each { length prices.now ≡ consumers problem.now }
+    requires crowds_each { length wishes.now.crowds.items ≡ consumers problem.now }
+{
+    let only = wishes.only.get(entry).copied().unwrap_or(None);
+    if only.is_some() {
+        return only;
+    }
+    wanted_of_several(problem, prices, &wishes.crowds, entry)
 }
 
 /// The consumer that an entry wants. Of several it is the one with the highest price that fewer entries want than it
 /// has room for, or else the one with the lowest.
-pub fn wanted(problem: &Columns<'_>, prices: &[u64], crowds: &[u64], entry: usize) -> Option<usize>
+fn wanted_of_several(
+    problem: &Columns<'_>,
+    prices: &[u64],
+    crowds: &[u64],
+    entry: usize,
+) -> Option<usize>
     requires entry { entry < problem.now.entries }
     requires prices_each { length prices.now ≡ consumers problem.now }
     requires crowds_each { length crowds.now ≡ consumers problem.now }
 {
-    let least = least_sum(problem, prices, entry);
+    let least = least_of(problem, prices, entry).sum;
     let mut lowest: Option<usize> = None;
     let mut free: Option<usize> = None;
     for (consumer, cost) in problem.costs(entry).iter().enumerate() {
@@ -62,14 +100,34 @@ fn price_at(prices: &[u64], consumer: Option<usize>) -> Option<u64> {
     prices.get(consumer?).copied()
 }
 
+/// The least sum of cost and price of an entry.
+#[derive(Clone, Copy)]
+struct Least {
+    sum: u64,
+    /// The consumer that has it, if it is one alone.
+    only: Option<usize>,
+}
+
 /// The least sum of cost and price over the consumers of an entry.
-fn least_sum(problem: &Columns<'_>, prices: &[u64], entry: usize) -> u64
+fn least_of(problem: &Columns<'_>, prices: &[u64], entry: usize) -> Least
     requires entry { entry < problem.now.entries }
     requires one_each { length prices.now ≡ consumers problem.now }
+    ensures { IfSome result.only (λ consumer. consumer < consumers problem.now) }
 {
-    let mut least = u64::MAX;
+    let mut least = Least {
+        sum: u64::MAX,
+        only: None,
+    };
     for (consumer, cost) in problem.costs(entry).iter().enumerate() {
-        least = least.min(sum(*cost, prices[consumer]));
+        let sum = sum(*cost, prices[consumer]);
+        if sum < least.sum {
+            least = Least {
+                sum,
+                only: Some(consumer),
+            };
+        } else if sum == least.sum {
+            least.only = None;
+        }
     }
     least
 }

@@ -227,8 +227,12 @@ note_label-requires-clause-still c =
     λ waits. rw written (
     waits_asked p c.args.entry xs prices (length_of c.loop-other.cutoff) c.args.near c.in-Some.other (consumers p) old
     c.ask-cutoff.new.labels c.loop-other.front.waiting
-    (omega (arith, c.in-Some.ensures.some.1, ap length c.deref-in-loop-other.ensures.value,
-    c.loop-other.invariant.bars.one_each)) c.loop-other.invariant.waiting asked waits
+    (omega (
+      arith,
+      c.in-Some.ensures.some.1,
+      ap length c.deref-in-loop-other.ensures.value,
+      c.loop-other.invariant.bars.one_each,
+    )) c.loop-other.invariant.waiting asked waits
     )
 
 pub note_label-requires-clause-waiting : goal.note_label-requires-clause-waiting

@@ -1,7 +1,7 @@
 use Rattle.std.proofs.Common.{length, ap, ◌∙◌, arith}
 use Rattle.std.proofs.lemmas.List.{take_at}
 use Rattle.std.proofs.lemmas.Result.{IfOk-from_err}
-use Rattle.sr_solver.proofs.wanted.crowds.Goals as goal
+use Rattle.sr_solver.proofs.wanted.wishes_at.Goals as goal
 
 pub returns-in_err-crowds : goal.returns-in_err-crowds
 returns-in_err-crowds c = IfOk-from_err _ _ c.from_residual.ensures.0
