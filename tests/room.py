@@ -64,6 +64,8 @@ FIGURES = [
     ("a pending entry", 87, delivered(), delivered("NOACK")),
     ("the record of a `PING`", 130, [["PING"]] * MANY, []),
     ("an `XADD s * f v`, its record and its entry", 220, added(), []),
+    ("the record of an `XADD s MAXLEN 1 * f v`", 328, added("MAXLEN", "1"), []),
+    ("the record of an `XACK s g 1-1`", 312, [["XACK", "s", "g", "1-1"]] * MANY, []),
 ]
 
 
