@@ -175,6 +175,7 @@ fn cut_bars(prices: &[u64], dist: u64, bars: &mut [u64])
 
 /// The first consumer from `first` on where an entry at `near` may come below the bar, by what the table knows; `None`
 /// if there is none. An entry would come there at its bound and `base`.
+#[inline(never)]
 pub fn next_below(
     near: usize,
     first: usize,

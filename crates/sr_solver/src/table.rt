@@ -201,6 +201,7 @@ fn look_up(
 }
 
 /// Looks through the entries at `from` for the one that costs least more at `to`.
+#[inline(never)]
 pub fn find(problem: &Columns<'_>, from: usize, to: usize, placement: &Placement) -> Bound
     requires limits { IsWithinLimits problem.now.rooms problem.now.entries problem.now.costs }
     requires every { length placement.now.assign.items ≡ problem.now.entries }
