@@ -513,12 +513,12 @@ row_in p w from xs held members limits same are lt =
     row_of p w (load xs) (IsAt xs p.entries) members from (from * w) limits (rw same are) lt refl
 
 pub first_in : (members : List ℕ) (row w n : ℕ) → IsRow members row w n
-    → (row < length members) × Fits w64 (row * 8) × Fits w64 row
+    → (row < length members) × Fits w64 (row * 2) × Fits w64 row
 first_in members row w n is =
     (omega (arith, is.fits, is.room), omega (arith, is.short, is.room), omega (arith, is.short, is.room))
 
 pub other_in : (members : List ℕ) (row w n place : ℕ) → IsRow members row w n → place < get_or members row 0
-    → (row + 1 + place < length members) × Fits w64 ((row + 1 + place) * 8) × Fits w64 (row + 1 + place)
+    → (row + 1 + place < length members) × Fits w64 ((row + 1 + place) * 2) × Fits w64 (row + 1 + place)
     × Fits w64 (row + 1)
 other_in members row w n place is lt =
     let within : row + 1 + place < length members = omega (arith, lt, is.count, is.fits, is.room) in

@@ -19,7 +19,7 @@ pub struct Placement {
     /// How many numbers a row of members has.
     pub width: usize,
     /// The entries that stand at each consumer: a row for each, which begins with how many follow.
-    pub members: Vec<usize>,
+    pub members: Vec<u16>,
 }
 
 /// No entry stands anywhere yet.
@@ -32,7 +32,7 @@ pub fn nowhere(alloc: Global, problem: &Stepped<'_>) -> Result<Placement, AllocE
     let assign = vec![in alloc; consumers; problem.columns.entries()]?;
     let prices = vec![in alloc; 0u64; consumers]?;
     let loads = vec![in alloc; 0u64; consumers]?;
-    let members = vec![in alloc; 0usize; consumers * width]?;
+    let members = vec![in alloc; 0u16; consumers * width]?;
     Ok(Placement {
         assign,
         prices,

@@ -122,8 +122,9 @@ fn look_through(problem: &Columns<'_>, from: usize, placement: &Placement, pairs
     let members = placement.members.as_slice();
     let row = from * placement.width;
     blank(problem, from, pairs);
-    for place in 0..members[row] {
-        arrive(problem, members[row + 1 + place], from, pairs);
+    for place in 0..members[row] as usize {
+        let entry = members[row + 1 + place] as usize;
+        arrive(problem, entry, from, pairs);
     }
 }
 
@@ -217,8 +218,8 @@ pub fn find(problem: &Columns<'_>, from: usize, to: usize, placement: &Placement
     let members = placement.members.as_slice();
     let row = from * placement.width;
     let mut found = Bound::none();
-    for place in 0..members[row] {
-        let other = members[row + 1 + place];
+    for place in 0..members[row] as usize {
+        let other = members[row + 1 + place] as usize;
         let here = problem.cost(other, from).unwrap();
         let there = problem.cost(other, to);
         found = lowered(found, other, here, there);
@@ -293,7 +294,7 @@ fn take_out(
     entry: usize,
     assign: &[usize],
     width: usize,
-    members: &mut [usize],
+    members: &mut [u16],
     table: &mut Table,
 )
     requires limits { IsWithinLimits problem.now.rooms problem.now.entries problem.now.costs }
@@ -320,7 +321,7 @@ fn bring_in(
     to: usize,
     assign: &[usize],
     width: usize,
-    members: &mut [usize],
+    members: &mut [u16],
     table: &mut Table,
 )
     requires limits { IsWithinLimits problem.now.rooms problem.now.entries problem.now.costs }
