@@ -1,12 +1,12 @@
 //! How near an entry has to come to a consumer to be of use in a search.
-ghost use Rattle.std.specs.Prelude.{◌≡◌, ℕ, ◌*◌, ◌<◌, ◌≤◌, ◌⊎◌, ◌↔◌, length, slice_index, IfOk, IfSome, IfNone, Some, None, false};
-ghost use Rattle.sr_solver.specs.Limits.{greatest_way, greatest_base};
+ghost use Rattle.std.specs.Prelude.{◌≡◌, ℕ, ◌+◌, ◌*◌, ◌<◌, ◌≤◌, ◌⊎◌, ◌↔◌, length, IsTrue, slice_index, IfOk, IfSome, IfNone, Some, None, false};
+ghost use Rattle.sr_solver.specs.Limits.{greatest_way, greatest_base, unbounded};
 ghost use Rattle.sr_solver.specs.Labels.{label_at, IsFarOrReached};
 ghost use Rattle.sr_solver.specs.Bars.{IsBar, AreBarsOf, AreCut, AreKeptOut};
 ghost use Rattle.sr_solver.specs.Cutoff.{IsNoLater};
 ghost use Rattle.sr_solver.specs.Sets.{IsIn, IsWaitingAt, AreWaiting};
 ghost use Rattle.sr_transport.specs.Limits.{most_consumers};
-ghost use Rattle.sr_solver.specs.Table.{IsSmallRow};
+ghost use Rattle.sr_solver.specs.Table.{bound_at, IsSmallRow};
 
 use crate::label::{FAR, Label};
 use crate::set::ConsumerSet;
@@ -174,7 +174,7 @@ fn cut_bars(prices: &[u64], dist: u64, bars: &mut [u64])
 }
 
 /// The first consumer from `first` on where an entry at `near` may come below the bar, by what the table knows; `None`
-/// if there is none. An entry would come there at its bound and `base`.
+/// if there is none. An entry would come there at its bound and `base`. Four are looked at in a row, as most are no use.
 #[inline(never)]
 pub fn next_below(
     near: usize,
@@ -193,11 +193,38 @@ pub fn next_below(
 {
     let row = near * bars.len();
     let mut other = first;
+    let fours = bars.len().saturating_sub(3);
+    while other < fours {
+        if is_below(row, other, base, pairs, bars) {
+            return Some(other);
+        }
+        if is_below(row, other + 1, base, pairs, bars) {
+            return Some(other + 1);
+        }
+        if is_below(row, other + 2, base, pairs, bars) {
+            return Some(other + 2);
+        }
+        if is_below(row, other + 3, base, pairs, bars) {
+            return Some(other + 3);
+        }
+        other += 4;
+    }
     while other < bars.len() {
-        if pairs[row + other].low + base < bars[other] {
+        if is_below(row, other, base, pairs, bars) {
             return Some(other);
         }
         other += 1;
     }
     None
+}
+
+/// Whether an entry may come to a consumer below its bar, by its bound in this row.
+fn is_below(row: usize, other: usize, base: u64, pairs: &[Bound], bars: &[u64]) -> bool
+    requires other { other < length bars.now }
+    requires pair { row + other < length pairs.now }
+    requires low { (bound_at pairs.now (row + other)).low ≤ unbounded }
+    requires base { base ≤ greatest_base }
+    ensures { IsTrue result ↔ (bound_at pairs.now (row + other)).low + base < slice_index bars.now other }
+{
+    pairs[row + other].low + base < bars[other]
 }

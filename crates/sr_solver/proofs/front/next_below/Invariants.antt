@@ -10,3 +10,12 @@ invariant-loop-other l = record {
 
 abbrev pub decreases-loop-other : goal.decreases-loop-other
 decreases-loop-other l = length l.bars - l.other
+
+abbrev pub invariant-loop-other-2 : goal.invariant-loop-other-2
+invariant-loop-other-2 l = record {
+  from : l.first ≤ l.other;
+  none : AreKeptOut l.near l.base l.pairs l.bars l.first l.other;
+}
+
+abbrev pub decreases-loop-other-2 : goal.decreases-loop-other-2
+decreases-loop-other-2 l = length l.bars - l.other
