@@ -10,7 +10,7 @@ use Rattle.sr_solver.specs.Limits.{greatest_way, greatest_base, lift}
 use Rattle.sr_solver.specs.Labels.{no_label, label_at}
 use Rattle.std.specs.Prelude.{IfSome}
 use Rattle.sr_solver.specs.Bars.{IsBar, AreBars, IsCutAt, AreCut}
-use Rattle.sr_solver.specs.Cutoff.{IsBeyond, IsNoLater}
+use Rattle.sr_solver.specs.Cutoff.{IsNoLater}
 
 -- the bar of a closed consumer is 0
 bar_closed : (price : ℕ) (label : Label) (cutoff : Option ℕ) → label.closed ≡ true → IsBar price label cutoff 0

@@ -44,6 +44,10 @@ pub record AreCut (prices : List ℕ) (dist : ℕ) (old new : List ℕ) : Type 0
   pub each : (c : ℕ) → c < length old
       → IsCutAt (slice_index prices c) dist (slice_index old c) (slice_index new c)
 
+-- an entry at t may come below the bar of consumer c, by what the pairs tell
+abbrev pub IsBelow : ℕ → ℕ → List Bound → List ℕ → ℕ → Type 0
+IsBelow t base pairs bars c = (bound_at pairs (t * length bars + c)).low + base < slice_index bars c
+
 -- at no consumer from `first` on and below `upto` does an entry at t come below the bar, by what the pairs tell
 abbrev pub AreKeptOut : ℕ → ℕ → List Bound → List ℕ → ℕ → ℕ → Type 0
 AreKeptOut t base pairs bars first upto =

@@ -1,6 +1,6 @@
 -- Sets of consumers: a number, and in it a bit for each consumer.
 
-use Rattle.std.specs.Prelude.{◌≡◌, ℕ, ◌<◌, ◌≤◌, ◌⊎◌, List, true, false}
+use Rattle.std.specs.Prelude.{◌≡◌, ℕ, ◌<◌, ◌⊎◌, List, false}
 use Rattle.std.specs.Int.{bit_at}
 use Rattle.sr_transport.specs.Limits.{most_consumers}
 use Rattle.sr_solver.specs.declared.label.Label.{Label}

@@ -1,8 +1,9 @@
 //! How near an entry has to come to a consumer to be of use in a search.
-ghost use Rattle.std.specs.Prelude.{◌≡◌, ℕ, ◌+◌, ◌*◌, ◌<◌, ◌≤◌, ◌⊎◌, ◌↔◌, length, IsTrue, slice_index, IfOk, IfSome, IfNone, Some, None, false};
+ghost use Rattle.std.specs.Prelude.{◌≡◌, ℕ, ◌+◌, ◌*◌, ◌<◌, ◌≤◌, ◌⊎◌, ◌↔◌, length, slice_index, IsTrue, IfOk};
+ghost use Rattle.std.specs.Prelude.{IfSome, IfNone, Some, None, false};
 ghost use Rattle.sr_solver.specs.Limits.{greatest_way, greatest_base, unbounded};
 ghost use Rattle.sr_solver.specs.Labels.{label_at, IsFarOrReached};
-ghost use Rattle.sr_solver.specs.Bars.{IsBar, AreBarsOf, AreCut, AreKeptOut};
+ghost use Rattle.sr_solver.specs.Bars.{IsBar, AreBarsOf, AreCut, IsBelow, AreKeptOut};
 ghost use Rattle.sr_solver.specs.Cutoff.{IsNoLater};
 ghost use Rattle.sr_solver.specs.Sets.{IsIn, IsWaitingAt, AreWaiting};
 ghost use Rattle.sr_transport.specs.Limits.{most_consumers};
@@ -21,8 +22,8 @@ pub const LIFT: u64 = 1 << 62;
 pub struct Front {
     /// The label of each consumer.
     pub labels: Vec<Label>,
-    /// The bar of each consumer: a path that would come there at its bar or above, `LIFT` added and the price taken off,
-    /// is no shorter than the one that is known, or than the cutoff.
+    /// The bar of each consumer: a path that would come there at its bar or above, with `LIFT` added and without the
+    /// price, is no shorter than the one that is known, or than the cutoff.
     pub bars: Vec<u64>,
     /// The consumers that are reached, and not closed.
     pub waiting: ConsumerSet,
@@ -43,7 +44,7 @@ pub fn fresh_front(alloc: Global, consumers: usize) -> Result<Front, AllocError>
 
 /// The bar of a consumer with this label and this price: 0 once it is closed, and else where a path would be as long as
 /// the one that is known, or as the cutoff, if that is less.
-pub fn bar_of(label: Label, price: u64, cutoff: Option<u64>) -> u64
+fn bar_of(label: Label, price: u64, cutoff: Option<u64>) -> u64
     requires label { IsFarOrReached label }
     requires price { price ≤ greatest_way }
     requires cutoff { IfSome cutoff (λ d. d ≤ greatest_way) }
@@ -106,8 +107,8 @@ fn with_label(set: ConsumerSet, consumer: usize, label: Label) -> ConsumerSet
     set.with(consumer)
 }
 
-/// Notes that a consumer has another label, and that the cutoff may have fallen: sets its bar, and whether it waits, and
-/// lowers the bars of all.
+/// Notes that a consumer has another label, and that the cutoff may have fallen: sets its bar, and whether it waits,
+/// and lowers the bars of all.
 pub fn note_label(
     consumer: usize,
     prices: &[u64],
@@ -174,7 +175,10 @@ fn cut_bars(prices: &[u64], dist: u64, bars: &mut [u64])
 }
 
 /// The first consumer from `first` on where an entry at `near` may come below the bar, by what the table knows; `None`
-/// if there is none. An entry would come there at its bound and `base`. Four are looked at in a row, as most are no use.
+/// if there is none. An entry would come there at its bound and `base`.
+///
+/// Four are looked at in a row, as most are at their bars or above. It is not inlined: within its caller the loop is
+/// slower.
 #[inline(never)]
 pub fn next_below(
     near: usize,
@@ -188,7 +192,8 @@ pub fn next_below(
     requires small { IsSmallRow (length bars.now) near pairs.now }
     requires base { base ≤ greatest_base }
     ensures some { IfSome result (λ other. (first ≤ other) × (other < length bars.now)
-        × AreKeptOut near base pairs.now bars.now first other) }
+        × AreKeptOut near base pairs.now bars.now first other
+        × IsBelow near base pairs.now bars.now other) }
     ensures none { IfNone result (AreKeptOut near base pairs.now bars.now first (length bars.now)) }
 {
     let row = near * bars.len();

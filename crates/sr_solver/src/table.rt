@@ -201,7 +201,8 @@ fn look_up(
     find_in_groups(problem, from, to, placement, table.groups, &mut table.lows)
 }
 
-/// Looks through the entries at `from` for the one that costs least more at `to`.
+/// Looks through the entries at `from` for the one that costs least more at `to`. It is not inlined: within its caller
+/// the loop is slower.
 #[inline(never)]
 pub fn find(problem: &Columns<'_>, from: usize, to: usize, placement: &Placement) -> Bound
     requires limits { IsWithinLimits problem.now.rooms problem.now.entries problem.now.costs }

@@ -1,4 +1,4 @@
-use Rattle.std.proofs.Common.{◌≡◌, w64, sym, ◌∙◌, inl, inr, arith}
+use Rattle.std.proofs.Common.{w64, sym, ◌∙◌, inl, inr, arith}
 use Rattle.std.proofs.lemmas.Bool.{cases_eq}
 use Rattle.std.proofs.lemmas.Nat.Bits.{bit_at_set_same, bit_at_set_other}
 use Rattle.sr_solver.proofs.set.ConsumerSet.with.Goals as goal
