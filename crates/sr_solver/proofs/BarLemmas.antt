@@ -9,7 +9,7 @@ use Rattle.sr_solver.specs.declared.label.Label.{Label}
 use Rattle.sr_solver.specs.Limits.{greatest_way, greatest_base, lift}
 use Rattle.sr_solver.specs.Labels.{no_label, label_at}
 use Rattle.std.specs.Prelude.{IfSome}
-use Rattle.sr_solver.specs.Bars.{IsBar, AreBars, IsCutAt, AreCut}
+use Rattle.sr_solver.specs.Bars.{IsBar, AreBars, IsCutAt, AreCut, AreBarsBut}
 use Rattle.sr_solver.specs.Cutoff.{IsNoLater}
 
 -- the bar of a closed consumer is 0
@@ -73,8 +73,7 @@ bar_cut price label before dist old new later cut is = record {
 -- the bars once that of consumer b was set, where the cutoff stays
 pub bars_noted : (prices : List ℕ) (cutoff : Option ℕ) (labels : List Label) (bars : List ℕ) (b bar : ℕ)
     → b < length bars → IsBar (get_or prices b 0) (label_at labels b) cutoff bar
-    → ((c : ℕ) → c < length bars → (c ≡ b → ⊥)
-    → IsBar (get_or prices c 0) (label_at labels c) cutoff (get_or bars c 0))
+    → AreBarsBut (length bars) b prices cutoff labels bars
     → (c : ℕ) → c < length bars → IsBar (get_or prices c 0) (label_at labels c) cutoff (get_or (set bars b bar) c 0)
 bars_noted prices cutoff labels bars b bar lt here others c ltc = elim (cases_eq c b) [
   | inl e ↦ rw (e, get_or-set_same bars b bar 0 lt) here
@@ -98,8 +97,7 @@ none_before (Some dist) later = absurd (later 0 dist (omega arith))
 pub bars_lowered : (prices : List ℕ) (before cutoff : Option ℕ) (labels : List Label) (bars new : List ℕ) (b bar : ℕ)
     → IsNoLater before cutoff → b < length bars
     → IsBar (get_or prices b 0) (label_at labels b) cutoff bar
-    → ((c : ℕ) → c < length bars → (c ≡ b → ⊥)
-    → IsBar (get_or prices c 0) (label_at labels c) before (get_or bars c 0))
+    → AreBarsBut (length bars) b prices before labels bars
     → (cutoff ≡ before → new ≡ set bars b bar) → (cutoff ≡ None → new ≡ set bars b bar)
     → ((d : ℕ) → cutoff ≡ Some d → (before ≡ Some d → ⊥) → AreCut prices d (set bars b bar) new)
     → (c : ℕ) → c < length bars → IsBar (get_or prices c 0) (label_at labels c) cutoff (get_or new c 0)
@@ -129,7 +127,7 @@ bars_lowered prices before (Some dist) labels bars new b bar later lt here other
 -- consumer b alone has a new label
 pub bars_others : (p : Transport) (prices : List ℕ) (cutoff : Option ℕ) (old new : List Label) (bars : List ℕ) (b : ℕ)
     → AreBars p prices cutoff old bars → ((d : ℕ) → (d ≡ b → ⊥) → label_at new d ≡ label_at old d)
-    → (c : ℕ) → c < length bars → (c ≡ b → ⊥) → IsBar (get_or prices c 0) (label_at new c) cutoff (get_or bars c 0)
+    → AreBarsBut (length bars) b prices cutoff new bars
 bars_others p prices cutoff old new bars b are others c lt ne =
     rw (others c ne) (are.each c (omega (arith, lt, are.one_each)))
 

@@ -1,5 +1,5 @@
 -- The set of those that wait, as it is walked through for the nearest.
-use Rattle.std.proofs.Common.{◌≡◌, ℕ, ◌<◌, ◌≤◌, ◌⊎◌, true, false, List, length, Option, Some, None, sym, ◌∙◌, inl, inr, arith}
+use Rattle.std.proofs.Common.{◌≡◌, ℕ, ◌<◌, ◌≤◌, ◌⊎◌, true, List, length, Option, Some, None, sym, ◌∙◌, inl, inr, arith}
 use Rattle.std.specs.Prelude.{IfSome, IfNone}
 use Rattle.std.proofs.Math.ListN.{set}
 use Rattle.std.proofs.lemmas.List.{get_or-set_same, get_or-set_other}
@@ -8,7 +8,7 @@ use Rattle.sr_transport.specs.{Transport}
 use Rattle.sr_solver.specs.declared.label.Label.{Label}
 use Rattle.sr_solver.specs.declared.set.ConsumerSet.{ConsumerSet}
 use Rattle.sr_solver.specs.Labels.{no_label, label_at}
-use Rattle.sr_solver.specs.Sets.{IsIn, IsWithout, IsWaitingAt, AreWaiting}
+use Rattle.sr_solver.specs.Sets.{IsIn, IsWithout, AreWaiting, AreWaitingBut}
 use Rattle.sr_solver.specs.Search.{IsNearestOf, AreAllClosedOf, IsAsked}
 use Rattle.sr_solver.proofs.CutoffLemmas.{cases_bool}
 
@@ -85,18 +85,15 @@ waiting_closing n labels old new t label lt closed without are = record {
   ];
 }
 
--- a consumer that waits does so after it was asked
-pub waits_asked : (p : Transport) (k : ℕ) (xs prices : List ℕ) (cutoff : Option ℕ) (t b n : ℕ) (old new : List Label)
+-- consumer b was asked
+pub waiting_asked : (p : Transport) (k : ℕ) (xs prices : List ℕ) (cutoff : Option ℕ) (t b n : ℕ) (old new : List Label)
     (set : ConsumerSet)
-    → b < n → AreWaiting n old set → IsAsked p k xs prices cutoff t b old new → IsIn set b
-    → (0 < (label_at new b).hops) × ((label_at new b).closed ≡ false)
-waits_asked p k xs prices cutoff t b n old new set lt are asked is = elim asked.here [
-  | inl left ↦ rw left.same ((are.at b lt).waits is)
-  | inr fresh ↦ (omega (arith, fresh.hops), fresh.still_open)
-]
-
--- and the others are as before
-pub waiting_others : (n : ℕ) (old new : List Label) (set : ConsumerSet) (b : ℕ)
-    → AreWaiting n old set → ((d : ℕ) → (d ≡ b → ⊥) → label_at new d ≡ label_at old d)
-    → (c : ℕ) → c < n → (c ≡ b → ⊥) → IsWaitingAt (label_at new c) set c
-waiting_others n old new set b are others c lt ne = rw (others c ne) (are.at c lt)
+    → b < n → AreWaiting n old set → IsAsked p k xs prices cutoff t b old new → AreWaitingBut n b new set
+waiting_asked p k xs prices cutoff t b n old new set lt are asked = record {
+  within = are.within;
+  at = λ c ltc ne. rw (asked.others c ne) (are.at c ltc);
+  still = λ is. elim asked.here [
+    | inl left ↦ rw left.same ((are.at b lt).waits is)
+    | inr fresh ↦ (omega (arith, fresh.hops), fresh.still_open)
+  ];
+}

@@ -27,6 +27,12 @@ abbrev pub AreBarsOf : ℕ → List ℕ → Option ℕ → List Label → List �
 AreBarsOf n prices cutoff labels bars =
     (c : ℕ) → c < n → IsBar (slice_index prices c) (label_at labels c) cutoff (slice_index bars c)
 
+-- the same, but for consumer b
+abbrev pub AreBarsBut : ℕ → ℕ → List ℕ → Option ℕ → List Label → List ℕ → Type 0
+AreBarsBut n b prices cutoff labels bars =
+    (c : ℕ) → c < n → (c ≡ b → ⊥)
+    → IsBar (slice_index prices c) (label_at labels c) cutoff (slice_index bars c)
+
 -- the bars of all
 pub record AreBars (p : Transport) (prices : List ℕ) (cutoff : Option ℕ) (labels : List Label) (bars : List ℕ) : Type 0
   where

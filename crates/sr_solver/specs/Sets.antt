@@ -33,3 +33,9 @@ pub record IsWaitingAt (label : Label) (set : ConsumerSet) (c : ℕ) : Type 0 wh
 pub record AreWaiting (n : ℕ) (labels : List Label) (set : ConsumerSet) : Type 0 where
   pub within : (c : ℕ) → IsIn set c → c < n
   pub at : (c : ℕ) → c < n → IsWaitingAt (label_at labels c) set c
+
+-- the same, but for consumer b, which may have been reached since; it still waits, if it did
+pub record AreWaitingBut (n b : ℕ) (labels : List Label) (set : ConsumerSet) : Type 0 where
+  pub within : (c : ℕ) → IsIn set c → c < n
+  pub at : (c : ℕ) → c < n → (c ≡ b → ⊥) → IsWaitingAt (label_at labels c) set c
+  pub still : IsIn set b → (0 < (label_at labels b).hops) × ((label_at labels b).closed ≡ false)

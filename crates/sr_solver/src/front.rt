@@ -3,9 +3,9 @@ ghost use Rattle.std.specs.Prelude.{◌≡◌, ℕ, ◌+◌, ◌*◌, ◌<◌, �
 ghost use Rattle.std.specs.Prelude.{IfSome, IfNone, Some, None, false};
 ghost use Rattle.sr_solver.specs.Limits.{greatest_way, greatest_base, unbounded};
 ghost use Rattle.sr_solver.specs.Labels.{label_at, IsFarOrReached};
-ghost use Rattle.sr_solver.specs.Bars.{IsBar, AreBarsOf, AreCut, IsBelow, AreKeptOut};
+ghost use Rattle.sr_solver.specs.Bars.{IsBar, AreBarsOf, AreBarsBut, AreCut, IsBelow, AreKeptOut};
 ghost use Rattle.sr_solver.specs.Cutoff.{IsNoLater};
-ghost use Rattle.sr_solver.specs.Sets.{IsIn, IsWaitingAt, AreWaiting};
+ghost use Rattle.sr_solver.specs.Sets.{IsIn, IsWaitingAt, AreWaiting, AreWaitingBut};
 ghost use Rattle.sr_transport.specs.Limits.{most_consumers};
 ghost use Rattle.sr_solver.specs.Table.{bound_at, IsSmallRow};
 
@@ -124,14 +124,10 @@ pub fn note_label(
     requires low { (c : ℕ) → c < length front.old.bars.items → slice_index prices.now c ≤ greatest_way }
     requires cutoff { IfSome cutoff (λ d. d ≤ greatest_way) }
     requires later { IsNoLater before cutoff }
-    requires others { (c : ℕ) → c < length front.old.bars.items → (c ≡ consumer → ⊥)
-        → IsBar (slice_index prices.now c) (label_at front.old.labels.items c) before
-        (slice_index front.old.bars.items c) }
-    requires within { (c : ℕ) → IsIn front.old.waiting c → c < length front.old.bars.items }
-    requires still { IsIn front.old.waiting consumer → (0 < (label_at front.old.labels.items consumer).hops)
-        × ((label_at front.old.labels.items consumer).closed ≡ false) }
-    requires waiting { (c : ℕ) → c < length front.old.bars.items → (c ≡ consumer → ⊥)
-        → IsWaitingAt (label_at front.old.labels.items c) front.old.waiting c }
+    requires others { AreBarsBut (length front.old.bars.items) consumer prices.now before front.old.labels.items
+        front.old.bars.items }
+    requires waiting { AreWaitingBut (length front.old.bars.items) consumer front.old.labels.items
+        front.old.waiting }
     ensures labels { front.new.labels ≡ front.old.labels }
     ensures length { length front.new.bars.items ≡ length front.old.bars.items }
     ensures bars { AreBarsOf (length front.old.bars.items) prices.now cutoff front.new.labels.items

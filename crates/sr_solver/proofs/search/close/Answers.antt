@@ -10,7 +10,7 @@ use Rattle.sr_solver.proofs.CloseLemmas.{closed_start, cutoff_closing, closed_ro
 use Rattle.sr_solver.proofs.OfferLemmas.{asked_stays, closed_passed, closed_ask, closed_cut, price_small, way_small}
 use Rattle.sr_solver.proofs.OfferLemmas.{far_or_reached}
 use Rattle.sr_solver.specs.Search.{IsAsked}
-use Rattle.sr_solver.proofs.SetLemmas.{waiting_closing, waits_asked, waiting_others}
+use Rattle.sr_solver.proofs.SetLemmas.{waiting_closing, waiting_asked}
 use Rattle.sr_solver.proofs.search.close.Goals as goal
 
 pub ask-cutoff-requires-clause-entry : goal.ask-cutoff-requires-clause-entry
@@ -209,32 +209,6 @@ returns-clause-round c =
 pub note_label-requires-clause-few : goal.note_label-requires-clause-few
 note_label-requires-clause-few c = rw c.loop-other.invariant.bars.one_each c.requires.standing.are_steps.few
 
-pub note_label-requires-clause-within : goal.note_label-requires-clause-within
-note_label-requires-clause-within c = λ d is.
-    rw c.loop-other.invariant.bars.one_each (c.loop-other.invariant.waiting.within d is)
-
-pub note_label-requires-clause-still : goal.note_label-requires-clause-still
-note_label-requires-clause-still c =
-    let p = c.args.problem.now.columns in
-    let xs : List ℕ = c.args.placement.now.assign.items in
-    let prices : List ℕ = c.args.placement.now.prices.items in
-    let old : List Label = c.loop-other.front.labels.items in
-    let asked : IsAsked p c.args.entry xs prices (length_of c.loop-other.cutoff) c.args.near c.in-Some.other old
-    c.ask-cutoff.new.labels =
-    rw c.deref_mut.ensures.value at c.ask-cutoff.ensures.asked in
-    let written = with_items_is c.loop-other.front.labels c.ask-cutoff.new.labels
-    (c.ask-cutoff.ensures.asked.one_each ∙ c.deref_mut.ensures.len) in
-    λ waits. rw written (
-    waits_asked p c.args.entry xs prices (length_of c.loop-other.cutoff) c.args.near c.in-Some.other (consumers p) old
-    c.ask-cutoff.new.labels c.loop-other.front.waiting
-    (omega (
-      arith,
-      c.in-Some.ensures.some.1,
-      ap length c.deref-in-loop-other.ensures.value,
-      c.loop-other.invariant.bars.one_each,
-    )) c.loop-other.invariant.waiting asked waits
-    )
-
 pub note_label-requires-clause-waiting : goal.note_label-requires-clause-waiting
 note_label-requires-clause-waiting c =
     let p = c.args.problem.now.columns in
@@ -246,7 +220,13 @@ note_label-requires-clause-waiting c =
     rw c.deref_mut.ensures.value at c.ask-cutoff.ensures.asked in
     let written = with_items_is c.loop-other.front.labels c.ask-cutoff.new.labels
     (c.ask-cutoff.ensures.asked.one_each ∙ c.deref_mut.ensures.len) in
-    λ d lt ne. rw written (
-    waiting_others (consumers p) old c.ask-cutoff.new.labels c.loop-other.front.waiting c.in-Some.other
-    c.loop-other.invariant.waiting asked.others d (omega (arith, lt, c.loop-other.invariant.bars.one_each)) ne
+    rw (written, c.loop-other.invariant.bars.one_each) (
+    waiting_asked p c.args.entry xs prices (length_of c.loop-other.cutoff) c.args.near c.in-Some.other (consumers p) old
+    c.ask-cutoff.new.labels c.loop-other.front.waiting
+    (omega (
+      arith,
+      c.in-Some.ensures.some.1,
+      ap length c.deref-in-loop-other.ensures.value,
+      c.loop-other.invariant.bars.one_each,
+    )) c.loop-other.invariant.waiting asked
     )
