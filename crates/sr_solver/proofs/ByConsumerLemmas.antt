@@ -29,7 +29,6 @@ use Rattle.sr_solver.specs.declared.stepped.Step.{Step}
 use Rattle.sr_solver.specs.Steps.{step_at, next_fee, AreSteps}
 use Rattle.sr_solver.specs.Answered.{IsPriced}
 use Rattle.sr_solver.specs.ByConsumer.{AreRoomsOf, AreStepsOf, AreByTier}
-use Rattle.sr_solver.proofs.ChargeLemmas.{first_is}
 use Rattle.sr_solver.proofs.OrderLemmas.{list_same}
 use Rattle.sr_solver.proofs.StepLemmas.{fee_first, fee_beyond}
 
@@ -50,6 +49,12 @@ push_length xs x n many = omega (arith, length-append xs (x ∷ []), many)
 -- the problem over consumers
 abbrev pub over : Tiered → List ℕ → Transport
 over p rooms = record { rooms = rooms; entries = p.entries; costs = p.costs }
+
+pub over_is : (p : Tiered) (q : Transport) (given rooms : List ℕ) (entries : ℕ) (costs : List (Option ℕ))
+    → q ≡ record { rooms = given; entries = entries; costs = costs } → given ≡ rooms → entries ≡ p.entries
+    → costs ≡ p.costs → q ≡ over p rooms
+over_is p q given rooms entries costs is same_rooms same_entries same_costs =
+    rw (is, same_rooms, same_entries, same_costs) refl
 
 -- its limits
 small_charge : (cost : Option ℕ) → IfSome cost (λ c. c ≤ greatest_cost) → IfSome cost (λ c. c ≤ greatest_charge)
@@ -90,50 +95,6 @@ over_steps p rooms s limits rooms_are are = record {
       );
   small = λ c lt. (are.each c (omega (arith, lt, rooms_are.one_each))).small;
 }
-
--- the tier after the last is no consumer's
-no_next : (p : Tiered) (c : ℕ) → AreTiers p.takers p.tiers → length p.tiers ≡ p.takers → c < p.takers
-    → room_in p.tiers c (first_in p.tiers c + 1) ≡ 0
-no_next p c are one lt =
-    elim (cases_lt (first_in p.tiers c + 1) (length p.tiers)) [
-      | inl within ↦
-          let first = first_is p.takers p.tiers c are one lt in
-          let next : c + 1 < p.takers = omega (arith, within, first, one) in
-          let here : first_in p.tiers (c + 1) ≡ first_in p.tiers c + 1 =
-          first_is p.takers p.tiers (c + 1) are one next ∙ ap (λ n. n + 1) (sym first) in
-          let own : (tier_at p.tiers (first_in p.tiers c + 1)).consumer ≡ c + 1 =
-          rw here at (are.first (c + 1) next).own in
-          room_in-other p.tiers c (first_in p.tiers c + 1) (λ e. omega (arith, own, e))
-      | inr past ↦ room_in-past p.tiers c (first_in p.tiers c + 1) past
-    ]
-
--- if each consumer has one tier, the rooms are those of the tiers
-pub rooms_one_each : (p : Tiered) (rooms : List ℕ) → IsWithinLimits p.tiers p.takers p.entries p.costs
-    → length p.tiers ≡ p.takers → AreRoomsOf p rooms → rooms ≡ (by_tier p).rooms
-rooms_one_each p rooms limits one are =
-    list_same rooms (by_tier p).rooms 0 (are.one_each ∙ sym (columns-length p ∙ one))
-    (λ c lt.
-    let taker : c < p.takers = omega (arith, lt, are.one_each) in
-    let first = first_is p.takers p.tiers c limits.are_tiers one taker in
-    let next : room_in p.tiers c (first_in p.tiers c + 1) ≡ 0 = no_next p c limits.are_tiers one taker in
-    let room : (tier_at p.tiers (first_in p.tiers c)).room ≡ (tier_at p.tiers c).room =
-    ap (λ t. (tier_at p.tiers t).room) first in
-    omega (
-      arith,
-      are.each c taker,
-      room_of-tiers p c limits.are_tiers taker,
-      next,
-      room,
-      room_of-by_tier p c (omega (arith, taker, one)),
-      (tier_small p.tiers c limits.small_tiers).room,
-    ))
-
--- that is the problem by tier
-pub by_tier_over : (p : Tiered) (rooms : List ℕ) → rooms ≡ (by_tier p).rooms → charges p ≡ p.costs → by_tier p ≡ over p rooms
-by_tier_over p rooms same_rooms same_costs =
-    let of_rooms : List ℕ → Transport = λ r. record { rooms = r; entries = p.entries; costs = charges p } in
-    let of_costs : List (Option ℕ) → Transport = λ k. record { rooms = rooms; entries = p.entries; costs = k } in
-    ap of_rooms (sym same_rooms) ∙ ap of_costs same_costs
 
 -- costs and consumers are the same
 over_cost : (p : Tiered) (rooms : List ℕ) → AreRoomsOf p rooms → (i c : ℕ)

@@ -10,7 +10,7 @@ use Rattle.sr_solver.specs.declared.search.End.{End}
 use Rattle.sr_solver.specs.declared.stepped.Step.{Step}
 use Rattle.sr_solver.specs.Labels.{no_label, label_at, open_count, priced}
 use Rattle.sr_solver.specs.Search.{IsWithin, IsSearch, IsNearest, IsRound, IsClosed}
-use Rattle.sr_solver.specs.Cutoff.{IsPast, IsCutoff}
+use Rattle.sr_solver.specs.Cutoff.{length_of, IsBeyond, IsCutoff}
 use Rattle.sr_solver.proofs.LabelLemmas.{open_count-set_closed, IsSameWay, way_kept, same_way}
 
 -- the labels before and after consumer t is closed
@@ -137,7 +137,7 @@ closed_start p k xs prices cutoff old t label search nearest same is_closed =
 pub cutoff_closing : (p : Transport) (s : List Step) (xs prices : List ℕ) (old : List Label) (t : ℕ) (label : Label)
     (cutoff : Option End)
     → t < length old → (label_at old t).closed ≡ false → IsSameWay (label_at old t) label → label.closed ≡ true
-    → (IsPast cutoff (label_at old t).dist → ⊥)
+    → (IsBeyond (length_of cutoff) 0 (label_at old t).dist → ⊥)
     → IsCutoff p s xs prices old (consumers p) cutoff → IsCutoff p s xs prices (set old t label) (consumers p) cutoff
 cutoff_closing p s xs prices old t label None lt was_open same is_closed nearer is =
     let done : IsClosing t old (set old t label) = closing t old label lt was_open same is_closed in
@@ -156,12 +156,29 @@ cutoff_closing p s xs prices old t label (Some end) lt was_open same is_closed n
         | inl e ↦ rw e (
             elim (cases_lt (label_at old t).dist end.dist) [
               | inl below ↦ omega (arith, below, (done.same t).dist)
-              | inr past ↦ absurd (nearer past)
+              | inr past ↦ absurd (nearer (omega (arith, past)))
             ]
             )
         | inr was ↦ omega (arith, is.passed c ltc was, (done.same c).dist)
       ];
     }
+
+-- where entries were offered to some consumers, they were offered to none at least
+pub search_none : (p : Transport) (k : ℕ) (xs prices : List ℕ) (cutoff : Option ℕ) (labels : List Label) (t upto : ℕ)
+    → IsSearch p k xs prices cutoff labels t upto → IsSearch p k xs prices cutoff labels t 0
+search_none p k xs prices cutoff labels t upto search = record {
+  one_each = search.one_each;
+  way = search.way;
+  long = search.long;
+  few = search.few;
+  few_closed = search.few_closed;
+  reached = search.reached;
+  nearer = search.nearer;
+  latest = search.latest;
+  unreached = search.unreached;
+  new_offered = search.new_offered;
+  offered = λ i c lt now within allowed. search.offered i c lt now (λ here. absurd (omega (arith, within here))) allowed;
+}
 
 -- once all consumers were asked, a round is over
 pub closed_round : (p : Transport) (k : ℕ) (xs prices : List ℕ) (cutoff : Option ℕ) (labels : List Label) (t upto : ℕ)

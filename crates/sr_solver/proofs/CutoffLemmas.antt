@@ -14,8 +14,8 @@ use Rattle.sr_solver.specs.declared.stepped.Step.{Step}
 use Rattle.sr_solver.specs.Labels.{label_at}
 use Rattle.sr_solver.specs.Steps.{next_fee, AreSteps}
 use Rattle.sr_solver.specs.Placed.{AreLevel, AreLoads}
-use Rattle.sr_solver.specs.Cutoff.{IsBeyond, IsNoLater, length_of, IsPast, IsShortest, AreFull, IsCutoff, IsCut}
-use Rattle.sr_solver.specs.Search.{IsSearch, IsRound, IsNearest, AreAllClosed, IsFound}
+use Rattle.sr_solver.specs.Cutoff.{IsBeyond, IsNoLater, length_of, IsShortest, AreFull, IsCutoff, IsCut}
+use Rattle.sr_solver.specs.Search.{IsSearch, IsRound, AreDoneOf, IsFound}
 use Rattle.sr_solver.proofs.StepLemmas.{fee_small}
 
 -- a path that is no shorter lies beyond, too
@@ -239,28 +239,26 @@ cutoff_cut p s xs prices old new b m n (Some gap) (Some end) next re one at low 
           )
     ]
 
--- the search ends where the nearest open consumer is past the cutoff
-pub found_past : (p : Transport) (s : List Step) (k : ℕ) (xs prices : List ℕ) (labels : List Label) (near : ℕ)
+-- the search ends where each consumer that is reached is closed, or no nearer than the cutoff
+pub found_done : (p : Transport) (s : List Step) (k : ℕ) (xs prices : List ℕ) (labels : List Label)
     (cutoff : Option End)
     → IsRound p k xs prices (length_of cutoff) labels → IsCutoff p s xs prices labels (consumers p) cutoff
-    → IsNearest p labels near → IsPast cutoff (label_at labels near).dist → IsFound p s k xs prices labels cutoff
-found_past p s k xs prices labels near None round is nearest past = absurd past
-found_past p s k xs prices labels near (Some end) round is nearest past = record {
+    → AreDoneOf (consumers p) (length_of cutoff) labels → IsFound p s k xs prices labels cutoff
+found_done p s k xs prices labels None round is done = record {
   search = round;
-  shortest = is;
-  far = λ c lt up is_open. omega (arith, nearest.least c lt up is_open, past);
+  all_closed = λ c lt up. elim (done c lt up) [
+    | inl closed ↦ closed
+    | inr beyond ↦ absurd beyond
+  ];
+  full = is;
 }
-
--- or where no consumer is open
-pub found_closed : (p : Transport) (s : List Step) (k : ℕ) (xs prices : List ℕ) (labels : List Label)
-    (cutoff : Option End)
-    → IsRound p k xs prices (length_of cutoff) labels → IsCutoff p s xs prices labels (consumers p) cutoff
-    → AreAllClosed p labels → IsFound p s k xs prices labels cutoff
-found_closed p s k xs prices labels None round is closed = record { search = round; all_closed = closed; full = is }
-found_closed p s k xs prices labels (Some end) round is closed = record {
+found_done p s k xs prices labels (Some end) round is done = record {
   search = round;
   shortest = is;
-  far = λ c lt up is_open. absurd (false≢true (sym is_open ∙ closed c lt up));
+  far = λ c lt up is_open. elim (done c lt up) [
+    | inl closed ↦ absurd (false≢true (sym is_open ∙ closed))
+    | inr beyond ↦ omega (arith, beyond)
+  ];
 }
 
 -- the price of a consumer with room is no greater than the fee of the next place, as the lists were read

@@ -1,39 +1,12 @@
--- Labels: what an offer leaves, how many are open, and what stays of a way.
-use Rattle.std.proofs.Common.{◌≡◌, ℕ, suc, ◌+◌, ◌<◌, ◌≤◌, ◌⊎◌, Bool, true, false, not, cond, List, [], ◌∷◌, length}
-use Rattle.std.proofs.Common.{get_or, Option, Some, None, refl, ap, ◌∙◌, inl, inr, arith}
-use Rattle.std.specs.Prelude.{IsSome, unwrap_or}
+-- Labels: how many are open, and what stays of a way.
+use Rattle.std.proofs.Common.{◌≡◌, ℕ, suc, ◌+◌, ◌<◌, ◌≤◌, Bool, true, false, not, cond, List, [], ◌∷◌, length}
+use Rattle.std.proofs.Common.{get_or, refl, ap, ◌∙◌, inl, inr, arith}
 use Rattle.std.proofs.Math.ListN.{set}
-use Rattle.std.proofs.lemmas.Bool.{false≢true}
 use Rattle.std.proofs.lemmas.List.Sums.{sum_by-set, sum_by-cons, count_by-le-length}
 use Rattle.sr_transport.specs.{Transport}
 use Rattle.sr_solver.specs.declared.label.Label.{Label}
-use Rattle.sr_solver.specs.declared.label.Offer.{Offer}
 use Rattle.sr_solver.specs.Labels.{no_label, label_at, open_count}
-use Rattle.sr_solver.specs.Cutoff.{IsBeyond}
-use Rattle.sr_solver.specs.Offers.{IsTaken, IsOffered}
 use Rattle.sr_solver.specs.Search.{IsWay}
-
--- the offer left the label as it was
-pub record IsLeft (cost : Option ℕ) (price : ℕ) (offer : Offer) (old new : Label) : Type 0 where
-  pub same : new ≡ old
-  pub no_nearer : IsSome cost
-      → (old.closed ≡ true)
-      ⊎ ((0 < old.hops) × (old.dist + offer.base ≤ offer.dist + (unwrap_or cost 0 + price)))
-      ⊎ IsBeyond offer.cutoff offer.base (offer.dist + (unwrap_or cost 0 + price))
-
--- the offer was allowed, and taken
-pub record IsChanged (cost : Option ℕ) (price : ℕ) (offer : Offer) (old new : Label) : Type 0 where
-  pub allowed : IsSome cost
-  pub taken : IsTaken offer (unwrap_or cost 0 + price) old new
-
-pub offered_split : (cost : Option ℕ) (price : ℕ) (offer : Offer) (old new : Label) → IsOffered cost price offer old new
-    → IsLeft cost price offer old new ⊎ IsChanged cost price offer old new
-offered_split None price offer old new same = inl (record { same = same; no_nearer = λ h. absurd (false≢true h) })
-offered_split (Some cost) price offer old new offered =
-    elim offered [
-      | inl kept ↦ inl (record { same = kept.same; no_nearer = λ h. kept.no_nearer })
-      | inr taken ↦ inr (record { allowed = refl; taken = taken })
-    ]
 
 -- labels that are closed at the same places are open as often
 pub open_count_same : (xs ys : List Label) → length xs ≡ length ys

@@ -1,64 +1,31 @@
 -- One consumer more is asked whether an entry of the closed one comes nearer.
-use Rattle.std.proofs.Common.{◌≡◌, ℕ, ◌+◌, ◌<◌, ◌≤◌, ◌⊎◌, true, false, List, length, get_or, Option, None}
+use Rattle.std.proofs.Common.{◌≡◌, ℕ, ◌+◌, ◌<◌, ◌≤◌, ◌⊎◌, true, false, List, length, get_or, Option, Some, None}
 use Rattle.std.proofs.Common.{refl, sym, ap, ◌∙◌, inl, inr, arith}
-use Rattle.sr_transport.specs.{greatest_charge, greatest_price, most_tiers, Transport, consumers}
-use Rattle.sr_transport.specs.Limits.{greatest_fee}
-use Rattle.sr_solver.specs.Limits.{greatest_way, lift, greatest_base}
+use Rattle.sr_transport.specs.{greatest_price, most_tiers, Transport, consumers}
+use Rattle.sr_transport.specs.Limits.{greatest_fee, most_consumers}
+use Rattle.sr_solver.specs.Limits.{greatest_way}
 use Rattle.std.proofs.lemmas.Bool.{cases_eq, cases_lt, false≢true}
-use Rattle.sr_transport.specs.plain.Problem.{IsWithinLimits, cost_at, cost_of, IsAllowed}
+use Rattle.sr_transport.specs.plain.Problem.{IsAllowed}
 use Rattle.sr_transport.specs.plain.Certificate.{IsLeast}
 use Rattle.sr_solver.specs.declared.label.Label.{Label}
 use Rattle.sr_solver.specs.declared.search.End.{End}
 use Rattle.sr_solver.specs.declared.stepped.Step.{Step}
-use Rattle.sr_solver.specs.Labels.{label_at, open_count, priced, AreFarOrReached}
+use Rattle.sr_solver.specs.Labels.{no_label, label_at, open_count, priced, IsFarOrReached, AreFarOrReached}
 use Rattle.sr_solver.specs.declared.table.Bound.{Bound}
-use Rattle.sr_solver.specs.Offers.{IsOfferedAt, offer_of}
-use Rattle.sr_solver.specs.Table.{IsAt, IsKnown, ArePairs, IsLeastMore, IsMover}
+use Rattle.sr_solver.specs.Table.{IsAt, IsKnown, IsTight, ArePairs}
 use Rattle.sr_solver.specs.Placed.{IsPlaced}
-use Rattle.sr_solver.specs.Search.{IsWithin, IsCovered, IsSearch, IsNewAt, IsAsked}
-use Rattle.sr_solver.specs.Bars.{IsBar, AreBars, AreKeptOut}
+use Rattle.sr_solver.specs.Search.{IsWithin, IsCovered, IsSearch, IsNewAt, IsAsked, MayBeAsked}
+use Rattle.sr_solver.specs.declared.front.Exit.{Exit}
+use Rattle.sr_solver.specs.Exits.{IsExit, IsNearer, IsMoved, AreNoNearer, AreComparable, HasNoMover}
+use Rattle.sr_solver.proofs.ExitLemmas.{bound_no_nearer, covered_no_nearer}
+use Rattle.std.specs.Prelude.{IfSome}
+use Rattle.std.proofs.Math.ListN.{set, length-set}
+use Rattle.std.proofs.lemmas.List.{get_or-set_same, get_or-set_other}
 use Rattle.sr_solver.specs.Cutoff.{length_of, IsNoLater, IsCutoff, IsCut}
-use Rattle.sr_solver.proofs.CutoffLemmas.{cases_bool, beyond_more, search_cut, IsGapAt, cutoff_cut}
-use Rattle.sr_solver.proofs.LabelLemmas.{offered_split, open_count_same, IsSameWay, way_kept, same_way}
+use Rattle.sr_solver.proofs.CutoffLemmas.{search_cut, IsGapAt, cutoff_cut}
+use Rattle.sr_solver.proofs.LabelLemmas.{open_count_same, IsSameWay, way_kept, same_way}
 use Rattle.sr_solver.proofs.SearchLemmas.{cost_small}
 use Rattle.sr_solver.specs.Search.{IsClosed}
-
--- what the table tells of an entry at t that does not come below the bar of consumer b: it comes no nearer
-kept_out : (p : Transport) (prices : List ℕ) (at : ℕ → Type 0) (t b : ℕ) (cutoff : Option ℕ) (labels : List Label)
-    (known : Bound) (bar base : ℕ)
-    → IsWithinLimits p.rooms p.entries p.costs → IsKnown p at t b known
-    → IsBar (get_or prices b 0) (label_at labels b) cutoff bar → bar ≤ known.low + base
-    → base + (greatest_charge + get_or prices t 0) ≡ (label_at labels t).dist + lift → base ≤ greatest_base
-    → (i : ℕ) → at i → IsAllowed p i b
-    → ((label_at labels b).closed ≡ true)
-    ⊎ IsCovered p prices cutoff labels (label_at labels t).dist (priced p prices i t) i b
-kept_out p prices at t b cutoff labels known bar base limits is is_bar out is_base small i here allowed =
-    let below = is.below i here allowed in
-    elim (cases_bool (label_at labels b).closed) [
-      | inl closed ↦ inl closed
-      | inr is_open ↦ elim (is_bar.high is_open) [
-        | inl far ↦ absurd (omega (arith, far, out, small, below, cost_small p limits i b))
-        | inr (inl near) ↦ inr (inl (near.0, omega (arith, near.1, out, is_base, below)))
-        | inr (inr beyond) ↦ inr (inr (
-            beyond_more cutoff lift (bar + get_or prices b 0) (priced p prices i t)
-            ((label_at labels t).dist + priced p prices i b) (omega (arith, out, is_base, below)) beyond
-            ))
-      ]
-    ]
-
--- no entry at t may go to consumer b
-pub asked_none : (p : Transport) (k : ℕ) (xs prices : List ℕ) (t b : ℕ) (cutoff : Option ℕ) (labels : List Label)
-    → k ≤ p.entries → IsMover p (IsAt xs p.entries t) t b None → IsAsked p k xs prices cutoff t b labels labels
-asked_none p k xs prices t b cutoff labels le none = record {
-  one_each = refl;
-  here = inl (
-      record {
-        same = refl;
-        no_nearer = λ i lti stands allowed. absurd (none i (omega arith, stands) allowed);
-      }
-      );
-  others = λ d ne. refl;
-}
 
 -- an entry that stands at a consumer is placed
 pub placed_at : (p : Transport) (k : ℕ) (xs prices : List ℕ) (t i : ℕ) → IsPlaced p k xs prices → t < consumers p
@@ -69,51 +36,59 @@ placed_at p k xs prices t i placed ltt at =
       | inr late ↦ absurd (omega (arith, placed.waiting i late at.0, at.1))
     ]
 
--- the entry at t that costs least more at consumer b was offered
-pub asked_mover : (p : Transport) (k : ℕ) (xs prices : List ℕ) (t b i : ℕ) (cutoff : Option ℕ) (old new : List Label)
-    → IsPlaced p k xs prices → k ≤ p.entries → t < consumers p → IsLeastMore p (IsAt xs p.entries t) t b i
-    → IsOfferedAt p prices (offer_of p prices cutoff old t i) b old new
-    → IsAsked p k xs prices cutoff t b old new
-asked_mover p k xs prices t b i cutoff old new placed le ltt mover offered =
-    let least : (j : ℕ) → j < k → get_or xs j 0 ≡ t → IsAllowed p j b
-    → cost_of p i b + cost_of p j t ≤ cost_of p j b + cost_of p i t =
-    λ j lt stands allowed. mover.least j (omega arith, stands) allowed in
+-- no entry at t comes nearer to consumer b, which keeps its label
+pub asked_left : (p : Transport) (k : ℕ) (xs prices : List ℕ) (t b : ℕ) (cutoff : Option ℕ) (labels : List Label)
+    (exit : Exit)
+    → IsPlaced p k xs prices → k ≤ p.entries → b < consumers p
+    → IsExit t (label_at labels t).dist (get_or prices t 0) cutoff exit → exit.dist ≤ greatest_way
+    → IsFarOrReached (label_at labels b)
+    → HasNoMover p (IsAt xs p.entries t) exit b (get_or prices b 0) (label_at labels b)
+    → IsAsked p k xs prices cutoff t b labels labels
+asked_left p k xs prices t b cutoff labels exit placed le ltb is near marked none = record {
+  one_each = refl;
+  here = inl (
+      record {
+        same = refl;
+        no_nearer = λ i lti stands allowed.
+            covered_no_nearer p prices t b i cutoff labels exit placed.limits is near
+            (omega (arith, placed.low b ltb, placed.limits.few_entries, le)) marked
+            (none i (omega (arith, lti, le), stands) allowed);
+      }
+      );
+  others = λ d ne. refl;
+}
+
+-- the best of those at t moves to consumer b, since it comes nearer
+pub asked_moved : (p : Transport) (k : ℕ) (xs prices : List ℕ) (t b : ℕ) (cutoff : Option ℕ) (labels : List Label)
+    (label : Label) (exit : Exit) (known : Bound)
+    → IsPlaced p k xs prices → k ≤ p.entries → t < consumers p → b < length labels
+    → IsExit t (label_at labels t).dist (get_or prices t 0) cutoff exit
+    → IsKnown p (IsAt xs p.entries t) t b known → known.best < p.entries
+    → IsNearer exit known.low (get_or prices b 0) (label_at labels b)
+    → IsMoved exit known (get_or prices b 0) (label_at labels t).hops label
+    → IsAsked p k xs prices cutoff t b labels (set labels b label)
+asked_moved p k xs prices t b cutoff labels label exit known placed le ltt ltb is is_known lt nearer moved =
+    let new : List Label = set labels b label in
+    let here : label_at new b ≡ label = get_or-set_same labels b label no_label ltb in
+    let best : IsTight p (IsAt xs p.entries t) t b known.low known.best = is_known.best lt in
     record {
-      one_each = offered.one_each;
-      here = elim (offered_split (cost_at p i b) (get_or prices b 0) (offer_of p prices cutoff old t i) (label_at old b)
-          (label_at new b) offered.here) [
-            | inl left ↦ inl (
-                record {
-                  same = left.same;
-                  no_nearer = λ j lt stands allowed. elim (left.no_nearer mover.allowed.1) [
-                    | inl closed ↦ inl closed
-                    | inr (inl near) ↦ inr (inl (near.0, omega (arith, near.1, least j lt stands allowed)))
-                    | inr (inr beyond) ↦ inr (inr (
-                        beyond_more cutoff (priced p prices i t) ((label_at old t).dist + priced p prices i b)
-                        (priced p prices j t)
-                        ((label_at old t).dist + priced p prices j b) (omega (arith, least j lt stands allowed)) beyond
-                        ))
-                  ];
-                }
-                )
-            | inr changed ↦
-                let taken = changed.taken in
-                let same : (label_at new b).mover ≡ i = taken.mover in
-                inr (
-                record {
-                  earlier = rw same (placed_at p k xs prices t i placed ltt mover.stands);
-                  stands = rw same mover.stands.1;
-                  allowed = rw same mover.allowed;
-                  was_open = taken.not_closed;
-                  still_open = taken.still_open;
-                  hops = taken.hops;
-                  dist = rw same taken.dist;
-                  nearer = taken.nearer;
-                  least = rw same least;
-                }
-                )
-          ];
-      others = offered.others;
+      one_each = length-set labels b label;
+      here = inr (
+          record {
+            earlier = rw (here, moved.mover) (placed_at p k xs prices t known.best placed ltt best.stands);
+            stands = rw (here, moved.mover) best.stands.1;
+            allowed = rw (here, moved.mover) best.allowed;
+            was_open = nearer.is_open;
+            still_open = rw here moved.still_open;
+            hops = rw here moved.hops;
+            dist = rw (here, moved.mover) (omega (arith, moved.dist, is.dist, is.base, best.tight));
+            nearer = λ up. rw here (omega (arith, moved.dist, nearer.nearer));
+            least = λ i lti stands allowed. rw (here, moved.mover) (
+                omega (arith, best.tight, is_known.below i (omega (arith, lti, le), stands) allowed)
+                );
+          }
+          );
+      others = λ d ne. get_or-set_other labels b d label no_label ne;
     }
 
 -- the labels before and after consumer b was asked
@@ -171,12 +146,13 @@ covered_kept p k xs prices t cutoff old new offering dist base j c covered =
 
 -- a consumer that was asked is within the reach of each entry at t that it is allowed, or that one comes no nearer than
 -- the cutoff
-covered_asked : (p : Transport) (k : ℕ) (xs prices : List ℕ) (cutoff : Option ℕ) (old new : List Label) (t b : ℕ)
-    → IsPlaced p k xs prices → IsSearch p k xs prices cutoff old t b → t < consumers p → (label_at old t).closed ≡ true
+covered_asked : (p : Transport) (k : ℕ) (xs prices : List ℕ) (cutoff : Option ℕ) (old new : List Label) (t b upto : ℕ)
+    → IsPlaced p k xs prices → IsSearch p k xs prices cutoff old t upto → t < consumers p
+    → (label_at old t).closed ≡ true
     → IsAsked p k xs prices cutoff t b old new → IsOffering p k xs prices t old new
     → (i : ℕ) → i < k → get_or xs i 0 ≡ t → IsAllowed p i b
     → IsCovered p prices cutoff new (label_at old t).dist (priced p prices i t) i b
-covered_asked p k xs prices cutoff old new t b placed search ltt closed asked offering i lti stands allowed =
+covered_asked p k xs prices cutoff old new t b upto placed search ltt closed asked offering i lti stands allowed =
     elim asked.here [
       | inr fresh ↦ inl (omega (arith, fresh.hops), omega (arith, fresh.dist, fresh.least i lti stands allowed))
       | inl left ↦
@@ -192,12 +168,16 @@ covered_asked p k xs prices cutoff old new t b placed search ltt closed asked of
           covered_kept p k xs prices t cutoff old new offering (label_at old t).dist (priced p prices i t) i b covered
     ]
 
--- one consumer more was asked
-ask_search : (p : Transport) (k : ℕ) (xs prices : List ℕ) (cutoff : Option ℕ) (old new : List Label) (t b : ℕ)
-    → IsPlaced p k xs prices → IsSearch p k xs prices cutoff old t b → t < consumers p → (label_at old t).closed ≡ true
+-- one consumer more was asked: the entries at t are offered to those below `next` if they were so before, but perhaps
+-- for consumer b
+ask_search : (p : Transport) (k : ℕ) (xs prices : List ℕ) (cutoff : Option ℕ) (old new : List Label)
+    (t b upto next : ℕ)
+    → ((c : ℕ) → c < next → (c ≡ b → ⊥) → c < upto)
+    → IsPlaced p k xs prices → IsSearch p k xs prices cutoff old t upto → t < consumers p
+    → (label_at old t).closed ≡ true
     → IsAsked p k xs prices cutoff t b old new → IsOffering p k xs prices t old new
-    → IsSearch p k xs prices cutoff new t (b + 1)
-ask_search p k xs prices cutoff old new t b placed search ltt closed asked offering =
+    → IsSearch p k xs prices cutoff new t next
+ask_search p k xs prices cutoff old new t b upto next more placed search ltt closed asked offering =
     let same : (c : ℕ) → label_at new c ≡ label_at old c → IsSameWay (label_at old c) (label_at new c) =
     λ c e. same_way (label_at old c) (label_at new c) e in
     let kept_same : (c : ℕ) → (label_at old c).closed ≡ true → IsSameWay (label_at old c) (label_at new c) =
@@ -282,10 +262,10 @@ ask_search p k xs prices cutoff old new t b placed search ltt closed asked offer
         | inr fresh ↦ absurd (omega (arith, fresh.hops, none))
       ];
       new_offered = λ c allowed. within_kept p k xs prices t old new offering 0 0 k c (search.new_offered c allowed);
-      offered = λ j c lt now upto allowed.
+      offered = λ j c lt now below allowed.
           let was = offering.back (get_or xs j 0) now in
           let from = kept_same (get_or xs j 0) was in
-          let before : (get_or xs j 0 ≡ t → c < b)
+          let before : (get_or xs j 0 ≡ t → c < upto)
           → IsCovered p prices cutoff new (label_at old (get_or xs j 0)).dist (priced p prices j (get_or xs j 0)) j c =
           λ early. covered_kept p k xs prices t cutoff old new offering (label_at old (get_or xs j 0)).dist
           (priced p prices j (get_or xs j 0)) j c
@@ -294,9 +274,9 @@ ask_search p k xs prices cutoff old new t b placed search ltt closed asked offer
           elim (cases_eq (get_or xs j 0) t) [
             | inr ne ↦ before (λ h. absurd (ne h))
             | inl stands ↦ elim (cases_eq c b) [
-              | inr ne ↦ before (λ h. omega (arith, upto h, ne))
+              | inr ne ↦ before (λ h. more c (below h) ne)
               | inl e ↦
-                  let far = covered_asked p k xs prices cutoff old new t b placed search ltt closed asked offering j lt
+                  let far = covered_asked p k xs prices cutoff old new t b upto placed search ltt closed asked offering j lt
                   stands (rw (← e) allowed) in
                   rw stands (rw e far)
             ]
@@ -312,28 +292,43 @@ asked_stays p k xs prices cutoff old new t b c asked closed =
 
 -- what the loop over the consumers keeps
 pub closed_ask : (p : Transport) (k : ℕ) (xs prices : List ℕ) (cutoff : Option ℕ)
-    (old before after : List Label) (t b : ℕ)
+    (old before after : List Label) (t b upto next : ℕ)
+    → ((c : ℕ) → c < next → (c ≡ b → ⊥) → c < upto)
     → IsPlaced p k xs prices → t < consumers p
-    → IsClosed p k xs prices cutoff old before t b
+    → IsClosed p k xs prices cutoff old before t upto
     → IsAsked p k xs prices cutoff t b before after
-    → IsClosed p k xs prices cutoff old after t (b + 1)
-closed_ask p k xs prices cutoff old before after t b placed ltt closed asked =
+    → IsClosed p k xs prices cutoff old after t next
+closed_ask p k xs prices cutoff old before after t b upto next more placed ltt closed asked =
     let done : IsOffering p k xs prices t before after = offering p k xs prices t b cutoff before after asked in
     record {
-      search = ask_search p k xs prices cutoff before after t b placed closed.search ltt closed.closed asked done;
+      search = ask_search p k xs prices cutoff before after t b upto next more placed closed.search ltt closed.closed asked
+          done;
       closed = ap (λ l. l.closed) (done.kept t closed.closed) ∙ closed.closed;
       fewer = omega (arith, closed.fewer, done.count);
     }
 
+-- one consumer may have been asked before the others
+pub closed_may : (p : Transport) (k : ℕ) (xs prices : List ℕ) (cutoff : Option ℕ) (old before after : List Label)
+    (t : ℕ)
+    → IsPlaced p k xs prices → t < consumers p → MayBeAsked p k xs prices cutoff t before after
+    → IsClosed p k xs prices cutoff old before t 0
+    → IsClosed p k xs prices cutoff old after t 0 × (label_at after t ≡ label_at before t)
+closed_may p k xs prices cutoff old before after t placed ltt asked closed = elim asked [
+  | inl same ↦ rw same (closed, refl)
+  | inr some ↦ (
+    closed_ask p k xs prices cutoff old before after t some.0 0 0 (λ c lt ne. lt) placed ltt closed some.1,
+    asked_stays p k xs prices cutoff before after t some.0 t some.1 closed.closed,
+  )
+]
+
 -- and where consumers are passed over to which no entry comes nearer
 pub closed_passed : (p : Transport) (k : ℕ) (xs prices : List ℕ) (cutoff : Option ℕ) (old now : List Label)
-    (pairs : List Bound) (bars : List ℕ) (t base first upto : ℕ)
+    (pairs : List Bound) (t first upto : ℕ) (exit : Exit)
     → IsPlaced p k xs prices → k ≤ p.entries → t < consumers p → ArePairs p xs pairs
-    → AreBars p prices cutoff now bars
-    → base + (greatest_charge + get_or prices t 0) ≡ (label_at now t).dist + lift → base ≤ greatest_base
-    → AreKeptOut t base pairs bars first upto
+    → IsExit t (label_at now t).dist (get_or prices t 0) cutoff exit → exit.dist ≤ greatest_way
+    → AreFarOrReached p now → AreNoNearer exit pairs prices now first upto
     → IsClosed p k xs prices cutoff old now t first → IsClosed p k xs prices cutoff old now t upto
-closed_passed p k xs prices cutoff old now pairs bars t base first upto placed le ltt are are_bars is_base small none closed =
+closed_passed p k xs prices cutoff old now pairs t first upto exit placed le ltt are is near marked none closed =
     let search = closed.search in
     record {
       search = record {
@@ -353,11 +348,14 @@ closed_passed p k xs prices cutoff old now pairs bars t base first upto placed l
             | inl before ↦ search.offered i c lt is_closed (λ h. before) allowed
             | inr past ↦
                 let least : IsLeast p prices i t = rw (← stands) (placed.least i lt) in
+                let no_nearer : HasNoMover p (IsAt xs p.entries t) exit c (get_or prices c 0) (label_at now c) =
+                bound_no_nearer p (IsAt xs p.entries t) t c (get_or prices c 0) _ exit (label_at now c) is.consumer
+                (are.each t c ltt allowed.0)
+                (rw (is.consumer, placed.one_each) at (none c (omega (arith, past)) (within stands))) in
                 let covered : IsCovered p prices cutoff now (label_at now t).dist (priced p prices i t) i c =
-                elim (kept_out p prices (IsAt xs p.entries t) t c cutoff now _ (get_or bars c 0) base placed.limits
-                (are.each t c ltt allowed.0) (are_bars.each c allowed.0)
-                (rw are_bars.one_each at (none c (omega (arith, past)) (within stands))) is_base small
-                i (omega arith, stands) allowed) [
+                elim (covered_no_nearer p prices t c i cutoff now exit placed.limits is near
+                (omega (arith, placed.low c allowed.0, placed.limits.few_entries, le)) (marked c allowed.0)
+                (no_nearer i (omega (arith, lt, le), stands) allowed)) [
                   | inl was ↦ inl (
                     search.reached c allowed.0 was,
                     omega (arith, search.latest c allowed.0 was ltt, least c allowed),
@@ -453,26 +451,26 @@ stands_least p k xs prices read t i placed ltt same at =
 -- consumer b, once it was asked, is not far
 pub asked_small : (p : Transport) (k : ℕ) (xs prices : List ℕ) (old new : List Label) (t b : ℕ) (cutoff : Option ℕ)
     → IsPlaced p k xs prices → k ≤ p.entries → t < consumers p → b < consumers p
-    → IsSearch p k xs prices cutoff old t b → (label_at old t).closed ≡ true
+    → IsSearch p k xs prices cutoff old t 0 → (label_at old t).closed ≡ true
     → IsAsked p k xs prices cutoff t b old new → 0 < (label_at new b).hops
     → (label_at new b).dist + greatest_fee ≤ greatest_way
 asked_small p k xs prices old new t b cutoff placed le ltt ltb search closed asked up =
     let done : IsOffering p k xs prices t old new = offering p k xs prices t b cutoff old new asked in
-    way_small p k xs prices cutoff new t (b + 1) placed le
-    (ask_search p k xs prices cutoff old new t b placed search ltt closed asked done) b ltb up
+    way_small p k xs prices cutoff new t 0 placed le
+    (ask_search p k xs prices cutoff old new t b 0 0 (λ c lt ne. lt) placed search ltt closed asked done) b ltb up
 
 -- what the cutoff becomes once consumer b was asked
 pub cutoff_asked : (p : Transport) (s : List Step) (k : ℕ) (xs prices : List ℕ) (old new : List Label) (t b : ℕ)
     (gap : Option ℕ) (cutoff next : Option End)
     → IsPlaced p k xs prices → k ≤ p.entries → t < consumers p → b < consumers p
-    → IsSearch p k xs prices (length_of cutoff) old t b → (label_at old t).closed ≡ true
+    → IsSearch p k xs prices (length_of cutoff) old t 0 → (label_at old t).closed ≡ true
     → IsAsked p k xs prices (length_of cutoff) t b old new → IsGapAt p s xs prices b gap
     → IsCut b (label_at new b) gap cutoff next
     → IsCutoff p s xs prices old (consumers p) cutoff → IsCutoff p s xs prices new (consumers p) next
 cutoff_asked p s k xs prices old new t b gap cutoff next placed le ltt ltb search closed asked at cut is =
     let done : IsOffering p k xs prices t old new = offering p k xs prices t b (length_of cutoff) old new asked in
-    let after : IsSearch p k xs prices (length_of cutoff) new t (b + 1) =
-    ask_search p k xs prices (length_of cutoff) old new t b placed search ltt closed asked done in
+    let after : IsSearch p k xs prices (length_of cutoff) new t 0 =
+    ask_search p k xs prices (length_of cutoff) old new t b 0 0 (λ c lt ne. lt) placed search ltt closed asked done in
     cutoff_cut p s xs prices old new b (consumers p) (consumers p) gap cutoff next
     (record {
       same = asked.others;
@@ -484,4 +482,43 @@ cutoff_asked p s k xs prices old new t b gap cutoff next placed le ltt ltb searc
       near = λ is_open up c lt was. after.nearer c b lt ltb was is_open up;
     })
     (record { here = ltb; more = omega arith; each = λ c lt ne. lt }) at
-    (way_small p k xs prices (length_of cutoff) new t (b + 1) placed le after b ltb) cut is
+    (way_small p k xs prices (length_of cutoff) new t 0 placed le after b ltb) cut is
+
+-- the cutoff is no nearer than a closed consumer
+pub cutoff_no_nearer : (p : Transport) (s : List Step) (xs prices : List ℕ) (labels : List Label) (t : ℕ)
+    (cutoff : Option End)
+    → IsCutoff p s xs prices labels (consumers p) cutoff → t < consumers p → (label_at labels t).closed ≡ true
+    → IfSome (length_of cutoff) (λ d. ((label_at labels t).dist ≤ d) × (d ≤ greatest_way))
+cutoff_no_nearer p s xs prices labels t None is lt closed = tt
+cutoff_no_nearer p s xs prices labels t (Some end) is lt closed = (is.passed t lt closed, is.small)
+
+-- the same where both are read
+pub read_no_nearer : (o cutoff : Option ℕ) (way dist : ℕ) → o ≡ cutoff → dist ≡ way
+    → IfSome cutoff (λ d. (dist ≤ d) × (d ≤ greatest_way)) → IfSome o (λ d. (way ≤ d) × (d ≤ greatest_way))
+read_no_nearer o cutoff way dist same is no_nearer = rw same (rw (← is) no_nearer)
+
+-- what leaves a closed consumer can be compared with what is known of the others
+pub comparable : (p : Transport) (k : ℕ) (xs prices : List ℕ) (cutoff : Option ℕ) (labels : List Label)
+    (pairs : List Bound) (t upto : ℕ) (exit : Exit)
+    → IsPlaced p k xs prices → k ≤ p.entries → t < consumers p → consumers p ≤ most_consumers
+    → IsSearch p k xs prices cutoff labels t upto → (label_at labels t).closed ≡ true → ArePairs p xs pairs
+    → IsExit t (label_at labels t).dist (get_or prices t 0) cutoff exit → AreComparable exit pairs prices labels
+comparable p k xs prices cutoff labels pairs t upto exit placed le lt few search closed are is =
+    let way : (label_at labels t).dist ≤ greatest_way =
+    dist_small p k xs prices cutoff labels t upto placed le search t lt closed in
+    let price : get_or prices t 0 ≤ greatest_price = price_small p k xs prices placed le t lt in
+    record {
+      consumer = rw (is.consumer, placed.one_each) lt;
+      each_pair = rw placed.one_each are.each_pair;
+      each_label = rw placed.one_each search.one_each;
+      bounds = λ b ltb. rw (is.consumer, placed.one_each) ((are.each t b lt (rw placed.one_each at ltb)).small);
+      low = λ b ltb. omega (arith, price_small p k xs prices placed le b (rw placed.one_each at ltb));
+      near = λ b ltb.
+          elim (far_or_reached p k xs prices cutoff labels t upto placed le search b (rw placed.one_each at ltb)) [
+            | inl far ↦ omega (arith, far.1)
+            | inr near ↦ omega (arith, near.1)
+          ];
+      way = omega (arith, is.dist, way);
+      base = omega (arith, is.base, price);
+      few = rw placed.one_each few;
+    }

@@ -18,7 +18,8 @@ use Rattle.sr_transport.specs.plain.Certificate.{IsLeast}
 use Rattle.sr_transport.proofs.SumLemmas.{sum_below-same, sum_by_below}
 use Rattle.sr_solver.specs.declared.stepped.Step.{Step}
 use Rattle.sr_solver.specs.Answered.{IsPriced}
-use Rattle.sr_solver.specs.Order.{numbers_below, IsOrder, IsReordered, IsRenamed, row_below, rows_below}
+use Rattle.sr_solver.specs.Order.{numbers_below, IsOrder, IsReordered, IsRenamed, row_below, rows_below, picked}
+use Rattle.sr_solver.specs.Order.{IsPartOf, IsPick}
 
 pub length-numbers_below : (n : ℕ) → length (numbers_below n) ≡ n
 length-numbers_below zero = refl
@@ -137,7 +138,7 @@ length-rows_below p order (suc k) =
       length-row_below p (get_or order k 0) (consumers p),
     )
 
-rows_at : (p : Transport) (order : List ℕ) (n k c : ℕ) → k < n → c < consumers p
+pub rows_at : (p : Transport) (order : List ℕ) (n k c : ℕ) → k < n → c < consumers p
     → get_or (rows_below p order n) (k * consumers p + c) None ≡ cost_at p (get_or order k 0) c
 rows_at p order zero k c lt ltc = absurd (omega arith)
 rows_at p order (suc n) k c lt ltc =
@@ -240,7 +241,7 @@ renamed_priced p q s order ys xs prices is re every renamed shows =
       small = shows.small;
     }
 
--- the reordered problem is within the limits
+-- the entries that an order names are within the limits
 row_small : (p : Transport) → IsWithinLimits p.rooms p.entries p.costs → (i n : ℕ) → i < p.entries → n ≤ consumers p
     → All (λ cost. IfSome cost (λ c. c ≤ greatest_charge)) (row_below p i n)
 row_small p limits i zero lt le = All-nil (λ cost. IfSome cost (λ c. c ≤ greatest_charge))
@@ -255,48 +256,58 @@ row_small p limits i (suc n) lt le =
       mul_comm (consumers p) p.entries,
     )) limits.small_costs)
 
-rows_small : (p : Transport) → IsWithinLimits p.rooms p.entries p.costs → (order : List ℕ) → IsOrder p.entries order
-    → (n : ℕ) → n ≤ p.entries
+rows_small : (p : Transport) → IsWithinLimits p.rooms p.entries p.costs → (order : List ℕ)
+    → All (λ i. i < p.entries) order → (n : ℕ) → n ≤ length order
     → All (λ cost. IfSome cost (λ c. c ≤ greatest_charge)) (rows_below p order n)
-rows_small p limits order is zero le = All-nil (λ cost. IfSome cost (λ c. c ≤ greatest_charge))
-rows_small p limits order is (suc n) le =
+rows_small p limits order below zero le = All-nil (λ cost. IfSome cost (λ c. c ≤ greatest_charge))
+rows_small p limits order below (suc n) le =
     All-append (λ cost. IfSome cost (λ c. c ≤ greatest_charge)) (rows_below p order n)
     (row_below p (get_or order n 0) (consumers p))
-    (rows_small p limits order is n (omega arith))
+    (rows_small p limits order below n (omega arith))
     (row_small p limits (get_or order n 0) (consumers p)
-    (All-get_or (λ i. i < p.entries) order n 0 (omega (arith, order_length p.entries order is))
-    (order_below p.entries order is)) (omega arith))
+    (All-get_or (λ i. i < p.entries) order n 0 (omega arith) below) (omega arith))
 
-pub is_reordered : (p q : Transport) (order rooms : List ℕ) (entries : ℕ) (costs rows : List (Option ℕ))
-    → q ≡ record { rooms = rooms; entries = entries; costs = costs } → rooms ≡ p.rooms → entries ≡ p.entries
-    → costs ≡ rows
-    → rows ≡ rows_below p order p.entries → IsReordered p q order
-is_reordered p q order rooms entries costs rows same same_rooms same_entries same_costs are_rows =
-    rw same (record { rooms = same_rooms; entries = same_entries; costs = same_costs ∙ are_rows })
+pub part_limits : (p : Transport) (order : List ℕ) → IsWithinLimits p.rooms p.entries p.costs → IsPartOf p order
+    → IsWithinLimits p.rooms (length order) (rows_below p order (length order))
+part_limits p order limits part = record {
+  consumers = limits.consumers;
+  few_entries = omega (arith, part.few, limits.few_entries);
+  pairs = length-rows_below p order (length order);
+  small_rooms = limits.small_rooms;
+  small_costs = rows_small p limits order part.entries (length order) (omega arith);
+}
 
-pub reordered_limits : (p : Transport) (order : List ℕ) (costs : List (Option ℕ))
-    → IsWithinLimits p.rooms p.entries p.costs
-    → IsOrder p.entries order → costs ≡ rows_below p order p.entries → IsWithinLimits p.rooms p.entries costs
-reordered_limits p order costs limits is same =
-    rw same (record {
-      consumers = limits.consumers;
-      few_entries = limits.few_entries;
-      pairs = length-rows_below p order p.entries;
-      small_rooms = limits.small_rooms;
-      small_costs = rows_small p limits order is p.entries (omega arith);
-    })
+-- all entries are picked in an order
+pub all_picked : (p : Transport) (rooms order : List ℕ) → IsWithinLimits p.rooms p.entries p.costs
+    → rooms ≡ p.rooms → IsOrder p.entries order → IsPick p rooms order
+all_picked p rooms order limits same is = record {
+  one_each = ap length same;
+  small = rw same limits.small_rooms;
+  part = record { entries = order_below p.entries order is; few = omega (arith, order_length p.entries order is) };
+}
 
--- the limits of the costs as they are given
-pub given_limits : (p : Transport) (rooms : List ℕ) (entries : ℕ) (costs rows : List (Option ℕ)) → rooms ≡ p.rooms
-    → entries ≡ p.entries
-    → costs ≡ rows → IsWithinLimits p.rooms p.entries rows → IsWithinLimits rooms entries costs
-given_limits p rooms entries costs rows same_rooms same_entries same_costs limits =
-    rw (same_rooms, same_entries, same_costs) limits
+reordered_of : (p : Transport) (order : List ℕ) → IsOrder p.entries order → IsReordered p (picked p p.rooms order) order
+reordered_of p order is = record {
+  rooms = refl;
+  entries = order_length p.entries order is;
+  costs = ap (rows_below p order) (order_length p.entries order is);
+}
+
+pub picked_reordered : (p q : Transport) (rooms first order : List ℕ) → q ≡ picked p rooms first → rooms ≡ p.rooms
+    → first ≡ order → IsOrder p.entries order → IsReordered p q order
+picked_reordered p q rooms first order picks same_rooms same_order is =
+    rw (picks, same_rooms, same_order) (reordered_of p order is)
 
 -- a number in the order
 pub order_at : (n : ℕ) (order : List ℕ) → IsOrder n order → (k : ℕ) → k < n → get_or order k 0 < n
 order_at n order is k lt =
     All-get_or (λ i. i < n) order k 0 (omega (arith, lt, order_length n order is)) (order_below n order is)
+
+-- each entry has a place in an answer
+pub placed_every : (p q : Transport) (s : List Step) (order ys assigns prices : List ℕ) → IsReordered p q order
+    → assigns ≡ ys → IsPriced q s ys prices → length assigns ≡ p.entries
+placed_every p q s order ys assigns prices re same priced =
+    ap length same ∙ (priced.assignment.every ∙ re.entries)
 
 -- one more is renamed
 pub renamed_more : (n : ℕ) (order ys xs : List ℕ) (place : ℕ) → IsOrder n order → length xs ≡ n → place < n

@@ -1,22 +1,23 @@
 -- The search: its start, a consumer that is closed, and one offer more.
-use Rattle.std.proofs.Common.{◌≡◌, ℕ, ◌+◌, ◌<◌, ◌≤◌, true, false, List, length, get_or, Option, sym, ap, ◌∙◌, inl, inr}
+use Rattle.std.proofs.Common.{◌≡◌, ℕ, ◌+◌, ◌<◌, ◌≤◌, true, false, List, length, get_or, Option, Some, None, refl, sym, ap, ◌∙◌, inl, inr}
 use Rattle.std.proofs.Common.{arith}
 use Rattle.std.proofs.Math.ListN.{set}
+use Rattle.std.specs.Prelude.{IsSome, unwrap_or}
 use Rattle.std.proofs.lemmas.Bool.{cases_eq, cases_lt, false≢true}
 use Rattle.std.proofs.lemmas.List.{get_or_past, get_or-set_same, get_or-set_other}
 use Rattle.sr_transport.specs.{greatest_price, Transport, consumers}
 use Rattle.sr_transport.specs.Limits.{greatest_fee}
 use Rattle.sr_solver.specs.Limits.{greatest_way, far}
-use Rattle.sr_transport.specs.plain.Problem.{IsWithinLimits, cost_at, IsAllowed}
+use Rattle.sr_transport.specs.plain.Problem.{IsWithinLimits, cost_at, cost_of, IsAllowed}
 pub use Rattle.sr_transport.proofs.PlainLimitLemmas.{cost_at_small, cost_small}
 use Rattle.sr_solver.specs.declared.label.Label.{Label}
 use Rattle.sr_solver.specs.declared.search.End.{End}
 use Rattle.sr_solver.specs.declared.stepped.Step.{Step}
-use Rattle.sr_solver.specs.Labels.{no_label, unreached, label_at}
-use Rattle.sr_solver.specs.Offers.{IsOffered}
-use Rattle.sr_solver.specs.Search.{IsFirstStep, IsRound, first_offer, IsStarted}
+use Rattle.sr_solver.specs.Labels.{no_label, unreached, label_at, IsFirstLabel}
+use Rattle.sr_solver.specs.Search.{IsFirstStep, IsRound, IsStarted}
 use Rattle.sr_solver.specs.Cutoff.{IsCutoff, IsCut}
-use Rattle.sr_solver.proofs.LabelLemmas.{offered_split, open_count-le}
+use Rattle.sr_solver.proofs.GapLemmas.{IsGap}
+use Rattle.sr_solver.proofs.LabelLemmas.{open_count-le}
 use Rattle.sr_solver.proofs.CutoffLemmas.{IsGapAt, cutoff_cut}
 
 -- a consumer past the last has no label
@@ -30,36 +31,34 @@ record IsFresh (p : Transport) (k : ℕ) (prices : List ℕ) (label : Label) (c 
   reached : 0 < label.hops → IsAllowed p k c × IsFirstStep p k prices label c
   offered : IsAllowed p k c → 0 < label.hops
 
+first_fresh : (p : Transport) (k : ℕ) (prices : List ℕ) (label : Label) (c : ℕ) (cost : Option ℕ) → c < consumers p
+    → cost_at p k c ≡ cost → IsFirstLabel cost (get_or prices c 0) k label → IsFresh p k prices label c
+first_fresh p k prices label c None lt is none = record {
+  still_open = ap (λ l. l.closed) none;
+  unreached = λ zero. ap (λ l. l.dist) none;
+  reached = λ above. absurd (let hops : label.hops ≡ 0 = ap (λ l. l.hops) none in omega arith);
+  offered = λ allowed. absurd (false≢true (rw is at allowed.1));
+}
+first_fresh p k prices label c (Some cost) lt is some =
+    let hops : label.hops ≡ 1 = ap (λ l. l.hops) some in
+    let same : cost_of p k c ≡ cost = ap (λ o. unwrap_or o 0) is in
+    record {
+      still_open = ap (λ l. l.closed) some;
+      unreached = λ zero. absurd (omega (arith, hops, zero));
+      reached = λ above. (
+        (lt, rw is refl),
+        record {
+          mover = ap (λ l. l.mover) some;
+          hops = hops;
+          dist = let dist : label.dist ≡ cost + get_or prices c 0 = ap (λ l. l.dist) some in omega (arith, dist, same);
+        },
+      );
+      offered = λ allowed. omega (arith, hops);
+    }
+
 fresh : (p : Transport) (k : ℕ) (prices : List ℕ) (label : Label) (c : ℕ) → c < consumers p
-    → IsOffered (cost_at p k c) (get_or prices c 0) (first_offer k) unreached label → IsFresh p k prices label c
-fresh p k prices label c lt offered =
-    elim (offered_split (cost_at p k c) (get_or prices c 0) (first_offer k) unreached label offered) [
-      | inl left ↦
-          let none : label ≡ unreached = left.same in
-          record {
-            still_open = ap (λ l. l.closed) none;
-            unreached = λ zero. ap (λ l. l.dist) none;
-            reached = λ above. absurd (let hops : label.hops ≡ 0 = ap (λ l. l.hops) none in omega arith);
-            offered = λ allowed. absurd (
-                elim (left.no_nearer allowed.1) [
-                  | inl is_closed ↦ false≢true is_closed
-                  | inr (inl near) ↦ omega (arith, near.0)
-                  | inr (inr beyond) ↦ beyond
-                ]
-                );
-          }
-      | inr changed ↦
-          let taken = changed.taken in
-          record {
-            still_open = taken.still_open;
-            unreached = λ zero. absurd (omega (arith, taken.hops, zero));
-            reached = λ above. (
-              (lt, changed.allowed),
-              record { mover = taken.mover; hops = taken.hops; dist = omega (arith, taken.dist) },
-            );
-            offered = λ allowed. omega (arith, taken.hops);
-          }
-    ]
+    → IsFirstLabel (cost_at p k c) (get_or prices c 0) k label → IsFresh p k prices label c
+fresh p k prices label c lt is = first_fresh p k prices label c (cost_at p k c) lt refl is
 
 -- the search starts between two rounds
 pub started_round : (p : Transport) (k : ℕ) (xs prices : List ℕ) (cutoff : Option ℕ) (labels : List Label)
@@ -97,10 +96,10 @@ started_round p k xs prices cutoff labels limits started =
 
 -- the new entry was offered to one consumer more
 pub offered_more : (p : Transport) (k n : ℕ) (prices : List ℕ) (labels : List Label) (label : Label) → n < length labels
-    → ((c : ℕ) → c < n → IsOffered (cost_at p k c) (get_or prices c 0) (first_offer k) unreached (label_at labels c))
-    → IsOffered (cost_at p k n) (get_or prices n 0) (first_offer k) unreached label
+    → ((c : ℕ) → c < n → IsFirstLabel (cost_at p k c) (get_or prices c 0) k (label_at labels c))
+    → IsFirstLabel (cost_at p k n) (get_or prices n 0) k label
     → (c : ℕ) → c < n + 1
-    → IsOffered (cost_at p k c) (get_or prices c 0) (first_offer k) unreached (label_at (set labels n label) c)
+    → IsFirstLabel (cost_at p k c) (get_or prices c 0) k (label_at (set labels n label) c)
 offered_more p k n prices labels label lt each offered c ltc =
     elim (cases_eq c n) [
       | inl e ↦ rw e (rw (get_or-set_same labels n label no_label lt) offered)
@@ -110,7 +109,7 @@ offered_more p k n prices labels label lt each offered c ltc =
 -- its way there is short
 pub first_small : (p : Transport) (k c : ℕ) (prices : List ℕ) (label : Label) → IsWithinLimits p.rooms p.entries p.costs
     → get_or prices c 0 ≤ greatest_price → c < consumers p
-    → IsOffered (cost_at p k c) (get_or prices c 0) (first_offer k) unreached label → 0 < label.hops
+    → IsFirstLabel (cost_at p k c) (get_or prices c 0) k label → 0 < label.hops
     → label.dist + greatest_fee ≤ greatest_way
 first_small p k c prices label limits low lt offered above =
     let first = ((fresh p k prices label c lt offered).reached above).1 in
@@ -118,7 +117,7 @@ first_small p k c prices label limits low lt offered above =
 
 -- and its label is open
 first_open : (p : Transport) (k n : ℕ) (prices : List ℕ) (labels : List Label) → n ≤ consumers p
-    → ((c : ℕ) → c < n → IsOffered (cost_at p k c) (get_or prices c 0) (first_offer k) unreached (label_at labels c))
+    → ((c : ℕ) → c < n → IsFirstLabel (cost_at p k c) (get_or prices c 0) k (label_at labels c))
     → (c : ℕ) → c < n → (label_at labels c).closed ≡ false
 first_open p k n prices labels le each c lt =
     (fresh p k prices (label_at labels c) c (omega arith) (each c lt)).still_open
@@ -128,8 +127,8 @@ pub cutoff_more : (p : Transport) (s : List Step) (k n : ℕ) (xs prices : List 
     (gap : Option ℕ) (cutoff next : Option End)
     → IsWithinLimits p.rooms p.entries p.costs → n < length labels → n < consumers p
     → get_or prices n 0 ≤ greatest_price
-    → ((c : ℕ) → c < n → IsOffered (cost_at p k c) (get_or prices c 0) (first_offer k) unreached (label_at labels c))
-    → IsOffered (cost_at p k n) (get_or prices n 0) (first_offer k) unreached label → IsGapAt p s xs prices n gap
+    → ((c : ℕ) → c < n → IsFirstLabel (cost_at p k c) (get_or prices c 0) k (label_at labels c))
+    → IsFirstLabel (cost_at p k n) (get_or prices n 0) k label → IsGapAt p s xs prices n gap
     → IsCut n label gap cutoff next → IsCutoff p s xs prices labels n cutoff
     → IsCutoff p s xs prices (set labels n label) (n + 1) next
 cutoff_more p s k n xs prices labels label gap cutoff next limits lt ltn low each offered at cut is =
@@ -153,3 +152,56 @@ cutoff_more p s k n xs prices labels label gap cutoff next limits lt ltn low eac
     })
     (record { here = omega arith; more = omega arith; each = λ c below ne. omega (arith, below, ne) }) at
     (rw here (first_small p k n prices label limits low ltn offered)) (rw here cut) is
+
+-- each consumer that is labelled as the new entry reaches it is open
+pub first_opened : (p : Transport) (k : ℕ) (prices : List ℕ) (labels : List Label) → IsStarted p k prices labels
+    → (c : ℕ) → c < length labels → (label_at labels c).closed ≡ false
+first_opened p k prices labels started c lt =
+    first_open p k (consumers p) prices labels (omega arith) started.each c (omega (arith, lt, started.one_each))
+
+-- a label that is not reached is the first one of a consumer that is not allowed
+first_none : (cost : Option ℕ) (price k : ℕ) (label : Label) → (IsSome cost → ⊥) → label ≡ unreached
+    → IsFirstLabel cost price k label
+first_none None price k label not none = none
+first_none (Some cost) price k label not none = absurd (not refl)
+
+-- the first labels over a gap
+pub first_skips : (p : Transport) (k n m : ℕ) (prices : List ℕ) (labels : List Label) → m ≤ consumers p → IsGap p k n m
+    → ((c : ℕ) → c < n → IsFirstLabel (cost_at p k c) (get_or prices c 0) k (label_at labels c))
+    → ((c : ℕ) → n ≤ c → c < consumers p → label_at labels c ≡ unreached)
+    → (c : ℕ) → c < m → IsFirstLabel (cost_at p k c) (get_or prices c 0) k (label_at labels c)
+first_skips p k n m prices labels le gap each none c lt = elim (cases_lt c n) [
+  | inl below ↦ each c below
+  | inr above ↦
+      first_none (cost_at p k c) (get_or prices c 0) k (label_at labels c)
+      (λ some. gap.none c (omega arith) lt (omega arith, some)) (none c (omega arith) (omega arith))
+]
+
+-- the cutoff over consumers that are not reached
+pub cutoff_skips : (p : Transport) (s : List Step) (xs prices : List ℕ) (labels : List Label) (n m : ℕ)
+    (cutoff : Option End)
+    → n ≤ m → ((c : ℕ) → n ≤ c → c < m → label_at labels c ≡ unreached) → IsCutoff p s xs prices labels n cutoff
+    → IsCutoff p s xs prices labels m cutoff
+cutoff_skips p s xs prices labels n m None le none full = λ c lt up. elim (cases_lt c n) [
+  | inl below ↦ full c below up
+  | inr above ↦ absurd (
+      let hops : (label_at labels c).hops ≡ 0 = ap (λ l. l.hops) (none c (omega arith) lt) in omega arith
+      )
+]
+cutoff_skips p s xs prices labels n m (Some end) le none is = record {
+  small = is.small;
+  consumer = omega (arith, is.consumer);
+  reached = is.reached;
+  room = is.room;
+  length = is.length;
+  least = λ c lt up room. elim (cases_lt c n) [
+    | inl below ↦ is.least c below up room
+    | inr above ↦ absurd (
+        let hops : (label_at labels c).hops ≡ 0 = ap (λ l. l.hops) (none c (omega arith) lt) in omega arith
+        )
+  ];
+  passed = λ c lt closed. elim (cases_lt c n) [
+    | inl below ↦ is.passed c below closed
+    | inr above ↦ absurd (false≢true (sym (ap (λ l. l.closed) (none c (omega arith) lt)) ∙ closed))
+  ];
+}

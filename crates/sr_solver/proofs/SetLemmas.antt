@@ -1,15 +1,16 @@
 -- The set of those that wait, as it is walked through for the nearest.
-use Rattle.std.proofs.Common.{◌≡◌, ℕ, ◌<◌, ◌≤◌, ◌⊎◌, true, List, length, Option, Some, None, sym, ◌∙◌, inl, inr, arith}
+use Rattle.std.proofs.Common.{◌≡◌, ℕ, ◌+◌, ◌<◌, ◌≤◌, ◌⊎◌, true, false, List, length, Option, Some, None, sym, ap, ◌∙◌, inl, inr, arith}
 use Rattle.std.specs.Prelude.{IfSome, IfNone}
 use Rattle.std.proofs.Math.ListN.{set}
 use Rattle.std.proofs.lemmas.List.{get_or-set_same, get_or-set_other}
-use Rattle.std.proofs.lemmas.Bool.{cases_eq, false≢true}
-use Rattle.sr_transport.specs.{Transport}
+use Rattle.std.proofs.lemmas.Bool.{cases_eq, cases_lt, false≢true}
 use Rattle.sr_solver.specs.declared.label.Label.{Label}
 use Rattle.sr_solver.specs.declared.set.ConsumerSet.{ConsumerSet}
-use Rattle.sr_solver.specs.Labels.{no_label, label_at}
-use Rattle.sr_solver.specs.Sets.{IsIn, IsWithout, AreWaiting, AreWaitingBut}
-use Rattle.sr_solver.specs.Search.{IsNearestOf, AreAllClosedOf, IsAsked}
+use Rattle.sr_solver.specs.Labels.{no_label, unreached, label_at}
+use Rattle.sr_solver.specs.Cutoff.{IsBeyond, IsLimit, IsNoLater}
+use Rattle.sr_solver.specs.Limits.{far}
+use Rattle.sr_solver.specs.Sets.{IsIn, IsWith, IsWithout, AreWaiting}
+use Rattle.sr_solver.specs.Search.{IsNearestOf, AreDoneOf}
 use Rattle.sr_solver.proofs.CutoffLemmas.{cases_bool}
 
 -- one more is compared
@@ -25,47 +26,116 @@ compared_more labels waiting rest next t least less without le near compared c i
   ]
 ]
 
+-- what lies beyond the cutoff, and what does not, by the limit
+beyond_limit : (cutoff : Option ℕ) (limit dist : ℕ) → IsLimit cutoff limit → IsBeyond cutoff 0 dist → limit ≤ dist
+beyond_limit None limit dist is beyond = absurd beyond
+beyond_limit (Some end) limit dist is beyond = omega (arith, is, beyond)
+
+past_limit : (cutoff : Option ℕ) (limit dist : ℕ) → IsLimit cutoff limit → dist < far → limit ≤ dist
+    → IsBeyond cutoff 0 dist
+past_limit None limit dist is near past = absurd (omega (arith, is, near, past))
+past_limit (Some end) limit dist is near past = omega (arith, is, past)
+
 -- all were compared
-pub nearest_of_all : (n : ℕ) (labels : List Label) (waiting rest : ConsumerSet) (best : Option ℕ) (least : ℕ)
-    → AreWaiting n labels waiting → ((c : ℕ) → IsIn rest c → ⊥)
+pub nearest_of_all : (n : ℕ) (labels : List Label) (cutoff : Option ℕ) (waiting rest : ConsumerSet)
+    (best : Option ℕ) (limit least : ℕ)
+    → IsLimit cutoff limit → AreWaiting n cutoff labels waiting → ((c : ℕ) → IsIn rest c → ⊥)
     → ((c : ℕ) → IsIn waiting c → IsIn rest c ⊎ (least ≤ (label_at labels c).dist))
-    → IfSome best (λ b. IsIn waiting b × ((label_at labels b).dist ≡ least))
-    → IfSome best (IsNearestOf n labels)
-nearest_of_all n labels waiting rest None least are empty compared found = tt
-nearest_of_all n labels waiting rest (Some b) least are empty compared found =
+    → IfSome best (λ b. IsIn waiting b × ((label_at labels b).dist ≡ least) × (least < limit))
+    → IfSome best (λ b. IsNearestOf n labels b × (IsBeyond cutoff 0 (label_at labels b).dist → ⊥))
+nearest_of_all n labels cutoff waiting rest None limit least is are empty compared found = tt
+nearest_of_all n labels cutoff waiting rest (Some b) limit least is are empty compared found =
     let lt : b < n = are.within b found.0 in
-    let waits = (are.at b lt).waits found.0 in
-    record {
-      consumer = lt;
-      reached = waits.0;
-      not_closed = waits.1;
-      least = λ c ltc up is_open. elim (compared c ((are.at c ltc).each up is_open)) [
-        | inl still ↦ absurd (empty c still)
-        | inr passed ↦ omega (arith, passed, found.1)
-      ];
-    }
+    let waits = (are.at b lt).waits found.0 in (
+      record {
+        consumer = lt;
+        reached = waits.0;
+        not_closed = waits.1;
+        least = λ c ltc up is_open. elim ((are.at c ltc).each up is_open) [
+          | inl waiting_still ↦ elim (compared c waiting_still) [
+            | inl still ↦ absurd (empty c still)
+            | inr passed ↦ omega (arith, passed, found.1)
+          ]
+          | inr beyond ↦
+              omega (arith, beyond_limit cutoff limit (label_at labels c).dist is beyond, found.1, found.2)
+        ];
+      },
+      λ beyond. omega (arith, beyond_limit cutoff limit (label_at labels b).dist is beyond, found.1, found.2),
+    )
 
 -- and none was found
-pub none_of_all : (n far : ℕ) (labels : List Label) (waiting rest : ConsumerSet) (best : Option ℕ) (least : ℕ)
-    → AreWaiting n labels waiting → ((c : ℕ) → IsIn rest c → ⊥)
+pub none_of_all : (n : ℕ) (labels : List Label) (cutoff : Option ℕ) (waiting rest : ConsumerSet)
+    (best : Option ℕ) (limit least : ℕ)
+    → IsLimit cutoff limit → AreWaiting n cutoff labels waiting → ((c : ℕ) → IsIn rest c → ⊥)
     → ((c : ℕ) → c < n → 0 < (label_at labels c).hops → (label_at labels c).dist < far)
     → ((c : ℕ) → IsIn waiting c → IsIn rest c ⊎ (least ≤ (label_at labels c).dist))
-    → IfNone best (least ≡ far) → IfNone best (AreAllClosedOf n labels)
-none_of_all n far labels waiting rest (Some b) least are empty near compared none = tt
-none_of_all n far labels waiting rest None least are empty near compared none = λ c lt up.
+    → IfNone best (least ≡ limit) → IfNone best (AreDoneOf n cutoff labels)
+none_of_all n labels cutoff waiting rest (Some b) limit least is are empty near compared none = tt
+none_of_all n labels cutoff waiting rest None limit least is are empty near compared none = λ c lt up.
     elim (cases_bool (label_at labels c).closed) [
-      | inl closed ↦ closed
-      | inr is_open ↦ elim (compared c ((are.at c lt).each up is_open)) [
-        | inl still ↦ absurd (empty c still)
-        | inr passed ↦ absurd (omega (arith, passed, none, near c lt up))
+      | inl closed ↦ inl closed
+      | inr is_open ↦ elim ((are.at c lt).each up is_open) [
+        | inr beyond ↦ inr beyond
+        | inl waiting_still ↦ elim (compared c waiting_still) [
+          | inl still ↦ absurd (empty c still)
+          | inr passed ↦
+              inr (past_limit cutoff limit (label_at labels c).dist is (near c lt up) (omega (arith, passed, none)))
+        ]
       ]
     ]
 
+-- one that is no nearer than the cutoff waits no longer
+pub kept_less : (labels : List Label) (waiting kept next : ConsumerSet) (t limit : ℕ)
+    → IsWithout t kept next → limit ≤ (label_at labels t).dist
+    → ((c : ℕ) → IsIn waiting c → IsIn kept c ⊎ (limit ≤ (label_at labels c).dist))
+    → (c : ℕ) → IsIn waiting c → IsIn next c ⊎ (limit ≤ (label_at labels c).dist)
+kept_less labels waiting kept next t limit without past are c is = elim (cases_eq c t) [
+  | inl e ↦ inr (rw e past)
+  | inr ne ↦ elim (are c is) [
+    | inl before ↦ inl (without.kept c ne before)
+    | inr passed ↦ inr passed
+  ]
+]
+
+-- those that still wait
+pub waiting_kept : (n : ℕ) (labels : List Label) (cutoff : Option ℕ) (old new : ConsumerSet) (limit : ℕ)
+    → IsLimit cutoff limit → ((c : ℕ) → c < n → 0 < (label_at labels c).hops → (label_at labels c).dist < far)
+    → ((c : ℕ) → IsIn new c → IsIn old c)
+    → ((c : ℕ) → IsIn old c → IsIn new c ⊎ (limit ≤ (label_at labels c).dist))
+    → AreWaiting n cutoff labels old → AreWaiting n cutoff labels new
+waiting_kept n labels cutoff old new limit is near back kept are = record {
+  within = λ c here. are.within c (back c here);
+  at = λ c lt. record {
+    waits = λ here. (are.at c lt).waits (back c here);
+    each = λ up is_open. elim ((are.at c lt).each up is_open) [
+      | inr beyond ↦ inr beyond
+      | inl before ↦ elim (kept c before) [
+        | inl still ↦ inl still
+        | inr past ↦ inr (past_limit cutoff limit (label_at labels c).dist is (near c lt up) past)
+      ]
+    ];
+  };
+}
+
+-- those that wait by a later cutoff
+pub waiting_later : (n : ℕ) (labels : List Label) (old new : Option ℕ) (set : ConsumerSet) → IsNoLater old new
+    → AreWaiting n old labels set → AreWaiting n new labels set
+waiting_later n labels old new set later are = record {
+  within = are.within;
+  at = λ c lt. record {
+    waits = (are.at c lt).waits;
+    each = λ up is_open. elim ((are.at c lt).each up is_open) [
+      | inl waits ↦ inl waits
+      | inr beyond ↦ inr (later 0 (label_at labels c).dist beyond)
+    ];
+  };
+}
+
 -- consumer t is closed, and waits no more
-pub waiting_closing : (n : ℕ) (labels : List Label) (old new : ConsumerSet) (t : ℕ) (label : Label)
-    → t < length labels → label.closed ≡ true → IsWithout t old new → AreWaiting n labels old
-    → AreWaiting n (set labels t label) new
-waiting_closing n labels old new t label lt closed without are = record {
+pub waiting_closing : (n : ℕ) (cutoff : Option ℕ) (labels : List Label) (old new : ConsumerSet) (t : ℕ) (label : Label)
+    → t < length labels → label.closed ≡ true → IsWithout t old new → AreWaiting n cutoff labels old
+    → AreWaiting n cutoff (set labels t label) new
+waiting_closing n cutoff labels old new t label lt closed without are = record {
   within = λ c is. are.within c (without.back c is);
   at = λ c ltc. elim (cases_eq c t) [
     | inl e ↦
@@ -79,21 +149,87 @@ waiting_closing n labels old new t label lt closed without are = record {
         rw (get_or-set_other labels t c label no_label ne) (
         record {
           waits = λ is. (are.at c ltc).waits (without.back c is);
-          each = λ up is_open. without.kept c ne ((are.at c ltc).each up is_open);
+          each = λ up is_open. elim ((are.at c ltc).each up is_open) [
+            | inl was ↦ inl (without.kept c ne was)
+            | inr beyond ↦ inr beyond
+          ];
         }
         )
   ];
 }
 
--- consumer b was asked
-pub waiting_asked : (p : Transport) (k : ℕ) (xs prices : List ℕ) (cutoff : Option ℕ) (t b n : ℕ) (old new : List Label)
-    (set : ConsumerSet)
-    → b < n → AreWaiting n old set → IsAsked p k xs prices cutoff t b old new → AreWaitingBut n b new set
-waiting_asked p k xs prices cutoff t b n old new set lt are asked = record {
-  within = are.within;
-  at = λ c ltc ne. rw (asked.others c ne) (are.at c ltc);
-  still = λ is. elim asked.here [
-    | inl left ↦ rw left.same ((are.at b lt).waits is)
-    | inr fresh ↦ (omega (arith, fresh.hops), fresh.still_open)
+-- consumer b has a label by which it is reached, and open, and waits
+pub waiting_moved : (n : ℕ) (cutoff : Option ℕ) (labels : List Label) (old new : ConsumerSet) (b : ℕ) (label : Label)
+    → b < n → n ≡ length labels → 0 < label.hops → label.closed ≡ false → IsWith b old new → AreWaiting n cutoff labels old
+    → AreWaiting n cutoff (set labels b label) new
+waiting_moved n cutoff labels old new b label lt every up still_open is_with are = record {
+  within = λ c is. elim (is_with.back c is) [
+    | inl e ↦ rw e lt
+    | inr was ↦ are.within c was
+  ];
+  at = λ c ltc. elim (cases_eq c b) [
+    | inl e ↦
+        rw (e, get_or-set_same labels b label no_label (omega (arith, lt, every))) (
+        record { waits = λ is. (up, still_open); each = λ reached is_open. inl is_with.here }
+        )
+    | inr ne ↦
+        rw (get_or-set_other labels b c label no_label ne) (
+        record {
+          waits = λ is. elim (is_with.back c is) [
+            | inl e ↦ absurd (ne e)
+            | inr was ↦ (are.at c ltc).waits was
+          ];
+          each = λ reached is_open. elim ((are.at c ltc).each reached is_open) [
+            | inl was ↦ inl (is_with.kept c was)
+            | inr beyond ↦ inr beyond
+          ];
+        }
+        )
+  ];
+}
+
+-- consumers that are not reached do not wait
+pub waiting_skips : (n m : ℕ) (cutoff : Option ℕ) (labels : List Label) (set : ConsumerSet) → n ≤ m
+    → ((c : ℕ) → n ≤ c → c < m → label_at labels c ≡ unreached) → AreWaiting n cutoff labels set → AreWaiting m cutoff labels set
+waiting_skips n m cutoff labels set le none are = record {
+  within = λ c is. omega (arith, are.within c is);
+  at = λ c lt. elim (cases_lt c n) [
+    | inl below ↦ are.at c below
+    | inr above ↦ record {
+      waits = λ is. absurd (omega (arith, are.within c is));
+      each = λ up is_open. absurd (
+          let hops : (label_at labels c).hops ≡ 0 = ap (λ l. l.hops) (none c (omega arith) lt) in omega arith
+          );
+    }
+  ];
+}
+
+-- the next consumer is reached, and waits
+pub waiting_more : (n : ℕ) (cutoff : Option ℕ) (labels : List Label) (old new : ConsumerSet) (label : Label)
+    → n < length labels → 0 < label.hops → label.closed ≡ false → IsWith n old new → AreWaiting n cutoff labels old
+    → AreWaiting (n + 1) cutoff (set labels n label) new
+waiting_more n cutoff labels old new label lt up still_open is_with are = record {
+  within = λ c is. elim (is_with.back c is) [
+    | inl e ↦ omega arith
+    | inr was ↦ omega (arith, are.within c was)
+  ];
+  at = λ c ltc. elim (cases_eq c n) [
+    | inl e ↦
+        rw (e, get_or-set_same labels n label no_label lt) (
+        record { waits = λ is. (up, still_open); each = λ reached is_open. inl is_with.here }
+        )
+    | inr ne ↦
+        rw (get_or-set_other labels n c label no_label ne) (
+        record {
+          waits = λ is. elim (is_with.back c is) [
+            | inl e ↦ absurd (ne e)
+            | inr was ↦ (are.at c (omega (arith, ltc, ne))).waits was
+          ];
+          each = λ reached is_open. elim ((are.at c (omega (arith, ltc, ne))).each reached is_open) [
+            | inl was ↦ inl (is_with.kept c was)
+            | inr beyond ↦ inr beyond
+          ];
+        }
+        )
   ];
 }

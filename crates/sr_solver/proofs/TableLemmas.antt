@@ -13,7 +13,7 @@ use Rattle.std.proofs.lemmas.List.{length-replicate}
 use Rattle.sr_transport.specs.plain.Problem.{IsWithinLimits, cost_at, cost_of, IsAllowed}
 use Rattle.sr_solver.specs.declared.table.Bound.{Bound}
 use Rattle.sr_solver.specs.Table.{bound_at, unknown, no_entry, IsAt, IsTight, IsKnown, IsFound, ArePairsOf, ArePairs, IsWithout}
-use Rattle.sr_solver.specs.Table.{IsBest, IsLowered, IsRowChanged, IsApart, IsLeastMore, IsMover}
+use Rattle.sr_solver.specs.Table.{IsBest, IsLowered, IsRowChanged, IsApart, IsMover}
 use Rattle.sr_solver.proofs.SearchLemmas.{cost_small}
 
 -- what stands past the last place
@@ -318,28 +318,11 @@ pub table_noted : (p : Transport) (xs : List ℕ) (a b q : ℕ) (old : List Boun
     → IsKnown p (IsAt xs p.entries a) a b known → ArePairs p xs (set old q known)
 table_noted p xs a b q old known lta ltb is table is_known = rw is (note_at p xs a b old known lta ltb table is_known)
 
--- a known best costs least more
-best_moves : (p : Transport) (at : ℕ → Type 0) (a b : ℕ) (known : Bound) → IsKnown p at a b known
-    → known.best < p.entries → IsLeastMore p at a b known.best
-best_moves p at a b known is lt =
-    let best : IsTight p at a b known.low known.best = is.best lt in
-    record {
-      stands = best.stands;
-      allowed = best.allowed;
-      least = λ i here allowed. omega (arith, best.tight, is.below i here allowed);
-    }
-
+-- a best that is known is one to move
 pub mover_known : (p : Transport) (xs : List ℕ) (a b q : ℕ) (table : List Bound)
     → a < consumers p → b < consumers p → q ≡ a * consumers p + b → ArePairs p xs table
-    → (bound_at table q).best < p.entries → IsLeastMore p (IsAt xs p.entries a) a b (bound_at table q).best
-mover_known p xs a b q table lta ltb is table_is lt =
-    let known : IsKnown p (IsAt xs p.entries a) a b (bound_at table q) = rw is (table_is.each a b lta ltb) in
-    best_moves p (IsAt xs p.entries a) a b (bound_at table q) known lt
-
--- what was found is the entry to move
-pub found_moves : (p : Transport) (at : ℕ → Type 0) (a b : ℕ) (found : Bound) → IsKnown p at a b found
-    → found.best < p.entries → IsMover p at a b (Some found.best)
-found_moves p at a b found known lt = best_moves p at a b found known lt
+    → (bound_at table q).best < p.entries → IsMover p (IsAt xs p.entries a) a b (Some (bound_at table q))
+mover_known p xs a b q table lta ltb is table_is lt = (rw is (table_is.each a b lta ltb), lt)
 
 -- and if none was found, none may go there
 pub none_moves : (p : Transport) (at : ℕ → Type 0) (a b : ℕ) (found : Bound) → IsWithinLimits p.rooms p.entries p.costs

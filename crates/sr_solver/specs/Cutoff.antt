@@ -8,7 +8,7 @@ use Rattle.sr_transport.specs.plain.Assignment.{load}
 use Rattle.sr_solver.specs.declared.label.Label.{Label}
 use Rattle.sr_solver.specs.declared.search.End.{End}
 use Rattle.sr_solver.specs.declared.stepped.Step.{Step}
-use Rattle.sr_solver.specs.Limits.{greatest_way}
+use Rattle.sr_solver.specs.Limits.{greatest_way, far}
 use Rattle.sr_solver.specs.Labels.{label_at}
 use Rattle.sr_solver.specs.Steps.{next_fee}
 
@@ -16,6 +16,11 @@ use Rattle.sr_solver.specs.Steps.{next_fee}
 abbrev pub IsBeyond : Option ℕ → ℕ → ℕ → Type 0
 IsBeyond None base sum = ⊥
 IsBeyond (Some dist) base sum = base + dist ≤ sum
+
+-- ways of this length or more are no shorter than the cutoff; if there is none, no way is so long
+abbrev pub IsLimit : Option ℕ → ℕ → Type 0
+IsLimit None most = most ≡ far
+IsLimit (Some dist) most = most ≡ dist
 
 -- how long the path is, if there is one
 abbrev pub length_of : Option End → Option ℕ

@@ -1,6 +1,7 @@
 -- The labels of consumers in a search, as lists.
 
 use Rattle.std.specs.Prelude.{◌≡◌, ℕ, ◌+◌, ◌<◌, ◌≤◌, ◌⊎◌, List, false, slice_index, slice_index_or, not, count_by}
+use Rattle.std.specs.Prelude.{Option, Some, None}
 use Rattle.sr_transport.specs.{Transport, consumers}
 use Rattle.sr_solver.specs.Limits.{greatest_way, far}
 use Rattle.sr_transport.specs.plain.Problem.{cost_of}
@@ -9,6 +10,12 @@ use Rattle.sr_solver.specs.declared.label.Label.{Label}
 -- the label of a consumer that is not reached
 abbrev pub unreached : Label
 unreached = record { hops = 0; dist = far; mover = 0; closed = false }
+
+-- the label of a consumer of this price that entry k, which stands nowhere, comes to at this cost, if it is allowed
+abbrev pub IsFirstLabel : Option ℕ → ℕ → ℕ → Label → Type 0
+IsFirstLabel None price k label = label ≡ unreached
+IsFirstLabel (Some cost) price k label =
+    label ≡ record { hops = 1; dist = cost + price; mover = k; closed = false }
 
 -- what stands past the last consumer
 abbrev pub no_label : Label

@@ -5,15 +5,15 @@ pub mod Limits
 pub mod Steps
 pub mod Labels
 pub mod Cutoff
-pub mod Offers
 pub mod Placed
 pub mod Groups
 pub mod Table
-pub mod Bars
 pub mod Sets
+pub mod Pairs
 pub mod Members
 pub mod Taker
 pub mod Search
+pub mod Exits
 pub mod Path
 pub mod Shortage
 pub mod Order

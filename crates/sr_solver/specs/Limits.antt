@@ -1,6 +1,6 @@
 -- The limits of what a search adds up. Those of a problem and of its answers are in sr_transport.
 
-use Rattle.std.specs.Prelude.{ℕ, ◌+◌, ◌*◌, ◌^◌}
+use Rattle.std.specs.Prelude.{ℕ, ◌*◌, ◌^◌}
 use Rattle.sr_transport.specs.{greatest_charge, greatest_price}
 
 -- prices, and lengths of paths, while entries are placed: so small that any four of them can be added up
@@ -22,14 +22,6 @@ nobody = 2 ^ 32
 -- greater than any sum that is compared with the length of a path
 abbrev pub far : ℕ
 far = 2 ^ 63
-
--- what is added to a bar of a search
-abbrev pub lift : ℕ
-lift = 2 ^ 62
-
--- the base of a closing: the length of a way, with what is added to a bar
-abbrev pub greatest_base : ℕ
-greatest_base = greatest_way + lift
 
 -- how many entries in a row make a group
 abbrev pub group_size : ℕ

@@ -6,12 +6,10 @@ use Rattle.std.specs.Prelude.{Option, Some, None}
 use Rattle.sr_transport.specs.{greatest_charge, Transport, consumers}
 use Rattle.sr_transport.specs.plain.Problem.{cost_at, cost_of, IsAllowed}
 use Rattle.sr_solver.specs.declared.label.Label.{Label}
-use Rattle.sr_solver.specs.declared.label.Offer.{Offer}
 use Rattle.sr_solver.specs.declared.search.End.{End}
 use Rattle.sr_solver.specs.declared.stepped.Step.{Step}
-use Rattle.sr_solver.specs.Labels.{unreached, label_at, open_count, priced}
+use Rattle.sr_solver.specs.Labels.{IsFirstLabel, label_at, open_count, priced}
 use Rattle.sr_solver.specs.Cutoff.{IsBeyond, IsShortest, AreFull}
-use Rattle.sr_solver.specs.Offers.{IsOffered}
 use Rattle.sr_solver.specs.Limits.{far}
 
 -- consumer c is reached by the new entry itself
@@ -86,6 +84,12 @@ IsNearest p labels t = IsNearestOf (consumers p) labels t
 abbrev pub AreAllClosedOf : ℕ → List Label → Type 0
 AreAllClosedOf n labels = (c : ℕ) → c < n → 0 < (label_at labels c).hops → (label_at labels c).closed ≡ true
 
+-- each of n consumers that is reached is closed, or no nearer than the cutoff
+abbrev pub AreDoneOf : ℕ → Option ℕ → List Label → Type 0
+AreDoneOf n cutoff labels =
+    (c : ℕ) → c < n → 0 < (label_at labels c).hops
+    → ((label_at labels c).closed ≡ true) ⊎ IsBeyond cutoff 0 (label_at labels c).dist
+
 -- none at all
 abbrev pub AreAllClosed : Transport → List Label → Type 0
 AreAllClosed p labels = AreAllClosedOf (consumers p) labels
@@ -130,6 +134,10 @@ pub record IsAsked (p : Transport) (k : ℕ) (xs prices : List ℕ) (cutoff : Op
   pub here : IsLeftAt p k xs prices cutoff t old new c ⊎ IsNewAt p k xs prices t old new c
   pub others : (d : ℕ) → (d ≡ c → ⊥) → label_at new d ≡ label_at old d
 
+-- the labels stay, or the entries at consumer t were offered to one consumer
+abbrev pub MayBeAsked : Transport → ℕ → List ℕ → List ℕ → Option ℕ → ℕ → List Label → List Label → Type 0
+MayBeAsked p k xs prices cutoff t old new = (new ≡ old) ⊎ ((c : ℕ) × IsAsked p k xs prices cutoff t c old new)
+
 -- the search found a shortest path to a consumer with room: its length is the cutoff, and no open consumer is nearer
 pub record IsEnd (p : Transport) (steps : List Step) (k : ℕ) (xs prices : List ℕ) (labels : List Label)
     (end : End) : Type 0 where
@@ -157,12 +165,8 @@ pub record IsStuck (p : Transport) (k : ℕ) (xs prices : List ℕ) (labels : Li
   pub every : length xs ≡ p.entries
   pub lost : IsLost p k xs prices labels
 
--- the offer of the new entry
-abbrev pub first_offer : ℕ → Offer
-first_offer k = record { mover = k; dist = 0; base = 0; hops = 1; cutoff = None }
-
 -- the new entry was offered to each consumer, and no other entry
 pub record IsStarted (p : Transport) (k : ℕ) (prices : List ℕ) (labels : List Label) : Type 0 where
   pub one_each : length labels ≡ consumers p
   pub each : (c : ℕ) → c < consumers p
-      → IsOffered (cost_at p k c) (slice_index prices c) (first_offer k) unreached (label_at labels c)
+      → IsFirstLabel (cost_at p k c) (slice_index prices c) k (label_at labels c)

@@ -96,13 +96,7 @@ pub record IsRowChanged (n a upto : ℕ) (to : ℕ → Bound → Bound → Type 
   pub row : (b : ℕ) → b < upto → to b (bound_at old (a * n + b)) (bound_at new (a * n + b))
   pub others : (q : ℕ) → (q < a * n) ⊎ (a * n + upto ≤ q) → bound_at new q ≡ bound_at old q
 
--- of the entries at a that may go to b, entry k costs least more there
-pub record IsLeastMore (p : Transport) (at : ℕ → Type 0) (a b k : ℕ) : Type 0 where
-  pub stands : at k
-  pub allowed : IsAllowed p k b
-  pub least : (i : ℕ) → at i → IsAllowed p i b → cost_of p k b + cost_of p i a ≤ cost_of p i b + cost_of p k a
-
--- the entry to move from a to b, None where none may go there
-abbrev pub IsMover : Transport → (ℕ → Type 0) → ℕ → ℕ → Option ℕ → Type 0
+-- what is known, exactly, of the entries at a that may go to b, None where none may
+abbrev pub IsMover : Transport → (ℕ → Type 0) → ℕ → ℕ → Option Bound → Type 0
 IsMover p at a b None = (i : ℕ) → at i → IsAllowed p i b → ⊥
-IsMover p at a b (Some k) = IsLeastMore p at a b k
+IsMover p at a b (Some known) = IsKnown p at a b known × (known.best < p.entries)

@@ -6,11 +6,13 @@ ghost use Rattle.sr_transport.specs.plain.Problem.{IsWithinLimits, room_of, IsAl
 ghost use Rattle.sr_solver.specs.Limits.{group_size, narrow_room};
 ghost use Rattle.sr_solver.specs.Members.{AreMembers};
 ghost use Rattle.sr_solver.specs.Groups.{IsAt, IsAtIn, AreGroups, low_row, AreLowsOf, AreLowered};
+ghost use Rattle.sr_solver.specs.Pairs.{IsRowOf};
 ghost use Rattle.sr_solver.specs.Table.{IsKnown, IsFound};
 
+use crate::costs::Costs;
+use crate::pairs::Row;
 use crate::placement::Placement;
 use crate::table::{ABOVE, Bound, NARROW, find, lowered};
-use sr_transport::Columns;
 
 /// How many entries in a row make a group.
 const GROUP: usize = 64;
@@ -27,7 +29,7 @@ pub struct Groups {
 }
 
 /// The groups of entries, and the span from the first wide consumer to the last one: none if no consumer is wide.
-pub fn groups_of(problem: &Columns<'_>) -> Groups
+pub fn groups_of(problem: &Costs<'_>) -> Groups
     ensures { AreGroups problem.now result }
 {
     let mut first = problem.consumers();
@@ -46,7 +48,7 @@ pub fn groups_of(problem: &Columns<'_>) -> Groups
 }
 
 /// Where the row of bounds of the wide consumer `from` and another one begins.
-fn row_of(problem: &Columns<'_>, from: usize, to: usize, groups: Groups) -> usize
+fn row_of(problem: &Costs<'_>, from: usize, to: usize, groups: Groups) -> usize
     requires limits { IsWithinLimits problem.now.rooms problem.now.entries problem.now.costs }
     requires groups { AreGroups problem.now groups }
     requires from { from < consumers problem.now }
@@ -61,7 +63,7 @@ fn row_of(problem: &Columns<'_>, from: usize, to: usize, groups: Groups) -> usiz
 ///
 /// The group with the least bound is looked through, and its bound made exact, until no other group has a lesser one.
 pub fn find_in_groups(
-    problem: &Columns<'_>,
+    problem: &Costs<'_>,
     from: usize,
     to: usize,
     placement: &Placement,
@@ -119,7 +121,7 @@ fn least(lows: &[u64], row: usize, groups: usize) -> usize
 
 /// Looks through the entries of a group that stand at `from` for the one that costs least more at `to`.
 fn find_in_group(
-    problem: &Columns<'_>,
+    problem: &Costs<'_>,
     from: usize,
     to: usize,
     assign: &[usize],
@@ -139,6 +141,9 @@ fn find_in_group(
     let mut found = Bound::none();
     for entry in first..end {
         if assign[entry] == from {
+            if !problem.may_take(entry, to) {
+                continue;
+            }
             let here = problem.cost(entry, from).unwrap();
             let there = problem.cost(entry, to);
             found = lowered(found, entry, here, there);
@@ -159,7 +164,7 @@ fn end_of(group: usize, entries: usize) -> usize
 }
 
 /// Notes that an entry has come to a consumer, if that is a wide one: the bounds of its group fall.
-pub fn join_group(problem: &Columns<'_>, entry: usize, to: usize, groups: Groups, lows: &mut [u64])
+pub fn join_group(problem: &Costs<'_>, entry: usize, to: usize, groups: Groups, lows: &mut [u64])
     requires limits { IsWithinLimits problem.now.rooms problem.now.entries problem.now.costs }
     requires entry { entry < problem.now.entries }
     requires allowed { IsAllowed problem.now entry to }
@@ -170,6 +175,9 @@ pub fn join_group(problem: &Columns<'_>, entry: usize, to: usize, groups: Groups
     if problem.room(to) <= NARROW {
         return;
     }
+    if let Some(row) = problem.row(entry) {
+        return join_group_in_row(problem, row, to, groups, lows);
+    }
     let group = entry / GROUP;
     let here = problem.cost(entry, to).unwrap();
     for (next, there) in problem.costs(entry).iter().enumerate() {
@@ -177,6 +185,25 @@ pub fn join_group(problem: &Columns<'_>, entry: usize, to: usize, groups: Groups
             let row = row_of(problem, to, next, groups);
             lower(lows, row + group, there + ABOVE - here);
         }
+    }
+}
+
+/// The same for a wide consumer and an entry of which the allowed consumers are known.
+fn join_group_in_row(problem: &Costs<'_>, row: Row<'_>, to: usize, groups: Groups, lows: &mut [u64])
+    requires limits { IsWithinLimits problem.now.rooms problem.now.entries problem.now.costs }
+    requires entry { row.number < problem.now.entries }
+    requires row { IsRowOf problem.now row.number row.pairs.now }
+    requires allowed { IsAllowed problem.now row.number to }
+    requires wide { narrow_room < room_of problem.now to }
+    requires each_group { length lows.old ≡ consumers problem.now * groups.span * groups.count }
+    requires groups { AreGroups problem.now groups }
+    ensures { AreLowered problem.now to row.entry.number groups lows.old lows.new }
+{
+    let group = row.number / GROUP;
+    let here = problem.cost(row.number, to).unwrap();
+    for pair in row.pairs {
+        let first = row_of(problem, to, pair.consumer, groups);
+        lower(lows, first + group, pair.cost + ABOVE - here);
     }
 }
 

@@ -3,11 +3,13 @@
 //! Source: the method of successive shortest paths (R. G. Busacker, P. J. Gowen, 1961; J. Edmonds, R. M. Karp, 1972).
 #![tactic(auto)]
 
+mod costs;
 mod front;
 mod groups;
 mod label;
 mod members;
 mod order;
+mod pairs;
 mod path;
 mod placement;
 mod placing;

@@ -1,16 +1,15 @@
 ghost use Rattle.std.specs.Prelude.{◌≡◌, ◌<◌, ◌≤◌, ◌++◌, length, All, IfOk};
-ghost use Rattle.sr_transport.specs.{most_entries, consumers};
-ghost use Rattle.sr_transport.specs.plain.Problem.{IsWithinLimits};
-ghost use Rattle.sr_solver.specs.Order.{numbers_below, IsOrder, IsReordered, IsRenamed, AreEntriesAt, row_below};
-ghost use Rattle.sr_solver.specs.Order.{rows_below};
+ghost use Rattle.sr_transport.specs.{most_entries};
+ghost use Rattle.sr_solver.specs.Order.{numbers_below, IsOrder, IsRenamed, AreEntriesAt};
 
-use sr_transport::Columns;
+use crate::costs::Costs;
+use crate::pairs::Row;
 use std::alloc::{AllocError, Global};
 
 /// The entries, those first for which it matters most where they go: whose least cost is farthest below their mean.
 ///
 /// A mean, and not the greatest cost, since one dear consumer would make the entries all alike.
-pub fn by_stake(alloc: Global, problem: &Columns<'_>) -> Result<Vec<usize>, AllocError>
+pub fn by_stake(alloc: Global, problem: &Costs<'_>) -> Result<Vec<usize>, AllocError>
     ensures { IfOk result (λ order. IsOrder problem.now.entries order.items) }
 {
     let ranks = ranks(alloc, problem)?;
@@ -31,7 +30,7 @@ pub fn numbers(alloc: Global, n: usize) -> Result<Vec<usize>, AllocError>
 }
 
 /// A number for each entry, by which they are sorted.
-fn ranks(alloc: Global, problem: &Columns<'_>) -> Result<Vec<u64>, AllocError> {
+fn ranks(alloc: Global, problem: &Costs<'_>) -> Result<Vec<u64>, AllocError> {
     let mut ranks = Vec::new(alloc);
     for entry in 0..problem.entries() {
         ranks.push(u64::MAX - stake(problem, entry))?;
@@ -40,9 +39,12 @@ fn ranks(alloc: Global, problem: &Columns<'_>) -> Result<Vec<u64>, AllocError> {
 }
 
 /// How far the least cost of an entry is below the mean of its costs.
-fn stake(problem: &Columns<'_>, entry: usize) -> u64
+fn stake(problem: &Costs<'_>, entry: usize) -> u64
     requires { entry < problem.now.entries }
 {
+    if let Some(row) = problem.row(entry) {
+        return stake_in_row(row);
+    }
     let mut least = u64::MAX;
     let mut sum = 0u64;
     let mut pairs = 0u64;
@@ -56,34 +58,16 @@ fn stake(problem: &Columns<'_>, entry: usize) -> u64
     (sum / pairs.max(1)).saturating_sub(least)
 }
 
-/// The costs of the problem with its entries in this order.
-pub fn reordered(
-    alloc: Global,
-    problem: &Columns<'_>,
-    order: &[usize],
-) -> Result<Vec<Option<u64>>, AllocError>
-    requires { IsOrder problem.now.entries order.now }
-    ensures value { IfOk result (λ costs. costs.items ≡ rows_below problem.now order.now problem.now.entries) }
-    ensures within { IfOk result (λ costs. IsWithinLimits problem.now.rooms problem.now.entries costs.items) }
-{
-    rows(alloc, problem, order)
-}
-
-/// The rows of costs of these entries.
-pub fn rows(
-    alloc: Global,
-    problem: &Columns<'_>,
-    order: &[usize],
-) -> Result<Vec<Option<u64>>, AllocError>
-    requires { All (λ entry. entry < problem.now.entries) order.now }
-    ensures value { IfOk result (λ costs. costs.items ≡ rows_below problem.now order.now (length order.now)) }
-    ensures limits { IsWithinLimits problem.now.rooms problem.now.entries problem.now.costs }
-{
-    let mut costs = Vec::with_capacity(alloc, order.len().saturating_mul(problem.consumers()))?;
-    for place in 0..order.len() {
-        costs.extend_from_slice(problem.costs(order[place]))?;
+/// The same, from the row of the entry.
+fn stake_in_row(row: Row<'_>) -> u64 {
+    let mut least = u64::MAX;
+    let mut sum = 0u64;
+    for pair in row.pairs {
+        least = least.min(pair.cost);
+        sum = sum.saturating_add(pair.cost);
     }
-    Ok(costs)
+    let pairs = row.pairs.len().max(1) as u64;
+    (sum / pairs).saturating_sub(least)
 }
 
 /// Gives to each entry what stands at its place in the order.

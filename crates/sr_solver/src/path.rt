@@ -8,10 +8,10 @@ ghost use Rattle.sr_solver.specs.Table.{IsTable};
 ghost use Rattle.sr_solver.specs.Members.{AreWide, AreMembers};
 ghost use Rattle.sr_solver.specs.Path.{AreRaised, ArePaths, AreShifted};
 
+use crate::costs::Costs;
 use crate::label::Label;
 use crate::placement::Placement;
 use crate::table::{Table, put};
-use sr_transport::Columns;
 
 /// Raises the price of each closed consumer by as much as the path to it is shorter than `dist`.
 pub fn raise(prices: &mut [u64], labels: &[Label], dist: u64)
@@ -34,7 +34,7 @@ pub fn raise(prices: &mut [u64], labels: &[Label], dist: u64)
 /// Moves the entries of the path that ends at `end`, each to the next consumer, the last of them `entry`, which stood
 /// nowhere.
 pub fn shift(
-    problem: &Columns<'_>,
+    problem: &Costs<'_>,
     entry: usize,
     end: usize,
     labels: &[Label],

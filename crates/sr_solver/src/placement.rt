@@ -3,8 +3,8 @@ ghost use Rattle.sr_solver.specs.Members.{AreWide};
 ghost use Rattle.sr_solver.specs.Placed.{IsStanding};
 ghost use Rattle.sr_solver.specs.Steps.{AreSteps};
 
+use crate::costs::Costs;
 use crate::stepped::Stepped;
-use sr_transport::Columns;
 use std::alloc::{AllocError, Global};
 
 /// Where the entries stand, and the prices that show it cheapest.
@@ -43,7 +43,7 @@ pub fn nowhere(alloc: Global, problem: &Stepped<'_>) -> Result<Placement, AllocE
 }
 
 /// How many numbers a row of members needs: one more than the greatest room, but no more than for all entries.
-fn row_width(problem: &Columns<'_>) -> usize
+fn row_width(problem: &Costs<'_>) -> usize
     ensures { AreWide problem.now result }
 {
     let mut most = 0;

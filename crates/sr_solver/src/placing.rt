@@ -76,7 +76,6 @@ pub fn place_all(
     requires standing { IsStanding problem.now.columns problem.now.steps.now first placement.old }
     requires table { IsTable problem.now.columns placement.old.assign.items table.old }
     requires labels { length front.old.labels.items ≡ consumers problem.now.columns }
-    requires bars { length front.old.bars.items ≡ consumers problem.now.columns }
     ensures { IsEndOf problem.now.columns problem.now.steps.now is_patient placement.new front.new.labels.items
         result }
 {
@@ -130,7 +129,6 @@ fn place(
     requires standing { IsStanding problem.now.columns problem.now.steps.now entry placement.old }
     requires table { IsTable problem.now.columns placement.old.assign.items table.old }
     requires labels { length front.old.labels.items ≡ consumers problem.now.columns }
-    requires bars { length front.old.bars.items ≡ consumers problem.now.columns }
     ensures standing { result ≡ true → IsStanding problem.now.columns problem.now.steps.now (entry + 1)
         placement.new }
     ensures table { result ≡ true → IsTable problem.now.columns placement.new.assign.items table.new }
@@ -138,7 +136,6 @@ fn place(
         → IsStuck problem.now.columns entry placement.new.assign.items placement.new.prices.items
         front.new.labels.items }
     ensures labels { length front.new.labels.items ≡ consumers problem.now.columns }
-    ensures bars { length front.new.bars.items ≡ consumers problem.now.columns }
 {
     let Some(end) = search(problem, entry, placement, table, front) else {
         return false;

@@ -1,24 +1,22 @@
 ghost use Rattle.std.specs.Prelude.{◌≡◌, ℕ, ◌+◌, ◌*◌, ◌^◌, ◌<◌, ◌≤◌, length, All, IfOk, IfSome};
 ghost use Rattle.std.specs.List.Sorted.{IsPermutation};
 ghost use Rattle.sr_transport.specs.{consumers};
-ghost use Rattle.sr_solver.specs.Order.{IsOrder};
+ghost use Rattle.sr_transport.specs.Limits.{greatest_room};
+ghost use Rattle.sr_solver.specs.Order.{IsOrder, IsPartOf};
 ghost use Rattle.sr_solver.specs.Steps.{AreSteps};
 
-use crate::order::{by_stake, rows};
+use crate::costs::{Costs, Source};
+use crate::order::by_stake;
 use crate::solution::solve_in_order;
 use crate::stepped::{Answer, Step, Stepped};
 use crate::wanted::{Wishes, wanted, wishes_at};
-use sr_transport::Columns;
 use std::alloc::{AllocError, Global};
 
 /// One entry out of this many is in the sample.
-const BLOCK: usize = 8;
+pub const BLOCK: usize = 8;
 
 /// A smaller sample is not worth its time.
 const FEW: usize = 64;
-
-/// The order that the entries have is worth a try if they are allowed no more consumers than this, on average.
-const SPARSE: usize = 16;
 
 /// How often a sample is solved: each time without the entries that had too few places the time before.
 const TRIES: usize = 4;
@@ -27,38 +25,35 @@ const TRIES: usize = 4;
 ///
 /// The prices come from a sample, which is solved first. Which sample that is, and whether it has an answer, affects
 /// the time alone.
-pub fn placing_order(alloc: Global, problem: &Stepped<'_>) -> Result<Vec<usize>, AllocError>
-    requires { AreSteps problem.now.columns.rooms problem.now.steps.now }
-    ensures { IfOk result (λ order. IsOrder problem.now.columns.entries order.items) }
+pub fn placing_order(
+    alloc: Global,
+    source: &Source<'_>,
+    steps: &[Step],
+) -> Result<Vec<usize>, AllocError>
+    requires { AreSteps source.now.rooms steps.now }
+    ensures { IfOk result (λ order. IsOrder source.now.entries order.items) }
 {
+    let problem = Stepped {
+        columns: source.whole(),
+        steps,
+    };
     let mut order = by_stake(alloc, &problem.columns)?;
     if order.len() < FEW * BLOCK {
         return Ok(order);
     }
     let sample = sample(alloc, &order)?;
-    let Some(prices) = prices_of(alloc, problem, sample)? else {
+    let Some(prices) = prices_of(alloc, source, &problem, sample)? else {
         return Ok(order);
     };
-    by_price(alloc, problem, &prices, &mut order)?;
+    by_price(alloc, &problem, &prices, &mut order)?;
     Ok(order)
-}
-
-/// Whether the entries are allowed so few consumers that an order of their own may cost more time than it saves. One of
-/// each `BLOCK` entries in a row is looked at.
-pub fn is_sparse(problem: &Columns<'_>) -> bool {
-    let mut pairs = 0usize;
-    for block in 0..problem.entries() / BLOCK {
-        for cost in problem.costs(place_in(block)) {
-            pairs = pairs.saturating_add(usize::from(cost.is_some()));
-        }
-    }
-    pairs <= (problem.entries() / BLOCK).saturating_mul(SPARSE)
 }
 
 /// One of each `BLOCK` entries in a row. Which one follows no period.
 fn sample(alloc: Global, order: &[usize]) -> Result<Vec<usize>, AllocError>
-    ensures { IfOk result (λ sample. (n : ℕ) → All (λ entry. entry < n) order.now
+    ensures below { IfOk result (λ sample. (n : ℕ) → All (λ entry. entry < n) order.now
         → All (λ entry. entry < n) sample.items) }
+    ensures few { IfOk result (λ sample. length sample.items ≤ length order.now) }
 {
     let mut sample = Vec::with_capacity(alloc, order.len() / BLOCK)?;
     for block in 0..order.len() / BLOCK {
@@ -68,7 +63,7 @@ fn sample(alloc: Global, order: &[usize]) -> Result<Vec<usize>, AllocError>
 }
 
 /// The place that is picked in a block of `BLOCK` places.
-fn place_in(block: usize) -> usize
+pub fn place_in(block: usize) -> usize
     requires { block * 8 + 8 < 2 ^ 64 }
     ensures { result < block * 8 + 8 }
 {
@@ -132,23 +127,22 @@ fn claim(
 /// The prices of a placement of these entries alone, with the rooms smaller in proportion.
 fn prices_of(
     alloc: Global,
+    source: &Source<'_>,
     problem: &Stepped<'_>,
     sample: Vec<usize>,
 ) -> Result<Option<Vec<u64>>, AllocError>
+    requires source { problem.now.columns ≡ source.now }
     requires steps { AreSteps problem.now.columns.rooms problem.now.steps.now }
-    requires below { All (λ entry. entry < problem.now.columns.entries) sample.items }
+    requires part { IsPartOf source.now sample.items }
     ensures { IfOk result (λ found. IfSome found (λ prices. length prices.items ≡ consumers problem.now.columns)) }
 {
     let rooms = smaller_rooms(alloc, &problem.columns, sample.len())?;
     let steps = smaller_steps(alloc, problem, &rooms)?;
     let mut sample = sample;
     for _ in 0..TRIES {
-        let costs = rows(alloc, &problem.columns, &sample)?;
-        let Some(columns) = Columns::new(&rooms, sample.len(), &costs) else {
-            return Ok(None);
-        };
+        // The source is lent again, as the rooms live shorter.
         let smaller = Stepped {
-            columns,
+            columns: (&*source).picked(&rooms, &sample),
             steps: &steps,
         };
         match solve_in_order(alloc, &smaller)? {
@@ -165,8 +159,9 @@ fn prices_of(
 
 /// The entries but for those at these places.
 fn without(alloc: Global, entries: &[usize], places: &[usize]) -> Result<Vec<usize>, AllocError>
-    ensures { IfOk result (λ kept. (n : ℕ) → All (λ entry. entry < n) entries.now
+    ensures below { IfOk result (λ kept. (n : ℕ) → All (λ entry. entry < n) entries.now
         → All (λ entry. entry < n) kept.items) }
+    ensures few { IfOk result (λ kept. length kept.items ≤ length entries.now) }
 {
     let mut is_kept = vec![in alloc; true; entries.len()]?;
     for place in places {
@@ -184,24 +179,22 @@ fn without(alloc: Global, entries: &[usize], places: &[usize]) -> Result<Vec<usi
 }
 
 /// The rooms for this many entries in place of all. Their sums are rounded, so that many small rooms do not grow.
-fn smaller_rooms(
-    alloc: Global,
-    problem: &Columns<'_>,
-    entries: usize,
-) -> Result<Vec<u64>, AllocError>
-    ensures { IfOk result (λ rooms. length rooms.items ≡ consumers problem.now) }
+fn smaller_rooms(alloc: Global, problem: &Costs<'_>, entries: usize) -> Result<Vec<u64>, AllocError>
+    ensures one_each { IfOk result (λ rooms. length rooms.items ≡ consumers problem.now) }
+    ensures small { IfOk result (λ rooms. All (λ room. room ≤ greatest_room) rooms.items) }
 {
     let all = problem.entries().max(1) as u64;
     let mut rooms = Vec::with_capacity(alloc, problem.consumers())?;
     let mut places = 0u64;
     let mut given = 0u64;
     for consumer in 0..problem.consumers() {
-        places = places.saturating_add(problem.room(consumer));
+        let room = problem.room(consumer);
+        places = places.saturating_add(room);
         let share = places
             .saturating_mul(entries as u64)
             .saturating_add(all / 2)
             / all;
-        rooms.push(share.saturating_sub(given))?;
+        rooms.push(share.saturating_sub(given).min(room))?;
         given = share;
     }
     Ok(rooms)

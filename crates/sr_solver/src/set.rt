@@ -8,7 +8,7 @@ pub struct ConsumerSet {
 }
 
 impl ConsumerSet {
-    ghost use Rattle.std.specs.Prelude.{◌≡◌, ℕ, ◌<◌, IfSome, IfNone};
+    ghost use Rattle.std.specs.Prelude.{◌≡◌, ℕ, ◌<◌, ◌↔◌, IfSome, IfNone, IsTrue};
     ghost use Rattle.sr_transport.specs.Limits.{most_consumers};
     ghost use Rattle.sr_solver.specs.Sets.{IsIn, IsWith, IsWithout};
 
@@ -37,6 +37,14 @@ impl ConsumerSet {
         ConsumerSet {
             bits: self.bits & !(1 << consumer),
         }
+    }
+
+    /// Whether this one is among them.
+    pub fn has(self, consumer: usize) -> bool
+        requires { consumer < most_consumers }
+        ensures { IsTrue result ↔ IsIn self consumer }
+    {
+        (self.bits >> consumer) & 1 == 1
     }
 
     /// One of them, if there is any.

@@ -3,8 +3,8 @@ ghost use Rattle.sr_transport.specs.{sum_below, consumers};
 ghost use Rattle.sr_transport.specs.plain.Problem.{room_of};
 ghost use Rattle.sr_solver.specs.Shortage.{stranded_below};
 
+use crate::costs::Costs;
 use crate::label::Label;
-use sr_transport::Columns;
 use std::alloc::{AllocError, Global};
 
 /// The entry that found no place, and the earlier entries that stand at closed consumers, rising.
@@ -29,7 +29,7 @@ pub fn stranded(
 }
 
 /// How many places all consumers have.
-pub fn places(problem: &Columns<'_>) -> u64
+pub fn places(problem: &Costs<'_>) -> u64
     ensures { result ≡ sum_below (room_of problem.now) (consumers problem.now) }
 {
     let mut places = 0;

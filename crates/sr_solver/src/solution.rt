@@ -1,19 +1,19 @@
 ghost use Rattle.std.specs.Prelude.{◌≡◌, ◌<◌, IfOk, IfSome, IsSome, true};
 ghost use Rattle.sr_transport.specs.{sum_below, consumers};
-ghost use Rattle.sr_transport.specs.plain.Problem.{room_of};
+ghost use Rattle.sr_transport.specs.plain.Certificate.{IsShortage};
 ghost use Rattle.sr_solver.specs.Answered.{IsAnswer};
 ghost use Rattle.sr_solver.specs.Placed.{IsStanding};
 ghost use Rattle.sr_solver.specs.Steps.{AreSteps};
 
+use crate::costs::{Costs, Source};
 use crate::front::fresh_front;
-use crate::order::{entries_at, numbers, rename, reordered};
+use crate::order::{entries_at, numbers, rename};
 use crate::placement::{Placement, nowhere};
 use crate::placing::{Progress, place_all, take_all};
-use crate::sample::{is_sparse, placing_order};
+use crate::sample::placing_order;
 use crate::shortage::{places, stranded};
-use crate::stepped::{Answer, Stepped};
+use crate::stepped::{Answer, Step, Stepped};
 use crate::table::unknown_table;
-use sr_transport::Columns;
 use std::alloc::{AllocError, Global};
 
 /// Solves a transportation problem with steps: places the entries at the least total, or gives entries for which there
@@ -24,41 +24,55 @@ use std::alloc::{AllocError, Global};
 /// answer.
 ///
 /// Source: the method of successive shortest paths (J. Edmonds, R. M. Karp, 1972).
-pub fn solve_stepped(alloc: Global, problem: &Stepped<'_>) -> Result<Answer, AllocError>
-    requires { AreSteps problem.now.columns.rooms problem.now.steps.now }
-    ensures { IfOk result (IsAnswer problem.now.columns problem.now.steps.now) }
+pub fn solve_stepped<'a>(
+    alloc: Global,
+    source: Source<'a>,
+    steps: &'a [Step],
+) -> Result<Answer, AllocError>
+    requires { AreSteps source.rooms steps.now }
+    ensures { IfOk result (IsAnswer source.entry steps.now) }
 {
-    if places(&problem.columns) < problem.columns.entries() as u64 {
-        return all_short(alloc, problem);
+    if let Some(set) = all_short(alloc, &source.whole())? {
+        return Ok(Answer::Short { set });
     }
-    if let Some(found) = answer(alloc, problem, false)? {
+    let source = source.with_pairs(alloc)?;
+    let problem = Stepped {
+        columns: source.whole(),
+        steps,
+    };
+    if let Some(found) = answer(alloc, &problem, false)? {
         return Ok(found);
     }
-    solve_reordered(alloc, problem)
+    solve_reordered(alloc, &source, steps)
 }
 
-/// The answer to a problem with more entries than places: all entries.
-fn all_short(alloc: Global, problem: &Stepped<'_>) -> Result<Answer, AllocError>
-    requires { sum_below (room_of problem.now.columns) (consumers problem.now.columns) < problem.now.columns.entries }
-    ensures { IfOk result (IsAnswer problem.now.columns problem.now.steps.now) }
+/// All entries, if they are more than there are places.
+fn all_short(alloc: Global, problem: &Costs<'_>) -> Result<Option<Vec<usize>>, AllocError>
+    ensures { IfOk result (λ found. IfSome found (λ set. IsShortage problem.now set.items)) }
 {
-    let set = numbers(alloc, problem.columns.entries())?;
-    Ok(Answer::Short { set })
+    if problem.entries() as u64 <= places(problem) {
+        return Ok(None);
+    }
+    let set = numbers(alloc, problem.entries())?;
+    Ok(Some(set))
 }
 
 /// Solves a problem, placing its entries in an order of their own.
-fn solve_reordered(alloc: Global, problem: &Stepped<'_>) -> Result<Answer, AllocError>
-    requires { AreSteps problem.now.columns.rooms problem.now.steps.now }
-    ensures { IfOk result (IsAnswer problem.now.columns problem.now.steps.now) }
+fn solve_reordered<'a>(
+    alloc: Global,
+    source: &'a Source<'_>,
+    steps: &'a [Step],
+) -> Result<Answer, AllocError>
+    requires { AreSteps source.now.rooms steps.now }
+    ensures { IfOk result (IsAnswer source.now steps.now) }
 {
-    let order = placing_order(alloc, problem)?;
-    let costs = reordered(alloc, &problem.columns, &order)?;
-    let columns = Columns::new(problem.columns.rooms(), problem.columns.entries(), &costs).unwrap();
+    let order = placing_order(alloc, source, steps)?;
+    let whole = source.whole();
     let other = Stepped {
-        columns,
-        steps: problem.steps,
+        columns: source.picked(whole.rooms(), &order),
+        steps,
     };
-    let mut renamed = vec![in alloc; 0usize; problem.columns.entries()]?;
+    let mut renamed = vec![in alloc; 0usize; whole.entries()]?;
     match solve_in_order(alloc, &other)? {
         Answer::Placed { assign, prices } => {
             rename(&order, &assign, &mut renamed);
@@ -102,7 +116,7 @@ fn answer(
             prices: placement.prices,
         }));
     }
-    if !is_patient && !is_sparse(&problem.columns) {
+    if !is_patient && !problem.columns.is_sparse() {
         return Ok(None);
     }
     finish(alloc, problem, taken, is_patient, placement)

@@ -1,5 +1,5 @@
 //! Problems over consumers that have some places without a fee, and further ones at a fee each.
-use sr_transport::Columns;
+use crate::costs::Costs;
 
 /// What the places of a consumer cost beyond the costs of entries: the first ones nothing, each further one the fee.
 #[derive(Clone, Copy)]
@@ -41,7 +41,7 @@ pub enum Answer {
 #[derive(Drop)]
 pub struct Stepped<'a> {
     /// The whole room of each consumer, and the costs without fees.
-    pub columns: Columns<'a>,
+    pub columns: Costs<'a>,
     /// The step of each consumer.
     pub steps: &'a [Step],
 }

@@ -4,13 +4,16 @@ ghost use Rattle.sr_transport.specs.plain.Problem.{IsWithinLimits, room_of, cost
 ghost use Rattle.sr_transport.specs.plain.Assignment.{load};
 ghost use Rattle.sr_solver.specs.Members.{AreWide, AreMembersOf, AreMembers};
 ghost use Rattle.sr_solver.specs.Groups.{IsAt};
+ghost use Rattle.sr_solver.specs.Pairs.{IsRowOf};
 ghost use Rattle.sr_solver.specs.Table.{no_entry, IsApart, IsKnown, IsFound, ArePairs, IsTableOf, IsTable, IsWithout};
-ghost use Rattle.sr_solver.specs.Table.{IsLowered, IsRowChanged, IsMover};
+ghost use Rattle.sr_solver.specs.Table.{IsLowered, IsRowChanged, IsMover, bound_at};
 
+use crate::costs::Costs;
 use crate::groups::{Groups, find_in_groups, groups_of, join_group};
 use crate::members::{add, remove};
+use crate::pairs::Row;
 use crate::placement::Placement;
-use sr_transport::{Columns, MAX_CHARGE};
+use sr_transport::MAX_CHARGE;
 use std::alloc::{AllocError, Global};
 
 /// What is added to a difference of two costs, so that it is not below 0.
@@ -76,7 +79,7 @@ impl Bound {
 }
 
 /// A table of bounds that hold for any entries.
-pub fn unknown_table(alloc: Global, problem: &Columns<'_>) -> Result<Table, AllocError>
+pub fn unknown_table(alloc: Global, problem: &Costs<'_>) -> Result<Table, AllocError>
     ensures { IfOk result (λ table. (xs : List ℕ) → IsTable problem.now xs table) }
 {
     let consumers = problem.consumers();
@@ -92,7 +95,7 @@ pub fn unknown_table(alloc: Global, problem: &Columns<'_>) -> Result<Table, Allo
 
 /// Looks through the entries at a narrow consumer for those that cost least more at each other one, if that was never
 /// done: then the bound of the consumer with itself is not known.
-pub fn look_over(problem: &Columns<'_>, from: usize, placement: &Placement, table: &mut Table)
+pub fn look_over(problem: &Costs<'_>, from: usize, placement: &Placement, table: &mut Table)
     requires limits { IsWithinLimits problem.now.rooms problem.now.entries problem.now.costs }
     requires from { from < consumers problem.now }
     requires placed { (i : ℕ) → IsAt placement.now.assign.items problem.now.entries from i
@@ -109,7 +112,7 @@ pub fn look_over(problem: &Columns<'_>, from: usize, placement: &Placement, tabl
 }
 
 /// Looks through the entries at a consumer for those that cost least more at each other one.
-fn look_through(problem: &Columns<'_>, from: usize, placement: &Placement, pairs: &mut [Bound])
+fn look_through(problem: &Costs<'_>, from: usize, placement: &Placement, pairs: &mut [Bound])
     requires limits { IsWithinLimits problem.now.rooms problem.now.entries problem.now.costs }
     requires from { from < consumers problem.now }
     requires placed { (i : ℕ) → IsAt placement.now.assign.items problem.now.entries from i
@@ -129,7 +132,7 @@ fn look_through(problem: &Columns<'_>, from: usize, placement: &Placement, pairs
 }
 
 /// Makes a row of the table that of a consumer where no entry stands.
-fn blank(problem: &Columns<'_>, from: usize, pairs: &mut [Bound])
+fn blank(problem: &Costs<'_>, from: usize, pairs: &mut [Bound])
     requires from { from < consumers problem.now }
     requires each_pair { length pairs.old ≡ consumers problem.now * consumers problem.now }
     ensures { IsRowChanged (consumers problem.now) from (consumers problem.now)
@@ -140,15 +143,15 @@ fn blank(problem: &Columns<'_>, from: usize, pairs: &mut [Bound])
     }
 }
 
-/// The entry at `from` that costs least more at `to`, or `None` where none may go there. Where the table doesn't know
-/// it, it is looked for, and noted.
+/// The entry at `from` that costs least more at `to`, with its bound, or `None` where none may go there. Where the
+/// table doesn't know it, it is looked for, and noted.
 pub fn least_mover(
-    problem: &Columns<'_>,
+    problem: &Costs<'_>,
     from: usize,
     to: usize,
     placement: &Placement,
     table: &mut Table,
-) -> Option<usize>
+) -> Option<Bound>
     requires limits { IsWithinLimits problem.now.rooms problem.now.entries problem.now.costs }
     requires every { length placement.now.assign.items ≡ problem.now.entries }
     requires from { from < consumers problem.now }
@@ -162,21 +165,21 @@ pub fn least_mover(
     ensures table { IsTable problem.now placement.now.assign.items table.new }
 {
     let pair = from * problem.consumers() + to;
-    let best = table.pairs[pair].best;
-    if best < problem.entries() {
-        return Some(best);
+    let known = table.pairs[pair];
+    if known.best < problem.entries() {
+        return Some(known);
     }
     let found = look_up(problem, from, to, placement, table);
     table.pairs[pair] = found;
     if found.best < problem.entries() {
-        return Some(found.best);
+        return Some(found);
     }
     None
 }
 
 /// Looks for the entry at `from` that costs least more at `to`: by groups, if `from` is wide.
 fn look_up(
-    problem: &Columns<'_>,
+    problem: &Costs<'_>,
     from: usize,
     to: usize,
     placement: &Placement,
@@ -204,7 +207,7 @@ fn look_up(
 /// Looks through the entries at `from` for the one that costs least more at `to`. It is not inlined: within its caller
 /// the loop is slower.
 #[inline(never)]
-pub fn find(problem: &Columns<'_>, from: usize, to: usize, placement: &Placement) -> Bound
+pub fn find(problem: &Costs<'_>, from: usize, to: usize, placement: &Placement) -> Bound
     requires limits { IsWithinLimits problem.now.rooms problem.now.entries problem.now.costs }
     requires every { length placement.now.assign.items ≡ problem.now.entries }
     requires from { from < consumers problem.now }
@@ -221,6 +224,9 @@ pub fn find(problem: &Columns<'_>, from: usize, to: usize, placement: &Placement
     let mut found = Bound::none();
     for place in 0..members[row] as usize {
         let other = members[row + 1 + place] as usize;
+        if !problem.may_take(other, to) {
+            continue;
+        }
         let here = problem.cost(other, from).unwrap();
         let there = problem.cost(other, to);
         found = lowered(found, other, here, there);
@@ -246,7 +252,7 @@ pub fn lowered(known: Bound, entry: usize, here: u64, there: Option<u64>) -> Bou
 
 /// Moves an entry to a consumer, from the one where it stands, if it stands anywhere.
 pub fn put(
-    problem: &Columns<'_>,
+    problem: &Costs<'_>,
     entry: usize,
     to: usize,
     placement: &mut Placement,
@@ -291,7 +297,7 @@ pub fn put(
 
 /// Takes an entry out of the members and the table, where it stands anywhere.
 fn take_out(
-    problem: &Columns<'_>,
+    problem: &Costs<'_>,
     entry: usize,
     assign: &[usize],
     width: usize,
@@ -317,7 +323,7 @@ fn take_out(
 
 /// Brings an entry that stands nowhere into the members and the table, at a consumer.
 fn bring_in(
-    problem: &Columns<'_>,
+    problem: &Costs<'_>,
     entry: usize,
     to: usize,
     assign: &[usize],
@@ -343,12 +349,18 @@ fn bring_in(
 }
 
 /// Notes that an entry has left a consumer: it is no longer the best of those that may go elsewhere.
-fn leave(problem: &Columns<'_>, entry: usize, from: usize, pairs: &mut [Bound])
+fn leave(problem: &Costs<'_>, entry: usize, from: usize, pairs: &mut [Bound])
+    requires entry { entry < problem.now.entries }
     requires from { from < consumers problem.now }
     requires each_pair { length pairs.old ≡ consumers problem.now * consumers problem.now }
+    requires best { (b : ℕ) → b < consumers problem.now
+        → (bound_at pairs.old (from * consumers problem.now + b)).best ≡ entry → IsAllowed problem.now entry b }
     ensures { IsRowChanged (consumers problem.now) from (consumers problem.now)
         (λ to old new. IsWithout entry old new) pairs.old pairs.new }
 {
+    if let Some(row) = problem.row(entry) {
+        return leave_in_row(problem, row, from, pairs);
+    }
     for to in 0..problem.consumers() {
         let pair = from * problem.consumers() + to;
         if pairs[pair].best == entry {
@@ -358,8 +370,29 @@ fn leave(problem: &Columns<'_>, entry: usize, from: usize, pairs: &mut [Bound])
     }
 }
 
+/// The same for an entry of which the allowed consumers are known.
+fn leave_in_row(problem: &Costs<'_>, row: Row<'_>, from: usize, pairs: &mut [Bound])
+    requires entry { row.number < problem.now.entries }
+    requires row { IsRowOf problem.now row.number row.pairs.now }
+    requires from { from < consumers problem.now }
+    requires each_pair { length pairs.old ≡ consumers problem.now * consumers problem.now }
+    requires best { (b : ℕ) → b < consumers problem.now
+        → (bound_at pairs.old (from * consumers problem.now + b)).best ≡ row.number
+        → IsAllowed problem.now row.number b }
+    ensures { IsRowChanged (consumers problem.now) from (consumers problem.now)
+        (λ to old new. IsWithout row.entry.number old new) pairs.old pairs.new }
+{
+    for pair in row.pairs {
+        let place = from * problem.consumers() + pair.consumer;
+        if pairs[place].best == row.number {
+            let low = pairs[place].low;
+            pairs[place] = Bound { low, best: NOBODY };
+        }
+    }
+}
+
 /// Notes that an entry has come to a consumer.
-fn arrive(problem: &Columns<'_>, entry: usize, to: usize, pairs: &mut [Bound])
+fn arrive(problem: &Costs<'_>, entry: usize, to: usize, pairs: &mut [Bound])
     requires limits { IsWithinLimits problem.now.rooms problem.now.entries problem.now.costs }
     requires entry { entry < problem.now.entries }
     requires allowed { IsAllowed problem.now entry to }
@@ -367,6 +400,9 @@ fn arrive(problem: &Columns<'_>, entry: usize, to: usize, pairs: &mut [Bound])
     ensures { IsRowChanged (consumers problem.now) to (consumers problem.now)
         (λ next. IsLowered entry (cost_of problem.now entry to) (cost_at problem.now entry next)) pairs.old pairs.new }
 {
+    if let Some(row) = problem.row(entry) {
+        return arrive_in_row(problem, row, to, pairs);
+    }
     let here = problem.cost(entry, to).unwrap();
     for (next, there) in problem.costs(entry).iter().enumerate() {
         if there.is_some() {
@@ -374,5 +410,24 @@ fn arrive(problem: &Columns<'_>, entry: usize, to: usize, pairs: &mut [Bound])
             let known = lowered(pairs[pair], entry, here, *there);
             pairs[pair] = known;
         }
+    }
+}
+
+/// The same for an entry of which the allowed consumers are known.
+fn arrive_in_row(problem: &Costs<'_>, row: Row<'_>, to: usize, pairs: &mut [Bound])
+    requires limits { IsWithinLimits problem.now.rooms problem.now.entries problem.now.costs }
+    requires entry { row.number < problem.now.entries }
+    requires row { IsRowOf problem.now row.number row.pairs.now }
+    requires allowed { IsAllowed problem.now row.number to }
+    requires each_pair { length pairs.old ≡ consumers problem.now * consumers problem.now }
+    ensures { IsRowChanged (consumers problem.now) to (consumers problem.now)
+        (λ next. IsLowered row.entry.number (cost_of problem.now row.entry.number to)
+        (cost_at problem.now row.entry.number next)) pairs.old pairs.new }
+{
+    let here = problem.cost(row.number, to).unwrap();
+    for pair in row.pairs {
+        let place = to * problem.consumers() + pair.consumer;
+        let known = lowered(pairs[place], row.number, here, Some(pair.cost));
+        pairs[place] = known;
     }
 }

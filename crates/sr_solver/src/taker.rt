@@ -1,8 +1,10 @@
 ghost use Rattle.std.specs.Prelude.{◌≡◌, ℕ, ◌<◌, ◌≤◌, length, slice_index, nat_lt, IfSome, IfNone};
 ghost use Rattle.sr_transport.specs.{greatest_charge, consumers};
 ghost use Rattle.sr_solver.specs.Limits.{greatest_way};
+ghost use Rattle.sr_solver.specs.Pairs.{IsRowOf};
 ghost use Rattle.sr_solver.specs.Taker.{IsTaker, IsCompared};
 
+use crate::pairs::Row;
 use crate::stepped::Stepped;
 
 /// The cheapest of the consumers that were looked at.
@@ -26,6 +28,9 @@ pub fn taker(problem: &Stepped<'_>, entry: usize, prices: &[u64], loads: &[u64])
     ensures none { IfNone result
         ((c : ℕ) → IsTaker problem.now.columns problem.now.steps.now prices.now loads.now entry c → ⊥) }
 {
+    if let Some(row) = problem.columns.row(entry) {
+        return taker_in_row(problem, row, prices, loads);
+    }
     let mut cheapest = Cheapest {
         sum: u64::MAX,
         free: None,
@@ -35,6 +40,34 @@ pub fn taker(problem: &Stepped<'_>, entry: usize, prices: &[u64], loads: &[u64])
             let is_vacant = problem.is_vacant(consumer, loads[consumer], prices[consumer]);
             cheapest = compared(cheapest, consumer, *cost, prices[consumer], is_vacant);
         }
+    }
+    cheapest.free
+}
+
+/// The same for an entry of which the allowed consumers are known.
+fn taker_in_row(problem: &Stepped<'_>, row: Row<'_>, prices: &[u64], loads: &[u64]) -> Option<usize>
+    requires entry { row.number < problem.now.columns.entries }
+    requires row { IsRowOf problem.now.columns row.number row.pairs.now }
+    requires steps_each { length problem.now.steps.now ≡ consumers problem.now.columns }
+    requires prices_each { length prices.now ≡ consumers problem.now.columns }
+    requires loads_each { length loads.now ≡ consumers problem.now.columns }
+    requires low { (c : ℕ) → c < consumers problem.now.columns → slice_index prices.now c ≤ greatest_way }
+    ensures some { IfSome result
+        (IsTaker problem.now.columns problem.now.steps.now prices.now loads.now row.entry.number) }
+    ensures none { IfNone result
+        ((c : ℕ) → IsTaker problem.now.columns problem.now.steps.now prices.now loads.now row.entry.number c → ⊥) }
+{
+    let mut cheapest = Cheapest {
+        sum: u64::MAX,
+        free: None,
+    };
+    // A problem keeps its limits, so no sum is too large.
+    problem.columns.consumers();
+    for pair in row.pairs {
+        let consumer = pair.consumer;
+        let price = prices[consumer];
+        let is_vacant = problem.is_vacant(consumer, loads[consumer], price);
+        cheapest = compared(cheapest, consumer, Some(pair.cost), price, is_vacant);
     }
     cheapest.free
 }

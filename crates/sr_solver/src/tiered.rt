@@ -6,9 +6,10 @@ ghost use Rattle.sr_transport.specs.Assignment.{IsAssignment, total_of};
 ghost use Rattle.sr_transport.specs.Solved.{IsSolution, IsOptimal, HasSmallPrices};
 ghost use Rattle.sr_solver.specs.ByConsumer.{AreRoomsOf, IsStepOf, AreStepsOf, IsAnswerOf, AreByTier};
 
+use crate::costs::Source;
 use crate::solution::solve_stepped;
-use crate::stepped::{Answer, Step, Stepped};
-use sr_transport::{Columns, Problem, Solved, Tier};
+use crate::stepped::{Answer, Step};
+use sr_transport::{Problem, Solved, Tier};
 use std::alloc::{AllocError, Global};
 
 /// The greatest room that a consumer has here. It is more than there are entries, so no assignment needs more.
@@ -30,11 +31,8 @@ pub fn solve(alloc: Global, problem: &Problem) -> Result<Solved, AllocError>
     problem.sound();
     let rooms = rooms(alloc, problem)?;
     let steps = steps(alloc, problem)?;
-    let stepped = Stepped {
-        columns: columns(problem, &rooms),
-        steps: &steps,
-    };
-    let answer = solve_stepped(alloc, &stepped)?;
+    let source = Source::new(&rooms, problem.entries(), problem.costs());
+    let answer = solve_stepped(alloc, source, &steps)?;
     solved(alloc, problem, &steps, answer)
 }
 
@@ -83,19 +81,6 @@ fn fee_of(tiers: &[Tier], tier: usize, consumer: usize) -> u64
         return tiers[tier].fee;
     }
     0
-}
-
-/// The problem of these rooms with the costs of the problem, which are not copied, and not read if each consumer has
-/// one tier.
-fn columns<'a>(problem: &'a Problem, rooms: &'a [u64]) -> Columns<'a>
-    requires { AreRoomsOf problem.now rooms.now }
-    ensures { result ≡ record { rooms = rooms.now; entries = problem.now.entries; costs = problem.now.costs } }
-{
-    problem.sound();
-    if problem.tiers().len() == problem.consumers() {
-        return problem.by_tier(rooms, problem.costs());
-    }
-    Columns::new(rooms, problem.entries(), problem.costs()).unwrap()
 }
 
 /// An answer by consumer as one of the problem: with a price for each tier, and the total with the fees.

@@ -1,8 +1,10 @@
 //! Which consumer an entry wants at given prices. No clause mentions it: only the order of placement depends on it.
 ghost use Rattle.std.specs.Prelude.{◌≡◌, ◌<◌, length, IfOk, IfSome};
 ghost use Rattle.sr_transport.specs.{consumers};
+ghost use Rattle.sr_solver.specs.Pairs.{AreBelow};
 
-use sr_transport::Columns;
+use crate::costs::Costs;
+use crate::pairs::Row;
 use std::alloc::{AllocError, Global};
 
 /// What entries want at some prices.
@@ -15,7 +17,7 @@ pub struct Wishes {
 }
 
 /// What the entries want.
-pub fn wishes_at(alloc: Global, problem: &Columns<'_>, prices: &[u64]) -> Result<Wishes, AllocError>
+pub fn wishes_at(alloc: Global, problem: &Costs<'_>, prices: &[u64]) -> Result<Wishes, AllocError>
     requires one_each { length prices.now ≡ consumers problem.now }
     ensures { IfOk result (λ wishes. length wishes.crowds.items ≡ consumers problem.now) }
 {
@@ -29,7 +31,7 @@ pub fn wishes_at(alloc: Global, problem: &Columns<'_>, prices: &[u64]) -> Result
 
 /// Counts an entry at each consumer that it wants, and gives the one, if it is one alone.
 fn join_crowds(
-    problem: &Columns<'_>,
+    problem: &Costs<'_>,
     prices: &[u64],
     entry: usize,
     crowds: &mut [u64],
@@ -44,6 +46,10 @@ fn join_crowds(
         crowds[consumer] = crowds[consumer].saturating_add(1);
         return Some(consumer);
     }
+    if let Some(row) = problem.row(entry) {
+        join_crowds_in_row(row, prices, least.sum, crowds);
+        return None;
+    }
     for (consumer, cost) in problem.costs(entry).iter().enumerate() {
         if sum(*cost, prices[consumer]) == least.sum {
             crowds[consumer] = crowds[consumer].saturating_add(1);
@@ -52,8 +58,21 @@ fn join_crowds(
     None
 }
 
+/// Counts an entry at each consumer of its row for which cost and price have this sum.
+fn join_crowds_in_row(row: Row<'_>, prices: &[u64], least: u64, crowds: &mut [u64])
+    requires row { AreBelow (length prices.now) row.pairs.now }
+    requires crowds_each { length crowds.old ≡ length prices.now }
+    ensures { length crowds.new ≡ length crowds.old }
+{
+    for pair in row.pairs {
+        if pair.cost.saturating_add(prices[pair.consumer]) == least {
+            crowds[pair.consumer] = crowds[pair.consumer].saturating_add(1);
+        }
+    }
+}
+
 /// The consumer that an entry wants, at the prices for which the wishes are.
-pub fn wanted(problem: &Columns<'_>, prices: &[u64], wishes: &Wishes, entry: usize) -> Option<usize>
+pub fn wanted(problem: &Costs<'_>, prices: &[u64], wishes: &Wishes, entry: usize) -> Option<usize>
     requires entry { entry < problem.now.entries }
     requires prices_each { length prices.now ≡ consumers problem.now }
     requires crowds_each { length wishes.now.crowds.items ≡ consumers problem.now }
@@ -68,7 +87,7 @@ pub fn wanted(problem: &Columns<'_>, prices: &[u64], wishes: &Wishes, entry: usi
 /// The consumer that an entry wants. Of several it is the one with the highest price that fewer entries want than it
 /// has room for, or else the one with the lowest.
 fn wanted_of_several(
-    problem: &Columns<'_>,
+    problem: &Costs<'_>,
     prices: &[u64],
     crowds: &[u64],
     entry: usize,
@@ -77,6 +96,9 @@ fn wanted_of_several(
     requires prices_each { length prices.now ≡ consumers problem.now }
     requires crowds_each { length crowds.now ≡ consumers problem.now }
 {
+    if let Some(row) = problem.row(entry) {
+        return wanted_in_row(problem, row, prices, crowds);
+    }
     let least = least_of(problem, prices, entry).sum;
     let mut lowest: Option<usize> = None;
     let mut free: Option<usize> = None;
@@ -87,6 +109,32 @@ fn wanted_of_several(
             }
             if crowds[consumer] < problem.room(consumer)
                 && price_at(prices, free).is_none_or(|price| price < prices[consumer])
+            {
+                free = Some(consumer);
+            }
+        }
+    }
+    free.or(lowest)
+}
+
+/// The same, from the row of the entry.
+fn wanted_in_row(problem: &Costs<'_>, row: Row<'_>, prices: &[u64], crowds: &[u64]) -> Option<usize>
+    requires row { AreBelow (consumers problem.now) row.pairs.now }
+    requires prices_each { length prices.now ≡ consumers problem.now }
+    requires crowds_each { length crowds.now ≡ consumers problem.now }
+{
+    let least = least_in_row(row, prices).sum;
+    let mut lowest: Option<usize> = None;
+    let mut free: Option<usize> = None;
+    for pair in row.pairs {
+        let consumer = pair.consumer;
+        let price = prices[consumer];
+        if pair.cost.saturating_add(price) == least {
+            if price_at(prices, lowest).is_none_or(|lowest| price < lowest) {
+                lowest = Some(consumer);
+            }
+            if crowds[consumer] < problem.room(consumer)
+                && price_at(prices, free).is_none_or(|highest| highest < price)
             {
                 free = Some(consumer);
             }
@@ -109,11 +157,14 @@ struct Least {
 }
 
 /// The least sum of cost and price over the consumers of an entry.
-fn least_of(problem: &Columns<'_>, prices: &[u64], entry: usize) -> Least
+fn least_of(problem: &Costs<'_>, prices: &[u64], entry: usize) -> Least
     requires entry { entry < problem.now.entries }
     requires one_each { length prices.now ≡ consumers problem.now }
     ensures { IfSome result.only (λ consumer. consumer < consumers problem.now) }
 {
+    if let Some(row) = problem.row(entry) {
+        return least_in_row(row, prices);
+    }
     let mut least = Least {
         sum: u64::MAX,
         only: None,
@@ -124,6 +175,29 @@ fn least_of(problem: &Columns<'_>, prices: &[u64], entry: usize) -> Least
             least = Least {
                 sum,
                 only: Some(consumer),
+            };
+        } else if sum == least.sum {
+            least.only = None;
+        }
+    }
+    least
+}
+
+/// The same, from the row of the entry.
+fn least_in_row(row: Row<'_>, prices: &[u64]) -> Least
+    requires { AreBelow (length prices.now) row.pairs.now }
+    ensures { IfSome result.only (λ consumer. consumer < length prices.now) }
+{
+    let mut least = Least {
+        sum: u64::MAX,
+        only: None,
+    };
+    for pair in row.pairs {
+        let sum = pair.cost.saturating_add(prices[pair.consumer]);
+        if sum < least.sum {
+            least = Least {
+                sum,
+                only: Some(pair.consumer),
             };
         } else if sum == least.sum {
             least.only = None;

@@ -3,13 +3,11 @@
 #![tactic(auto)]
 
 mod certificate;
-mod columns;
 mod given;
 mod problem;
 mod solved;
 mod tiers;
 
 pub use certificate::{check_prices, check_shortage, is_reached, places};
-pub use columns::{Columns, MAX_CHARGE};
-pub use problem::{MAX_COST, Problem, Tier};
+pub use problem::{MAX_CHARGE, MAX_COST, Problem, Tier};
 pub use solved::{Solved, check, total};

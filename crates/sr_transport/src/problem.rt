@@ -1,7 +1,6 @@
 ghost use Rattle.std.specs.Prelude.{◌≡◌, ◌<◌, ◌↔◌, length, IsTrue};
 ghost use Rattle.sr_transport.specs.Problem.{IsWithinLimits, IsSmallTier};
 
-use crate::columns::Columns;
 use crate::tiers::{are_tiers, first_in};
 use std::marker::Model;
 
@@ -19,6 +18,9 @@ pub const MAX_COST: u64 = 1 << 40;
 
 /// The greatest fee of a tier: `greatest_fee`.
 pub const MAX_FEE: u64 = 1 << 40;
+
+/// What an entry is charged at most: `greatest_charge`.
+pub const MAX_CHARGE: u64 = MAX_COST + MAX_FEE;
 
 /// The greatest room of a tier: `greatest_room`.
 pub const MAX_ROOM: u64 = 1_000_000_000;
@@ -68,7 +70,6 @@ impl Problem {
     ghost use Rattle.std.specs.Prelude.{◌≡◌, ℕ, ◌<◌, ◌↔◌, length, None, IsSome, IfSome, slice_index_or};
     ghost use Rattle.sr_transport.specs.Problem.{IsWithinLimits, consumers, cost_at, first_in, room_of};
     ghost use Rattle.sr_transport.specs.Assignment.{charge_at, tier_for};
-    ghost use Rattle.sr_transport.specs.ByTier.{by_tier};
 
     /// The problem of these tiers, of that many consumers and entries, and of these costs: a row for each entry, with a
     /// place for each consumer, `None` where the pair is not allowed.
@@ -158,17 +159,6 @@ impl Problem {
         let place = self.tiers[tier];
         let cost = self.cost(entry, place.consumer)?;
         Some(cost + place.fee)
-    }
-
-    /// The problem without tiers that has a column for each tier. `rooms` are the rooms of the tiers, and `charges` is
-    /// what each entry is charged in each tier, row by entry; neither list is read.
-    pub fn by_tier<'a>(&self, rooms: &'a [u64], charges: &'a [Option<u64>]) -> Columns<'a>
-        requires rooms { rooms.now ≡ (by_tier self.now).rooms }
-        requires charges { charges.now ≡ (by_tier self.now).costs }
-        ensures { result ≡ by_tier self.now }
-    {
-        self.sound();
-        Columns::of(rooms, self.entries(), charges)
     }
 
     /// The number of a consumer's first tier.

@@ -4,7 +4,7 @@ use Rattle.sr_transport.specs.plain.Problem.{cost_of}
 use Rattle.sr_solver.proofs.TableLemmas.{lowered_is, found_lowered}
 use Rattle.sr_solver.proofs.GroupLemmas.{between_more, between_other, between_all}
 use Rattle.sr_solver.proofs.groups.find_in_group.Goals as goal
-use Rattle.sr_solver.proofs.groups.find_in_group.Goals.{then-assign-entry, else-assign-entry}
+use Rattle.sr_solver.proofs.groups.find_in_group.Goals.{then-assign-entry+else-not-may_take, else-assign-entry}
 
 pub loop-entry-preserved : goal.loop-entry-preserved
 loop-entry-preserved c =
@@ -13,7 +13,7 @@ loop-entry-preserved c =
     let first : ℕ = c.args.group * 64 in
     let cost : Option ℕ → ℕ = λ o. unwrap_or o 0 in
     elim c.if-assign-entry.branch [
-      | then-assign-entry w ↦
+      | then-assign-entry+else-not-may_take w ↦
           let same : cost_of p i c.args.from ≡ w.unwrap-here.result =
           ap cost (sym w.cost.ensures ∙ w.unwrap-here.ensures) in
           record {

@@ -2,7 +2,7 @@ use Rattle.std.proofs.Common.{◌≡◌, arith}
 use Rattle.sr_solver.proofs.placing.place_all.Goals as goal
 
 pub loop-entry-init : goal.loop-entry-init
-loop-entry-init c = record { standing = c.requires.standing; table = c.requires.table; labels_each = c.requires.labels; bars_each = c.requires.bars }
+loop-entry-init c = record { standing = c.requires.standing; table = c.requires.table; labels_each = c.requires.labels }
 
 pub take-requires-clause-entry : goal.take-requires-clause-entry
 take-requires-clause-entry c = omega arith
@@ -18,7 +18,6 @@ loop-entry-preserved-then-take c = record {
   standing = c.take.ensures.taken c.if-take.true;
   table = c.take.ensures.table;
   labels_each = c.loop-entry.invariant.labels_each;
-  bars_each = c.loop-entry.invariant.bars_each;
 }
 
 pub place-requires-clause-entry : goal.place-requires-clause-entry
@@ -33,15 +32,11 @@ place-requires-clause-table c = c.take.ensures.table
 pub place-requires-clause-labels : goal.place-requires-clause-labels
 place-requires-clause-labels c = c.loop-entry.invariant.labels_each
 
-pub place-requires-clause-bars : goal.place-requires-clause-bars
-place-requires-clause-bars c = c.loop-entry.invariant.bars_each
-
 pub loop-entry-preserved : goal.loop-entry-preserved
 loop-entry-preserved c = record {
   standing = c.place.ensures.standing c.if-not-place.false;
   table = c.place.ensures.table c.if-not-place.false;
   labels_each = c.place.ensures.labels;
-  bars_each = c.place.ensures.bars;
 }
 
 pub returns-then-are_many : goal.returns-then-are_many

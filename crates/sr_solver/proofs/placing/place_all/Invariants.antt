@@ -9,5 +9,4 @@ invariant-loop-entry l = record {
   standing : IsStanding l.problem.columns l.problem.steps.now l.entry l.placement;
   table : IsTable l.problem.columns l.placement.assign.items l.table;
   labels_each : length l.front.labels.items ≡ consumers l.problem.columns;
-  bars_each : length l.front.bars.items ≡ consumers l.problem.columns;
 }

@@ -1,157 +1,155 @@
-use Rattle.std.proofs.Common.{length, ap, ◌∙◌, arith}
-use Rattle.sr_solver.proofs.OfferLemmas.{asked_none, asked_mover, asked_small, cutoff_asked, dist_small}
-use Rattle.sr_solver.proofs.OfferLemmas.{hops_small}
-use Rattle.sr_solver.proofs.OfferLemmas.{prices_low, stands_allowed, stands_least}
+use Rattle.std.proofs.Common.{◌≡◌, ℕ, ◌<◌, ◌≤◌, List, length, get_or, refl, sym, ◌∙◌, inl, inr, arith}
+use Rattle.std.proofs.Math.ListN.{set}
+use Rattle.std.proofs.lemmas.List.{get_or_default, get_or-set_same}
+use Rattle.sr_transport.specs.{consumers}
+use Rattle.sr_solver.specs.Labels.{no_label, label_at, IsFarOrReached}
+use Rattle.sr_solver.specs.Limits.{greatest_way}
 use Rattle.sr_solver.specs.Cutoff.{length_of}
+use Rattle.sr_solver.specs.Exits.{IsMoved}
 use Rattle.sr_solver.specs.Search.{IsAsked}
-use Rattle.sr_solver.proofs.CutoffLemmas.{beyond_cut, cutoff_small, IsGapAt, level_read, gap_read, gap_small}
+use Rattle.sr_solver.proofs.CutoffLemmas.{beyond_cut, IsGapAt, gap_read, gap_small}
+use Rattle.sr_solver.proofs.ExitLemmas.{IsLeaving, leaving}
+use Rattle.sr_solver.proofs.OfferLemmas.{asked_left, asked_moved, asked_small, cutoff_asked, dist_small, far_or_reached}
+use Rattle.sr_solver.proofs.OfferLemmas.{stands_least}
+use Rattle.sr_solver.proofs.SetLemmas.{waiting_moved, waiting_later}
 use Rattle.sr_solver.proofs.search.ask.Goals as goal
 
-pub returns-clause-asked : goal.returns-clause-asked
-returns-clause-asked c =
-    asked_mover c.args.problem.now.columns c.args.entry c.args.placement.now.assign.items c.args.placement.now.prices.items
-    c.args.near c.args.other
-    c.in-Some.mover (length_of c.args.cutoff) c.args.labels.now c.offer.new.labels c.requires.standing.placed
-    (omega arith) c.requires.near c.in-Some.ensures.mover
-    (rw c.dist_of-dist.ensures at (rw c.as_slice-prices.ensures.value at c.offer.ensures))
+pub mover-requires-clause-label : goal.mover-requires-clause-label
+mover-requires-clause-label c =
+    let p = c.args.problem.now.columns in
+    let labels = c.args.front.now.labels.items in
+    let lt : c.args.other < length labels = omega (arith, c.requires.other, c.requires.search.one_each) in
+    let read : c.index-label.result.now ≡ label_at labels c.args.other =
+    c.index-label.ensures ∙ get_or_default _ _ _ _ lt in
+    let marked : IsFarOrReached (label_at labels c.args.other) =
+    far_or_reached p c.args.entry c.args.placement.now.assign.items c.args.placement.now.prices.items
+    (length_of c.args.cutoff) labels c.args.exit.consumer 0 c.requires.standing.placed (omega (arith, c.requires.entry))
+    c.requires.search c.args.other c.requires.other in
+    rw read (elim marked [ inl far ↦ omega (arith, far.1) | inr near ↦ omega (arith, near.1) ])
 
 pub returns-in_default-clause-asked : goal.returns-in_default-clause-asked
 returns-in_default-clause-asked c =
-    asked_none c.args.problem.now.columns c.args.entry c.args.placement.now.assign.items c.args.placement.now.prices.items
-    c.args.near c.args.other
-    (length_of c.args.cutoff) c.args.labels.now (omega arith) c.in_default.ensures.mover
+    let p = c.args.problem.now.columns in
+    let xs : List ℕ = c.args.placement.now.assign.items in
+    let prices : List ℕ = c.args.placement.now.prices.items in
+    let labels = c.args.front.now.labels.items in
+    let le : c.args.entry ≤ p.entries = omega (arith, c.requires.entry) in
+    let lt : c.args.other < length labels = omega (arith, c.requires.other, c.requires.search.one_each) in
+    let read : c.index-label.result.now ≡ label_at labels c.args.other =
+    c.index-label.ensures ∙ get_or_default _ _ _ _ lt in
+    let near : (label_at labels c.args.exit.consumer).dist ≤ greatest_way =
+    dist_small p c.args.entry xs prices (length_of c.args.cutoff) labels c.args.exit.consumer 0
+    c.requires.standing.placed le c.requires.search c.args.exit.consumer c.requires.near c.requires.closed in
+    asked_left p c.args.entry xs prices c.args.exit.consumer c.args.other (length_of c.args.cutoff) labels c.args.exit
+    c.requires.standing.placed le c.requires.other c.requires.exit (omega (arith, near, c.requires.exit.dist))
+    (far_or_reached p c.args.entry xs prices (length_of c.args.cutoff) labels c.args.exit.consumer 0
+    c.requires.standing.placed le c.requires.search c.args.other c.requires.other)
+    (rw read at c.in_default.ensures.none)
 
-pub least_mover-requires-clause-limits : goal.least_mover-requires-clause-limits
-least_mover-requires-clause-limits c = c.requires.standing.placed.limits
-
-pub least_mover-requires-clause-every : goal.least_mover-requires-clause-every
-least_mover-requires-clause-every c = c.requires.standing.placed.every
-
-pub least_mover-requires-clause-from : goal.least_mover-requires-clause-from
-least_mover-requires-clause-from c = c.requires.near
-
-pub least_mover-requires-clause-to : goal.least_mover-requires-clause-to
-least_mover-requires-clause-to c = c.requires.other
-
-pub least_mover-requires-clause-placed : goal.least_mover-requires-clause-placed
-least_mover-requires-clause-placed c = stands_allowed c.args.problem.now.columns c.args.entry c.args.placement.now.assign.items
-    c.args.placement.now.prices.items c.args.near c.requires.standing.placed c.requires.near
-
-pub least_mover-requires-clause-members : goal.least_mover-requires-clause-members
-least_mover-requires-clause-members c = c.requires.standing.members
-
-pub least_mover-requires-clause-table : goal.least_mover-requires-clause-table
-least_mover-requires-clause-table c = c.requires.table
-
-pub returns-in_default-clause-table : goal.returns-in_default-clause-table
-returns-in_default-clause-table c = c.in_default.ensures.table
-
-pub returns-in_default-clause-cutoff : goal.returns-in_default-clause-cutoff
-returns-in_default-clause-cutoff c = c.requires.cutoff
-
-pub returns-in_default-clause-later : goal.returns-in_default-clause-later
-returns-in_default-clause-later c = λ base sum beyond. beyond
-
-pub offer-requires-clause-limits : goal.offer-requires-clause-limits
-offer-requires-clause-limits c = c.requires.standing.placed.limits
-
-pub offer-requires-clause-entry : goal.offer-requires-clause-entry
-offer-requires-clause-entry c = c.in-Some.ensures.mover.stands.0
-
-pub offer-requires-clause-allowed : goal.offer-requires-clause-allowed
-offer-requires-clause-allowed c = stands_allowed c.args.problem.now.columns c.args.entry c.args.placement.now.assign.items
-    c.args.placement.now.prices.items c.args.near c.requires.standing.placed c.requires.near
-    c.in-Some.mover c.in-Some.ensures.mover.stands
-
-pub offer-requires-clause-other : goal.offer-requires-clause-other
-offer-requires-clause-other c = c.requires.other
-
-pub offer-requires-clause-least : goal.offer-requires-clause-least
-offer-requires-clause-least c = stands_least c.args.problem.now.columns c.args.entry c.args.placement.now.assign.items
-    c.args.placement.now.prices.items c.as_slice-prices.result.now c.args.near c.in-Some.mover
-    c.requires.standing.placed c.requires.near c.as_slice-prices.ensures.value c.in-Some.ensures.mover.stands
-
-pub offer-requires-clause-prices_each : goal.offer-requires-clause-prices_each
-offer-requires-clause-prices_each c = ap length c.as_slice-prices.ensures.value ∙ c.requires.standing.placed.one_each
-
-pub offer-requires-clause-labels_each : goal.offer-requires-clause-labels_each
-offer-requires-clause-labels_each c = c.requires.search.one_each
-
-pub offer-requires-clause-low : goal.offer-requires-clause-low
-offer-requires-clause-low c = prices_low c.args.problem.now.columns c.args.entry c.args.placement.now.assign.items
-    c.args.placement.now.prices.items c.as_slice-prices.result.now
-    c.requires.standing.placed c.requires.entry c.as_slice-prices.ensures.value
-
-pub offer-requires-clause-dist : goal.offer-requires-clause-dist
-offer-requires-clause-dist c = dist_small c.args.problem.now.columns c.args.entry c.args.placement.now.assign.items
-    c.args.placement.now.prices.items (length_of c.args.cutoff) c.args.labels.now c.args.near c.args.other
-    c.requires.standing.placed
-    (omega arith) c.requires.search c.args.near c.requires.near c.requires.closed
-
-pub offer-requires-clause-hops : goal.offer-requires-clause-hops
-offer-requires-clause-hops c = hops_small c.args.problem.now.columns c.args.entry c.args.placement.now.assign.items
-    c.args.placement.now.prices.items (length_of c.args.cutoff) c.args.labels.now c.args.near c.args.other
-    c.requires.standing.placed
-    c.requires.search c.args.near c.requires.near c.requires.closed
-
-pub offer-requires-clause-cutoff : goal.offer-requires-clause-cutoff
-offer-requires-clause-cutoff c =
-    rw c.dist_of-dist.ensures (cutoff_small c.args.problem.now.columns c.args.problem.now.steps.now c.args.placement.now.assign.items
-    c.args.placement.now.prices.items c.args.labels.now _ c.args.cutoff c.requires.cutoff)
-
-pub gap-gap-requires-clause-consumer : goal.gap-gap-requires-clause-consumer
-gap-gap-requires-clause-consumer c = c.requires.other
-
-pub gap-gap-requires-clause-steps : goal.gap-gap-requires-clause-steps
-gap-gap-requires-clause-steps c = c.requires.standing.are_steps.one_each
-
-pub gap-gap-requires-clause-level : goal.gap-gap-requires-clause-level
-gap-gap-requires-clause-level c =
-    level_read c.args.problem.now.columns c.args.problem.now.steps.now c.args.placement.now.assign.items c.args.placement.now.prices.items c.args.placement.now.loads.items c.as_slice-loads.result.now c.as_slice-prices.result.now c.args.other
-    c.requires.standing.level c.requires.standing.loads c.as_slice-loads.ensures.value c.as_slice-prices.ensures.value
-    c.requires.other
-
-pub cut-requires-clause-label : goal.cut-requires-clause-label
-cut-requires-clause-label c =
-    let asked : IsAsked c.args.problem.now.columns c.args.entry c.args.placement.now.assign.items c.args.placement.now.prices.items (length_of c.args.cutoff) c.args.near c.args.other c.args.labels.now
-    c.offer.new.labels =
-    asked_mover c.args.problem.now.columns c.args.entry c.args.placement.now.assign.items c.args.placement.now.prices.items c.args.near c.args.other c.in-Some.mover (length_of c.args.cutoff)
-    c.args.labels.now c.offer.new.labels c.requires.standing.placed (omega arith) c.requires.near
-    c.in-Some.ensures.mover
-    (rw c.dist_of-dist.ensures at (rw c.as_slice-prices.ensures.value at c.offer.ensures)) in
-    λ up. omega (
-      arith,
-      asked_small c.args.problem.now.columns c.args.entry c.args.placement.now.assign.items c.args.placement.now.prices.items c.args.labels.now c.offer.new.labels c.args.near c.args.other
-          (length_of c.args.cutoff) c.requires.standing.placed (omega arith) c.requires.near c.requires.other
-          c.requires.search c.requires.closed asked up,
-    )
+pub moved-label-requires-clause-above : goal.moved-label-requires-clause-above
+moved-label-requires-clause-above c =
+    let p = c.args.problem.now.columns in
+    let xs : List ℕ = c.args.placement.now.assign.items in
+    let prices : List ℕ = c.args.placement.now.prices.items in
+    let leaves : IsLeaving p c.args.entry xs prices c.args.exit.consumer c.args.other c.in-Some.known =
+    leaving p c.args.entry xs prices c.args.exit.consumer c.args.other c.in-Some.known c.in-Some.ensures.some.exact
+    c.in-Some.ensures.some.entry
+    (λ i at. stands_least p c.args.entry xs prices prices c.args.exit.consumer i c.requires.standing.placed
+    c.requires.near refl at) in
+    rw c.as_slice-prices.ensures.value (omega (arith, leaves.above, c.requires.exit.base))
 
 pub cut-requires-clause-gap : goal.cut-requires-clause-gap
 cut-requires-clause-gap c =
-    let at : IsGapAt c.args.problem.now.columns c.args.problem.now.steps.now c.args.placement.now.assign.items c.args.placement.now.prices.items c.args.other c.gap-gap.result =
-    gap_read c.args.problem.now.columns c.args.problem.now.steps.now c.args.placement.now.assign.items c.args.placement.now.prices.items c.args.placement.now.loads.items c.as_slice-loads.result.now c.as_slice-prices.result.now c.args.other c.gap-gap.result
-    c.requires.standing.are_steps c.requires.standing.loads c.as_slice-loads.ensures.value c.as_slice-prices.ensures.value
-    c.requires.other c.gap-gap.ensures.some c.gap-gap.ensures.none in
-    gap_small c.args.problem.now.columns c.args.problem.now.steps.now c.args.placement.now.assign.items c.args.placement.now.prices.items c.args.other c.gap-gap.result at
+    let p = c.args.problem.now.columns in
+    let at : IsGapAt p c.args.problem.now.steps.now c.args.placement.now.assign.items c.args.placement.now.prices.items
+    c.args.other c.gap-gap.result =
+    gap_read p c.args.problem.now.steps.now c.args.placement.now.assign.items c.args.placement.now.prices.items
+    c.args.placement.now.loads.items c.as_slice-loads.result.now c.as_slice-prices.result.now c.args.other
+    c.gap-gap.result c.requires.standing.are_steps c.requires.standing.loads c.as_slice-loads.ensures.value
+    c.as_slice-prices.ensures.value c.requires.other c.gap-gap.ensures.some c.gap-gap.ensures.none in
+    gap_small p c.args.problem.now.steps.now c.args.placement.now.assign.items c.args.placement.now.prices.items
+    c.args.other c.gap-gap.result at
 
-pub returns-clause-table : goal.returns-clause-table
-returns-clause-table c = c.in-Some.ensures.table
+pub cut-requires-clause-label : goal.cut-requires-clause-label
+cut-requires-clause-label c =
+    let p = c.args.problem.now.columns in
+    let xs : List ℕ = c.args.placement.now.assign.items in
+    let prices : List ℕ = c.args.placement.now.prices.items in
+    let labels = c.args.front.now.labels.items in
+    let le : c.args.entry ≤ p.entries = omega (arith, c.requires.entry) in
+    let lt : c.args.other < length labels = omega (arith, c.requires.other, c.requires.search.one_each) in
+    let ltt : c.args.exit.consumer < length labels = omega (arith, c.requires.near, c.requires.search.one_each) in
+    let read : c.index-label.result.now ≡ label_at labels c.args.other =
+    c.index-label.ensures ∙ get_or_default _ _ _ _ lt in
+    let from : c.index.result.now ≡ label_at labels c.args.exit.consumer =
+    c.index.ensures ∙ get_or_default _ _ _ _ ltt in
+    let moved : IsMoved c.args.exit c.in-Some.known (get_or prices c.args.other 0)
+    (label_at labels c.args.exit.consumer).hops c.moved-label.result =
+    rw (c.as_slice-prices.ensures.value, from) at c.moved-label.ensures in
+    let asked : IsAsked p c.args.entry xs prices (length_of c.args.cutoff) c.args.exit.consumer c.args.other labels
+    (set labels c.args.other c.moved-label.result) =
+    asked_moved p c.args.entry xs prices c.args.exit.consumer c.args.other (length_of c.args.cutoff) labels
+    c.moved-label.result c.args.exit c.in-Some.known c.requires.standing.placed le c.requires.near lt c.requires.exit
+    c.in-Some.ensures.some.exact c.in-Some.ensures.some.entry (rw read at c.in-Some.ensures.some.nearer) moved in
+    λ up. omega (
+      arith,
+      rw (get_or-set_same labels c.args.other c.moved-label.result no_label lt) at (
+          asked_small p c.args.entry xs prices labels (set labels c.args.other c.moved-label.result) c.args.exit.consumer
+          c.args.other (length_of c.args.cutoff) c.requires.standing.placed le c.requires.near c.requires.other
+          c.requires.search c.requires.closed asked
+          (rw (get_or-set_same labels c.args.other c.moved-label.result no_label lt) up)
+          ),
+    )
+
+pub returns-clause-asked : goal.returns-clause-asked
+returns-clause-asked c =
+    let p = c.args.problem.now.columns in
+    let xs : List ℕ = c.args.placement.now.assign.items in
+    let prices : List ℕ = c.args.placement.now.prices.items in
+    let labels = c.args.front.now.labels.items in
+    let le : c.args.entry ≤ p.entries = omega (arith, c.requires.entry) in
+    let lt : c.args.other < length labels = omega (arith, c.requires.other, c.requires.search.one_each) in
+    let ltt : c.args.exit.consumer < length labels = omega (arith, c.requires.near, c.requires.search.one_each) in
+    let read : c.index-label.result.now ≡ label_at labels c.args.other =
+    c.index-label.ensures ∙ get_or_default _ _ _ _ lt in
+    let from : c.index.result.now ≡ label_at labels c.args.exit.consumer =
+    c.index.ensures ∙ get_or_default _ _ _ _ ltt in
+    let moved : IsMoved c.args.exit c.in-Some.known (get_or prices c.args.other 0)
+    (label_at labels c.args.exit.consumer).hops c.moved-label.result =
+    rw (c.as_slice-prices.ensures.value, from) at c.moved-label.ensures in
+    asked_moved p c.args.entry xs prices c.args.exit.consumer c.args.other (length_of c.args.cutoff) labels
+    c.moved-label.result c.args.exit c.in-Some.known c.requires.standing.placed le c.requires.near lt c.requires.exit
+    c.in-Some.ensures.some.exact c.in-Some.ensures.some.entry (rw read at c.in-Some.ensures.some.nearer) moved
 
 pub returns-clause-cutoff : goal.returns-clause-cutoff
 returns-clause-cutoff c =
-    let at : IsGapAt c.args.problem.now.columns c.args.problem.now.steps.now c.args.placement.now.assign.items c.args.placement.now.prices.items c.args.other c.gap-gap.result =
-    gap_read c.args.problem.now.columns c.args.problem.now.steps.now c.args.placement.now.assign.items c.args.placement.now.prices.items c.args.placement.now.loads.items c.as_slice-loads.result.now c.as_slice-prices.result.now c.args.other c.gap-gap.result
-    c.requires.standing.are_steps c.requires.standing.loads c.as_slice-loads.ensures.value c.as_slice-prices.ensures.value
-    c.requires.other c.gap-gap.ensures.some c.gap-gap.ensures.none in
-    cutoff_asked c.args.problem.now.columns c.args.problem.now.steps.now c.args.entry c.args.placement.now.assign.items c.args.placement.now.prices.items c.args.labels.now c.offer.new.labels c.args.near c.args.other
-    c.gap-gap.result c.args.cutoff c.cut.result c.requires.standing.placed (omega arith) c.requires.near
-    c.requires.other c.requires.search c.requires.closed (returns-clause-asked c) at c.cut.ensures c.requires.cutoff
+    let p = c.args.problem.now.columns in
+    let xs : List ℕ = c.args.placement.now.assign.items in
+    let prices : List ℕ = c.args.placement.now.prices.items in
+    let labels = c.args.front.now.labels.items in
+    let lt : c.args.other < length labels = omega (arith, c.requires.other, c.requires.search.one_each) in
+    let at : IsGapAt p c.args.problem.now.steps.now xs prices c.args.other c.gap-gap.result =
+    gap_read p c.args.problem.now.steps.now xs prices c.args.placement.now.loads.items c.as_slice-loads.result.now
+    c.as_slice-prices.result.now c.args.other c.gap-gap.result c.requires.standing.are_steps c.requires.standing.loads
+    c.as_slice-loads.ensures.value c.as_slice-prices.ensures.value c.requires.other c.gap-gap.ensures.some
+    c.gap-gap.ensures.none in
+    let here : label_at (set labels c.args.other c.moved-label.result) c.args.other ≡ c.moved-label.result =
+    get_or-set_same labels c.args.other c.moved-label.result no_label lt in
+    cutoff_asked p c.args.problem.now.steps.now c.args.entry xs prices labels
+    (set labels c.args.other c.moved-label.result) c.args.exit.consumer c.args.other c.gap-gap.result c.args.cutoff
+    c.cut.result c.requires.standing.placed (omega (arith, c.requires.entry)) c.requires.near c.requires.other
+    c.requires.search c.requires.closed (returns-clause-asked c) at (rw here c.cut.ensures) c.requires.cutoff
 
 pub returns-clause-later : goal.returns-clause-later
 returns-clause-later c = beyond_cut c.args.other _ c.gap-gap.result c.args.cutoff c.cut.result c.cut.ensures
 
-pub offset_bounds-prices-other : goal.offset_bounds-prices-other
-offset_bounds-prices-other c = omega arith
-
-pub bounds-prices-other : goal.bounds-prices-other
-bounds-prices-other c = rw c.as_slice-prices.ensures.value (rw c.requires.standing.placed.one_each c.requires.other)
+pub returns-clause-waiting : goal.returns-clause-waiting
+returns-clause-waiting c =
+    waiting_later (consumers c.args.problem.now.columns)
+    (set c.args.front.now.labels.items c.args.other c.moved-label.result) (length_of c.args.cutoff)
+    (length_of c.cut.result) c.with-front.result (returns-clause-later c) (
+    waiting_moved (consumers c.args.problem.now.columns) (length_of c.args.cutoff) c.args.front.now.labels.items c.args.front.now.waiting
+    c.with-front.result c.args.other c.moved-label.result c.requires.other
+    (sym c.requires.search.one_each) (omega (arith, c.moved-label.ensures.hops)) c.moved-label.ensures.still_open
+    c.with-front.ensures c.requires.waiting
+    )

@@ -1,11 +1,10 @@
-use Rattle.std.proofs.Common.{◌-◌, ◌≤◌, slice_index}
+use Rattle.std.proofs.Common.{◌≡◌, ◌-◌, ◌≤◌, slice_index}
 use Rattle.sr_transport.specs.{consumers}
 use Rattle.sr_solver.specs.Table.{IsTable}
 use Rattle.sr_solver.specs.Cutoff.{length_of, IsCutoff}
-use Rattle.sr_solver.specs.Bars.{AreBars}
+use Rattle.sr_solver.specs.Exits.{IsExit}
 use Rattle.sr_solver.specs.Sets.{AreWaiting}
 use Rattle.sr_solver.specs.Labels.{label_at}
-use Rattle.sr_solver.proofs.BarLemmas.{IsBase}
 use Rattle.sr_solver.specs.Search.{IsClosed}
 use Rattle.sr_solver.proofs.search.close.Given as goal
 
@@ -15,9 +14,10 @@ invariant-loop-other l = record {
   closed : IsClosed l.problem.columns l.entry l.placement.assign.items l.placement.prices.items (length_of l.cutoff)
       l.fn.front.labels.items
       l.front.labels.items l.near l.first;
-  bars : AreBars l.problem.columns l.placement.prices.items (length_of l.cutoff) l.front.labels.items l.front.bars.items;
-  waiting : AreWaiting (consumers l.problem.columns) l.front.labels.items l.front.waiting;
-  base : IsBase (slice_index l.placement.prices.items l.near) (label_at l.front.labels.items l.near).dist l.base;
+  waiting : AreWaiting (consumers l.problem.columns) (length_of l.cutoff) l.front.labels.items l.front.waiting;
+  exit : IsExit l.near (label_at l.front.labels.items l.near).dist (slice_index l.placement.prices.items l.near)
+      (length_of l.cutoff) l.exit;
+  still : (label_at l.front.labels.items l.near).dist ≡ l.label.dist;
   within : l.first ≤ consumers l.problem.columns;
   cutoff : IsCutoff l.problem.columns l.problem.steps.now l.placement.assign.items l.placement.prices.items l.front.labels.items
       (consumers l.problem.columns) l.cutoff;

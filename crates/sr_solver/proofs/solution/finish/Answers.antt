@@ -47,10 +47,7 @@ pub place_all-requires-clause-first : goal.place_all-requires-clause-first
 place_all-requires-clause-first c = below c.args.first _ c.requires.first
 
 pub place_all-requires-clause-labels : goal.place_all-requires-clause-labels
-place_all-requires-clause-labels c = c.in_ok-front.ensures.0 ∙ c.consumers.ensures.count
-
-pub place_all-requires-clause-bars : goal.place_all-requires-clause-bars
-place_all-requires-clause-bars c = c.in_ok-front.ensures.1 ∙ c.consumers.ensures.count
+place_all-requires-clause-labels c = c.in_ok-front.ensures ∙ c.consumers.ensures.count
 
 pub place_all-requires-clause-standing : goal.place_all-requires-clause-standing
 place_all-requires-clause-standing c = c.requires.standing

@@ -1,25 +1,25 @@
 use Rattle.std.proofs.Common.{◌≡◌, ℕ, ◌+◌, ◌*◌, ◌<◌, length, ap, ◌∙◌, arith}
 use Rattle.std.proofs.lemmas.List.{get_or_default}
-use Rattle.sr_solver.proofs.TableLemmas.{table_noted, mover_known, found_moves, none_moves, pair_in}
+use Rattle.sr_solver.proofs.TableLemmas.{table_noted, mover_known, none_moves, pair_in}
 use Rattle.sr_solver.specs.Table.{bound_at}
 use Rattle.sr_solver.proofs.table.least_mover.Goals as goal
 
-pub returns-then-best-entries-clause-mover : goal.returns-then-best-entries-clause-mover
-returns-then-best-entries-clause-mover c =
+pub returns-then-known-entries-clause-mover : goal.returns-then-known-entries-clause-mover
+returns-then-known-entries-clause-mover c =
     let pair : ℕ = c.args.from * c.consumers.result + c.args.to in
     let within : pair < length c.args.table.now.pairs.items =
     pair_in c.args.problem.now _ c.args.from c.args.to c.consumers.result c.args.table.now.pairs.items
     c.requires.table.pairs c.requires.from c.requires.to c.consumers.ensures.count in
-    let is : c.index.result.now ≡ bound_at c.args.table.now.pairs.items pair =
-    c.index.ensures ∙ get_or_default _ _ _ _ within in
+    let is : c.index-known.result.now ≡ bound_at c.args.table.now.pairs.items pair =
+    c.index-known.ensures ∙ get_or_default _ _ _ _ within in
     rw is (
     mover_known c.args.problem.now c.args.placement.now.assign.items c.args.from c.args.to pair
     c.args.table.now.pairs.items c.requires.from c.requires.to
     (ap (λ n. c.args.from * n + c.args.to) c.consumers.ensures.count) c.requires.table.pairs
-    (rw is at (rw c.entries.ensures at c.if-best-entries.true)))
+    (rw is at (rw c.entries.ensures at c.if-known-entries.true)))
 
-pub returns-then-best-entries-clause-table : goal.returns-then-best-entries-clause-table
-returns-then-best-entries-clause-table c = c.requires.table
+pub returns-then-known-entries-clause-table : goal.returns-then-known-entries-clause-table
+returns-then-known-entries-clause-table c = c.requires.table
 
 pub returns-then-found-entries-clause-table : goal.returns-then-found-entries-clause-table
 returns-then-found-entries-clause-table c = record {
@@ -43,8 +43,7 @@ returns-clause-table c = record {
 
 pub returns-then-found-entries-clause-mover : goal.returns-then-found-entries-clause-mover
 returns-then-found-entries-clause-mover c =
-    found_moves c.args.problem.now _ c.args.from c.args.to c.look_up-found.result c.look_up-found.ensures.known
-    (rw c.entries-2.ensures at c.if-found-entries.true)
+    (c.look_up-found.ensures.known, rw c.entries-2.ensures at c.if-found-entries.true)
 
 pub returns-clause-mover : goal.returns-clause-mover
 returns-clause-mover c =
