@@ -16,20 +16,18 @@ use Rattle.sr_transport.specs.Assignment.{load, tier_for, tier_of, tiers_of, cha
 use Rattle.sr_transport.specs.Assignment.{IsAssignment}
 use Rattle.sr_transport.specs.Certificate.{IsLeast, is_reached, places_of, IsShortage}
 use Rattle.sr_transport.specs.Solved.{IsBest}
-use Rattle.sr_transport.specs.ByTier.{by_tier, charges}
 use Rattle.sr_transport.specs.plain.Problem as plain
 use Rattle.sr_transport.specs.plain.Certificate as plain_certificate
 use Rattle.sr_transport.proofs.SumLemmas.{sum_below-same}
-use Rattle.sr_transport.proofs.TierLemmas.{IsTierOf, room_in, room_of-tiers, room_in-past, room_in-other}
+use Rattle.sr_transport.proofs.TierLemmas.{IsTierOf, room_in, room_of-tiers}
 use Rattle.sr_transport.proofs.TierLemmas.{room_in-own, tier_of-own}
 use Rattle.sr_transport.proofs.TierLemmas.{tier_for-first, tier_for-next, load-at_first, load-at_next, load-more_own}
 use Rattle.sr_transport.proofs.GivenLemmas.{IsGiven}
-use Rattle.sr_transport.proofs.ByTierLemmas.{tier_small, columns-length, room_of-by_tier}
+use Rattle.sr_transport.proofs.ByTierLemmas.{tier_small}
 use Rattle.sr_solver.specs.declared.stepped.Step.{Step}
 use Rattle.sr_solver.specs.Steps.{step_at, next_fee, AreSteps}
 use Rattle.sr_solver.specs.Answered.{IsPriced}
 use Rattle.sr_solver.specs.ByConsumer.{AreRoomsOf, AreStepsOf, AreByTier}
-use Rattle.sr_solver.proofs.OrderLemmas.{list_same}
 use Rattle.sr_solver.proofs.StepLemmas.{fee_first, fee_beyond}
 
 -- one more in a list

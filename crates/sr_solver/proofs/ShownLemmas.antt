@@ -1,7 +1,7 @@
 -- What stands at a place of an order is what stands at its entry, and other rooms change no pair.
-use Rattle.std.proofs.Common.{◌≡◌, ℕ, zero, suc, ◌+◌, ◌*◌, ◌<◌, ◌≤◌, List, ◌++◌, length, get_or, Option, Some, None, refl, sym}
-use Rattle.std.proofs.Common.{ap, ◌∙◌, arith, ◌∷◌, []}
-use Rattle.std.specs.Prelude.{IfSome, IsSome}
+use Rattle.std.proofs.Common.{◌≡◌, ℕ, zero, suc, ◌+◌, ◌*◌, ◌<◌, ◌≤◌, List, length, get_or, Option, Some, None, refl, sym}
+use Rattle.std.proofs.Common.{ap, ◌∙◌, arith}
+use Rattle.std.specs.Prelude.{IfSome}
 use Rattle.std.proofs.Common.{take, drop}
 use Rattle.std.proofs.Common.{◌-◌, Bool, false}
 use Rattle.std.specs.Prelude.{IsTrue}
@@ -16,7 +16,7 @@ use Rattle.sr_solver.specs.declared.costs.Pairs.{Pairs}
 use Rattle.sr_solver.specs.declared.pairs.Pair.{Pair}
 use Rattle.sr_solver.specs.declared.set.ConsumerSet.{ConsumerSet}
 use Rattle.sr_solver.specs.Order.{row_below, rows_below, picked, IsPartOf, IsPick, shown, entry_at}
-use Rattle.sr_solver.specs.Pairs.{IsRowOf, set_at, AreSetsOf, ArePairsOf, AreCosts}
+use Rattle.sr_solver.specs.Pairs.{IsRowOf, set_at, ArePairsOf, AreCosts}
 use Rattle.sr_solver.specs.Sets.{IsIn}
 use Rattle.sr_solver.proofs.OrderLemmas.{rows_at, part_limits}
 

@@ -1,6 +1,6 @@
 //! The costs of a problem, with the allowed pairs alone beside them if they are few; and those of some of its entries
 //! in another order, which are not copied.
-ghost use Rattle.std.specs.Prelude.{◌≡◌, ℕ, ◌<◌, ◌≤◌, length, take, All, IfOk, IfSome};
+ghost use Rattle.std.specs.Prelude.{◌≡◌, ℕ, ◌<◌, ◌≤◌, length, take, IfOk, IfSome};
 ghost use Rattle.std.specs.Option.{option_copied};
 ghost use Rattle.sr_transport.specs.{consumers};
 ghost use Rattle.sr_transport.specs.Limits.{most_consumers};

@@ -1,5 +1,4 @@
 ghost use Rattle.std.specs.Prelude.{◌≡◌, ◌<◌, IfOk, IfSome, IsSome, true};
-ghost use Rattle.sr_transport.specs.{sum_below, consumers};
 ghost use Rattle.sr_transport.specs.plain.Certificate.{IsShortage};
 ghost use Rattle.sr_solver.specs.Answered.{IsAnswer};
 ghost use Rattle.sr_solver.specs.Placed.{IsStanding};

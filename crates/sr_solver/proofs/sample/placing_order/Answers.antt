@@ -1,4 +1,4 @@
-use Rattle.std.proofs.Common.{◌≡◌, length, arith, ◌<◌, All}
+use Rattle.std.proofs.Common.{arith}
 use Rattle.std.proofs.lemmas.List.Sorted.{IsPermutation-trans}
 use Rattle.sr_solver.specs.Order.{numbers_below, IsOrder}
 use Rattle.sr_solver.proofs.OrderLemmas.{order_below, order_length}

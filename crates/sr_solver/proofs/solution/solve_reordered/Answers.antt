@@ -1,4 +1,4 @@
-use Rattle.std.proofs.Common.{◌≡◌, ◌∙◌, arith, refl, ap, length}
+use Rattle.std.proofs.Common.{◌∙◌, arith, refl, ap}
 use Rattle.std.proofs.lemmas.List.{take_at}
 use Rattle.sr_solver.proofs.OrderLemmas.{renamed_solution, all_picked, picked_reordered, placed_every}
 use Rattle.sr_solver.proofs.RenamedShortageLemmas.{renamed_shortage_is, shortage_places}
