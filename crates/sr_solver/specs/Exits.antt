@@ -2,7 +2,7 @@
 -- at its bound there, with the price: the path is as long as the way to where it stood, with that, and less what the
 -- consumer that it leaves has as its base.
 
-use Rattle.std.specs.Prelude.{◌≡◌, ℕ, ◌+◌, ◌-◌, ◌*◌, ◌^◌, ◌<◌, ◌≤◌, List, length, slice_index, ◌⊎◌, Option, Some, None}
+use Rattle.std.specs.Prelude.{◌≡◌, ℕ, ◌+◌, ◌*◌, ◌<◌, ◌≤◌, List, length, slice_index, ◌⊎◌, Option, Some, None}
 use Rattle.std.specs.Prelude.{true, false}
 use Rattle.sr_transport.specs.{greatest_charge, Transport}
 use Rattle.sr_transport.specs.plain.Problem.{cost_of, IsAllowed}
@@ -14,9 +14,9 @@ use Rattle.sr_solver.specs.Limits.{greatest_way, far}
 use Rattle.sr_transport.specs.Limits.{most_consumers}
 use Rattle.sr_solver.specs.Table.{bound_at, IsKnown, IsSmallRow}
 
--- a bound with a price that is below `most` comes nearer than the cutoff, if there is one
+-- a bound with a price that is below `most` comes nearer than the cutoff, if there is one, and else is one of an entry
 abbrev pub IsMost : Option ℕ → Exit → Type 0
-IsMost None exit = exit.most ≡ 2 ^ 64 - 1
+IsMost None exit = exit.most ≡ far
 IsMost (Some dist) exit = exit.most + exit.dist ≡ dist + exit.base
 
 -- how entries leave consumer t, which has this price, if the way there has this length

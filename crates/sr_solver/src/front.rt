@@ -5,7 +5,7 @@ ghost use Rattle.sr_solver.specs.Exits.{IsExit, IsNearer, IsNoNearer, IsNearerAt
 ghost use Rattle.sr_solver.specs.Exits.{AreComparable};
 ghost use Rattle.sr_transport.specs.{greatest_charge};
 
-use crate::label::Label;
+use crate::label::{FAR, Label};
 use crate::set::ConsumerSet;
 use crate::table::{ABOVE, Bound};
 use std::alloc::{AllocError, Global};
@@ -53,7 +53,7 @@ pub fn exit_of(consumer: usize, dist: u64, price: u64, cutoff: Option<u64>) -> E
     let base = price + ABOVE;
     let most = match cutoff {
         Some(end) => end - dist + base,
-        None => u64::MAX,
+        None => FAR,
     };
     Exit {
         consumer,
