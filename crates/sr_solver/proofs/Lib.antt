@@ -15,6 +15,7 @@ pub mod PlaceLemmas
 pub mod TakerLemmas
 pub mod GapLemmas
 pub mod ShortageLemmas
+pub mod CrowdLemmas
 pub mod ShownLemmas
 pub mod SolvedLemmas
 pub mod OrderLemmas

@@ -16,6 +16,7 @@ pub mod Search
 pub mod Exits
 pub mod Path
 pub mod Shortage
+pub mod Crowd
 pub mod Order
 pub mod Progress
 pub mod Answered

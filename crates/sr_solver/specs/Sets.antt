@@ -12,6 +12,10 @@ use Rattle.sr_solver.specs.Labels.{label_at}
 abbrev pub IsIn : ConsumerSet → ℕ → Type 0
 IsIn set c = (c < most_consumers) × (bit_at set.bits c ≡ 1)
 
+-- each consumer of the one set is in the other
+abbrev pub IsAmong : ConsumerSet → ConsumerSet → Type 0
+IsAmong set others = (c : ℕ) → IsIn set c → IsIn others c
+
 -- the set with consumer c, too
 pub record IsWith (c : ℕ) (old new : ConsumerSet) : Type 0 where
   pub here : IsIn new c

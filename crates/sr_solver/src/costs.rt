@@ -11,15 +11,12 @@ ghost use Rattle.sr_solver.specs.Sets.{IsIn};
 
 use crate::pairs::{Pair, Row};
 use crate::sample::{BLOCK, place_in};
-use crate::set::ConsumerSet;
+use crate::set::{ConsumerSet, MAX_CONSUMERS};
 use std::alloc::{AllocError, Global};
 use std::marker::Model;
 
 /// Pairs are few if entries are allowed no more consumers than this, on average.
 const SPARSE: usize = 16;
-
-/// How many consumers a set has room for.
-const MAX_CONSUMERS: usize = 64;
 
 /// Room is made for this many pairs of each entry.
 const PAIRS_EACH: usize = 8;
@@ -163,11 +160,19 @@ impl<'a> Model for Costs<'a> {
 impl<'a> Costs<'a> {
     ghost use Rattle.std.specs.Prelude.{◌≡◌, ℕ, ◌<◌, length, None, IfOk, IfSome, false, slice_index, slice_index_or};
     ghost use Rattle.sr_transport.specs.plain.Problem.{IsWithinLimits, consumers, cost_at, IsAllowed};
-    ghost use Rattle.sr_solver.specs.Pairs.{IsRowOf};
+    ghost use Rattle.sr_solver.specs.Pairs.{IsRowOf, AreSetsOf};
 
-    /// Whether the allowed pairs are kept.
-    pub fn is_sparse(&self) -> bool {
-        self.pairs.is_some()
+    /// For each entry the consumers that it is allowed, if the pairs are kept and the entries are in their order.
+    pub fn sets(&self) -> Option<&'a [ConsumerSet]>
+        ensures { IfSome result (λ sets. AreSetsOf self.now sets.now) }
+    {
+        let Some(kept) = self.pairs else {
+            return None;
+        };
+        match self.order {
+            Some(_) => None,
+            None => Some(&kept.sets),
+        }
     }
 
     /// How many consumers there are.

@@ -4,6 +4,7 @@
 #![tactic(auto)]
 
 mod costs;
+mod crowd;
 mod front;
 mod groups;
 mod label;

@@ -1,5 +1,8 @@
 //! Sets of consumers.
 
+/// How many consumers a set has room for.
+pub const MAX_CONSUMERS: usize = 64;
+
 /// Some of the consumers: a bit for each.
 #[derive(Clone, Copy)]
 pub struct ConsumerSet {
@@ -8,9 +11,9 @@ pub struct ConsumerSet {
 }
 
 impl ConsumerSet {
-    ghost use Rattle.std.specs.Prelude.{◌≡◌, ℕ, ◌<◌, ◌↔◌, IfSome, IfNone, IsTrue};
+    ghost use Rattle.std.specs.Prelude.{◌≡◌, ℕ, ◌<◌, ◌↔◌, ◌⊎◌, IfSome, IfNone, IsTrue};
     ghost use Rattle.sr_transport.specs.Limits.{most_consumers};
-    ghost use Rattle.sr_solver.specs.Sets.{IsIn, IsWith, IsWithout};
+    ghost use Rattle.sr_solver.specs.Sets.{IsIn, IsAmong, IsWith, IsWithout};
 
     /// No consumer.
     pub fn none() -> ConsumerSet
@@ -37,6 +40,31 @@ impl ConsumerSet {
         ConsumerSet {
             bits: self.bits & !(1 << consumer),
         }
+    }
+
+    /// These and those.
+    pub fn and(self, others: ConsumerSet) -> ConsumerSet
+        ensures { (c : ℕ) → IsIn result c ↔ (IsIn self c ⊎ IsIn others c) }
+    {
+        ConsumerSet {
+            bits: self.bits | others.bits,
+        }
+    }
+
+    /// These but for those.
+    pub fn minus(self, others: ConsumerSet) -> ConsumerSet
+        ensures { (c : ℕ) → IsIn result c ↔ (IsIn self c × (IsIn others c → ⊥)) }
+    {
+        ConsumerSet {
+            bits: self.bits & !others.bits,
+        }
+    }
+
+    /// Whether those have each of these.
+    pub fn is_within(self, others: ConsumerSet) -> bool
+        ensures { IsTrue result ↔ IsAmong self others }
+    {
+        self.bits & !others.bits == 0
     }
 
     /// Whether this one is among them.

@@ -5,6 +5,7 @@ ghost use Rattle.sr_solver.specs.Placed.{IsStanding};
 ghost use Rattle.sr_solver.specs.Steps.{AreSteps};
 
 use crate::costs::{Costs, Source};
+use crate::crowd::crowded_entries;
 use crate::front::fresh_front;
 use crate::order::{entries_at, numbers, rename};
 use crate::placement::{Placement, nowhere};
@@ -115,8 +116,13 @@ fn answer(
             prices: placement.prices,
         }));
     }
-    if !is_patient && !problem.columns.is_sparse() {
-        return Ok(None);
+    if !is_patient {
+        let Some(sets) = problem.columns.sets() else {
+            return Ok(None);
+        };
+        if let Some(set) = crowded_entries(alloc, &problem.columns, sets)? {
+            return Ok(Some(Answer::Short { set }));
+        }
     }
     finish(alloc, problem, taken, is_patient, placement)
 }
