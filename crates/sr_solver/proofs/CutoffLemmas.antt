@@ -9,7 +9,7 @@ use Rattle.sr_transport.specs.plain.Problem.{room_of}
 use Rattle.sr_transport.specs.plain.Assignment.{load}
 use Rattle.sr_solver.specs.Limits.{greatest_way}
 use Rattle.sr_solver.specs.declared.label.Label.{Label}
-use Rattle.sr_solver.specs.declared.search.End.{End}
+use Rattle.sr_solver.specs.declared.front.End.{End}
 use Rattle.sr_solver.specs.declared.stepped.Step.{Step}
 use Rattle.sr_solver.specs.Labels.{label_at}
 use Rattle.sr_solver.specs.Steps.{next_fee, AreSteps}

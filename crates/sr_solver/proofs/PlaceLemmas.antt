@@ -14,7 +14,7 @@ use Rattle.sr_transport.specs.plain.Certificate.{IsLeast}
 use Rattle.sr_solver.specs.declared.label.Label.{Label}
 use Rattle.sr_solver.specs.Labels.{no_label, label_at, priced}
 use Rattle.sr_solver.specs.declared.placement.Placement.{Placement}
-use Rattle.sr_solver.specs.declared.search.End.{End}
+use Rattle.sr_solver.specs.declared.front.End.{End}
 use Rattle.sr_solver.specs.declared.stepped.Step.{Step}
 use Rattle.sr_solver.specs.Steps.{step_at, next_fee, AreSteps, IsLevel}
 use Rattle.sr_solver.specs.Placed.{IsPlaced, AreLevel, AreLoads, IsStanding}

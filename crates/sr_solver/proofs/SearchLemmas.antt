@@ -11,7 +11,7 @@ use Rattle.sr_solver.specs.Limits.{greatest_way, far}
 use Rattle.sr_transport.specs.plain.Problem.{IsWithinLimits, cost_at, cost_of, IsAllowed}
 pub use Rattle.sr_transport.proofs.PlainLimitLemmas.{cost_at_small, cost_small}
 use Rattle.sr_solver.specs.declared.label.Label.{Label}
-use Rattle.sr_solver.specs.declared.search.End.{End}
+use Rattle.sr_solver.specs.declared.front.End.{End}
 use Rattle.sr_solver.specs.declared.stepped.Step.{Step}
 use Rattle.sr_solver.specs.Labels.{no_label, unreached, label_at, IsFirstLabel}
 use Rattle.sr_solver.specs.Search.{IsFirstStep, IsRound, IsStarted}

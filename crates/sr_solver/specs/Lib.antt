@@ -14,6 +14,7 @@ pub mod Members
 pub mod Taker
 pub mod Search
 pub mod Exits
+pub mod Seekers
 pub mod Path
 pub mod Shortage
 pub mod Crowd

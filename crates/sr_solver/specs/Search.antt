@@ -6,7 +6,7 @@ use Rattle.std.specs.Prelude.{Option, Some, None}
 use Rattle.sr_transport.specs.{greatest_charge, Transport, consumers}
 use Rattle.sr_transport.specs.plain.Problem.{cost_at, cost_of, IsAllowed}
 use Rattle.sr_solver.specs.declared.label.Label.{Label}
-use Rattle.sr_solver.specs.declared.search.End.{End}
+use Rattle.sr_solver.specs.declared.front.End.{End}
 use Rattle.sr_solver.specs.declared.stepped.Step.{Step}
 use Rattle.sr_solver.specs.Labels.{IsFirstLabel, label_at, open_count, priced}
 use Rattle.sr_solver.specs.Cutoff.{IsBeyond, IsShortest, AreFull}

@@ -10,13 +10,24 @@ use crate::set::ConsumerSet;
 use crate::table::{ABOVE, Bound};
 use std::alloc::{AllocError, Global};
 
+/// Where a path may end.
+#[derive(Clone, Copy)]
+pub struct End {
+    /// A consumer that has room.
+    pub consumer: usize,
+    /// The length of the path, with the fee of the place in which it ends, and less the price there.
+    pub dist: u64,
+}
+
 /// What a search knows of the consumers.
 #[derive(Drop)]
 pub struct Front {
     /// The label of each consumer.
     pub labels: Vec<Label>,
-    /// The consumers that are reached, and not closed.
+    /// The consumers that are reached, and not closed. One that is no nearer than the cutoff need not be among them.
     pub waiting: ConsumerSet,
+    /// Where the shortest path ends that was found to a consumer with room, if there is one.
+    pub cutoff: Option<End>,
 }
 
 /// The front of a search that has not begun.
@@ -27,6 +38,7 @@ pub fn fresh_front(alloc: Global, consumers: usize) -> Result<Front, AllocError>
     Ok(Front {
         labels,
         waiting: ConsumerSet::none(),
+        cutoff: None,
     })
 }
 

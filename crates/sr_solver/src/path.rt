@@ -9,9 +9,21 @@ ghost use Rattle.sr_solver.specs.Members.{AreWide, AreMembers};
 ghost use Rattle.sr_solver.specs.Path.{AreRaised, ArePaths, AreShifted};
 
 use crate::costs::Costs;
+use crate::front::End;
 use crate::label::Label;
 use crate::placement::Placement;
 use crate::table::{Table, put};
+
+/// A path that was found.
+#[derive(Drop)]
+pub struct Route<'a> {
+    /// The entry that comes, with which the path begins.
+    pub entry: usize,
+    /// Where it ends.
+    pub end: End,
+    /// For each consumer that is reached how it is.
+    pub labels: &'a [Label],
+}
 
 /// Raises the price of each closed consumer by as much as the path to it is shorter than `dist`.
 pub fn raise(prices: &mut [u64], labels: &[Label], dist: u64)
@@ -31,31 +43,24 @@ pub fn raise(prices: &mut [u64], labels: &[Label], dist: u64)
     }
 }
 
-/// Moves the entries of the path that ends at `end`, each to the next consumer, the last of them `entry`, which stood
-/// nowhere.
-pub fn shift(
-    problem: &Costs<'_>,
-    entry: usize,
-    end: usize,
-    labels: &[Label],
-    placement: &mut Placement,
-    table: &mut Table,
-)
+/// Moves the entries of a path, each to the next consumer, the last of them the one that comes, which stood nowhere.
+pub fn shift(problem: &Costs<'_>, route: &Route<'_>, placement: &mut Placement, table: &mut Table)
     requires limits { IsWithinLimits problem.now.rooms problem.now.entries problem.now.costs }
-    requires one_each { length labels.now ≡ consumers problem.now }
+    requires one_each { length route.now.labels.now ≡ consumers problem.now }
     requires every { length placement.old.assign.items ≡ problem.now.entries }
-    requires paths { ArePaths labels.now entry placement.old.assign.items }
-    requires allowed { (c : ℕ) → c < length labels.now → 0 < (label_at labels.now c).hops
-        → IsAllowed problem.now (label_at labels.now c).mover c }
-    requires end { end < length labels.now }
-    requires reached { 0 < (label_at labels.now end).hops }
+    requires paths { ArePaths route.now.labels.now route.now.entry placement.old.assign.items }
+    requires allowed { (c : ℕ) → c < length route.now.labels.now → 0 < (label_at route.now.labels.now c).hops
+        → IsAllowed problem.now (label_at route.now.labels.now c).mover c }
+    requires end { route.now.end.consumer < length route.now.labels.now }
+    requires reached { 0 < (label_at route.now.labels.now route.now.end.consumer).hops }
     requires wide { AreWide problem.now placement.old.width }
-    requires in_room { (c : ℕ) → c < length labels.now
-        → load placement.old.assign.items c + cond (end == c) 1 0 ≤ room_of problem.now c }
+    requires in_room { (c : ℕ) → c < length route.now.labels.now
+        → load placement.old.assign.items c + cond (route.now.end.consumer == c) 1 0 ≤ room_of problem.now c }
     requires members { AreMembers problem.now placement.old.width placement.old.assign.items
         placement.old.members.items }
     requires table { IsTable problem.now placement.old.assign.items table.old }
-    ensures assign { AreShifted labels.now entry end placement.old.assign.items placement.new.assign.items }
+    ensures assign { AreShifted route.now.labels.now route.now.entry route.now.end.consumer
+        placement.old.assign.items placement.new.assign.items }
     ensures prices { placement.new.prices ≡ placement.old.prices }
     ensures loads { placement.new.loads ≡ placement.old.loads }
     ensures width { placement.new.width ≡ placement.old.width }
@@ -63,7 +68,8 @@ pub fn shift(
         placement.new.members.items }
     ensures table { IsTable problem.now placement.new.assign.items table.new }
 {
-    let mut place = end;
+    let (entry, labels) = (route.entry, route.labels);
+    let mut place = route.end.consumer;
     'path: loop {
         let mover = labels[place].mover;
         let from = placement.assign[mover];

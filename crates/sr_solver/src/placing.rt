@@ -7,11 +7,10 @@ ghost use Rattle.sr_solver.specs.Search.{IsStuck, IsEnd};
 ghost use Rattle.sr_solver.specs.Progress.{IsEndOf};
 
 use crate::front::Front;
-use crate::label::Label;
 use crate::members::add;
-use crate::path::{raise, shift};
+use crate::path::{Route, raise, shift};
 use crate::placement::Placement;
-use crate::search::{End, search};
+use crate::search::{Seeker, search};
 use crate::stepped::Stepped;
 use crate::table::{Table, put};
 use crate::taker::taker;
@@ -24,6 +23,15 @@ pub enum Progress {
     Stuck { entry: usize },
     /// Many entries needed a search, and the others are left.
     Slow,
+}
+
+/// What is known while entries are placed.
+#[derive(Drop)]
+pub struct Known {
+    /// Of the entries at each consumer.
+    pub table: Table,
+    /// Of the consumers, by the last search.
+    pub front: Front,
 }
 
 /// So many searches are never too many.
@@ -69,26 +77,31 @@ pub fn place_all(
     first: usize,
     is_patient: bool,
     placement: &mut Placement,
-    table: &mut Table,
-    front: &mut Front,
+    known: &mut Known,
 ) -> Progress
     requires first { first ≤ problem.now.columns.entries }
     requires standing { IsStanding problem.now.columns problem.now.steps.now first placement.old }
-    requires table { IsTable problem.now.columns placement.old.assign.items table.old }
-    requires labels { length front.old.labels.items ≡ consumers problem.now.columns }
-    ensures { IsEndOf problem.now.columns problem.now.steps.now is_patient placement.new front.new.labels.items
-        result }
+    requires table { IsTable problem.now.columns placement.old.assign.items known.old.table }
+    requires labels { length known.old.front.labels.items ≡ consumers problem.now.columns }
+    ensures { IsEndOf problem.now.columns problem.now.steps.now is_patient placement.new
+        known.new.front.labels.items result }
 {
     let mut searches = 0usize;
     for entry in first..problem.columns.entries() {
-        if take(problem, entry, placement, table) {
+        if take(problem, entry, placement, &mut known.table) {
             continue;
         }
         searches = searches.saturating_add(1);
         if !is_patient && are_many(searches, entry, problem.columns.entries()) {
             return Progress::Slow;
         }
-        if !place(problem, entry, placement, table, front) {
+        if !place(
+            problem,
+            entry,
+            placement,
+            &mut known.table,
+            &mut known.front,
+        ) {
             return Progress::Stuck { entry };
         }
     }
@@ -137,38 +150,34 @@ fn place(
         front.new.labels.items }
     ensures labels { length front.new.labels.items ≡ consumers problem.now.columns }
 {
-    let Some(end) = search(problem, entry, placement, table, front) else {
+    let seeker = Seeker {
+        problem: &*problem,
+        entry,
+        placement: &*placement,
+    };
+    let Some(end) = search(&seeker, table, front) else {
         return false;
     };
-    settle(problem, entry, end, &front.labels, placement, table);
+    let route = Route {
+        entry,
+        end,
+        labels: &front.labels,
+    };
+    settle(problem, &route, placement, table);
     true
 }
 
 /// Moves the entries of the path that was found, and raises the prices.
-fn settle(
-    problem: &Stepped<'_>,
-    entry: usize,
-    end: End,
-    labels: &[Label],
-    placement: &mut Placement,
-    table: &mut Table,
-)
-    requires entry { entry < problem.now.columns.entries }
-    requires standing { IsStanding problem.now.columns problem.now.steps.now entry placement.old }
+fn settle(problem: &Stepped<'_>, route: &Route<'_>, placement: &mut Placement, table: &mut Table)
+    requires entry { route.now.entry < problem.now.columns.entries }
+    requires standing { IsStanding problem.now.columns problem.now.steps.now route.now.entry placement.old }
     requires table { IsTable problem.now.columns placement.old.assign.items table.old }
-    requires found { IsEnd problem.now.columns problem.now.steps.now entry placement.old.assign.items
-        placement.old.prices.items labels.now end }
-    ensures standing { IsStanding problem.now.columns problem.now.steps.now (entry + 1) placement.new }
+    requires found { IsEnd problem.now.columns problem.now.steps.now route.now.entry placement.old.assign.items
+        placement.old.prices.items route.now.labels.now route.now.end }
+    ensures standing { IsStanding problem.now.columns problem.now.steps.now (route.now.entry + 1) placement.new }
     ensures table { IsTable problem.now.columns placement.new.assign.items table.new }
 {
-    raise(&mut placement.prices, labels, end.dist);
-    shift(
-        &problem.columns,
-        entry,
-        end.consumer,
-        labels,
-        placement,
-        table,
-    );
-    placement.loads[end.consumer] += 1;
+    raise(&mut placement.prices, route.labels, route.end.dist);
+    shift(&problem.columns, route, placement, table);
+    placement.loads[route.end.consumer] += 1;
 }

@@ -2,21 +2,18 @@ ghost use Rattle.std.specs.Prelude.{◌≡◌, ℕ, ◌+◌, ◌<◌, ◌≤◌,
 ghost use Rattle.std.specs.Prelude.{true, false};
 ghost use Rattle.sr_transport.specs.{greatest_charge, consumers};
 ghost use Rattle.sr_transport.specs.Limits.{most_consumers, greatest_fee};
-ghost use Rattle.sr_transport.specs.plain.Problem.{IsWithinLimits, IsAllowed};
 ghost use Rattle.sr_solver.specs.Limits.{greatest_way, far};
 ghost use Rattle.sr_solver.specs.Labels.{unreached, label_at, open_count, IsFarOrReached};
 ghost use Rattle.sr_solver.specs.Placed.{IsStanding};
-ghost use Rattle.sr_solver.specs.Members.{AreMembers};
-ghost use Rattle.sr_solver.specs.Cutoff.{length_of, IsBeyond, IsLimit, IsCutoff, IsCut, IsNoLater};
-ghost use Rattle.sr_solver.specs.Table.{IsAt, IsTable};
-ghost use Rattle.sr_solver.specs.Exits.{IsExit, IsNearMover, HasNoMover};
+ghost use Rattle.sr_solver.specs.Cutoff.{length_of, IsBeyond, IsLimit, IsCutoff, IsCut};
+ghost use Rattle.sr_solver.specs.Exits.{IsNearMover, HasNoMover};
 ghost use Rattle.sr_solver.specs.Sets.{AreWaiting};
 ghost use Rattle.sr_solver.specs.Pairs.{IsRowOf};
-ghost use Rattle.sr_solver.specs.Search.{IsStarted, IsNearest, IsNearestOf, AreDoneOf, IsSearch, IsRound, IsAsked};
-ghost use Rattle.sr_solver.specs.Search.{IsFound, MayBeAsked};
+ghost use Rattle.sr_solver.specs.Search.{IsStarted, IsNearest, IsNearestOf, AreDoneOf, IsAsked, MayBeAsked};
+ghost use Rattle.sr_solver.specs.Seekers.{IsSeeker, IsTableFor, StandsAt, IsCutoffFor, IsFoundBy, IsFrontAt};
+ghost use Rattle.sr_solver.specs.Seekers.{IsFrontBetween, IsExitFrom, IsFrontAfter};
 
-use crate::costs::Costs;
-use crate::front::{Exit, Front, exit_of, is_nearer, moved, next_nearer};
+use crate::front::{End, Exit, Front, exit_of, is_nearer, moved, next_nearer};
 use crate::label::{FAR, Label, first_label};
 use crate::pairs::Row;
 use crate::placement::Placement;
@@ -24,63 +21,53 @@ use crate::set::ConsumerSet;
 use crate::stepped::Stepped;
 use crate::table::{Bound, Table, least_mover, look_over};
 
-/// Where a path may end.
-#[derive(Clone, Copy)]
-pub struct End {
-    /// A consumer that has room.
-    pub consumer: usize,
-    /// The length of the path, with the fee of the place in which it ends, and less the price there.
-    pub dist: u64,
+/// An entry that looks for a place, where those before it have theirs.
+#[derive(Drop)]
+pub struct Seeker<'a> {
+    pub problem: &'a Stepped<'a>,
+    /// The number of the entry.
+    pub entry: usize,
+    /// Where those before it stand.
+    pub placement: &'a Placement,
 }
 
-/// Looks for the shortest path that makes place for `entry`, and gives its end, where there is room left.
+/// Looks for the shortest path that makes place for an entry, and gives its end, where there is room left.
 ///
 /// `None` where no path ends at a consumer with room: each consumer that the search reached is full, and closed. Once
 /// one with room is reached, paths that are no shorter than the way there with the fee are left out.
-pub fn search(
-    problem: &Stepped<'_>,
-    entry: usize,
-    placement: &Placement,
-    table: &mut Table,
-    front: &mut Front,
-) -> Option<End>
-    requires entry { entry < problem.now.columns.entries }
-    requires standing { IsStanding problem.now.columns problem.now.steps.now entry placement.now }
-    requires table { IsTable problem.now.columns placement.now.assign.items table.old }
-    requires labels { length front.old.labels.items ≡ consumers problem.now.columns }
-    ensures table { IsTable problem.now.columns placement.now.assign.items table.new }
-    ensures found { IsFound problem.now.columns problem.now.steps.now entry placement.now.assign.items
-        placement.now.prices.items front.new.labels.items result }
+pub fn search(seeker: &Seeker<'_>, table: &mut Table, front: &mut Front) -> Option<End>
+    requires seeker { IsSeeker seeker.now }
+    requires table { IsTableFor seeker.now table.old }
+    requires labels { length front.old.labels.items ≡ consumers seeker.now.problem.now.columns }
+    ensures table { IsTableFor seeker.now table.new }
+    ensures found { IsFoundBy seeker.now front.new.labels.items result }
 {
-    let mut cutoff = start(problem, entry, placement, front);
-    while let Some(near) = nearest(cutoff, front) {
-        cutoff = close(problem, entry, near, cutoff, placement, table, front);
+    start(seeker, front);
+    while let Some(near) = nearest(front) {
+        close(seeker, near, table, front);
     }
-    cutoff
+    front.cutoff
 }
 
-/// Forgets the last search, and offers the new entry to each consumer; gives the first cutoff.
-fn start(
-    problem: &Stepped<'_>,
-    entry: usize,
-    placement: &Placement,
-    front: &mut Front,
-) -> Option<End>
-    requires entry { entry < problem.now.columns.entries }
-    requires standing { IsStanding problem.now.columns problem.now.steps.now entry placement.now }
-    requires labels_each { length front.old.labels.items ≡ consumers problem.now.columns }
-    ensures started { IsStarted problem.now.columns entry placement.now.prices.items front.new.labels.items }
-    ensures waiting { AreWaiting (consumers problem.now.columns) None
+/// Forgets the last search, and offers the new entry to each consumer.
+fn start(seeker: &Seeker<'_>, front: &mut Front)
+    requires seeker { IsSeeker seeker.now }
+    requires labels { length front.old.labels.items ≡ consumers seeker.now.problem.now.columns }
+    ensures started { IsStarted seeker.now.problem.now.columns seeker.now.entry
+        seeker.now.placement.now.prices.items front.new.labels.items }
+    ensures waiting { AreWaiting (consumers seeker.now.problem.now.columns) None
         front.new.labels.items front.new.waiting }
-    ensures cutoff { IsCutoff problem.now.columns problem.now.steps.now placement.now.assign.items
-        placement.now.prices.items front.new.labels.items (consumers problem.now.columns) result }
+    ensures cutoff { IsCutoffFor seeker.now front.new.labels.items front.new.cutoff }
 {
-    if let Some(row) = problem.columns.row(entry) {
-        return start_in_row(problem, row, placement, front);
+    let (problem, placement) = (seeker.problem, seeker.placement);
+    if let Some(row) = problem.columns.row(seeker.entry) {
+        let cutoff = start_in_row(problem, row, placement, front);
+        front.cutoff = cutoff;
+        return;
     }
-    let cutoff = first_labels(problem, entry, placement, &mut front.labels);
+    let cutoff = first_labels(problem, seeker.entry, placement, &mut front.labels);
     front.waiting = reached(&front.labels);
-    cutoff
+    front.cutoff = cutoff;
 }
 
 /// Labels each consumer as the new entry itself reaches it; gives the first cutoff.
@@ -209,22 +196,23 @@ fn limit(cutoff: Option<End>) -> u64
 }
 
 /// The nearest of the consumers that wait, if it is nearer than the cutoff. Those that are not wait no longer.
-fn nearest(cutoff: Option<End>, front: &mut Front) -> Option<usize>
+fn nearest(front: &mut Front) -> Option<usize>
     requires few { length front.old.labels.items ≤ most_consumers }
     requires marked { (c : ℕ) → c < length front.old.labels.items
         → IsFarOrReached (label_at front.old.labels.items c) }
-    requires waiting { AreWaiting (length front.old.labels.items) (length_of cutoff) front.old.labels.items
-        front.old.waiting }
+    requires waiting { AreWaiting (length front.old.labels.items) (length_of front.old.cutoff)
+        front.old.labels.items front.old.waiting }
     ensures labels { front.new.labels ≡ front.old.labels }
-    ensures waiting { AreWaiting (length front.old.labels.items) (length_of cutoff) front.old.labels.items
-        front.new.waiting }
+    ensures cutoff { front.new.cutoff ≡ front.old.cutoff }
+    ensures waiting { AreWaiting (length front.old.labels.items) (length_of front.old.cutoff)
+        front.old.labels.items front.new.waiting }
     ensures some { IfSome result (λ near.
         IsNearestOf (length front.old.labels.items) front.old.labels.items near
-        × (IsBeyond (length_of cutoff) 0 (label_at front.old.labels.items near).dist → ⊥)) }
+        × (IsBeyond (length_of front.old.cutoff) 0 (label_at front.old.labels.items near).dist → ⊥)) }
     ensures none { IfNone result
-        (AreDoneOf (length front.old.labels.items) (length_of cutoff) front.old.labels.items) }
+        (AreDoneOf (length front.old.labels.items) (length_of front.old.cutoff) front.old.labels.items) }
 {
-    let limit = limit(cutoff);
+    let limit = limit(front.cutoff);
     let mut rest = front.waiting;
     let mut best = None;
     let mut least = limit;
@@ -242,36 +230,18 @@ fn nearest(cutoff: Option<End>, front: &mut Front) -> Option<usize>
     best
 }
 
-/// Closes a consumer: offers the entries that stand there to the others, and gives the next cutoff.
-fn close(
-    problem: &Stepped<'_>,
-    entry: usize,
-    near: usize,
-    cutoff: Option<End>,
-    placement: &Placement,
-    table: &mut Table,
-    front: &mut Front,
-) -> Option<End>
-    requires entry { entry < problem.now.columns.entries }
-    requires standing { IsStanding problem.now.columns problem.now.steps.now entry placement.now }
-    requires table { IsTable problem.now.columns placement.now.assign.items table.old }
-    requires round { IsRound problem.now.columns entry placement.now.assign.items placement.now.prices.items
-        (length_of cutoff) front.old.labels.items }
-    requires cutoff { IsCutoff problem.now.columns problem.now.steps.now placement.now.assign.items
-        placement.now.prices.items front.old.labels.items (consumers problem.now.columns) cutoff }
-    requires nearest { IsNearest problem.now.columns front.old.labels.items near }
-    requires nearer { IsBeyond (length_of cutoff) 0 (label_at front.old.labels.items near).dist → ⊥ }
-    requires waiting { AreWaiting (consumers problem.now.columns) (length_of cutoff)
-        front.old.labels.items front.old.waiting }
-    ensures table { IsTable problem.now.columns placement.now.assign.items table.new }
-    ensures round { IsRound problem.now.columns entry placement.now.assign.items placement.now.prices.items
-        (length_of result) front.new.labels.items }
-    ensures cutoff { IsCutoff problem.now.columns problem.now.steps.now placement.now.assign.items
-        placement.now.prices.items front.new.labels.items (consumers problem.now.columns) result }
-    ensures waiting { AreWaiting (consumers problem.now.columns) (length_of result)
-        front.new.labels.items front.new.waiting }
+/// Closes a consumer: offers the entries that stand there to the others.
+fn close(seeker: &Seeker<'_>, near: usize, table: &mut Table, front: &mut Front)
+    requires seeker { IsSeeker seeker.now }
+    requires table { IsTableFor seeker.now table.old }
+    requires front { IsFrontBetween seeker.now front.old }
+    requires nearest { IsNearest seeker.now.problem.now.columns front.old.labels.items near }
+    requires nearer { IsBeyond (length_of front.old.cutoff) 0 (label_at front.old.labels.items near).dist → ⊥ }
+    ensures table { IsTableFor seeker.now table.new }
+    ensures front { IsFrontBetween seeker.now front.new }
     ensures fewer { open_count front.new.labels.items < open_count front.old.labels.items }
 {
+    let (problem, placement) = (seeker.problem, seeker.placement);
     look_over(&problem.columns, near, placement, table);
     let label = front.labels[near];
     front.labels[near] = Label {
@@ -280,9 +250,9 @@ fn close(
     };
     front.waiting = front.waiting.without(near);
     let price = placement.prices[near];
-    let exit = exit_of(near, label.dist, price, dist_of(cutoff));
-    let mut cutoff = ask_end(problem, entry, exit, cutoff, placement, table, front);
-    let mut exit = exit_of(near, label.dist, price, dist_of(cutoff));
+    let exit = exit_of(near, label.dist, price, dist_of(front.cutoff));
+    ask_end(seeker, exit, table, front);
+    let mut exit = exit_of(near, label.dist, price, dist_of(front.cutoff));
     let mut first = 0;
     while let Some(other) = next_nearer(
         exit,
@@ -291,145 +261,87 @@ fn close(
         &placement.prices,
         &front.labels,
     ) {
-        cutoff = ask(problem, entry, exit, other, cutoff, placement, table, front);
-        exit = exit_of(near, label.dist, price, dist_of(cutoff));
+        ask(seeker, exit, other, table, front);
+        exit = exit_of(near, label.dist, price, dist_of(front.cutoff));
         first = other + 1;
     }
-    cutoff
 }
 
 /// Offers to the consumer where the cutoff ends the entry that leaves for the least more there: so the cutoff falls
-/// first, and fewer others are of use. Gives the next cutoff.
-fn ask_end(
-    problem: &Stepped<'_>,
-    entry: usize,
-    exit: Exit,
-    cutoff: Option<End>,
-    placement: &Placement,
-    table: &mut Table,
-    front: &mut Front,
-) -> Option<End>
-    requires entry { entry < problem.now.columns.entries }
-    requires near { exit.consumer < consumers problem.now.columns }
-    requires standing { IsStanding problem.now.columns problem.now.steps.now entry placement.now }
-    requires table { IsTable problem.now.columns placement.now.assign.items table.old }
-    requires search { IsSearch problem.now.columns entry placement.now.assign.items placement.now.prices.items
-        (length_of cutoff) front.old.labels.items exit.consumer 0 }
-    requires cutoff { IsCutoff problem.now.columns problem.now.steps.now placement.now.assign.items
-        placement.now.prices.items front.old.labels.items (consumers problem.now.columns) cutoff }
-    requires closed { (label_at front.old.labels.items exit.consumer).closed ≡ true }
-    requires exit { IsExit exit.consumer (label_at front.old.labels.items exit.consumer).dist
-        (slice_index placement.now.prices.items exit.consumer) (length_of cutoff) exit }
-    requires waiting { AreWaiting (consumers problem.now.columns) (length_of cutoff)
-        front.old.labels.items front.old.waiting }
-    ensures table { IsTable problem.now.columns placement.now.assign.items table.new }
-    ensures asked { MayBeAsked problem.now.columns entry placement.now.assign.items placement.now.prices.items
-        (length_of cutoff) exit.consumer front.old.labels.items front.new.labels.items }
-    ensures cutoff { IsCutoff problem.now.columns problem.now.steps.now placement.now.assign.items
-        placement.now.prices.items front.new.labels.items (consumers problem.now.columns) result }
-    ensures later { IsNoLater (length_of cutoff) (length_of result) }
-    ensures waiting { AreWaiting (consumers problem.now.columns) (length_of result)
-        front.new.labels.items front.new.waiting }
+/// first, and fewer others are of use.
+fn ask_end(seeker: &Seeker<'_>, exit: Exit, table: &mut Table, front: &mut Front)
+    requires seeker { IsSeeker seeker.now }
+    requires table { IsTableFor seeker.now table.old }
+    requires front { IsFrontAt seeker.now exit.consumer 0 front.old }
+    requires exit { IsExitFrom seeker.now front.old exit }
+    ensures table { IsTableFor seeker.now table.new }
+    ensures front { IsFrontAfter seeker.now front.old front.new }
+    ensures asked { MayBeAsked seeker.now.problem.now.columns seeker.now.entry
+        seeker.now.placement.now.assign.items seeker.now.placement.now.prices.items
+        (length_of front.old.cutoff) exit.consumer front.old.labels.items front.new.labels.items }
 {
-    let Some(end) = cutoff else {
-        return None;
-    };
-    ask(
-        problem,
-        entry,
-        exit,
-        end.consumer,
-        cutoff,
-        placement,
-        table,
-        front,
-    )
+    if let Some(end) = front.cutoff {
+        ask(seeker, exit, end.consumer, table, front);
+    }
 }
 
-/// Offers to the consumer `other` the entry that leaves for the least more there, if it comes nearer; gives the next
-/// cutoff.
-fn ask(
-    problem: &Stepped<'_>,
-    entry: usize,
-    exit: Exit,
-    other: usize,
-    cutoff: Option<End>,
-    placement: &Placement,
-    table: &mut Table,
-    front: &mut Front,
-) -> Option<End>
-    requires entry { entry < problem.now.columns.entries }
-    requires near { exit.consumer < consumers problem.now.columns }
-    requires other { other < consumers problem.now.columns }
-    requires standing { IsStanding problem.now.columns problem.now.steps.now entry placement.now }
-    requires table { IsTable problem.now.columns placement.now.assign.items table.old }
-    requires search { IsSearch problem.now.columns entry placement.now.assign.items placement.now.prices.items
-        (length_of cutoff) front.old.labels.items exit.consumer 0 }
-    requires cutoff { IsCutoff problem.now.columns problem.now.steps.now placement.now.assign.items
-        placement.now.prices.items front.old.labels.items (consumers problem.now.columns) cutoff }
-    requires closed { (label_at front.old.labels.items exit.consumer).closed ≡ true }
-    requires exit { IsExit exit.consumer (label_at front.old.labels.items exit.consumer).dist
-        (slice_index placement.now.prices.items exit.consumer) (length_of cutoff) exit }
-    requires waiting { AreWaiting (consumers problem.now.columns) (length_of cutoff)
-        front.old.labels.items front.old.waiting }
-    ensures table { IsTable problem.now.columns placement.now.assign.items table.new }
-    ensures asked { IsAsked problem.now.columns entry placement.now.assign.items placement.now.prices.items
-        (length_of cutoff) exit.consumer other front.old.labels.items front.new.labels.items }
-    ensures cutoff { IsCutoff problem.now.columns problem.now.steps.now placement.now.assign.items
-        placement.now.prices.items front.new.labels.items (consumers problem.now.columns) result }
-    ensures later { IsNoLater (length_of cutoff) (length_of result) }
-    ensures waiting { AreWaiting (consumers problem.now.columns) (length_of result)
-        front.new.labels.items front.new.waiting }
+/// Offers to the consumer `other` the entry that leaves for the least more there, if it comes nearer.
+fn ask(seeker: &Seeker<'_>, exit: Exit, other: usize, table: &mut Table, front: &mut Front)
+    requires seeker { IsSeeker seeker.now }
+    requires other { other < consumers seeker.now.problem.now.columns }
+    requires table { IsTableFor seeker.now table.old }
+    requires front { IsFrontAt seeker.now exit.consumer 0 front.old }
+    requires exit { IsExitFrom seeker.now front.old exit }
+    ensures table { IsTableFor seeker.now table.new }
+    ensures front { IsFrontAfter seeker.now front.old front.new }
+    ensures asked { IsAsked seeker.now.problem.now.columns seeker.now.entry
+        seeker.now.placement.now.assign.items seeker.now.placement.now.prices.items
+        (length_of front.old.cutoff) exit.consumer other front.old.labels.items front.new.labels.items }
 {
-    let (prices, loads) = (placement.prices.as_slice(), placement.loads.as_slice());
+    let problem = seeker.problem;
+    let (prices, loads) = (
+        seeker.placement.prices.as_slice(),
+        seeker.placement.loads.as_slice(),
+    );
     let label = front.labels[other];
-    let Some(known) = mover(&problem.columns, exit, other, label, placement, table) else {
-        return cutoff;
+    let Some(known) = mover(seeker, exit, other, label, table) else {
+        return;
     };
     let label = moved(exit, known, prices[other], front.labels[exit.consumer].hops);
     front.labels[other] = label;
     front.waiting = front.waiting.with(other);
     let gap = problem.gap(other, loads[other], prices[other]);
-    cut(other, label, gap, cutoff)
+    front.cutoff = cut(other, label, gap, front.cutoff);
 }
 
 /// The entry that leaves for the least more at the consumer `other`, with its bound, if it comes nearer there.
 fn mover(
-    problem: &Costs<'_>,
+    seeker: &Seeker<'_>,
     exit: Exit,
     other: usize,
     label: Label,
-    placement: &Placement,
     table: &mut Table,
 ) -> Option<Bound>
-    requires limits { IsWithinLimits problem.now.rooms problem.now.entries problem.now.costs }
-    requires every { length placement.now.assign.items ≡ problem.now.entries }
-    requires prices_each { length placement.now.prices.items ≡ consumers problem.now }
-    requires near { exit.consumer < consumers problem.now }
-    requires other { other < consumers problem.now }
-    requires placed { (i : ℕ) → IsAt placement.now.assign.items problem.now.entries exit.consumer i
-        → IsAllowed problem.now i exit.consumer }
-    requires members { AreMembers problem.now placement.now.width placement.now.assign.items
-        placement.now.members.items }
-    requires table { IsTable problem.now placement.now.assign.items table.old }
-    requires price { slice_index placement.now.prices.items other ≤ greatest_way }
+    requires seeker { IsSeeker seeker.now }
+    requires near { exit.consumer < consumers seeker.now.problem.now.columns }
+    requires other { other < consumers seeker.now.problem.now.columns }
+    requires table { IsTableFor seeker.now table.old }
     requires dist { exit.dist ≤ greatest_way }
     requires base { exit.base ≤ greatest_way + greatest_charge }
     requires label { label.dist ≤ far }
-    ensures table { IsTable problem.now placement.now.assign.items table.new }
-    ensures some { IfSome result (IsNearMover problem.now
-        (IsAt placement.now.assign.items problem.now.entries exit.consumer) exit other
-        (slice_index placement.now.prices.items other) label) }
-    ensures none { IfNone result (HasNoMover problem.now
-        (IsAt placement.now.assign.items problem.now.entries exit.consumer) exit other
-        (slice_index placement.now.prices.items other) label) }
+    ensures table { IsTableFor seeker.now table.new }
+    ensures some { IfSome result (IsNearMover seeker.now.problem.now.columns (StandsAt seeker.now exit.consumer)
+        exit other (slice_index seeker.now.placement.now.prices.items other) label) }
+    ensures none { IfNone result (HasNoMover seeker.now.problem.now.columns (StandsAt seeker.now exit.consumer)
+        exit other (slice_index seeker.now.placement.now.prices.items other) label) }
 {
+    let (columns, placement) = (&seeker.problem.columns, seeker.placement);
     let price = placement.prices[other];
-    let bound = table.pairs[exit.consumer * problem.consumers() + other];
+    let bound = table.pairs[exit.consumer * columns.consumers() + other];
     if !is_nearer(exit, bound.low, price, label) {
         return None;
     }
-    let known = least_mover(problem, exit.consumer, other, placement, table)?;
+    let known = least_mover(columns, exit.consumer, other, placement, table)?;
     if is_nearer(exit, known.low, price, label) {
         Some(known)
     } else {

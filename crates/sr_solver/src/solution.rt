@@ -9,7 +9,7 @@ use crate::crowd::crowded_entries;
 use crate::front::fresh_front;
 use crate::order::{entries_at, numbers, rename};
 use crate::placement::{Placement, nowhere};
-use crate::placing::{Progress, place_all, take_all};
+use crate::placing::{Known, Progress, place_all, take_all};
 use crate::sample::placing_order;
 use crate::shortage::{places, stranded};
 use crate::stepped::{Answer, Step, Stepped};
@@ -141,22 +141,16 @@ fn finish(
     ensures patient { is_patient ≡ true → IfOk result (λ found. IsSome found) }
 {
     let mut placement = placement;
-    let mut table = unknown_table(alloc, &problem.columns)?;
-    let mut front = fresh_front(alloc, problem.columns.consumers())?;
-    match place_all(
-        problem,
-        first,
-        is_patient,
-        &mut placement,
-        &mut table,
-        &mut front,
-    ) {
+    let table = unknown_table(alloc, &problem.columns)?;
+    let front = fresh_front(alloc, problem.columns.consumers())?;
+    let mut known = Known { table, front };
+    match place_all(problem, first, is_patient, &mut placement, &mut known) {
         Progress::Placed => Ok(Some(Answer::Placed {
             assign: placement.assign,
             prices: placement.prices,
         })),
         Progress::Stuck { entry } => {
-            let set = stranded(alloc, &placement.assign, &front.labels, entry)?;
+            let set = stranded(alloc, &placement.assign, &known.front.labels, entry)?;
             Ok(Some(Answer::Short { set }))
         }
         Progress::Slow => Ok(None),

@@ -8,7 +8,7 @@ use Rattle.sr_solver.proofs.path.shift.Goals as goal
 pub returns-then-mover-entry-clause-assign : goal.returns-then-mover-entry-clause-assign
 returns-then-mover-entry-clause-assign c =
     rw c.put.ensures.assign (
-    shifted_last c.args.labels.now c.args.entry c.args.end c.args.placement.now.assign.items
+    shifted_last c.args.route.now.labels.now c.args.route.now.entry c.args.route.now.end.consumer c.args.placement.now.assign.items
     c.path.placement.assign.items c.path.place
     c.requires.paths c.path.invariant.shifting c.if-mover-entry.true
     )
@@ -16,14 +16,14 @@ returns-then-mover-entry-clause-assign c =
 pub path-preserved : goal.path-preserved
 path-preserved c =
     let shifting = c.path.invariant.shifting in
-    let mover : ℕ = (label_at c.args.labels.now c.path.place).mover in
+    let mover : ℕ = (label_at c.args.route.now.labels.now c.path.place).mover in
     let within : mover < length c.path.placement.assign.items =
     omega (arith, c.requires.paths.entry c.path.place shifting.consumer shifting.reached, shifting.every) in
     let from : c.index-from.result.now ≡ get_or c.path.placement.assign.items mover 0 =
     c.index-from.ensures ∙ get_or_default _ _ _ 0 within in
     record {
       shifting = rw c.put.ensures.assign (rw from (
-          shifting_more c.args.labels.now c.args.entry c.args.end c.args.placement.now.assign.items
+          shifting_more c.args.route.now.labels.now c.args.route.now.entry c.args.route.now.end.consumer c.args.placement.now.assign.items
           c.path.placement.assign.items
           c.path.place c.requires.paths shifting c.if-mover-entry.false
           ));
@@ -37,7 +37,7 @@ path-preserved c =
 pub put-requires-clause-room : goal.put-requires-clause-room
 put-requires-clause-room c =
     let shifting = c.path.invariant.shifting in
-    put_in_room c.args.labels.now c.args.entry c.args.end c.args.placement.now.assign.items
+    put_in_room c.args.route.now.labels.now c.args.route.now.entry c.args.route.now.end.consumer c.args.placement.now.assign.items
     c.path.placement.assign.items c.path.place
     (room_of c.args.problem.now c.path.place) c.requires.paths shifting
     (c.requires.in_room c.path.place shifting.consumer)
@@ -119,13 +119,13 @@ returns-then-mover-entry-clause-table c = c.put.ensures.table
 pub path-smaller : goal.path-smaller
 path-smaller c =
     let shifting = c.path.invariant.shifting in
-    let mover : ℕ = (label_at c.args.labels.now c.path.place).mover in
+    let mover : ℕ = (label_at c.args.route.now.labels.now c.path.place).mover in
     let within : mover < length c.path.placement.assign.items =
     omega (arith, c.requires.paths.entry c.path.place shifting.consumer shifting.reached, shifting.every) in
     let from : c.index-from.result.now ≡ get_or c.path.placement.assign.items mover 0 =
     c.index-from.ensures ∙ get_or_default _ _ _ 0 within in
     rw from (
-    mover_falls c.args.labels.now c.args.entry c.args.end c.args.placement.now.assign.items
+    mover_falls c.args.route.now.labels.now c.args.route.now.entry c.args.route.now.end.consumer c.args.placement.now.assign.items
     c.path.placement.assign.items c.path.place
     c.requires.paths shifting
     )

@@ -7,7 +7,7 @@ use Rattle.sr_solver.proofs.path.shift.Given as goal
 
 abbrev pub invariant-path : goal.invariant-path
 invariant-path l = record {
-  shifting : IsShifting l.labels l.entry l.end l.fn.placement.assign.items l.placement.assign.items l.place;
+  shifting : IsShifting l.route.labels.now l.route.entry l.route.end.consumer l.fn.placement.assign.items l.placement.assign.items l.place;
   prices : l.placement.prices ≡ l.fn.placement.prices;
   loads : l.placement.loads ≡ l.fn.placement.loads;
   width : l.placement.width ≡ l.fn.placement.width;
@@ -16,4 +16,4 @@ invariant-path l = record {
 }
 
 abbrev pub decreases-path : goal.decreases-path
-decreases-path l = (label_at l.labels l.place).hops
+decreases-path l = (label_at l.route.labels.now l.place).hops

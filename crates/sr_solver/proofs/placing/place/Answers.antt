@@ -2,11 +2,8 @@ use Rattle.std.proofs.Common.{sym}
 use Rattle.std.proofs.lemmas.Bool.{false≢true}
 use Rattle.sr_solver.proofs.placing.place.Goals as goal
 
-pub search-requires-clause-entry : goal.search-requires-clause-entry
-search-requires-clause-entry c = c.requires.entry
-
-pub search-requires-clause-standing : goal.search-requires-clause-standing
-search-requires-clause-standing c = c.requires.standing
+pub search-requires-clause-seeker : goal.search-requires-clause-seeker
+search-requires-clause-seeker c = record { entry = c.requires.entry; standing = c.requires.standing }
 
 pub search-requires-clause-table : goal.search-requires-clause-table
 search-requires-clause-table c = c.requires.table

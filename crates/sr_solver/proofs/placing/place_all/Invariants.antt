@@ -7,6 +7,6 @@ use Rattle.sr_solver.proofs.placing.place_all.Given as goal
 abbrev pub invariant-loop-entry : goal.invariant-loop-entry
 invariant-loop-entry l = record {
   standing : IsStanding l.problem.columns l.problem.steps.now l.entry l.placement;
-  table : IsTable l.problem.columns l.placement.assign.items l.table;
-  labels_each : length l.front.labels.items ≡ consumers l.problem.columns;
+  table : IsTable l.problem.columns l.placement.assign.items l.known.table;
+  labels_each : length l.known.front.labels.items ≡ consumers l.problem.columns;
 }

@@ -8,14 +8,14 @@ use Rattle.sr_solver.proofs.placing.settle.Goals as goal
 
 pub shift-requires-clause-paths : goal.shift-requires-clause-paths
 shift-requires-clause-paths c =
-    are_paths c.args.problem.now.columns c.args.entry c.args.placement.now.assign.items c.args.placement.now.prices.items _
-    c.args.labels.now
+    are_paths c.args.problem.now.columns c.args.route.now.entry c.args.placement.now.assign.items c.args.placement.now.prices.items _
+    c.args.route.now.labels.now
     c.requires.entry c.requires.standing.placed c.requires.found.search
 
 pub returns-clause-standing : goal.returns-clause-standing
 returns-clause-standing c =
     let before = c.args.placement.now in
-    let end = c.args.end in
+    let end = c.args.route.now.end in
     let at : ℕ = end.consumer in
     let found = c.requires.found in
     let raised : c.shift.new.placement.prices.items ≡ c.raise.new.prices =
@@ -27,7 +27,7 @@ returns-clause-standing c =
     rw same at c.index_mut.ensures.value ∙ get_or_default _ _ _ 0 within in
     record {
       placed = rw raised (
-          placed_more c.args.problem.now.columns c.args.problem.now.steps.now c.args.entry before.assign.items before.prices.items c.args.labels.now end
+          placed_more c.args.problem.now.columns c.args.problem.now.steps.now c.args.route.now.entry before.assign.items before.prices.items c.args.route.now.labels.now end
           c.raise.new.prices
           c.shift.new.placement.assign.items c.requires.standing.placed c.requires.standing.are_steps
           c.requires.standing.level found c.requires.entry
@@ -35,14 +35,14 @@ returns-clause-standing c =
           );
       are_steps = c.requires.standing.are_steps;
       level = rw raised (
-          level_more_placed c.args.problem.now.columns c.args.problem.now.steps.now c.args.entry before.assign.items before.prices.items c.args.labels.now end
+          level_more_placed c.args.problem.now.columns c.args.problem.now.steps.now c.args.route.now.entry before.assign.items before.prices.items c.args.route.now.labels.now end
           c.raise.new.prices
           c.shift.new.placement.assign.items c.requires.standing.placed c.requires.standing.level found
           (rw c.deref_mut.ensures.value at c.raise.ensures) c.shift.ensures.assign
           );
       loads = rw same (rw count (
-          loads_more c.args.problem.now.columns c.args.problem.now.steps.now c.args.entry before.assign.items before.prices.items before.loads.items
-          c.args.labels.now end
+          loads_more c.args.problem.now.columns c.args.problem.now.steps.now c.args.route.now.entry before.assign.items before.prices.items before.loads.items
+          c.args.route.now.labels.now end
           c.shift.new.placement.assign.items c.requires.standing.loads found c.shift.ensures.assign
           ));
       wide = rw c.shift.ensures.width c.requires.standing.wide;
@@ -51,9 +51,9 @@ returns-clause-standing c =
 
 pub shift-requires-clause-in_room : goal.shift-requires-clause-in_room
 shift-requires-clause-in_room c =
-    end_in_room c.args.problem.now.columns c.args.problem.now.steps.now c.args.entry c.args.placement.now.assign.items c.args.placement.now.prices.items
-    c.args.labels.now
-    c.args.end c.requires.standing.placed c.requires.found
+    end_in_room c.args.problem.now.columns c.args.problem.now.steps.now c.args.route.now.entry c.args.placement.now.assign.items c.args.placement.now.prices.items
+    c.args.route.now.labels.now
+    c.args.route.now.end c.requires.standing.placed c.requires.found
 
 pub raise-requires-clause-one_each : goal.raise-requires-clause-one_each
 raise-requires-clause-one_each c =
@@ -71,7 +71,7 @@ pub raise-requires-clause-low : goal.raise-requires-clause-low
 raise-requires-clause-low c = λ x lt.
     let within : length c.deref_mut.result.now ≡ consumers c.args.problem.now.columns =
     ap length c.deref_mut.ensures.value ∙ c.requires.standing.placed.one_each in
-    prices_low c.args.problem.now.columns c.args.entry c.args.placement.now.assign.items c.args.placement.now.prices.items
+    prices_low c.args.problem.now.columns c.args.route.now.entry c.args.placement.now.assign.items c.args.placement.now.prices.items
     c.deref_mut.result.now
     c.requires.standing.placed c.requires.entry c.deref_mut.ensures.value x (rw within at lt)
 
@@ -120,7 +120,7 @@ index_mut-requires c =
 pub overflow_add-index_mut : goal.overflow_add-index_mut
 overflow_add-index_mut c =
     let before = c.args.placement.now in
-    let end = c.args.end in
+    let end = c.args.route.now.end in
     let at : ℕ = end.consumer in
     let found = c.requires.found in
     let loads = c.requires.standing.loads in

@@ -16,69 +16,69 @@ use Rattle.sr_solver.proofs.search.ask.Goals as goal
 
 pub mover-requires-clause-label : goal.mover-requires-clause-label
 mover-requires-clause-label c =
-    let p = c.args.problem.now.columns in
+    let p = c.args.seeker.now.problem.now.columns in
     let labels = c.args.front.now.labels.items in
-    let lt : c.args.other < length labels = omega (arith, c.requires.other, c.requires.search.one_each) in
+    let lt : c.args.other < length labels = omega (arith, c.requires.other, c.requires.front.search.one_each) in
     let read : c.index-label.result.now ≡ label_at labels c.args.other =
     c.index-label.ensures ∙ get_or_default _ _ _ _ lt in
     let marked : IsFarOrReached (label_at labels c.args.other) =
-    far_or_reached p c.args.entry c.args.placement.now.assign.items c.args.placement.now.prices.items
-    (length_of c.args.cutoff) labels c.args.exit.consumer 0 c.requires.standing.placed (omega (arith, c.requires.entry))
-    c.requires.search c.args.other c.requires.other in
+    far_or_reached p c.args.seeker.now.entry c.args.seeker.now.placement.now.assign.items c.args.seeker.now.placement.now.prices.items
+    (length_of c.args.front.now.cutoff) labels c.args.exit.consumer 0 c.requires.seeker.standing.placed (omega (arith, c.requires.seeker.entry))
+    c.requires.front.search c.args.other c.requires.other in
     rw read (elim marked [ inl far ↦ omega (arith, far.1) | inr near ↦ omega (arith, near.1) ])
 
 pub returns-in_default-clause-asked : goal.returns-in_default-clause-asked
 returns-in_default-clause-asked c =
-    let p = c.args.problem.now.columns in
-    let xs : List ℕ = c.args.placement.now.assign.items in
-    let prices : List ℕ = c.args.placement.now.prices.items in
+    let p = c.args.seeker.now.problem.now.columns in
+    let xs : List ℕ = c.args.seeker.now.placement.now.assign.items in
+    let prices : List ℕ = c.args.seeker.now.placement.now.prices.items in
     let labels = c.args.front.now.labels.items in
-    let le : c.args.entry ≤ p.entries = omega (arith, c.requires.entry) in
-    let lt : c.args.other < length labels = omega (arith, c.requires.other, c.requires.search.one_each) in
+    let le : c.args.seeker.now.entry ≤ p.entries = omega (arith, c.requires.seeker.entry) in
+    let lt : c.args.other < length labels = omega (arith, c.requires.other, c.requires.front.search.one_each) in
     let read : c.index-label.result.now ≡ label_at labels c.args.other =
     c.index-label.ensures ∙ get_or_default _ _ _ _ lt in
     let near : (label_at labels c.args.exit.consumer).dist ≤ greatest_way =
-    dist_small p c.args.entry xs prices (length_of c.args.cutoff) labels c.args.exit.consumer 0
-    c.requires.standing.placed le c.requires.search c.args.exit.consumer c.requires.near c.requires.closed in
-    asked_left p c.args.entry xs prices c.args.exit.consumer c.args.other (length_of c.args.cutoff) labels c.args.exit
-    c.requires.standing.placed le c.requires.other c.requires.exit (omega (arith, near, c.requires.exit.dist))
-    (far_or_reached p c.args.entry xs prices (length_of c.args.cutoff) labels c.args.exit.consumer 0
-    c.requires.standing.placed le c.requires.search c.args.other c.requires.other)
+    dist_small p c.args.seeker.now.entry xs prices (length_of c.args.front.now.cutoff) labels c.args.exit.consumer 0
+    c.requires.seeker.standing.placed le c.requires.front.search c.args.exit.consumer c.requires.exit.consumer c.requires.exit.closed in
+    asked_left p c.args.seeker.now.entry xs prices c.args.exit.consumer c.args.other (length_of c.args.front.now.cutoff) labels c.args.exit
+    c.requires.seeker.standing.placed le c.requires.other c.requires.exit.leaves (omega (arith, near, c.requires.exit.leaves.dist))
+    (far_or_reached p c.args.seeker.now.entry xs prices (length_of c.args.front.now.cutoff) labels c.args.exit.consumer 0
+    c.requires.seeker.standing.placed le c.requires.front.search c.args.other c.requires.other)
     (rw read at c.in_default.ensures.none)
 
 pub moved-label-requires-clause-above : goal.moved-label-requires-clause-above
 moved-label-requires-clause-above c =
-    let p = c.args.problem.now.columns in
-    let xs : List ℕ = c.args.placement.now.assign.items in
-    let prices : List ℕ = c.args.placement.now.prices.items in
-    let leaves : IsLeaving p c.args.entry xs prices c.args.exit.consumer c.args.other c.in-Some.known =
-    leaving p c.args.entry xs prices c.args.exit.consumer c.args.other c.in-Some.known c.in-Some.ensures.some.exact
+    let p = c.args.seeker.now.problem.now.columns in
+    let xs : List ℕ = c.args.seeker.now.placement.now.assign.items in
+    let prices : List ℕ = c.args.seeker.now.placement.now.prices.items in
+    let leaves : IsLeaving p c.args.seeker.now.entry xs prices c.args.exit.consumer c.args.other c.in-Some.known =
+    leaving p c.args.seeker.now.entry xs prices c.args.exit.consumer c.args.other c.in-Some.known c.in-Some.ensures.some.exact
     c.in-Some.ensures.some.entry
-    (λ i at. stands_least p c.args.entry xs prices prices c.args.exit.consumer i c.requires.standing.placed
-    c.requires.near refl at) in
-    rw c.as_slice-prices.ensures.value (omega (arith, leaves.above, c.requires.exit.base))
+    (λ i at. stands_least p c.args.seeker.now.entry xs prices prices c.args.exit.consumer i c.requires.seeker.standing.placed
+    c.requires.exit.consumer refl at) in
+    rw c.as_slice-prices.ensures.value (omega (arith, leaves.above, c.requires.exit.leaves.base))
 
-pub cut-requires-clause-gap : goal.cut-requires-clause-gap
-cut-requires-clause-gap c =
-    let p = c.args.problem.now.columns in
-    let at : IsGapAt p c.args.problem.now.steps.now c.args.placement.now.assign.items c.args.placement.now.prices.items
+pub cut-front-requires-clause-gap : goal.cut-front-requires-clause-gap
+cut-front-requires-clause-gap c =
+    let p = c.args.seeker.now.problem.now.columns in
+    let at : IsGapAt p c.args.seeker.now.problem.now.steps.now c.args.seeker.now.placement.now.assign.items c.args.seeker.now.placement.now.prices.items
     c.args.other c.gap-gap.result =
-    gap_read p c.args.problem.now.steps.now c.args.placement.now.assign.items c.args.placement.now.prices.items
-    c.args.placement.now.loads.items c.as_slice-loads.result.now c.as_slice-prices.result.now c.args.other
-    c.gap-gap.result c.requires.standing.are_steps c.requires.standing.loads c.as_slice-loads.ensures.value
+    gap_read p c.args.seeker.now.problem.now.steps.now c.args.seeker.now.placement.now.assign.items c.args.seeker.now.placement.now.prices.items
+    c.args.seeker.now.placement.now.loads.items c.as_slice-loads.result.now c.as_slice-prices.result.now c.args.other
+    c.gap-gap.result c.requires.seeker.standing.are_steps c.requires.seeker.standing.loads c.as_slice-loads.ensures.value
     c.as_slice-prices.ensures.value c.requires.other c.gap-gap.ensures.some c.gap-gap.ensures.none in
-    gap_small p c.args.problem.now.steps.now c.args.placement.now.assign.items c.args.placement.now.prices.items
+    gap_small p c.args.seeker.now.problem.now.steps.now c.args.seeker.now.placement.now.assign.items c.args.seeker.now.placement.now.prices.items
     c.args.other c.gap-gap.result at
 
-pub cut-requires-clause-label : goal.cut-requires-clause-label
-cut-requires-clause-label c =
-    let p = c.args.problem.now.columns in
-    let xs : List ℕ = c.args.placement.now.assign.items in
-    let prices : List ℕ = c.args.placement.now.prices.items in
+pub cut-front-requires-clause-label : goal.cut-front-requires-clause-label
+cut-front-requires-clause-label c =
+    let p = c.args.seeker.now.problem.now.columns in
+    let xs : List ℕ = c.args.seeker.now.placement.now.assign.items in
+    let prices : List ℕ = c.args.seeker.now.placement.now.prices.items in
     let labels = c.args.front.now.labels.items in
-    let le : c.args.entry ≤ p.entries = omega (arith, c.requires.entry) in
-    let lt : c.args.other < length labels = omega (arith, c.requires.other, c.requires.search.one_each) in
-    let ltt : c.args.exit.consumer < length labels = omega (arith, c.requires.near, c.requires.search.one_each) in
+    let le : c.args.seeker.now.entry ≤ p.entries = omega (arith, c.requires.seeker.entry) in
+    let lt : c.args.other < length labels = omega (arith, c.requires.other, c.requires.front.search.one_each) in
+    let ltt : c.args.exit.consumer < length labels = omega (arith, c.requires.exit.consumer, c.requires.front.search.one_each) in
     let read : c.index-label.result.now ≡ label_at labels c.args.other =
     c.index-label.ensures ∙ get_or_default _ _ _ _ lt in
     let from : c.index.result.now ≡ label_at labels c.args.exit.consumer =
@@ -86,30 +86,30 @@ cut-requires-clause-label c =
     let moved : IsMoved c.args.exit c.in-Some.known (get_or prices c.args.other 0)
     (label_at labels c.args.exit.consumer).hops c.moved-label.result =
     rw (c.as_slice-prices.ensures.value, from) at c.moved-label.ensures in
-    let asked : IsAsked p c.args.entry xs prices (length_of c.args.cutoff) c.args.exit.consumer c.args.other labels
+    let asked : IsAsked p c.args.seeker.now.entry xs prices (length_of c.args.front.now.cutoff) c.args.exit.consumer c.args.other labels
     (set labels c.args.other c.moved-label.result) =
-    asked_moved p c.args.entry xs prices c.args.exit.consumer c.args.other (length_of c.args.cutoff) labels
-    c.moved-label.result c.args.exit c.in-Some.known c.requires.standing.placed le c.requires.near lt c.requires.exit
+    asked_moved p c.args.seeker.now.entry xs prices c.args.exit.consumer c.args.other (length_of c.args.front.now.cutoff) labels
+    c.moved-label.result c.args.exit c.in-Some.known c.requires.seeker.standing.placed le c.requires.exit.consumer lt c.requires.exit.leaves
     c.in-Some.ensures.some.exact c.in-Some.ensures.some.entry (rw read at c.in-Some.ensures.some.nearer) moved in
     λ up. omega (
       arith,
       rw (get_or-set_same labels c.args.other c.moved-label.result no_label lt) at (
-          asked_small p c.args.entry xs prices labels (set labels c.args.other c.moved-label.result) c.args.exit.consumer
-          c.args.other (length_of c.args.cutoff) c.requires.standing.placed le c.requires.near c.requires.other
-          c.requires.search c.requires.closed asked
+          asked_small p c.args.seeker.now.entry xs prices labels (set labels c.args.other c.moved-label.result) c.args.exit.consumer
+          c.args.other (length_of c.args.front.now.cutoff) c.requires.seeker.standing.placed le c.requires.exit.consumer c.requires.other
+          c.requires.front.search c.requires.exit.closed asked
           (rw (get_or-set_same labels c.args.other c.moved-label.result no_label lt) up)
           ),
     )
 
 pub returns-clause-asked : goal.returns-clause-asked
 returns-clause-asked c =
-    let p = c.args.problem.now.columns in
-    let xs : List ℕ = c.args.placement.now.assign.items in
-    let prices : List ℕ = c.args.placement.now.prices.items in
+    let p = c.args.seeker.now.problem.now.columns in
+    let xs : List ℕ = c.args.seeker.now.placement.now.assign.items in
+    let prices : List ℕ = c.args.seeker.now.placement.now.prices.items in
     let labels = c.args.front.now.labels.items in
-    let le : c.args.entry ≤ p.entries = omega (arith, c.requires.entry) in
-    let lt : c.args.other < length labels = omega (arith, c.requires.other, c.requires.search.one_each) in
-    let ltt : c.args.exit.consumer < length labels = omega (arith, c.requires.near, c.requires.search.one_each) in
+    let le : c.args.seeker.now.entry ≤ p.entries = omega (arith, c.requires.seeker.entry) in
+    let lt : c.args.other < length labels = omega (arith, c.requires.other, c.requires.front.search.one_each) in
+    let ltt : c.args.exit.consumer < length labels = omega (arith, c.requires.exit.consumer, c.requires.front.search.one_each) in
     let read : c.index-label.result.now ≡ label_at labels c.args.other =
     c.index-label.ensures ∙ get_or_default _ _ _ _ lt in
     let from : c.index.result.now ≡ label_at labels c.args.exit.consumer =
@@ -117,39 +117,38 @@ returns-clause-asked c =
     let moved : IsMoved c.args.exit c.in-Some.known (get_or prices c.args.other 0)
     (label_at labels c.args.exit.consumer).hops c.moved-label.result =
     rw (c.as_slice-prices.ensures.value, from) at c.moved-label.ensures in
-    asked_moved p c.args.entry xs prices c.args.exit.consumer c.args.other (length_of c.args.cutoff) labels
-    c.moved-label.result c.args.exit c.in-Some.known c.requires.standing.placed le c.requires.near lt c.requires.exit
+    asked_moved p c.args.seeker.now.entry xs prices c.args.exit.consumer c.args.other (length_of c.args.front.now.cutoff) labels
+    c.moved-label.result c.args.exit c.in-Some.known c.requires.seeker.standing.placed le c.requires.exit.consumer lt c.requires.exit.leaves
     c.in-Some.ensures.some.exact c.in-Some.ensures.some.entry (rw read at c.in-Some.ensures.some.nearer) moved
 
-pub returns-clause-cutoff : goal.returns-clause-cutoff
-returns-clause-cutoff c =
-    let p = c.args.problem.now.columns in
-    let xs : List ℕ = c.args.placement.now.assign.items in
-    let prices : List ℕ = c.args.placement.now.prices.items in
+pub returns-clause-front : goal.returns-clause-front
+returns-clause-front c =
+    let p = c.args.seeker.now.problem.now.columns in
+    let xs : List ℕ = c.args.seeker.now.placement.now.assign.items in
+    let prices : List ℕ = c.args.seeker.now.placement.now.prices.items in
     let labels = c.args.front.now.labels.items in
-    let lt : c.args.other < length labels = omega (arith, c.requires.other, c.requires.search.one_each) in
-    let at : IsGapAt p c.args.problem.now.steps.now xs prices c.args.other c.gap-gap.result =
-    gap_read p c.args.problem.now.steps.now xs prices c.args.placement.now.loads.items c.as_slice-loads.result.now
-    c.as_slice-prices.result.now c.args.other c.gap-gap.result c.requires.standing.are_steps c.requires.standing.loads
+    let lt : c.args.other < length labels = omega (arith, c.requires.other, c.requires.front.search.one_each) in
+    let at : IsGapAt p c.args.seeker.now.problem.now.steps.now xs prices c.args.other c.gap-gap.result =
+    gap_read p c.args.seeker.now.problem.now.steps.now xs prices c.args.seeker.now.placement.now.loads.items c.as_slice-loads.result.now
+    c.as_slice-prices.result.now c.args.other c.gap-gap.result c.requires.seeker.standing.are_steps c.requires.seeker.standing.loads
     c.as_slice-loads.ensures.value c.as_slice-prices.ensures.value c.requires.other c.gap-gap.ensures.some
     c.gap-gap.ensures.none in
     let here : label_at (set labels c.args.other c.moved-label.result) c.args.other ≡ c.moved-label.result =
     get_or-set_same labels c.args.other c.moved-label.result no_label lt in
-    cutoff_asked p c.args.problem.now.steps.now c.args.entry xs prices labels
-    (set labels c.args.other c.moved-label.result) c.args.exit.consumer c.args.other c.gap-gap.result c.args.cutoff
-    c.cut.result c.requires.standing.placed (omega (arith, c.requires.entry)) c.requires.near c.requires.other
-    c.requires.search c.requires.closed (returns-clause-asked c) at (rw here c.cut.ensures) c.requires.cutoff
-
-pub returns-clause-later : goal.returns-clause-later
-returns-clause-later c = beyond_cut c.args.other _ c.gap-gap.result c.args.cutoff c.cut.result c.cut.ensures
-
-pub returns-clause-waiting : goal.returns-clause-waiting
-returns-clause-waiting c =
-    waiting_later (consumers c.args.problem.now.columns)
-    (set c.args.front.now.labels.items c.args.other c.moved-label.result) (length_of c.args.cutoff)
-    (length_of c.cut.result) c.with-front.result (returns-clause-later c) (
-    waiting_moved (consumers c.args.problem.now.columns) (length_of c.args.cutoff) c.args.front.now.labels.items c.args.front.now.waiting
-    c.with-front.result c.args.other c.moved-label.result c.requires.other
-    (sym c.requires.search.one_each) (omega (arith, c.moved-label.ensures.hops)) c.moved-label.ensures.still_open
-    c.with-front.ensures c.requires.waiting
-    )
+    let later = beyond_cut c.args.other _ c.gap-gap.result c.args.front.now.cutoff c.cut-front.result c.cut-front.ensures in
+    record {
+      cutoff = cutoff_asked p c.args.seeker.now.problem.now.steps.now c.args.seeker.now.entry xs prices labels
+          (set labels c.args.other c.moved-label.result) c.args.exit.consumer c.args.other c.gap-gap.result c.args.front.now.cutoff
+          c.cut-front.result c.requires.seeker.standing.placed (omega (arith, c.requires.seeker.entry)) c.requires.exit.consumer c.requires.other
+          c.requires.front.search c.requires.exit.closed (returns-clause-asked c) at (rw here c.cut-front.ensures) c.requires.front.cutoff;
+      later = later;
+      waiting =
+          waiting_later (consumers c.args.seeker.now.problem.now.columns)
+          (set c.args.front.now.labels.items c.args.other c.moved-label.result) (length_of c.args.front.now.cutoff)
+          (length_of c.cut-front.result) c.with-front.result later (
+          waiting_moved (consumers c.args.seeker.now.problem.now.columns) (length_of c.args.front.now.cutoff) c.args.front.now.labels.items c.args.front.now.waiting
+          c.with-front.result c.args.other c.moved-label.result c.requires.other
+          (sym c.requires.front.search.one_each) (omega (arith, c.moved-label.ensures.hops)) c.moved-label.ensures.still_open
+          c.with-front.ensures c.requires.front.waiting
+          );
+    }

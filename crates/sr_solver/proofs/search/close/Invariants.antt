@@ -10,18 +10,18 @@ use Rattle.sr_solver.proofs.search.close.Given as goal
 
 abbrev pub invariant-loop-other : goal.invariant-loop-other
 invariant-loop-other l = record {
-  table : IsTable l.problem.columns l.placement.assign.items l.table;
-  closed : IsClosed l.problem.columns l.entry l.placement.assign.items l.placement.prices.items (length_of l.cutoff)
+  table : IsTable l.seeker.problem.now.columns l.seeker.placement.now.assign.items l.table;
+  closed : IsClosed l.seeker.problem.now.columns l.seeker.entry l.seeker.placement.now.assign.items l.seeker.placement.now.prices.items (length_of l.front.cutoff)
       l.fn.front.labels.items
       l.front.labels.items l.near l.first;
-  waiting : AreWaiting (consumers l.problem.columns) (length_of l.cutoff) l.front.labels.items l.front.waiting;
-  exit : IsExit l.near (label_at l.front.labels.items l.near).dist (slice_index l.placement.prices.items l.near)
-      (length_of l.cutoff) l.exit;
+  waiting : AreWaiting (consumers l.seeker.problem.now.columns) (length_of l.front.cutoff) l.front.labels.items l.front.waiting;
+  exit : IsExit l.near (label_at l.front.labels.items l.near).dist (slice_index l.seeker.placement.now.prices.items l.near)
+      (length_of l.front.cutoff) l.exit;
   still : (label_at l.front.labels.items l.near).dist ≡ l.label.dist;
-  within : l.first ≤ consumers l.problem.columns;
-  cutoff : IsCutoff l.problem.columns l.problem.steps.now l.placement.assign.items l.placement.prices.items l.front.labels.items
-      (consumers l.problem.columns) l.cutoff;
+  within : l.first ≤ consumers l.seeker.problem.now.columns;
+  cutoff : IsCutoff l.seeker.problem.now.columns l.seeker.problem.now.steps.now l.seeker.placement.now.assign.items l.seeker.placement.now.prices.items l.front.labels.items
+      (consumers l.seeker.problem.now.columns) l.front.cutoff;
 }
 
 abbrev pub decreases-loop-other : goal.decreases-loop-other
-decreases-loop-other l = consumers l.problem.columns - l.first
+decreases-loop-other l = consumers l.seeker.problem.now.columns - l.first

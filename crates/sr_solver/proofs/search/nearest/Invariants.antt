@@ -7,6 +7,7 @@ use Rattle.sr_solver.proofs.search.nearest.Given as goal
 abbrev pub invariant-loop-consumer : goal.invariant-loop-consumer
 invariant-loop-consumer l = record {
   labels : l.front.labels ≡ l.fn.front.labels;
+  cutoff : l.front.cutoff ≡ l.fn.front.cutoff;
   rest : (c : ℕ) → IsIn l.rest c → IsIn l.fn.front.waiting c;
   back : (c : ℕ) → IsIn l.front.waiting c → IsIn l.fn.front.waiting c;
   kept : (c : ℕ) → IsIn l.fn.front.waiting c

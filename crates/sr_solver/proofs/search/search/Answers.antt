@@ -7,13 +7,13 @@ use Rattle.sr_solver.proofs.search.search.Goals as goal
 
 pub loop-near-init : goal.loop-near-init
 loop-near-init c =
-    let p = c.args.problem.now.columns in
+    let p = c.args.seeker.now.problem.now.columns in
     record {
       table = c.requires.table;
-      round = started_round p c.args.entry c.args.placement.now.assign.items c.args.placement.now.prices.items
-          (length_of c.start-cutoff.result) c.start-cutoff.new.front.labels.items c.requires.standing.placed.limits
-          c.start-cutoff.ensures.started;
-      waiting = waiting_later (consumers p) c.start-cutoff.new.front.labels.items None (length_of c.start-cutoff.result)
-          c.start-cutoff.new.front.waiting (λ base sum beyond. absurd beyond) c.start-cutoff.ensures.waiting;
-      cutoff = c.start-cutoff.ensures.cutoff;
+      round = started_round p c.args.seeker.now.entry c.args.seeker.now.placement.now.assign.items c.args.seeker.now.placement.now.prices.items
+          (length_of c.start.new.front.cutoff) c.start.new.front.labels.items c.requires.seeker.standing.placed.limits
+          c.start.ensures.started;
+      waiting = waiting_later (consumers p) c.start.new.front.labels.items None (length_of c.start.new.front.cutoff)
+          c.start.new.front.waiting (λ base sum beyond. absurd beyond) c.start.ensures.waiting;
+      cutoff = c.start.ensures.cutoff;
     }

@@ -8,12 +8,12 @@ use Rattle.sr_solver.proofs.search.search.Given as goal
 
 abbrev pub invariant-loop-near : goal.invariant-loop-near
 invariant-loop-near l = record {
-  table : IsTable l.problem.columns l.placement.assign.items l.table;
-  round : IsRound l.problem.columns l.entry l.placement.assign.items l.placement.prices.items (length_of l.cutoff)
+  table : IsTable l.seeker.problem.now.columns l.seeker.placement.now.assign.items l.table;
+  round : IsRound l.seeker.problem.now.columns l.seeker.entry l.seeker.placement.now.assign.items l.seeker.placement.now.prices.items (length_of l.front.cutoff)
       l.front.labels.items;
-  waiting : AreWaiting (consumers l.problem.columns) (length_of l.cutoff) l.front.labels.items l.front.waiting;
-  cutoff : IsCutoff l.problem.columns l.problem.steps.now l.placement.assign.items l.placement.prices.items l.front.labels.items
-      (consumers l.problem.columns) l.cutoff;
+  waiting : AreWaiting (consumers l.seeker.problem.now.columns) (length_of l.front.cutoff) l.front.labels.items l.front.waiting;
+  cutoff : IsCutoff l.seeker.problem.now.columns l.seeker.problem.now.steps.now l.seeker.placement.now.assign.items l.seeker.placement.now.prices.items l.front.labels.items
+      (consumers l.seeker.problem.now.columns) l.front.cutoff;
 }
 
 abbrev pub decreases-loop-near : goal.decreases-loop-near

@@ -22,7 +22,7 @@ pub returns-in_ok-set-in-Stuck-clause-solution : goal.returns-in_ok-set-in-Stuck
 returns-in_ok-set-in-Stuck-clause-solution c =
     stuck_short_is c.args.problem.now.columns c.in-Stuck.entry c.place_all.new.placement.assign.items
     c.place_all.new.placement.prices.items
-    c.place_all.new.front.labels.items c.deref.result.now c.deref-in-Stuck.result.now c.in_ok-set-in-Stuck.set.items
+    c.place_all.new.known.front.labels.items c.deref.result.now c.deref-in-Stuck.result.now c.in_ok-set-in-Stuck.set.items
     c.in-Stuck.ensures
     c.deref.ensures.value
     c.deref-in-Stuck.ensures.value
