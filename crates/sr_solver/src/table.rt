@@ -275,77 +275,67 @@ pub fn put(
         placement.new.members.items }
     ensures table { IsTable problem.now placement.new.assign.items table.new }
 {
-    take_out(
-        problem,
-        entry,
-        &placement.assign,
-        placement.width,
-        &mut placement.members,
-        table,
-    );
-    bring_in(
-        problem,
-        entry,
-        to,
-        &placement.assign,
-        placement.width,
-        &mut placement.members,
-        table,
-    );
-    placement.assign[entry] = to;
+    take_out(problem, entry, placement, table);
+    bring_in(problem, entry, to, placement, table);
 }
 
-/// Takes an entry out of the members and the table, where it stands anywhere.
-fn take_out(
-    problem: &Costs<'_>,
-    entry: usize,
-    assign: &[usize],
-    width: usize,
-    members: &mut [u16],
-    table: &mut Table,
-)
+/// Takes an entry out of the members and the table, if it stands anywhere.
+fn take_out(problem: &Costs<'_>, entry: usize, placement: &mut Placement, table: &mut Table)
     requires limits { IsWithinLimits problem.now.rooms problem.now.entries problem.now.costs }
     requires entry { entry < problem.now.entries }
-    requires every { length assign.now ≡ problem.now.entries }
-    requires members { AreMembers problem.now width assign.now members.old }
-    requires table { IsTable problem.now assign.now table.old }
-    ensures members { AreMembersOf problem.now width (load (slice_set assign.now entry (consumers problem.now)))
-        (IsApart (IsAt assign.now problem.now.entries) entry) members.new }
-    ensures table { IsTableOf problem.now (IsApart (IsAt assign.now problem.now.entries) entry) table.new }
+    requires every { length placement.old.assign.items ≡ problem.now.entries }
+    requires members { AreMembers problem.now placement.old.width placement.old.assign.items
+        placement.old.members.items }
+    requires table { IsTable problem.now placement.old.assign.items table.old }
+    ensures assign { placement.new.assign ≡ placement.old.assign }
+    ensures prices { placement.new.prices ≡ placement.old.prices }
+    ensures loads { placement.new.loads ≡ placement.old.loads }
+    ensures width { placement.new.width ≡ placement.old.width }
+    ensures members { AreMembersOf problem.now placement.new.width
+        (load (slice_set placement.new.assign.items entry (consumers problem.now)))
+        (IsApart (IsAt placement.new.assign.items problem.now.entries) entry) placement.new.members.items }
+    ensures table { IsTableOf problem.now (IsApart (IsAt placement.new.assign.items problem.now.entries) entry)
+        table.new }
 {
-    let from = assign[entry];
+    let from = placement.assign[entry];
     if problem.consumers() <= from {
         return;
     }
-    remove(members, from * width, entry);
+    remove(&mut placement.members, from * placement.width, entry);
     leave(problem, entry, from, &mut table.pairs);
 }
 
-/// Brings an entry that stands nowhere into the members and the table, at a consumer.
+/// Brings an entry that was taken out into the members, the table and the assignment, at a consumer.
 fn bring_in(
     problem: &Costs<'_>,
     entry: usize,
     to: usize,
-    assign: &[usize],
-    width: usize,
-    members: &mut [u16],
+    placement: &mut Placement,
     table: &mut Table,
 )
     requires limits { IsWithinLimits problem.now.rooms problem.now.entries problem.now.costs }
     requires entry { entry < problem.now.entries }
-    requires every { length assign.now ≡ problem.now.entries }
+    requires every { length placement.old.assign.items ≡ problem.now.entries }
     requires allowed { IsAllowed problem.now entry to }
-    requires wide { AreWide problem.now width }
-    requires room { load (slice_set assign.now entry to) to ≤ room_of problem.now to }
-    requires members { AreMembersOf problem.now width (load (slice_set assign.now entry (consumers problem.now)))
-        (IsApart (IsAt assign.now problem.now.entries) entry) members.old }
-    requires table { IsTableOf problem.now (IsApart (IsAt assign.now problem.now.entries) entry) table.old }
-    ensures members { AreMembers problem.now width (slice_set assign.now entry to) members.new }
-    ensures table { IsTable problem.now (slice_set assign.now entry to) table.new }
+    requires wide { AreWide problem.now placement.old.width }
+    requires room { load (slice_set placement.old.assign.items entry to) to ≤ room_of problem.now to }
+    requires members { AreMembersOf problem.now placement.old.width
+        (load (slice_set placement.old.assign.items entry (consumers problem.now)))
+        (IsApart (IsAt placement.old.assign.items problem.now.entries) entry) placement.old.members.items }
+    requires table { IsTableOf problem.now (IsApart (IsAt placement.old.assign.items problem.now.entries) entry)
+        table.old }
+    ensures assign { placement.new.assign.items ≡ slice_set placement.old.assign.items entry to }
+    ensures prices { placement.new.prices ≡ placement.old.prices }
+    ensures loads { placement.new.loads ≡ placement.old.loads }
+    ensures width { placement.new.width ≡ placement.old.width }
+    ensures members { AreMembers problem.now placement.new.width placement.new.assign.items
+        placement.new.members.items }
+    ensures table { IsTable problem.now placement.new.assign.items table.new }
 {
-    add(members, to * width, entry);
+    add(&mut placement.members, to * placement.width, entry);
     arrive(problem, entry, to, &mut table.pairs);
     join_group(problem, entry, to, table.groups, &mut table.lows);
+    placement.assign[entry] = to;
 }
 
 /// Notes that an entry has left a consumer: it is no longer the best of those that may go elsewhere.
