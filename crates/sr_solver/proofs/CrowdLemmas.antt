@@ -18,11 +18,12 @@ use Rattle.sr_transport.specs.plain.Problem.{IsWithinLimits, room_of, cost_at}
 use Rattle.sr_transport.specs.plain.Certificate.{is_reached, places_of, IsShortage}
 use Rattle.sr_transport.proofs.SumLemmas.{sum_below-le, sum_below-le_most}
 use Rattle.sr_transport.proofs.PlainLimitLemmas.{room_small}
+use Rattle.sr_solver.specs.declared.crowd.Mover.{Mover}
 use Rattle.sr_solver.specs.declared.crowd.Seating.{Seating}
 use Rattle.sr_solver.specs.declared.set.ConsumerSet.{ConsumerSet}
 use Rattle.sr_solver.specs.Sets.{IsIn, IsAmong}
 use Rattle.sr_solver.specs.Pairs.{set_at, AreSetsOf}
-use Rattle.sr_solver.specs.Crowd.{IsSeating, AreConfined, places_within, mover_at}
+use Rattle.sr_solver.specs.Crowd.{IsSeating, Sits, AreConfined, places_within, mover_at}
 
 -- a room that counts or not
 room_if : (b : Bool) (room most : ℕ) → room ≤ most → cond b room 0 ≤ most
@@ -79,48 +80,67 @@ zero_at n c = elim (cases_lt c n) [
 ]
 
 -- nobody would move to one consumer more
-pub none_more : (movers more : List (Option ℕ)) → more ≡ movers ++ None ∷ [] → ((c : ℕ) → mover_at movers c ≡ None)
+pub none_more : (movers more : List (Option Mover)) → more ≡ movers ++ None ∷ [] → ((c : ℕ) → mover_at movers c ≡ None)
     → (c : ℕ) → mover_at more c ≡ None
 none_more movers more is none c = rw is (elim (cases_lt c (length movers)) [
   | inl lt ↦ rw (get_or_append_left movers (None ∷ []) None c lt) (none c)
   | inr over ↦ elim (cases_eq c (length movers)) [
     | inl e ↦ get_or_push movers None None c (sym e)
     | inr ne ↦
-        get_or_past (movers ++ None ∷ []) c None (omega (arith, over, ne, length-append {A = Option ℕ} movers (None ∷ [])))
+        get_or_past (movers ++ None ∷ []) c None
+        (omega (arith, over, ne, length-append {A = Option Mover} movers (None ∷ [])))
   ]
 ])
 
--- no seat is taken
-pub no_seats : (s : Seating) → length s.sets.now ≤ most_entries → 0 < length s.sets.now → 0 < s.width
-    → s.width ≤ most_entries + 1 → s.seats.items ≡ replicate (most_consumers * s.width) 0
-    → length s.rooms.items ≡ most_consumers → ((c : ℕ) → get_or s.rooms.items c 0 ≤ s.width)
-    → s.taken.items ≡ replicate most_consumers 0 → length s.movers.items ≡ most_consumers
-    → ((c : ℕ) → mover_at s.movers.items c ≡ None) → IsSeating s
-no_seats s few many some short seats rooms_each rooms taken movers_each movers = record {
-  few = few;
-  some = some;
-  short = short;
-  seats_each = rw seats (length-replicate {A = ℕ} (most_consumers * s.width) 0);
-  rooms_each = rooms_each;
-  taken_each = rw taken (length-replicate {A = ℕ} most_consumers 0);
-  movers_each = movers_each;
-  rooms = rooms;
-  taken = λ c. rw (taken, zero_at most_consumers c) (omega arith);
-  entries = λ q. rw (seats, zero_at (most_consumers * s.width) q) many;
-  movers = λ c. rw (movers c) tt;
-}
+-- who would move to a consumer sits in a seat
+pub mover_sits : (s : Seating) (c : ℕ) (mover : Mover) → IsSeating s → mover_at s.movers.items c ≡ Some mover
+    → Sits s mover
+mover_sits s c mover is at =
+    let P : Option Mover → Type 0 = λ m. IfSome m (Sits s) in
+    subst P at (is.movers c)
 
--- a room is written
-pub room_set : (rooms : List ℕ) (width c room : ℕ) → ((d : ℕ) → get_or rooms d 0 ≤ width) → room ≤ width
-    → c < length rooms → (d : ℕ) → get_or (set rooms c room) d 0 ≤ width
-room_set rooms width c room are le lt d = elim (cases_eq d c) [
-  | inl e ↦ rw (e, get_or-set_same rooms c room 0 lt) le
-  | inr ne ↦ rw (get_or-set_other rooms c d room 0 ne) (are d)
+-- the seats of one consumer more follow
+pub within_more : (starts rooms : List ℕ) (all c room : ℕ) → c < length starts → c < length rooms
+    → ((d : ℕ) → get_or starts d 0 + get_or rooms d 0 ≤ all)
+    → (d : ℕ) → get_or (set starts c all) d 0 + get_or (set rooms c room) d 0 ≤ all + room
+within_more starts rooms all c room lts ltr are d = elim (cases_eq d c) [
+  | inl e ↦ rw (e, get_or-set_same starts c all 0 lts, get_or-set_same rooms c room 0 ltr) (omega arith)
+  | inr ne ↦ rw (get_or-set_other starts c d all 0 ne, get_or-set_other rooms c d room 0 ne) (omega (arith, are d))
 ]
 
--- the entry that would move to a consumer sits in a seat
-pub mover_sits : (s : Seating) (c seat : ℕ) → IsSeating s → mover_at s.movers.items c ≡ Some seat
-    → seat < length s.seats.items
-mover_sits s c seat is at =
-    let P : Option ℕ → Type 0 = λ m. IfSome m (λ q. q < length s.seats.items) in
-    subst P at (is.movers c)
+-- and all of them are left
+pub left_more : (left rooms : List ℕ) (c room : ℕ) → c < length left → c < length rooms
+    → ((d : ℕ) → get_or left d 0 ≤ get_or rooms d 0)
+    → (d : ℕ) → get_or (set left c room) d 0 ≤ get_or (set rooms c room) d 0
+left_more left rooms c room ltl ltr are d = elim (cases_eq d c) [
+  | inl e ↦ rw (e, get_or-set_same left c room 0 ltl, get_or-set_same rooms c room 0 ltr) (omega arith)
+  | inr ne ↦ rw (get_or-set_other left c d room 0 ne, get_or-set_other rooms c d room 0 ne) (are d)
+]
+
+-- the lists of a seating have a place for each consumer
+pub record HasEach (s : Seating) : Type 0 where
+  pub starts : length s.starts.items ≡ most_consumers
+  pub rooms : length s.rooms.items ≡ most_consumers
+  pub left : length s.left.items ≡ most_consumers
+  pub movers : length s.movers.items ≡ most_consumers
+
+-- no seat is taken
+pub no_seats : (s : Seating) (all : ℕ) → s.seats.items ≡ replicate all 0 → length s.sets.now ≤ most_entries
+    → 0 < length s.sets.now → HasEach s → all ≤ most_consumers * most_entries
+    → ((c : ℕ) → get_or s.starts.items c 0 + get_or s.rooms.items c 0 ≤ all)
+    → ((c : ℕ) → get_or s.left.items c 0 ≤ get_or s.rooms.items c 0)
+    → ((c : ℕ) → mover_at s.movers.items c ≡ None) → IsSeating s
+no_seats s all seats few many each short within left movers =
+    let count : length s.seats.items ≡ all = rw seats (length-replicate {A = ℕ} all 0) in
+    record {
+      few = few;
+      starts_each = each.starts;
+      rooms_each = each.rooms;
+      left_each = each.left;
+      movers_each = each.movers;
+      short = omega (arith, count, short);
+      within = λ c. omega (arith, within c, count);
+      left = left;
+      entries = λ q. rw (seats, zero_at all q) many;
+      movers = λ c. rw (movers c) tt;
+    }

@@ -11,6 +11,7 @@ use Rattle.sr_transport.specs.Limits.{most_consumers}
 use Rattle.sr_transport.specs.Sum.{sum_below}
 use Rattle.sr_transport.specs.plain.Problem.{room_of}
 use Rattle.sr_solver.specs.declared.crowd.Seating.{Seating}
+use Rattle.sr_solver.specs.declared.crowd.Mover.{Mover}
 use Rattle.sr_solver.specs.declared.crowd.Reached.{Reached}
 use Rattle.sr_solver.specs.declared.crowd.Reached.TheVariants.{Seat, Crowd}
 use Rattle.sr_solver.specs.declared.set.ConsumerSet.{ConsumerSet}
@@ -27,29 +28,33 @@ pub record AreConfined (sets : List ConsumerSet) (among : ConsumerSet) (entries 
 abbrev pub places_within : Transport → ConsumerSet → ℕ → ℕ
 places_within p set n = sum_below (λ c. if bit_at set.bits c == 1 then room_of p c else 0) n
 
--- the seat whose entry would move to consumer c
-abbrev pub mover_at : List (Option ℕ) → ℕ → Option ℕ
+-- who would move to consumer c
+abbrev pub mover_at : List (Option Mover) → ℕ → Option Mover
 mover_at movers c = slice_index_or movers c None
 
--- a row of seats for each consumer, of which no more are taken than the row has; a number of an entry is in each; and
--- the entries that would move sit in one
+-- who may move sits in a seat
+pub record Sits (s : Seating) (mover : Mover) : Type 0 where
+  pub consumer : mover.consumer < most_consumers
+  pub seat : mover.seat < length s.seats.items
+
+-- the seats of each consumer are among all, and no more are left than there are; an entry is in each seat; and who
+-- would move sits in one
 pub record IsSeating (s : Seating) : Type 0 where
   pub few : length s.sets.now ≤ most_entries
-  pub some : 0 < s.width
-  pub short : s.width ≤ most_entries + 1
-  pub seats_each : length s.seats.items ≡ most_consumers * s.width
+  pub starts_each : length s.starts.items ≡ most_consumers
   pub rooms_each : length s.rooms.items ≡ most_consumers
-  pub taken_each : length s.taken.items ≡ most_consumers
+  pub left_each : length s.left.items ≡ most_consumers
   pub movers_each : length s.movers.items ≡ most_consumers
-  pub rooms : (c : ℕ) → slice_index s.rooms.items c ≤ s.width
-  pub taken : (c : ℕ) → slice_index s.taken.items c ≤ s.width
+  pub short : length s.seats.items ≤ most_consumers * most_entries
+  pub within : (c : ℕ) → slice_index s.starts.items c + slice_index s.rooms.items c ≤ length s.seats.items
+  pub left : (c : ℕ) → slice_index s.left.items c ≤ slice_index s.rooms.items c
   pub entries : (q : ℕ) → slice_index s.seats.items q < length s.sets.now
-  pub movers : (c : ℕ) → IfSome (mover_at s.movers.items c) (λ seat. seat < length s.seats.items)
+  pub movers : (c : ℕ) → IfSome (mover_at s.movers.items c) (Sits s)
 
 -- consumer c has a seat that is left
 pub record HasSeat (s : Seating) (c : ℕ) : Type 0 where
   pub consumer : c < most_consumers
-  pub left : slice_index s.taken.items c < slice_index s.rooms.items c
+  pub left : 0 < slice_index s.left.items c
 
 -- where a search that ends at a consumer ends, a seat is left
 abbrev pub EndsAt : Seating → Reached → Type 0

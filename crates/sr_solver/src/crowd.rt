@@ -7,11 +7,10 @@ ghost use Rattle.std.specs.Prelude.{◌≡◌, ℕ, ◌-◌, ◌<◌, ◌≤◌,
 ghost use Rattle.sr_transport.specs.{most_entries, consumers};
 ghost use Rattle.sr_transport.specs.Limits.{most_consumers};
 ghost use Rattle.sr_transport.specs.plain.Certificate.{IsShortage};
-ghost use Rattle.sr_solver.specs.Crowd.{IsSeating, HasSeat, EndsAt, AreConfined, places_within, mover_at};
+ghost use Rattle.sr_solver.specs.Crowd.{IsSeating, HasSeat, Sits, EndsAt, AreConfined, places_within, mover_at};
 ghost use Rattle.sr_solver.specs.Pairs.{AreSetsOf};
 
 use crate::costs::Costs;
-use crate::placement::row_width;
 use crate::set::{ConsumerSet, MAX_CONSUMERS};
 use std::alloc::{AllocError, Global};
 
@@ -20,16 +19,23 @@ use std::alloc::{AllocError, Global};
 pub struct Seating<'a> {
     /// The consumers that each entry is allowed.
     pub sets: &'a [ConsumerSet],
-    /// How many seats the row of a consumer has.
-    pub width: usize,
-    /// The entry in each seat: a row of seats for each consumer.
+    /// The entry in each seat: those of one consumer after those of another.
     pub seats: Vec<u16>,
-    /// How many seats of each consumer may be taken.
+    /// Where the seats of each consumer begin.
+    pub starts: Vec<usize>,
+    /// How many each has.
     pub rooms: Vec<usize>,
-    /// How many are taken, the first ones of its row.
-    pub taken: Vec<usize>,
-    /// For each consumer that was reached the seat whose entry would move there; none if the new entry itself would.
-    pub movers: Vec<Option<usize>>,
+    /// How many of them are left, which are the first ones.
+    pub left: Vec<usize>,
+    /// For each consumer that was reached who would move there; nobody if the new entry itself would.
+    pub movers: Vec<Option<Mover>>,
+}
+
+/// An entry that may move to another consumer: where it sits.
+#[derive(Clone, Copy)]
+pub struct Mover {
+    pub consumer: usize,
+    pub seat: usize,
 }
 
 /// Where a search for a seat ends.
@@ -126,26 +132,32 @@ fn no_seats<'a>(
     ensures seating { IfOk result IsSeating }
 {
     let consumers = problem.consumers();
-    let width = row_width(problem);
-    let seats = vec![in alloc; 0u16; MAX_CONSUMERS * width]?;
+    let most = problem.entries();
+    let mut starts = vec![in alloc; 0usize; MAX_CONSUMERS]?;
     let mut rooms = vec![in alloc; 0usize; MAX_CONSUMERS]?;
+    let mut left = vec![in alloc; 0usize; MAX_CONSUMERS]?;
+    let mut all = 0usize;
     for consumer in 0..consumers {
-        rooms[consumer] = problem.room(consumer).min(width as u64) as usize;
+        let room = problem.room(consumer).min(most as u64) as usize;
+        starts[consumer] = all;
+        rooms[consumer] = room;
+        left[consumer] = room;
+        all += room;
     }
-    let taken = vec![in alloc; 0usize; MAX_CONSUMERS]?;
+    let seats = vec![in alloc; 0u16; all]?;
     let movers = no_movers(alloc)?;
     Ok(Seating {
         sets,
-        width,
         seats,
+        starts,
         rooms,
-        taken,
+        left,
         movers,
     })
 }
 
 /// Nobody would move to any consumer.
-fn no_movers(alloc: Global) -> Result<Vec<Option<usize>>, AllocError>
+fn no_movers(alloc: Global) -> Result<Vec<Option<Mover>>, AllocError>
     ensures each { IfOk result (λ movers. length movers.items ≡ most_consumers) }
     ensures none { IfOk result (λ movers. (c : ℕ) → mover_at movers.items c ≡ None) }
 {
@@ -165,7 +177,8 @@ fn seat(seating: &mut Seating<'_>, entry: usize) -> Option<ConsumerSet>
 {
     let set = seating.sets[entry];
     if let Some(consumer) = roomiest(seating, set) {
-        shift(seating, consumer, entry);
+        let seat = take_seat(seating, consumer);
+        give(seating, seat, entry);
         return None;
     }
     match reach(seating, set) {
@@ -177,45 +190,61 @@ fn seat(seating: &mut Seating<'_>, entry: usize) -> Option<ConsumerSet>
     }
 }
 
-/// How many seats of a consumer are left.
-fn seats_left(seating: &Seating<'_>, consumer: usize) -> usize
-    requires rooms { consumer < length seating.now.rooms.items }
-    requires taken { consumer < length seating.now.taken.items }
-    ensures { result ≡ slice_index seating.now.rooms.items consumer - slice_index seating.now.taken.items consumer }
+/// The one of these consumers that has most seats left, if any has one.
+fn roomiest(seating: &Seating<'_>, set: ConsumerSet) -> Option<usize>
+    requires { IsSeating seating.now }
+    ensures { IfSome result (HasSeat seating.now) }
 {
-    seating.rooms[consumer].saturating_sub(seating.taken[consumer])
-}
-
-/// Offers the new entry to these consumers; gives the one that has most seats left, if any has one.
-fn roomiest(seating: &mut Seating<'_>, set: ConsumerSet) -> Option<usize>
-    requires { IsSeating seating.old }
-    ensures sets { seating.new.sets ≡ seating.old.sets }
-    ensures seating { IsSeating seating.new }
-    ensures some { IfSome result (HasSeat seating.new) }
-{
+    let left = seating.left.as_slice();
     let mut rest = set;
     let mut roomiest = None;
     let mut most = 0;
     while let Some(consumer) = rest.first() {
         rest = rest.without(consumer);
-        seating.movers[consumer] = None;
-        let left = seats_left(seating, consumer);
-        if most < left {
+        if most < left[consumer] {
             roomiest = Some(consumer);
-            most = left;
+            most = left[consumer];
         }
     }
     roomiest
 }
 
-/// Looks for a seat that is left, from these consumers on: whoever sits at a consumer that is reached may move on to
-/// each other one that it is allowed.
+/// Takes a seat that is left at a consumer.
+fn take_seat(seating: &mut Seating<'_>, consumer: usize) -> usize
+    requires seating { IsSeating seating.old }
+    requires left { HasSeat seating.old consumer }
+    ensures seat { result < length seating.new.seats.items }
+    ensures sets { seating.new.sets ≡ seating.old.sets }
+    ensures movers { seating.new.movers ≡ seating.old.movers }
+    ensures seating { IsSeating seating.new }
+{
+    let left = seating.left[consumer] - 1;
+    seating.left[consumer] = left;
+    seating.starts[consumer] + left
+}
+
+/// Gives a seat to an entry.
+fn give(seating: &mut Seating<'_>, seat: usize, entry: usize)
+    requires entry { entry < length seating.old.sets.now }
+    requires seat { seat < length seating.old.seats.items }
+    requires seating { IsSeating seating.old }
+    ensures sets { seating.new.sets ≡ seating.old.sets }
+    ensures each_seat { length seating.new.seats.items ≡ length seating.old.seats.items }
+    ensures movers { seating.new.movers ≡ seating.old.movers }
+    ensures seating { IsSeating seating.new }
+{
+    seating.seats[seat] = entry as u16;
+}
+
+/// Looks for a seat that is left, from these consumers on, to which the new entry would come: whoever sits at a consumer
+/// that is reached may move on to each other one that it is allowed.
 fn reach(seating: &mut Seating<'_>, set: ConsumerSet) -> Reached
     requires { IsSeating seating.old }
     ensures sets { seating.new.sets ≡ seating.old.sets }
     ensures seating { IsSeating seating.new }
     ensures end { EndsAt seating.new result }
 {
+    move_on(seating, set, None);
     let mut reached = set;
     let mut waiting = set;
     for _ in 0..MAX_CONSUMERS {
@@ -223,10 +252,11 @@ fn reach(seating: &mut Seating<'_>, set: ConsumerSet) -> Reached
             break;
         };
         waiting = waiting.without(consumer);
-        let first = consumer * seating.width;
-        for seat in first..first + seating.taken[consumer] {
+        let start = seating.starts[consumer];
+        for seat in start + seating.left[consumer]..start + seating.rooms[consumer] {
             let next = seating.sets[seating.seats[seat] as usize].minus(reached);
-            if let Some(end) = move_on(seating, seat, next) {
+            let mover = Mover { consumer, seat };
+            if let Some(end) = move_on(seating, next, Some(mover)) {
                 return Reached::Seat { consumer: end };
             }
             reached = reached.and(next);
@@ -236,20 +266,20 @@ fn reach(seating: &mut Seating<'_>, set: ConsumerSet) -> Reached
     Reached::Crowd { consumers: reached }
 }
 
-/// Notes that the entry in a seat may move to these consumers; gives one of them that has a seat left, if any has.
-fn move_on(seating: &mut Seating<'_>, seat: usize, next: ConsumerSet) -> Option<usize>
+/// Notes who would move to these consumers; gives one of them that has a seat left, if any has.
+fn move_on(seating: &mut Seating<'_>, next: ConsumerSet, mover: Option<Mover>) -> Option<usize>
     requires seating { IsSeating seating.old }
-    requires seat { seat < length seating.old.seats.items }
+    requires mover { IfSome mover (Sits seating.old) }
     ensures sets { seating.new.sets ≡ seating.old.sets }
-    ensures width { seating.new.width ≡ seating.old.width }
+    ensures seats { length seating.new.seats.items ≡ length seating.old.seats.items }
     ensures seating { IsSeating seating.new }
     ensures some { IfSome result (HasSeat seating.new) }
 {
     let mut rest = next;
     while let Some(consumer) = rest.first() {
         rest = rest.without(consumer);
-        seating.movers[consumer] = Some(seat);
-        if 0 < seats_left(seating, consumer) {
+        seating.movers[consumer] = mover;
+        if 0 < seating.left[consumer] {
             return Some(consumer);
         }
     }
@@ -265,30 +295,16 @@ fn shift(seating: &mut Seating<'_>, end: usize, entry: usize)
     ensures sets { seating.new.sets ≡ seating.old.sets }
     ensures seating { IsSeating seating.new }
 {
-    let mut seat = end * seating.width + seating.taken[end];
+    let mut seat = take_seat(seating, end);
     let mut consumer = end;
-    seating.taken[end] += 1;
     for _ in 0..MAX_CONSUMERS {
         let Some(mover) = seating.movers[consumer] else {
             break;
         };
-        let moved = seating.seats[mover] as usize;
+        let moved = seating.seats[mover.seat] as usize;
         give(seating, seat, moved);
-        seat = mover;
-        consumer = mover / seating.width;
+        seat = mover.seat;
+        consumer = mover.consumer;
     }
     give(seating, seat, entry);
-}
-
-/// Gives a seat to an entry.
-fn give(seating: &mut Seating<'_>, seat: usize, entry: usize)
-    requires entry { entry < length seating.old.sets.now }
-    requires seat { seat < length seating.old.seats.items }
-    requires seating { IsSeating seating.old }
-    ensures sets { seating.new.sets ≡ seating.old.sets }
-    ensures each_seat { length seating.new.seats.items ≡ length seating.old.seats.items }
-    ensures movers { seating.new.movers ≡ seating.old.movers }
-    ensures seating { IsSeating seating.new }
-{
-    seating.seats[seat] = entry as u16;
 }

@@ -43,7 +43,7 @@ pub fn nowhere(alloc: Global, problem: &Stepped<'_>) -> Result<Placement, AllocE
 }
 
 /// How many numbers a row of members needs: one more than the greatest room, but no more than for all entries.
-pub fn row_width(problem: &Costs<'_>) -> usize
+fn row_width(problem: &Costs<'_>) -> usize
     ensures { AreWide problem.now result }
 {
     let mut most = 0;

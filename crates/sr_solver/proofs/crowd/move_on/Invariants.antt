@@ -1,13 +1,14 @@
-use Rattle.std.proofs.Common.{◌≡◌, ◌<◌, length}
-use Rattle.sr_solver.specs.Crowd.{IsSeating}
+use Rattle.std.proofs.Common.{◌≡◌, length}
+use Rattle.std.specs.Prelude.{IfSome}
+use Rattle.sr_solver.specs.Crowd.{IsSeating, Sits}
 use Rattle.sr_solver.proofs.crowd.move_on.Given as goal
 
 abbrev pub invariant-loop-consumer : goal.invariant-loop-consumer
 invariant-loop-consumer l = record {
   sets : l.seating.sets ≡ l.fn.seating.sets;
-  width : l.seating.width ≡ l.fn.seating.width;
+  seats : length l.seating.seats.items ≡ length l.fn.seating.seats.items;
   seating : IsSeating l.seating;
-  seat : l.seat < length l.seating.seats.items;
+  mover : IfSome l.mover (Sits l.seating);
 }
 
 abbrev pub decreases-loop-consumer : goal.decreases-loop-consumer

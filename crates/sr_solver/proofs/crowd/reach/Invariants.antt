@@ -1,4 +1,4 @@
-use Rattle.std.proofs.Common.{◌≡◌, ◌≤◌, ◌*◌, ◌+◌, ◌<◌}
+use Rattle.std.proofs.Common.{◌≡◌, ◌≤◌, ◌<◌, length}
 use Rattle.sr_solver.specs.Crowd.{IsSeating}
 use Rattle.sr_solver.proofs.crowd.reach.Given as goal
 
@@ -10,7 +10,5 @@ invariant-loop-seat l = record {
   sets : l.seating.sets ≡ l.fn.seating.sets;
   seating : IsSeating l.seating;
   consumer : l.consumer < 64;
-  width : l.seating.width ≡ l.initial.seating.width;
-  first : l.first ≡ l.consumer * l.seating.width;
-  few : l.seat-end ≤ l.first + l.seating.width;
+  within : l.seat-end ≤ length l.seating.seats.items;
 }

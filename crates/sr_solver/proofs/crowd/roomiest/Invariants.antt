@@ -1,14 +1,9 @@
-use Rattle.std.proofs.Common.{◌≡◌}
 use Rattle.std.specs.Prelude.{IfSome}
-use Rattle.sr_solver.specs.Crowd.{IsSeating, HasSeat}
+use Rattle.sr_solver.specs.Crowd.{HasSeat}
 use Rattle.sr_solver.proofs.crowd.roomiest.Given as goal
 
 abbrev pub invariant-loop-consumer : goal.invariant-loop-consumer
-invariant-loop-consumer l = record {
-  sets : l.seating.sets ≡ l.fn.seating.sets;
-  seating : IsSeating l.seating;
-  some : IfSome l.roomiest (HasSeat l.seating);
-}
+invariant-loop-consumer l = IfSome l.roomiest (HasSeat l.seating)
 
 abbrev pub decreases-loop-consumer : goal.decreases-loop-consumer
 decreases-loop-consumer l = l.rest.bits
