@@ -9,7 +9,7 @@ use Rattle.std.proofs.Math.ListN.{set, replicate}
 use Rattle.std.proofs.lemmas.Bool.{cases_eq, cases_lt}
 use Rattle.std.proofs.lemmas.List.{get_or_past, get_or_push, get_or_append_left, get_or-set_same, get_or-set_other}
 use Rattle.std.proofs.lemmas.List.{get_or-replicate, length-replicate}
-use Rattle.std.proofs.lemmas.List.Elements.{All-get_or}
+use Rattle.std.proofs.lemmas.List.Elements.{All-get_or, All-push, All-weaker, Contains-push, Contains-append_left}
 use Rattle.std.proofs.lemmas.List.Folds.{Any-from_list_any}
 use Rattle.std.proofs.lemmas.Bool.Decides.{nat_tests}
 use Rattle.sr_transport.specs.{Transport, consumers, most_entries}
@@ -23,6 +23,7 @@ use Rattle.sr_solver.specs.declared.crowd.Seating.{Seating}
 use Rattle.sr_solver.specs.declared.set.ConsumerSet.{ConsumerSet}
 use Rattle.sr_solver.specs.Sets.{IsIn, IsAmong}
 use Rattle.sr_solver.specs.Pairs.{set_at, AreSetsOf}
+use Rattle.sr_solver.proofs.ShortageLemmas.{rising_push}
 use Rattle.sr_solver.specs.Crowd.{IsSeating, Sits, AreConfined, places_within, mover_at}
 
 -- a room that counts or not
@@ -42,9 +43,38 @@ room_counts : (reached here : Bool) (room : ℕ) → (reached ≡ true → here 
 room_counts true here room counts = rw (counts refl) (omega arith)
 room_counts false here room counts = omega arith
 
+-- the next entry is confined, too
+pub confined_more : (sets : List ConsumerSet) (n : ℕ) (among : ConsumerSet) (entries : List ℕ)
+    → AreConfined sets n among entries → IsAmong (set_at sets n) among
+    → AreConfined sets (n + 1) among (entries ++ n ∷ [])
+confined_more sets n among entries are is = record {
+  rising = rising_push entries n are.rising are.below;
+  below = All-push (λ i. i < n + 1) entries n
+      (All-weaker (λ i. i < n) (λ i. i < n + 1) (λ i lt. omega (arith, lt)) entries are.below) (omega arith);
+  each = All-push (λ i. IsAmong (set_at sets i) among) entries n are.each is;
+  all = λ i lt within. elim (cases_eq i n) [
+    | inl e ↦ rw e (Contains-push entries n)
+    | inr ne ↦ Contains-append_left entries (n ∷ []) i (are.all i (omega (arith, lt, ne)) within)
+  ];
+}
+
+-- or it is not
+pub confined_passed : (sets : List ConsumerSet) (n : ℕ) (among : ConsumerSet) (entries : List ℕ)
+    → AreConfined sets n among entries → (IsAmong (set_at sets n) among → ⊥)
+    → AreConfined sets (n + 1) among entries
+confined_passed sets n among entries are not = record {
+  rising = are.rising;
+  below = All-weaker (λ i. i < n) (λ i. i < n + 1) (λ i lt. omega (arith, lt)) entries are.below;
+  each = are.each;
+  all = λ i lt within. elim (cases_eq i n) [
+    | inl e ↦ absurd (not (rw e at within))
+    | inr ne ↦ are.all i (omega (arith, lt, ne)) within
+  ];
+}
+
 -- a consumer that a confined entry is allowed is in the set
 reached_within : (p : Transport) (sets : List ConsumerSet) (among : ConsumerSet) (set : List ℕ) → AreSetsOf p sets
-    → AreConfined sets among set → (c : ℕ) → c < consumers p → is_reached p set c ≡ true
+    → AreConfined sets (length sets) among set → (c : ℕ) → c < consumers p → is_reached p set c ≡ true
     → (bit_at among.bits c == 1) ≡ true
 reached_within p sets among set are confined c lt reached =
     let found : Any (λ i. is_some (cost_at p i c) ≡ true) set =
@@ -59,7 +89,7 @@ reached_within p sets among set are confined c lt reached =
 
 -- so there are too few places for them
 pub confined_short : (p : Transport) (sets : List ConsumerSet) (among : ConsumerSet) (set : List ℕ) → AreSetsOf p sets
-    → AreConfined sets among set → places_within p among (consumers p) < length set → IsShortage p set
+    → AreConfined sets (length sets) among set → places_within p among (consumers p) < length set → IsShortage p set
 confined_short p sets among set are confined few = record {
   rising = confined.rising;
   entries = rw are.one_each at confined.below;

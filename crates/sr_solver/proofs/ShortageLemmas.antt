@@ -23,7 +23,7 @@ use Rattle.sr_solver.specs.Search.{IsStuck}
 use Rattle.sr_solver.specs.Shortage.{stranded_below}
 
 -- one more, above all of a rising list
-rising_push : (xs : List ℕ) (y : ℕ) → IsStrictlyIncreasing xs → All (λ x. x < y) xs
+pub rising_push : (xs : List ℕ) (y : ℕ) → IsStrictlyIncreasing xs → All (λ x. x < y) xs
     → IsStrictlyIncreasing (xs ++ y ∷ [])
 rising_push xs y rising below k lt =
     let short : k + 1 < length xs + 1 = omega (arith, lt, length-append xs (y ∷ [])) in

@@ -2,7 +2,7 @@
 -- looked for.
 -- Source: P. Hall, "On representatives of subsets", 1935.
 
-use Rattle.std.specs.Prelude.{◌≡◌, ℕ, ◌+◌, ◌*◌, ◌<◌, ◌≤◌, ◌==◌, List, length, slice_index, slice_index_or, All}
+use Rattle.std.specs.Prelude.{◌≡◌, ℕ, ◌+◌, ◌*◌, ◌<◌, ◌≤◌, ◌==◌, List, length, slice_index, slice_index_or, All, Contains}
 use Rattle.std.specs.Prelude.{Option, None, IfSome, if◌then◌else◌}
 use Rattle.std.specs.Int.{bit_at}
 use Rattle.std.specs.List.Sorted.{IsStrictlyIncreasing}
@@ -18,11 +18,12 @@ use Rattle.sr_solver.specs.declared.set.ConsumerSet.{ConsumerSet}
 use Rattle.sr_solver.specs.Pairs.{set_at}
 use Rattle.sr_solver.specs.Sets.{IsAmong}
 
--- the entries whose consumers are all among these rise
-pub record AreConfined (sets : List ConsumerSet) (among : ConsumerSet) (entries : List ℕ) : Type 0 where
+-- of the first n entries those whose consumers are all among these, rising
+pub record AreConfined (sets : List ConsumerSet) (n : ℕ) (among : ConsumerSet) (entries : List ℕ) : Type 0 where
   pub rising : IsStrictlyIncreasing entries
-  pub below : All (λ i. i < length sets) entries
+  pub below : All (λ i. i < n) entries
   pub each : All (λ i. IsAmong (set_at sets i) among) entries
+  pub all : (i : ℕ) → i < n → IsAmong (set_at sets i) among → Contains entries i
 
 -- the room of those of the first n consumers that are in the set
 abbrev pub places_within : Transport → ConsumerSet → ℕ → ℕ

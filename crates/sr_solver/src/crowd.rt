@@ -75,13 +75,14 @@ fn confined(
     sets: &[ConsumerSet],
     among: ConsumerSet,
 ) -> Result<Vec<usize>, AllocError>
-    ensures { IfOk result (λ set. AreConfined sets.now among set.items) }
+    ensures { IfOk result (λ set. AreConfined sets.now (length sets.now) among set.items) }
 {
     let mut confined = Vec::new(alloc);
     for (entry, set) in sets.iter().enumerate() {
-        if set.is_within(among) {
-            confined.push(entry)?;
+        if !set.is_within(among) {
+            continue;
         }
+        confined.push(entry)?;
     }
     Ok(confined)
 }
