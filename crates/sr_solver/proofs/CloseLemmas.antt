@@ -17,15 +17,18 @@ use Rattle.sr_solver.proofs.LabelLemmas.{open_count-set_closed, IsSameWay, way_k
 record IsClosing (t : ℕ) (old new : List Label) : Type 0 where
   every : length new ≡ length old
   same : (c : ℕ) → IsSameWay (label_at old c) (label_at new c)
+  guess : (c : ℕ) → (label_at new c).guess ≡ (label_at old c).guess
   here : (label_at new t).closed ≡ true
   kept : (c : ℕ) → (label_at old c).closed ≡ true → (label_at new c).closed ≡ true
   back : (c : ℕ) → (label_at new c).closed ≡ true → (c ≡ t) ⊎ ((label_at old c).closed ≡ true)
   still : (c : ℕ) → (label_at new c).closed ≡ false → (label_at old c).closed ≡ false
+  others : (c : ℕ) → (c ≡ t → ⊥) → (label_at old c).closed ≡ false → (label_at new c).closed ≡ false
   fewer : open_count new + 1 ≡ open_count old
 
 closing : (t : ℕ) (old : List Label) (label : Label) → t < length old → (label_at old t).closed ≡ false
-    → IsSameWay (label_at old t) label → label.closed ≡ true → IsClosing t old (set old t label)
-closing t old label lt was_open same is_closed =
+    → IsSameWay (label_at old t) label → label.guess ≡ (label_at old t).guess → label.closed ≡ true
+    → IsClosing t old (set old t label)
+closing t old label lt was_open same guess is_closed =
     let at : label_at (set old t label) t ≡ label = get_or-set_same old t label no_label lt in
     let other : (c : ℕ) → (c ≡ t → ⊥) → label_at (set old t label) c ≡ label_at old c =
     λ c ne. get_or-set_other old t c label no_label ne in
@@ -35,6 +38,10 @@ closing t old label lt was_open same is_closed =
       same = λ c. elim (cases_eq c t) [
         | inl e ↦ rw e (rw at same)
         | inr ne ↦ same_way (label_at old c) (label_at (set old t label) c) (other c ne)
+      ];
+      guess = λ c. elim (cases_eq c t) [
+        | inl e ↦ rw e (ap (λ l. l.guess) at ∙ guess)
+        | inr ne ↦ ap (λ l. l.guess) (other c ne)
       ];
       here = here;
       kept = λ c was. elim (cases_eq c t) [
@@ -49,6 +56,7 @@ closing t old label lt was_open same is_closed =
         | inl e ↦ rw e was_open
         | inr ne ↦ sym (ap (λ l. l.closed) (other c ne)) ∙ now
       ];
+      others = λ c ne was. ap (λ l. l.closed) (other c ne) ∙ was;
       fewer = open_count-set_closed old t label lt was_open is_closed;
     }
 
@@ -92,16 +100,15 @@ closing_search p k xs prices cutoff old new t search nearest closing =
               (closing.same d).dist,
             )
       ];
-      latest = λ c lt now ltt. elim (closing.back c now) [
-        | inl e ↦ rw e (omega arith)
-        | inr was ↦
-            omega (
-              arith,
-              search.nearer c t lt ltt was nearest.not_closed nearest.reached,
-              (closing.same c).dist,
-              (closing.same t).dist,
+      ahead = λ c d lt ltd now not_now. elim (closing.back c now) [
+        | inl e ↦
+            rw e (
+            omega (arith, nearest.guesses d ltd (closing.still d not_now), (closing.same t).dist, closing.guess d)
             )
+        | inr was ↦
+            omega (arith, search.ahead c d lt ltd was (closing.still d not_now), (closing.same c).dist, closing.guess d)
       ];
+      hints = λ c lt. omega (arith, search.hints c lt, closing.guess c);
       unreached = λ c lt none. omega (arith, search.unreached c lt (omega (arith, none, (closing.same c).hops)), (closing.same c).dist);
       new_offered = λ c allowed. within 0 0 k c (search.new_offered c allowed);
       offered = λ i c lt now upto allowed. elim (closing.back (get_or xs i 0) now) [
@@ -111,8 +118,27 @@ closing_search p k xs prices cutoff old new t search nearest closing =
             let same = closing.same (get_or xs i 0) in
             rw same.dist (
             elim far [
-              | inl near ↦ inl (within (label_at old (get_or xs i 0)).dist (priced p prices i (get_or xs i 0)) i c near)
-              | inr beyond ↦ inr beyond
+              | inl (inl near) ↦
+                  inl (inl (
+                  within (label_at old (get_or xs i 0)).dist (priced p prices i (get_or xs i 0)) i c near
+                  ))
+              | inl (inr beyond) ↦ inl (inr beyond)
+              | inr guessed ↦ elim (cases_eq c t) [
+                | inl e ↦
+                    inl (inl (rw e (
+                      omega (arith, nearest.reached, (closing.same t).hops),
+                      omega (
+                        arith,
+                        rw e at guessed.1,
+                        nearest.guesses t nearest.consumer nearest.not_closed,
+                        (closing.same t).dist,
+                      ),
+                    )))
+                | inr ne ↦ inr (
+                  closing.others c ne guessed.0,
+                  omega (arith, guessed.1, closing.guess c),
+                )
+              ]
             ]
             )
       ];
@@ -122,28 +148,39 @@ closing_search p k xs prices cutoff old new t search nearest closing =
 pub closed_start : (p : Transport) (k : ℕ) (xs prices : List ℕ) (cutoff : Option ℕ) (old : List Label)
     (t : ℕ) (label : Label)
     → IsRound p k xs prices cutoff old → IsNearest p old t
-    → IsSameWay (label_at old t) label → label.closed ≡ true
+    → IsSameWay (label_at old t) label → label.guess ≡ (label_at old t).guess → label.closed ≡ true
     → IsClosed p k xs prices cutoff old (set old t label) t 0
-closed_start p k xs prices cutoff old t label search nearest same is_closed =
+closed_start p k xs prices cutoff old t label search nearest same guess is_closed =
     let done : IsClosing t old (set old t label) =
-    closing t old label (omega (arith, nearest.consumer, search.one_each)) nearest.not_closed same is_closed in
+    closing t old label (omega (arith, nearest.consumer, search.one_each)) nearest.not_closed same guess is_closed in
     record {
       search = closing_search p k xs prices cutoff old (set old t label) t search nearest done;
       closed = done.here;
+      latest = λ c lt now. elim (done.back c now) [
+        | inl e ↦ rw e (omega arith)
+        | inr was ↦
+            omega (
+              arith,
+              search.nearer c t lt nearest.consumer was nearest.not_closed nearest.reached,
+              (done.same c).dist,
+              (done.same t).dist,
+            )
+      ];
       fewer = omega (arith, done.fewer);
     }
 
 -- the cutoff stays when a consumer is closed that is nearer
 pub cutoff_closing : (p : Transport) (s : List Step) (xs prices : List ℕ) (old : List Label) (t : ℕ) (label : Label)
     (cutoff : Option End)
-    → t < length old → (label_at old t).closed ≡ false → IsSameWay (label_at old t) label → label.closed ≡ true
+    → t < length old → (label_at old t).closed ≡ false → IsSameWay (label_at old t) label
+    → label.guess ≡ (label_at old t).guess → label.closed ≡ true
     → (IsBeyond (length_of cutoff) 0 (label_at old t).dist → ⊥)
     → IsCutoff p s xs prices old (consumers p) cutoff → IsCutoff p s xs prices (set old t label) (consumers p) cutoff
-cutoff_closing p s xs prices old t label None lt was_open same is_closed nearer is =
-    let done : IsClosing t old (set old t label) = closing t old label lt was_open same is_closed in
+cutoff_closing p s xs prices old t label None lt was_open same guess is_closed nearer is =
+    let done : IsClosing t old (set old t label) = closing t old label lt was_open same guess is_closed in
     λ c ltc up. is c ltc (omega (arith, up, (done.same c).hops))
-cutoff_closing p s xs prices old t label (Some end) lt was_open same is_closed nearer is =
-    let done : IsClosing t old (set old t label) = closing t old label lt was_open same is_closed in
+cutoff_closing p s xs prices old t label (Some end) lt was_open same guess is_closed nearer is =
+    let done : IsClosing t old (set old t label) = closing t old label lt was_open same guess is_closed in
     record {
       small = is.small;
       consumer = is.consumer;
@@ -174,10 +211,29 @@ search_none p k xs prices cutoff labels t upto search = record {
   few_closed = search.few_closed;
   reached = search.reached;
   nearer = search.nearer;
-  latest = search.latest;
+  ahead = search.ahead;
+  hints = search.hints;
   unreached = search.unreached;
   new_offered = search.new_offered;
   offered = λ i c lt now within allowed. search.offered i c lt now (λ here. absurd (omega (arith, within here))) allowed;
+}
+
+-- between two rounds all entries at closed consumers were offered to all
+pub round_none : (p : Transport) (k : ℕ) (xs prices : List ℕ) (cutoff : Option ℕ) (labels : List Label) (t : ℕ)
+    → IsRound p k xs prices cutoff labels → IsSearch p k xs prices cutoff labels t 0
+round_none p k xs prices cutoff labels t round = record {
+  one_each = round.one_each;
+  way = round.way;
+  long = round.long;
+  few = round.few;
+  few_closed = round.few_closed;
+  reached = round.reached;
+  nearer = round.nearer;
+  ahead = round.ahead;
+  hints = round.hints;
+  unreached = round.unreached;
+  new_offered = round.new_offered;
+  offered = λ i c lt now within allowed. round.offered i c lt now (λ here. allowed.0) allowed;
 }
 
 -- once all consumers were asked, a round is over
@@ -191,7 +247,8 @@ closed_round p k xs prices cutoff labels t upto all search = record {
   few_closed = search.few_closed;
   reached = search.reached;
   nearer = search.nearer;
-  latest = λ c lt now ltt. absurd (omega arith);
+  ahead = search.ahead;
+  hints = search.hints;
   unreached = search.unreached;
   new_offered = search.new_offered;
   offered = λ i c lt now within allowed. search.offered i c lt now (λ here. rw all allowed.0) allowed;

@@ -11,11 +11,12 @@ use Rattle.sr_solver.specs.Limits.{greatest_way}
 use Rattle.sr_solver.specs.declared.label.Label.{Label}
 use Rattle.sr_solver.specs.declared.front.End.{End}
 use Rattle.sr_solver.specs.declared.stepped.Step.{Step}
-use Rattle.sr_solver.specs.Labels.{label_at}
+use Rattle.sr_solver.specs.Labels.{label_at, AreFarOrReached}
 use Rattle.sr_solver.specs.Steps.{next_fee, AreSteps}
-use Rattle.sr_solver.specs.Placed.{AreLevel, AreLoads}
+use Rattle.sr_solver.specs.Placed.{IsPlaced, AreLevel, AreLoads}
 use Rattle.sr_solver.specs.Cutoff.{IsBeyond, IsNoLater, length_of, IsShortest, AreFull, IsCutoff, IsCut}
-use Rattle.sr_solver.specs.Search.{IsSearch, IsRound, AreDoneOf, IsFound}
+use Rattle.sr_solver.specs.Search.{IsSearch, IsRound, AreDoneOf, AreCovered, IsFound}
+use Rattle.sr_transport.proofs.PlainLimitLemmas.{cost_small}
 use Rattle.sr_solver.proofs.StepLemmas.{fee_small}
 
 -- a path that is no shorter lies beyond, too
@@ -50,12 +51,14 @@ search_cut p k xs prices old new labels t upto later search = record {
   few_closed = search.few_closed;
   reached = search.reached;
   nearer = search.nearer;
-  latest = search.latest;
+  ahead = search.ahead;
+  hints = search.hints;
   unreached = search.unreached;
   new_offered = search.new_offered;
   offered = λ i c lt is_closed within allowed. elim (search.offered i c lt is_closed within allowed) [
-    | inl near ↦ inl near
-    | inr beyond ↦ inr (later _ _ beyond)
+    | inl (inl near) ↦ inl (inl near)
+    | inl (inr beyond) ↦ inl (inr (later _ _ beyond))
+    | inr guessed ↦ inr guessed
   ];
 }
 
@@ -239,26 +242,60 @@ cutoff_cut p s xs prices old new b m n (Some gap) (Some end) next re one at low 
           )
     ]
 
+-- where no guess is nearer than the cutoff, each entry that was offered is covered
+covered_done : (p : Transport) (k : ℕ) (xs prices : List ℕ) (cutoff : Option ℕ) (labels : List Label)
+    → IsPlaced p k xs prices → k ≤ p.entries → AreFarOrReached p labels
+    → IsRound p k xs prices cutoff labels → AreDoneOf (consumers p) cutoff labels
+    → AreCovered p k xs prices cutoff labels
+covered_done p k xs prices cutoff labels placed le marked round done i c lt closed allowed =
+    elim (round.offered i c lt closed (λ e. allowed.0) allowed) [
+      | inl covered ↦ covered
+      | inr guessed ↦ elim (done.guesses c allowed.0 guessed.0) [
+        | inl none ↦ absurd (
+            let from : ℕ = get_or xs i 0 in
+            let ltf : from < consumers p = (placed.placed i lt).0 in
+            let near : (label_at labels from).dist ≤ greatest_way = elim (marked from ltf) [
+              | inl far ↦ absurd (omega (arith, round.reached from ltf closed, far.0))
+              | inr reached ↦ reached.1
+            ] in
+            omega (
+              arith,
+              guessed.1,
+              none,
+              near,
+              cost_small p placed.limits i c,
+              placed.low c allowed.0,
+              placed.limits.few_entries,
+              le,
+            )
+            )
+        | inr beyond ↦ inr (beyond_more cutoff 0 (label_at labels c).guess _ _ (omega (arith, guessed.1)) beyond)
+      ]
+    ]
+
 -- the search ends where each consumer that is reached is closed, or no nearer than the cutoff
 pub found_done : (p : Transport) (s : List Step) (k : ℕ) (xs prices : List ℕ) (labels : List Label)
     (cutoff : Option End)
+    → IsPlaced p k xs prices → k ≤ p.entries → AreFarOrReached p labels
     → IsRound p k xs prices (length_of cutoff) labels → IsCutoff p s xs prices labels (consumers p) cutoff
     → AreDoneOf (consumers p) (length_of cutoff) labels → IsFound p s k xs prices labels cutoff
-found_done p s k xs prices labels None round is done = record {
+found_done p s k xs prices labels None placed le marked round is done = record {
   search = round;
-  all_closed = λ c lt up. elim (done c lt up) [
+  all_closed = λ c lt up. elim (done.reached c lt up) [
     | inl closed ↦ closed
     | inr beyond ↦ absurd beyond
   ];
   full = is;
+  covered = covered_done p k xs prices None labels placed le marked round done;
 }
-found_done p s k xs prices labels (Some end) round is done = record {
+found_done p s k xs prices labels (Some end) placed le marked round is done = record {
   search = round;
   shortest = is;
-  far = λ c lt up is_open. elim (done c lt up) [
+  far = λ c lt up is_open. elim (done.reached c lt up) [
     | inl closed ↦ absurd (false≢true (sym is_open ∙ closed))
     | inr beyond ↦ omega (arith, beyond)
   ];
+  covered = covered_done p k xs prices (Some end.dist) labels placed le marked round done;
 }
 
 -- the price of a consumer with room is no greater than the fee of the next place, as the lists were read

@@ -245,7 +245,7 @@ least_moved p s k xs prices labels end raised rising i x lt mover way passed =
           rw (← mover) next.dist in
           least_raised p s k xs prices labels end raised rising (label_at labels (get_or xs i 0)).dist
           (priced p prices i (get_or xs i 0)) i x lt
-          (λ c allowed. rising.found.search.offered i c earlier closed (λ e. allowed.0) allowed) tight passed
+          (λ c allowed. rising.found.covered i c earlier closed allowed) tight passed
     ]
 
 -- an entry that stays
@@ -257,7 +257,7 @@ least_stays p s k xs prices labels end raised rising i lti =
       | inl closed ↦
           least_raised p s k xs prices labels end raised rising (label_at labels (get_or xs i 0)).dist
           (priced p prices i (get_or xs i 0)) i
-          (get_or xs i 0) lt (λ c allowed. rising.found.search.offered i c lti closed (λ e. allowed.0) allowed) refl
+          (get_or xs i 0) lt (λ c allowed. rising.found.covered i c lti closed allowed) refl
           (inl closed)
       | inr is_open ↦
           λ c allowed.

@@ -60,6 +60,17 @@ fresh : (p : Transport) (k : ℕ) (prices : List ℕ) (label : Label) (c : ℕ) 
     → IsFirstLabel (cost_at p k c) (get_or prices c 0) k label → IsFresh p k prices label c
 fresh p k prices label c lt is = first_fresh p k prices label c (cost_at p k c) lt refl is
 
+-- nothing is guessed where entries were not offered
+first_no_guess : (cost : Option ℕ) (price k : ℕ) (label : Label) → IsFirstLabel cost price k label → label.guess ≡ far
+first_no_guess None price k label none = ap (λ l. l.guess) none
+first_no_guess (Some cost) price k label some = ap (λ l. l.guess) some
+
+pub started_no_guess : (p : Transport) (k : ℕ) (prices : List ℕ) (labels : List Label) → IsStarted p k prices labels
+    → (c : ℕ) → c < length labels → (label_at labels c).guess ≡ far
+started_no_guess p k prices labels started c lt =
+    first_no_guess (cost_at p k c) (get_or prices c 0) k (label_at labels c)
+    (started.each c (omega (arith, lt, started.one_each)))
+
 -- the search starts between two rounds
 pub started_round : (p : Transport) (k : ℕ) (xs prices : List ℕ) (cutoff : Option ℕ) (labels : List Label)
     → IsWithinLimits p.rooms p.entries p.costs → IsStarted p k prices labels → IsRound p k xs prices cutoff labels
@@ -85,7 +96,8 @@ started_round p k xs prices cutoff labels limits started =
       few_closed = λ c lt is_closed. absurd (none_closed c is_closed);
       reached = λ c lt is_closed. absurd (none_closed c is_closed);
       nearer = λ c d lt ltd is_closed not_closed above. absurd (none_closed c is_closed);
-      latest = λ c lt is_closed ltt. absurd (none_closed c is_closed);
+      ahead = λ c d lt ltd is_closed not_closed. absurd (none_closed c is_closed);
+      hints = λ c lt. omega (arith, started_no_guess p k prices labels started c (omega (arith, lt, started.one_each)));
       unreached = λ c lt none. (each c lt).unreached none;
       new_offered = λ c allowed.
           let above = (each c allowed.0).offered allowed in

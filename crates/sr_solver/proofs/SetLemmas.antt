@@ -1,23 +1,24 @@
 -- The set of those that wait, as it is walked through for the nearest.
-use Rattle.std.proofs.Common.{◌≡◌, ℕ, ◌+◌, ◌<◌, ◌≤◌, ◌⊎◌, true, false, List, length, Option, Some, None, sym, ap, ◌∙◌, inl, inr, arith}
+use Rattle.std.proofs.Common.{◌≡◌, ℕ, ◌+◌, ◌<◌, ◌≤◌, ◌⊎◌, true, false, List, length, Option, Some, None, refl, sym, ap, ◌∙◌, inl}
+use Rattle.std.proofs.Common.{inr, arith}
 use Rattle.std.specs.Prelude.{IfSome, IfNone}
 use Rattle.std.proofs.Math.ListN.{set}
 use Rattle.std.proofs.lemmas.List.{get_or-set_same, get_or-set_other}
 use Rattle.std.proofs.lemmas.Bool.{cases_eq, cases_lt, false≢true}
 use Rattle.sr_solver.specs.declared.label.Label.{Label}
 use Rattle.sr_solver.specs.declared.set.ConsumerSet.{ConsumerSet}
-use Rattle.sr_solver.specs.Labels.{no_label, unreached, label_at}
+use Rattle.sr_solver.specs.Labels.{no_label, unreached, label_at, reach_of}
 use Rattle.sr_solver.specs.Cutoff.{IsBeyond, IsLimit, IsNoLater}
-use Rattle.sr_solver.specs.Limits.{far}
+use Rattle.sr_solver.specs.Limits.{greatest_way, far}
 use Rattle.sr_solver.specs.Sets.{IsIn, IsWith, IsWithout, AreWaiting}
-use Rattle.sr_solver.specs.Search.{IsNearestOf, AreDoneOf}
+use Rattle.sr_solver.specs.Search.{IsNextOf, AreDoneOf}
 use Rattle.sr_solver.proofs.CutoffLemmas.{cases_bool}
 
 -- one more is compared
 pub compared_more : (labels : List Label) (waiting rest next : ConsumerSet) (t least less : ℕ)
-    → IsWithout t rest next → less ≤ least → less ≤ (label_at labels t).dist
-    → ((c : ℕ) → IsIn waiting c → IsIn rest c ⊎ (least ≤ (label_at labels c).dist))
-    → (c : ℕ) → IsIn waiting c → IsIn next c ⊎ (less ≤ (label_at labels c).dist)
+    → IsWithout t rest next → less ≤ least → less ≤ reach_of (label_at labels t)
+    → ((c : ℕ) → IsIn waiting c → IsIn rest c ⊎ (least ≤ reach_of (label_at labels c)))
+    → (c : ℕ) → IsIn waiting c → IsIn next c ⊎ (less ≤ reach_of (label_at labels c))
 compared_more labels waiting rest next t least less without le near compared c is = elim (cases_eq c t) [
   | inl e ↦ inr (rw e near)
   | inr ne ↦ elim (compared c is) [
@@ -36,21 +37,33 @@ past_limit : (cutoff : Option ℕ) (limit dist : ℕ) → IsLimit cutoff limit �
 past_limit None limit dist is near past = absurd (omega (arith, is, near, past))
 past_limit (Some end) limit dist is near past = omega (arith, is, past)
 
+past_guess : (cutoff : Option ℕ) (limit guess : ℕ) → IsLimit cutoff limit → guess ≤ far → limit ≤ guess
+    → (guess ≡ far) ⊎ IsBeyond cutoff 0 guess
+past_guess None limit guess is near past = inl (omega (arith, is, near, past))
+past_guess (Some end) limit guess is near past = inr (omega (arith, is, past))
+
+-- the limit is not beyond what is far
+limit_far : (cutoff : Option ℕ) (limit : ℕ) → IsLimit cutoff limit → IfSome cutoff (λ dist. dist ≤ greatest_way)
+    → limit ≤ far
+limit_far None limit is small = omega (arith, is)
+limit_far (Some end) limit is small = omega (arith, is, small)
+
 -- all were compared
 pub nearest_of_all : (n : ℕ) (labels : List Label) (cutoff : Option ℕ) (waiting rest : ConsumerSet)
     (best : Option ℕ) (limit least : ℕ)
-    → IsLimit cutoff limit → AreWaiting n cutoff labels waiting → ((c : ℕ) → IsIn rest c → ⊥)
-    → ((c : ℕ) → IsIn waiting c → IsIn rest c ⊎ (least ≤ (label_at labels c).dist))
-    → IfSome best (λ b. IsIn waiting b × ((label_at labels b).dist ≡ least) × (least < limit))
-    → IfSome best (λ b. IsNearestOf n labels b × (IsBeyond cutoff 0 (label_at labels b).dist → ⊥))
-nearest_of_all n labels cutoff waiting rest None limit least is are empty compared found = tt
-nearest_of_all n labels cutoff waiting rest (Some b) limit least is are empty compared found =
+    → IsLimit cutoff limit → IfSome cutoff (λ dist. dist ≤ greatest_way) → AreWaiting n cutoff labels waiting
+    → ((c : ℕ) → IsIn rest c → ⊥)
+    → ((c : ℕ) → IsIn waiting c → IsIn rest c ⊎ (least ≤ reach_of (label_at labels c)))
+    → IfSome best (λ b. IsIn waiting b × (reach_of (label_at labels b) ≡ least) × (least < limit))
+    → IfSome best (λ b. IsNextOf n labels b × (IsBeyond cutoff 0 (reach_of (label_at labels b)) → ⊥))
+nearest_of_all n labels cutoff waiting rest None limit least is small are empty compared found = tt
+nearest_of_all n labels cutoff waiting rest (Some b) limit least is small are empty compared found =
     let lt : b < n = are.within b found.0 in
-    let waits = (are.at b lt).waits found.0 in (
+    let most : limit ≤ far = limit_far cutoff limit is small in (
       record {
         consumer = lt;
-        reached = waits.0;
-        not_closed = waits.1;
+        not_closed = (are.at b lt).waits found.0;
+        near = omega (arith, found.1, found.2, most);
         least = λ c ltc up is_open. elim ((are.at c ltc).each up is_open) [
           | inl waiting_still ↦ elim (compared c waiting_still) [
             | inl still ↦ absurd (empty c still)
@@ -59,8 +72,18 @@ nearest_of_all n labels cutoff waiting rest (Some b) limit least is are empty co
           | inr beyond ↦
               omega (arith, beyond_limit cutoff limit (label_at labels c).dist is beyond, found.1, found.2)
         ];
+        guesses = λ c ltc is_open. elim ((are.at c ltc).guesses is_open) [
+          | inl waiting_still ↦ elim (compared c waiting_still) [
+            | inl still ↦ absurd (empty c still)
+            | inr passed ↦ omega (arith, passed, found.1)
+          ]
+          | inr (inl none) ↦ omega (arith, none, most, found.1, found.2)
+          | inr (inr beyond) ↦
+              omega (arith, beyond_limit cutoff limit (label_at labels c).guess is beyond, found.1, found.2)
+        ];
       },
-      λ beyond. omega (arith, beyond_limit cutoff limit (label_at labels b).dist is beyond, found.1, found.2),
+      λ beyond.
+          omega (arith, beyond_limit cutoff limit (reach_of (label_at labels b)) is beyond, found.1, found.2),
     )
 
 -- and none was found
@@ -68,27 +91,38 @@ pub none_of_all : (n : ℕ) (labels : List Label) (cutoff : Option ℕ) (waiting
     (best : Option ℕ) (limit least : ℕ)
     → IsLimit cutoff limit → AreWaiting n cutoff labels waiting → ((c : ℕ) → IsIn rest c → ⊥)
     → ((c : ℕ) → c < n → 0 < (label_at labels c).hops → (label_at labels c).dist < far)
-    → ((c : ℕ) → IsIn waiting c → IsIn rest c ⊎ (least ≤ (label_at labels c).dist))
+    → ((c : ℕ) → c < n → (label_at labels c).guess ≤ far)
+    → ((c : ℕ) → IsIn waiting c → IsIn rest c ⊎ (least ≤ reach_of (label_at labels c)))
     → IfNone best (least ≡ limit) → IfNone best (AreDoneOf n cutoff labels)
-none_of_all n labels cutoff waiting rest (Some b) limit least is are empty near compared none = tt
-none_of_all n labels cutoff waiting rest None limit least is are empty near compared none = λ c lt up.
-    elim (cases_bool (label_at labels c).closed) [
-      | inl closed ↦ inl closed
-      | inr is_open ↦ elim ((are.at c lt).each up is_open) [
-        | inr beyond ↦ inr beyond
-        | inl waiting_still ↦ elim (compared c waiting_still) [
-          | inl still ↦ absurd (empty c still)
-          | inr passed ↦
-              inr (past_limit cutoff limit (label_at labels c).dist is (near c lt up) (omega (arith, passed, none)))
+none_of_all n labels cutoff waiting rest (Some b) limit least is are empty near hints compared none = tt
+none_of_all n labels cutoff waiting rest None limit least is are empty near hints compared none = record {
+  reached = λ c lt up.
+      elim (cases_bool (label_at labels c).closed) [
+        | inl closed ↦ inl closed
+        | inr is_open ↦ elim ((are.at c lt).each up is_open) [
+          | inr beyond ↦ inr beyond
+          | inl waiting_still ↦ elim (compared c waiting_still) [
+            | inl still ↦ absurd (empty c still)
+            | inr passed ↦
+                inr (past_limit cutoff limit (label_at labels c).dist is (near c lt up) (omega (arith, passed, none)))
+          ]
         ]
-      ]
+      ];
+  guesses = λ c lt is_open. elim ((are.at c lt).guesses is_open) [
+    | inr done ↦ done
+    | inl waiting_still ↦ elim (compared c waiting_still) [
+      | inl still ↦ absurd (empty c still)
+      | inr passed ↦
+          past_guess cutoff limit (label_at labels c).guess is (hints c lt) (omega (arith, passed, none))
     ]
+  ];
+}
 
 -- one that is no nearer than the cutoff waits no longer
 pub kept_less : (labels : List Label) (waiting kept next : ConsumerSet) (t limit : ℕ)
-    → IsWithout t kept next → limit ≤ (label_at labels t).dist
-    → ((c : ℕ) → IsIn waiting c → IsIn kept c ⊎ (limit ≤ (label_at labels c).dist))
-    → (c : ℕ) → IsIn waiting c → IsIn next c ⊎ (limit ≤ (label_at labels c).dist)
+    → IsWithout t kept next → limit ≤ reach_of (label_at labels t)
+    → ((c : ℕ) → IsIn waiting c → IsIn kept c ⊎ (limit ≤ reach_of (label_at labels c)))
+    → (c : ℕ) → IsIn waiting c → IsIn next c ⊎ (limit ≤ reach_of (label_at labels c))
 kept_less labels waiting kept next t limit without past are c is = elim (cases_eq c t) [
   | inl e ↦ inr (rw e past)
   | inr ne ↦ elim (are c is) [
@@ -100,10 +134,11 @@ kept_less labels waiting kept next t limit without past are c is = elim (cases_e
 -- those that still wait
 pub waiting_kept : (n : ℕ) (labels : List Label) (cutoff : Option ℕ) (old new : ConsumerSet) (limit : ℕ)
     → IsLimit cutoff limit → ((c : ℕ) → c < n → 0 < (label_at labels c).hops → (label_at labels c).dist < far)
+    → ((c : ℕ) → c < n → (label_at labels c).guess ≤ far)
     → ((c : ℕ) → IsIn new c → IsIn old c)
-    → ((c : ℕ) → IsIn old c → IsIn new c ⊎ (limit ≤ (label_at labels c).dist))
+    → ((c : ℕ) → IsIn old c → IsIn new c ⊎ (limit ≤ reach_of (label_at labels c)))
     → AreWaiting n cutoff labels old → AreWaiting n cutoff labels new
-waiting_kept n labels cutoff old new limit is near back kept are = record {
+waiting_kept n labels cutoff old new limit is near hints back kept are = record {
   within = λ c here. are.within c (back c here);
   at = λ c lt. record {
     waits = λ here. (are.at c lt).waits (back c here);
@@ -111,7 +146,15 @@ waiting_kept n labels cutoff old new limit is near back kept are = record {
       | inr beyond ↦ inr beyond
       | inl before ↦ elim (kept c before) [
         | inl still ↦ inl still
-        | inr past ↦ inr (past_limit cutoff limit (label_at labels c).dist is (near c lt up) past)
+        | inr past ↦
+            inr (past_limit cutoff limit (label_at labels c).dist is (near c lt up) (omega (arith, past)))
+      ]
+    ];
+    guesses = λ is_open. elim ((are.at c lt).guesses is_open) [
+      | inr done ↦ inr done
+      | inl before ↦ elim (kept c before) [
+        | inl still ↦ inl still
+        | inr past ↦ inr (past_guess cutoff limit (label_at labels c).guess is (hints c lt) (omega (arith, past)))
       ]
     ];
   };
@@ -128,6 +171,11 @@ waiting_later n labels old new set later are = record {
       | inl waits ↦ inl waits
       | inr beyond ↦ inr (later 0 (label_at labels c).dist beyond)
     ];
+    guesses = λ is_open. elim ((are.at c lt).guesses is_open) [
+      | inl waits ↦ inl waits
+      | inr (inl none) ↦ inr (inl none)
+      | inr (inr beyond) ↦ inr (inr (later 0 (label_at labels c).guess beyond))
+    ];
   };
 }
 
@@ -143,6 +191,7 @@ waiting_closing n cutoff labels old new t label lt closed without are = record {
         record {
           waits = λ is. absurd (without.gone is);
           each = λ up is_open. absurd (false≢true (sym is_open ∙ closed));
+          guesses = λ is_open. absurd (false≢true (sym is_open ∙ closed));
         }
         )
     | inr ne ↦
@@ -153,16 +202,20 @@ waiting_closing n cutoff labels old new t label lt closed without are = record {
             | inl was ↦ inl (without.kept c ne was)
             | inr beyond ↦ inr beyond
           ];
+          guesses = λ is_open. elim ((are.at c ltc).guesses is_open) [
+            | inl was ↦ inl (without.kept c ne was)
+            | inr done ↦ inr done
+          ];
         }
         )
   ];
 }
 
--- consumer b has a label by which it is reached, and open, and waits
+-- consumer b has a label by which it is open, and waits
 pub waiting_moved : (n : ℕ) (cutoff : Option ℕ) (labels : List Label) (old new : ConsumerSet) (b : ℕ) (label : Label)
-    → b < n → n ≡ length labels → 0 < label.hops → label.closed ≡ false → IsWith b old new → AreWaiting n cutoff labels old
+    → b < n → n ≡ length labels → label.closed ≡ false → IsWith b old new → AreWaiting n cutoff labels old
     → AreWaiting n cutoff (set labels b label) new
-waiting_moved n cutoff labels old new b label lt every up still_open is_with are = record {
+waiting_moved n cutoff labels old new b label lt every still_open is_with are = record {
   within = λ c is. elim (is_with.back c is) [
     | inl e ↦ rw e lt
     | inr was ↦ are.within c was
@@ -170,7 +223,11 @@ waiting_moved n cutoff labels old new b label lt every up still_open is_with are
   at = λ c ltc. elim (cases_eq c b) [
     | inl e ↦
         rw (e, get_or-set_same labels b label no_label (omega (arith, lt, every))) (
-        record { waits = λ is. (up, still_open); each = λ reached is_open. inl is_with.here }
+        record {
+          waits = λ is. still_open;
+          each = λ reached is_open. inl is_with.here;
+          guesses = λ is_open. inl is_with.here;
+        }
         )
     | inr ne ↦
         rw (get_or-set_other labels b c label no_label ne) (
@@ -182,6 +239,10 @@ waiting_moved n cutoff labels old new b label lt every up still_open is_with are
           each = λ reached is_open. elim ((are.at c ltc).each reached is_open) [
             | inl was ↦ inl (is_with.kept c was)
             | inr beyond ↦ inr beyond
+          ];
+          guesses = λ is_open. elim ((are.at c ltc).guesses is_open) [
+            | inl was ↦ inl (is_with.kept c was)
+            | inr done ↦ inr done
           ];
         }
         )
@@ -200,15 +261,16 @@ waiting_skips n m cutoff labels set le none are = record {
       each = λ up is_open. absurd (
           let hops : (label_at labels c).hops ≡ 0 = ap (λ l. l.hops) (none c (omega arith) lt) in omega arith
           );
+      guesses = λ is_open. inr (inl (ap (λ l. l.guess) (none c (omega arith) lt)));
     }
   ];
 }
 
 -- the next consumer is reached, and waits
 pub waiting_more : (n : ℕ) (cutoff : Option ℕ) (labels : List Label) (old new : ConsumerSet) (label : Label)
-    → n < length labels → 0 < label.hops → label.closed ≡ false → IsWith n old new → AreWaiting n cutoff labels old
+    → n < length labels → label.closed ≡ false → IsWith n old new → AreWaiting n cutoff labels old
     → AreWaiting (n + 1) cutoff (set labels n label) new
-waiting_more n cutoff labels old new label lt up still_open is_with are = record {
+waiting_more n cutoff labels old new label lt still_open is_with are = record {
   within = λ c is. elim (is_with.back c is) [
     | inl e ↦ omega arith
     | inr was ↦ omega (arith, are.within c was)
@@ -216,7 +278,11 @@ waiting_more n cutoff labels old new label lt up still_open is_with are = record
   at = λ c ltc. elim (cases_eq c n) [
     | inl e ↦
         rw (e, get_or-set_same labels n label no_label lt) (
-        record { waits = λ is. (up, still_open); each = λ reached is_open. inl is_with.here }
+        record {
+          waits = λ is. still_open;
+          each = λ reached is_open. inl is_with.here;
+          guesses = λ is_open. inl is_with.here;
+        }
         )
     | inr ne ↦
         rw (get_or-set_other labels n c label no_label ne) (
@@ -228,6 +294,47 @@ waiting_more n cutoff labels old new label lt up still_open is_with are = record
           each = λ reached is_open. elim ((are.at c (omega (arith, ltc, ne))).each reached is_open) [
             | inl was ↦ inl (is_with.kept c was)
             | inr beyond ↦ inr beyond
+          ];
+          guesses = λ is_open. elim ((are.at c (omega (arith, ltc, ne))).guesses is_open) [
+            | inl was ↦ inl (is_with.kept c was)
+            | inr done ↦ inr done
+          ];
+        }
+        )
+  ];
+}
+
+-- what was guessed of consumer b is forgotten: it waits on if it is reached
+pub waiting_forgot : (n : ℕ) (cutoff : Option ℕ) (labels : List Label) (old new : ConsumerSet) (b : ℕ)
+    → b < length labels → ((d : ℕ) → IsIn new d → IsIn old d)
+    → ((d : ℕ) → (d ≡ b → ⊥) ⊎ (0 < (label_at labels b).hops) → IsIn old d → IsIn new d)
+    → AreWaiting n cutoff labels old
+    → AreWaiting n cutoff (set labels b (record (label_at labels b) { guess = far })) new
+waiting_forgot n cutoff labels old new b lt back kept are = record {
+  within = λ c is. are.within c (back c is);
+  at = λ c ltc. elim (cases_eq c b) [
+    | inl e ↦
+        rw (e, get_or-set_same labels b (record (label_at labels b) { guess = far }) no_label lt) (
+        record {
+          waits = λ is. (are.at b (rw e at ltc)).waits (back b is);
+          each = λ up is_open. elim ((are.at b (rw e at ltc)).each up is_open) [
+            | inl was ↦ inl (kept b (inr up) was)
+            | inr beyond ↦ inr beyond
+          ];
+          guesses = λ is_open. inr (inl refl);
+        }
+        )
+    | inr ne ↦
+        rw (get_or-set_other labels b c (record (label_at labels b) { guess = far }) no_label ne) (
+        record {
+          waits = λ is. (are.at c ltc).waits (back c is);
+          each = λ up is_open. elim ((are.at c ltc).each up is_open) [
+            | inl was ↦ inl (kept c (inl ne) was)
+            | inr beyond ↦ inr beyond
+          ];
+          guesses = λ is_open. elim ((are.at c ltc).guesses is_open) [
+            | inl was ↦ inl (kept c (inl ne) was)
+            | inr done ↦ inr done
           ];
         }
         )

@@ -139,7 +139,7 @@ reached_closed : (p : Transport) (k : ℕ) (xs prices : List ℕ) (labels : List
 reached_closed p k xs prices labels stuck i c member allowed =
     elim member [
       | inl new ↦ stuck.lost.all_closed c allowed.0 (stuck.lost.search.new_offered c (rw (← new) allowed)).0
-      | inr stranded ↦ elim (stuck.lost.search.offered i c stranded.0 stranded.1 (λ e. allowed.0) allowed) [
+      | inr stranded ↦ elim (stuck.lost.covered i c stranded.0 stranded.1 allowed) [
         | inl within ↦ stuck.lost.all_closed c allowed.0 within.0
         | inr beyond ↦ absurd beyond
       ]

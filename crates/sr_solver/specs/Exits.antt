@@ -65,11 +65,17 @@ pub record AreComparable (exit : Exit) (pairs : List Bound) (prices : List ℕ) 
   pub few : length prices ≤ most_consumers
 
 -- the label of a consumer of this price to which the best of the entries moves that leave
-pub record IsMoved (exit : Exit) (known : Bound) (price before : ℕ) (label : Label) : Type 0 where
+pub record IsMoved (exit : Exit) (known : Bound) (price before noted : ℕ) (label : Label) : Type 0 where
   pub hops : label.hops ≡ before + 1
   pub dist : label.dist + exit.base ≡ exit.dist + (known.low + price)
   pub mover : label.mover ≡ known.best
   pub still_open : label.closed ≡ false
+  pub guess : label.guess ≡ noted
+
+-- how near entries that leave at this bound may come to a consumer of this price: no nearer than where they were
+pub record IsGuess (exit : Exit) (low price guess : ℕ) : Type 0 where
+  pub ahead : exit.dist ≤ guess
+  pub lower : (sum : ℕ) → low + price ≤ sum → exit.base ≤ sum → guess + exit.base ≤ exit.dist + sum
 
 -- what is known, exactly, of the entries that leave for consumer c, of which `at` tells: the best comes nearer
 pub record IsNearMover (p : Transport) (at : ℕ → Type 0) (exit : Exit) (c price : ℕ) (label : Label)

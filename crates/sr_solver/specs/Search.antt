@@ -8,7 +8,7 @@ use Rattle.sr_transport.specs.plain.Problem.{cost_at, cost_of, IsAllowed}
 use Rattle.sr_solver.specs.declared.label.Label.{Label}
 use Rattle.sr_solver.specs.declared.front.End.{End}
 use Rattle.sr_solver.specs.declared.stepped.Step.{Step}
-use Rattle.sr_solver.specs.Labels.{IsFirstLabel, label_at, open_count, priced}
+use Rattle.sr_solver.specs.Labels.{IsFirstLabel, label_at, open_count, reach_of, priced}
 use Rattle.sr_solver.specs.Cutoff.{IsBeyond, IsShortest, AreFull}
 use Rattle.sr_solver.specs.Limits.{far}
 
@@ -42,6 +42,16 @@ abbrev pub IsCovered : Transport → List ℕ → Option ℕ → List Label → 
 IsCovered p prices cutoff labels dist base i c =
     IsWithin p prices labels dist base i c ⊎ IsBeyond cutoff base (dist + priced p prices i c)
 
+-- or consumer c is open, and the entry comes there no nearer than is guessed
+abbrev pub IsGuessed : Transport → List ℕ → List Label → ℕ → ℕ → ℕ → ℕ → Type 0
+IsGuessed p prices labels dist base i c =
+    ((label_at labels c).closed ≡ false) × ((label_at labels c).guess + base ≤ dist + priced p prices i c)
+
+-- what is known of an entry that was offered to consumer c
+abbrev pub IsOffered : Transport → List ℕ → Option ℕ → List Label → ℕ → ℕ → ℕ → ℕ → Type 0
+IsOffered p prices cutoff labels dist base i c =
+    IsCovered p prices cutoff labels dist base i c ⊎ IsGuessed p prices labels dist base i c
+
 -- the search, where the entries at consumer t are offered to the consumers below `upto`, and those at each other closed
 -- consumer to all
 pub record IsSearch (p : Transport) (k : ℕ) (xs prices : List ℕ) (cutoff : Option ℕ) (labels : List Label)
@@ -58,15 +68,24 @@ pub record IsSearch (p : Transport) (k : ℕ) (xs prices : List ℕ) (cutoff : O
   pub nearer : (c d : ℕ) → c < consumers p → d < consumers p → (label_at labels c).closed ≡ true
       → (label_at labels d).closed ≡ false → 0 < (label_at labels d).hops
       → (label_at labels c).dist ≤ (label_at labels d).dist
-  pub latest : (c : ℕ) → c < consumers p → (label_at labels c).closed ≡ true → t < consumers p
-      → (label_at labels c).dist ≤ (label_at labels t).dist
+  pub ahead : (c d : ℕ) → c < consumers p → d < consumers p → (label_at labels c).closed ≡ true
+      → (label_at labels d).closed ≡ false → (label_at labels c).dist ≤ (label_at labels d).guess
+  pub hints : (c : ℕ) → c < consumers p → (label_at labels c).guess ≤ far
   pub unreached : (c : ℕ) → c < consumers p → (label_at labels c).hops ≡ 0 → (label_at labels c).dist ≡ far
   pub new_offered : (c : ℕ) → IsAllowed p k c → IsWithin p prices labels 0 0 k c
   pub offered : (i c : ℕ) → i < k → (label_at labels (slice_index xs i)).closed ≡ true
       → (slice_index xs i ≡ t → c < upto)
       → IsAllowed p i c
-      → IsCovered p prices cutoff labels (label_at labels (slice_index xs i)).dist
+      → IsOffered p prices cutoff labels (label_at labels (slice_index xs i)).dist
       (priced p prices i (slice_index xs i)) i c
+
+-- no guess is left that matters: each entry at a closed consumer is within the reach of those that it is allowed, or
+-- comes no nearer than the cutoff
+abbrev pub AreCovered : Transport → ℕ → List ℕ → List ℕ → Option ℕ → List Label → Type 0
+AreCovered p k xs prices cutoff labels =
+    (i c : ℕ) → i < k → (label_at labels (slice_index xs i)).closed ≡ true → IsAllowed p i c
+    → IsCovered p prices cutoff labels (label_at labels (slice_index xs i)).dist (priced p prices i (slice_index xs i))
+    i c
 
 -- of n consumers, t is the nearest of those that are reached and not closed
 pub record IsNearestOf (n : ℕ) (labels : List Label) (t : ℕ) : Type 0 where
@@ -75,6 +94,17 @@ pub record IsNearestOf (n : ℕ) (labels : List Label) (t : ℕ) : Type 0 where
   pub not_closed : (label_at labels t).closed ≡ false
   pub least : (c : ℕ) → c < n → 0 < (label_at labels c).hops → (label_at labels c).closed ≡ false
       → (label_at labels t).dist ≤ (label_at labels c).dist
+  pub guesses : (c : ℕ) → c < n → (label_at labels c).closed ≡ false → (label_at labels t).dist ≤ (label_at labels c).guess
+
+-- of n consumers none that is open may be nearer than t, by its label or by what is guessed
+pub record IsNextOf (n : ℕ) (labels : List Label) (t : ℕ) : Type 0 where
+  pub consumer : t < n
+  pub not_closed : (label_at labels t).closed ≡ false
+  pub near : reach_of (label_at labels t) < far
+  pub least : (c : ℕ) → c < n → 0 < (label_at labels c).hops → (label_at labels c).closed ≡ false
+      → reach_of (label_at labels t) ≤ (label_at labels c).dist
+  pub guesses : (c : ℕ) → c < n → (label_at labels c).closed ≡ false
+      → reach_of (label_at labels t) ≤ (label_at labels c).guess
 
 -- of all
 abbrev pub IsNearest : Transport → List Label → ℕ → Type 0
@@ -84,11 +114,12 @@ IsNearest p labels t = IsNearestOf (consumers p) labels t
 abbrev pub AreAllClosedOf : ℕ → List Label → Type 0
 AreAllClosedOf n labels = (c : ℕ) → c < n → 0 < (label_at labels c).hops → (label_at labels c).closed ≡ true
 
--- each of n consumers that is reached is closed, or no nearer than the cutoff
-abbrev pub AreDoneOf : ℕ → Option ℕ → List Label → Type 0
-AreDoneOf n cutoff labels =
-    (c : ℕ) → c < n → 0 < (label_at labels c).hops
-    → ((label_at labels c).closed ≡ true) ⊎ IsBeyond cutoff 0 (label_at labels c).dist
+-- each of n consumers that is reached is closed, or no nearer than the cutoff; and no guess is nearer
+pub record AreDoneOf (n : ℕ) (cutoff : Option ℕ) (labels : List Label) : Type 0 where
+  pub reached : (c : ℕ) → c < n → 0 < (label_at labels c).hops
+      → ((label_at labels c).closed ≡ true) ⊎ IsBeyond cutoff 0 (label_at labels c).dist
+  pub guesses : (c : ℕ) → c < n → (label_at labels c).closed ≡ false
+      → ((label_at labels c).guess ≡ far) ⊎ IsBeyond cutoff 0 (label_at labels c).guess
 
 -- none at all
 abbrev pub AreAllClosed : Transport → List Label → Type 0
@@ -98,11 +129,23 @@ AreAllClosed p labels = AreAllClosedOf (consumers p) labels
 abbrev pub IsRound : Transport → ℕ → List ℕ → List ℕ → Option ℕ → List Label → Type 0
 IsRound p k xs prices cutoff labels = IsSearch p k xs prices cutoff labels (consumers p) (consumers p)
 
+-- no closed consumer is farther than consumer t
+abbrev pub IsLatest : Transport → List Label → ℕ → Type 0
+IsLatest p labels t =
+    (c : ℕ) → c < consumers p → (label_at labels c).closed ≡ true → (label_at labels c).dist ≤ (label_at labels t).dist
+
+-- no entry at consumer t comes nearer to consumer b than any closed consumer is
+abbrev pub ComesAfter : Transport → ℕ → List ℕ → List ℕ → List Label → ℕ → ℕ → Type 0
+ComesAfter p k xs prices labels t b =
+    (i c : ℕ) → i < k → slice_index xs i ≡ t → IsAllowed p i b → c < consumers p → (label_at labels c).closed ≡ true
+    → (label_at labels c).dist + priced p prices i t ≤ (label_at labels t).dist + priced p prices i b
+
 -- the search after consumer t is closed, and its entries are offered to the consumers below `upto`
 pub record IsClosed (p : Transport) (k : ℕ) (xs prices : List ℕ) (cutoff : Option ℕ) (old new : List Label)
     (t upto : ℕ) : Type 0 where
   pub search : IsSearch p k xs prices cutoff new t upto
   pub closed : (label_at new t).closed ≡ true
+  pub latest : IsLatest p new t
   pub fewer : open_count new < open_count old
 
 -- the label of consumer c stays where the entries at consumer t are offered: it is closed, or none of them comes
@@ -124,6 +167,7 @@ pub record IsNewAt (p : Transport) (k : ℕ) (xs prices : List ℕ) (t : ℕ) (o
   pub dist : (label_at new c).dist + priced p prices (label_at new c).mover t
       ≡ (label_at old t).dist + priced p prices (label_at new c).mover c
   pub nearer : 0 < (label_at old c).hops → (label_at new c).dist ≤ (label_at old c).dist
+  pub guess : (label_at new c).guess ≡ (label_at old c).guess
   pub least : (i : ℕ) → i < k → slice_index xs i ≡ t → IsAllowed p i c
       → cost_of p (label_at new c).mover c + cost_of p i t ≤ cost_of p i c + cost_of p (label_at new c).mover t
 
@@ -132,6 +176,17 @@ pub record IsAsked (p : Transport) (k : ℕ) (xs prices : List ℕ) (cutoff : Op
     (old new : List Label) : Type 0 where
   pub one_each : length new ≡ length old
   pub here : IsLeftAt p k xs prices cutoff t old new c ⊎ IsNewAt p k xs prices t old new c
+  pub others : (d : ℕ) → (d ≡ c → ⊥) → label_at new d ≡ label_at old d
+
+-- or what is guessed of consumer c covers them, and is no nearer than any closed consumer
+pub record IsGuessing (p : Transport) (k : ℕ) (xs prices : List ℕ) (t c : ℕ) (old new : List Label) : Type 0 where
+  pub one_each : length new ≡ length old
+  pub was_open : (label_at old c).closed ≡ false
+  pub same : label_at new c ≡ record (label_at old c) { guess = (label_at new c).guess }
+  pub lower : (label_at new c).guess ≤ (label_at old c).guess
+  pub ahead : (d : ℕ) → d < consumers p → (label_at old d).closed ≡ true → (label_at old d).dist ≤ (label_at new c).guess
+  pub covers : (i : ℕ) → i < k → slice_index xs i ≡ t → IsAllowed p i c
+      → (label_at new c).guess + priced p prices i t ≤ (label_at old t).dist + priced p prices i c
   pub others : (d : ℕ) → (d ≡ c → ⊥) → label_at new d ≡ label_at old d
 
 -- the labels stay, or the entries at consumer t were offered to one consumer
@@ -145,12 +200,14 @@ pub record IsEnd (p : Transport) (steps : List Step) (k : ℕ) (xs prices : List
   pub shortest : IsShortest p steps xs prices labels (consumers p) end
   pub far : (c : ℕ) → c < consumers p → 0 < (label_at labels c).hops → (label_at labels c).closed ≡ false
       → end.dist ≤ (label_at labels c).dist
+  pub covered : AreCovered p k xs prices (Some end.dist) labels
 
 -- the search ended with no path, and no cutoff
 pub record IsLost (p : Transport) (k : ℕ) (xs prices : List ℕ) (labels : List Label) : Type 0 where
   pub search : IsRound p k xs prices None labels
   pub all_closed : AreAllClosed p labels
   pub full : AreFull p xs labels (consumers p)
+  pub covered : AreCovered p k xs prices None labels
 
 -- how a search ends
 abbrev pub IsFound : Transport → List Step → ℕ → List ℕ → List ℕ → List Label → Option End → Type 0

@@ -1,6 +1,6 @@
 -- An entry that looks for a place, and what its search knows of the consumers.
 
-use Rattle.std.specs.Prelude.{◌≡◌, ℕ, ◌<◌, List, slice_index, Option, true}
+use Rattle.std.specs.Prelude.{◌≡◌, ℕ, ◌<◌, ◌⊎◌, List, slice_index, Option, true}
 use Rattle.sr_transport.specs.{consumers}
 use Rattle.sr_solver.specs.declared.front.End.{End}
 use Rattle.sr_solver.specs.declared.front.Exit.{Exit}
@@ -13,7 +13,7 @@ use Rattle.sr_solver.specs.Placed.{IsStanding}
 use Rattle.sr_solver.specs.Table.{IsAt, IsTable}
 use Rattle.sr_solver.specs.Cutoff.{length_of, IsCutoff, IsNoLater}
 use Rattle.sr_solver.specs.Sets.{AreWaiting}
-use Rattle.sr_solver.specs.Search.{IsSearch, IsFound}
+use Rattle.sr_solver.specs.Search.{IsSearch, IsFound, IsAsked, IsGuessing}
 use Rattle.sr_solver.specs.Exits.{IsExit}
 
 -- the entry is one of the problem, and those before it stand where the placement says
@@ -59,6 +59,14 @@ pub record IsExitFrom (s : Seeker) (front : Front) (exit : Exit) : Type 0 where
   pub closed : (label_at front.labels.items exit.consumer).closed ≡ true
   pub leaves : IsExit exit.consumer (label_at front.labels.items exit.consumer).dist
       (slice_index s.placement.now.prices.items exit.consumer) (length_of front.cutoff) exit
+
+-- the entries at consumer t were offered to consumer c: they were asked, or it is guessed how near they come
+abbrev pub IsOfferedTo : Seeker → Front → Front → ℕ → ℕ → Type 0
+IsOfferedTo s old new t c =
+    IsAsked s.problem.now.columns s.entry s.placement.now.assign.items s.placement.now.prices.items
+    (length_of old.cutoff) t c old.labels.items new.labels.items
+    ⊎ IsGuessing s.problem.now.columns s.entry s.placement.now.assign.items s.placement.now.prices.items t c
+    old.labels.items new.labels.items
 
 -- what it knows once entries were offered to a consumer: the cutoff is no later
 pub record IsFrontAfter (s : Seeker) (old new : Front) : Type 0 where

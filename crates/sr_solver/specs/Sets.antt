@@ -7,6 +7,7 @@ use Rattle.sr_solver.specs.declared.label.Label.{Label}
 use Rattle.sr_solver.specs.declared.set.ConsumerSet.{ConsumerSet}
 use Rattle.sr_solver.specs.Cutoff.{IsBeyond}
 use Rattle.sr_solver.specs.Labels.{label_at}
+use Rattle.sr_solver.specs.Limits.{far}
 
 -- consumer c is in the set
 abbrev pub IsIn : ConsumerSet → ℕ → Type 0
@@ -29,13 +30,15 @@ pub record IsWithout (c : ℕ) (old new : ConsumerSet) : Type 0 where
   pub back : (d : ℕ) → IsIn new d → IsIn old d
   pub less : IsIn old c → new.bits < old.bits
 
--- whether consumer c, which has this label, is reached and open, and so in the set of those that wait; it may be left
--- out if the way there is no shorter than the cutoff
+-- whether consumer c, which has this label, waits: only if it is open, and if it is reached, or there is a guess, that is
+-- nearer than the cutoff
 pub record IsWaitingAt (cutoff : Option ℕ) (label : Label) (set : ConsumerSet) (c : ℕ) : Type 0 where
-  pub waits : IsIn set c → (0 < label.hops) × (label.closed ≡ false)
+  pub waits : IsIn set c → label.closed ≡ false
   pub each : 0 < label.hops → label.closed ≡ false → IsIn set c ⊎ IsBeyond cutoff 0 label.dist
+  pub guesses : label.closed ≡ false → IsIn set c ⊎ (label.guess ≡ far) ⊎ IsBeyond cutoff 0 label.guess
 
--- of n consumers those in the set are reached and open, and no others are that are nearer than the cutoff
+-- of n consumers those in the set are open, and each other one that is reached, or of which there is a guess, is closed
+-- or no nearer than the cutoff
 pub record AreWaiting (n : ℕ) (cutoff : Option ℕ) (labels : List Label) (set : ConsumerSet) : Type 0 where
   pub within : (c : ℕ) → IsIn set c → c < n
   pub at : (c : ℕ) → c < n → IsWaitingAt cutoff (label_at labels c) set c

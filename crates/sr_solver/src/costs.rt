@@ -162,6 +162,11 @@ impl<'a> Costs<'a> {
     ghost use Rattle.sr_transport.specs.plain.Problem.{IsWithinLimits, consumers, cost_at, IsAllowed};
     ghost use Rattle.sr_solver.specs.Pairs.{IsRowOf, AreSetsOf};
 
+    /// Whether the allowed pairs are kept.
+    pub fn is_sparse(&self) -> bool {
+        self.pairs.is_some()
+    }
+
     /// For each entry the consumers that it is allowed, if the pairs are kept and the entries are in their order.
     pub fn sets(&self) -> Option<&'a [ConsumerSet]>
         ensures { IfSome result (λ sets. AreSetsOf self.now sets.now) }

@@ -1,7 +1,7 @@
 //! What a search knows of the consumers, and where an entry that leaves one of them comes nearer than is known.
 ghost use Rattle.std.specs.Prelude.{◌≡◌, ℕ, ◌+◌, ◌<◌, ◌≤◌, ◌^◌, length, IfOk, IfSome, IfNone, true, false};
 ghost use Rattle.sr_solver.specs.Limits.{greatest_way, far, unbounded};
-ghost use Rattle.sr_solver.specs.Exits.{IsExit, IsNearer, IsNoNearer, IsNearerAt, IsNoNearerAt, AreNoNearer, IsMoved};
+ghost use Rattle.sr_solver.specs.Exits.{IsExit, IsNearer, IsNoNearer, IsNearerAt, IsNoNearerAt, AreNoNearer, IsMoved, IsGuess};
 ghost use Rattle.sr_solver.specs.Exits.{AreComparable};
 ghost use Rattle.sr_transport.specs.{greatest_charge};
 
@@ -24,10 +24,13 @@ pub struct End {
 pub struct Front {
     /// The label of each consumer.
     pub labels: Vec<Label>,
-    /// The consumers that are reached, and not closed. One that is no nearer than the cutoff need not be among them.
+    /// The consumers that wait: open ones that are reached, or of which there is a guess. One that is no nearer than the
+    /// cutoff need not be among them.
     pub waiting: ConsumerSet,
     /// Where the shortest path ends that was found to a consumer with room, if there is one.
     pub cutoff: Option<End>,
+    /// How many offers may still be made in this search before others are guessed.
+    pub patience: usize,
 }
 
 /// The front of a search that has not begun.
@@ -39,6 +42,7 @@ pub fn fresh_front(alloc: Global, consumers: usize) -> Result<Front, AllocError>
         labels,
         waiting: ConsumerSet::none(),
         cutoff: None,
+        patience: 0,
     })
 }
 
@@ -146,19 +150,34 @@ pub fn next_nearer(
 }
 
 /// The label of a consumer of this price once the best of the entries that leave moves there, after `hops` others have
-/// moved.
-pub fn moved(exit: Exit, known: Bound, price: u64, hops: usize) -> Label
+/// moved. What is guessed of others stays.
+pub fn moved(exit: Exit, known: Bound, price: u64, hops: usize, guess: u64) -> Label
     requires low { known.low ≤ unbounded }
     requires price { price ≤ greatest_way }
     requires dist { exit.dist ≤ greatest_way }
     requires above { exit.base ≤ exit.dist + (known.low + price) }
     requires hops { hops < 2 ^ 32 }
-    ensures { IsMoved exit known price hops result }
+    ensures { IsMoved exit known price hops guess result }
 {
     Label {
         hops: hops + 1,
         dist: exit.dist + (known.low + price) - exit.base,
         mover: known.best,
         closed: false,
+        guess,
     }
+}
+
+/// No entry that leaves comes nearer than this to a consumer of this price, where its bound is `low`. It is no nearer than
+/// the consumer that they leave.
+pub fn guessed(exit: Exit, low: u64, price: u64) -> u64
+    requires low { low ≤ unbounded }
+    requires price { price ≤ greatest_way }
+    requires dist { exit.dist ≤ greatest_way }
+    ensures { IsGuess exit low price result }
+{
+    if low + price < exit.base {
+        return exit.dist;
+    }
+    exit.dist + (low + price - exit.base)
 }

@@ -1,7 +1,7 @@
 ghost use Rattle.std.specs.Prelude.{◌≡◌, ◌+◌, ◌≤◌, IfSome};
 ghost use Rattle.sr_transport.specs.{greatest_charge};
 ghost use Rattle.sr_solver.specs.Limits.{greatest_way};
-ghost use Rattle.sr_solver.specs.Labels.{unreached, IsFirstLabel};
+ghost use Rattle.sr_solver.specs.Labels.{unreached, reach_of, IsFirstLabel};
 
 /// Greater than the length of any path.
 pub const FAR: u64 = 1 << 63;
@@ -17,6 +17,8 @@ pub struct Label {
     pub mover: usize,
     /// Whether the entries that stand at it have been offered to the other consumers.
     pub closed: bool,
+    /// No entry that was offered, but not looked for, comes nearer than this; `FAR` if there is none.
+    pub guess: u64,
 }
 
 impl Label {
@@ -29,7 +31,15 @@ impl Label {
             dist: FAR,
             mover: 0,
             closed: false,
+            guess: FAR,
         }
+    }
+
+    /// How near a consumer may be: by the path that is known, or by one that is guessed.
+    pub fn reach(self) -> u64
+        ensures { result ≡ reach_of self }
+    {
+        self.dist.min(self.guess)
     }
 }
 
@@ -48,5 +58,6 @@ pub fn first_label(cost: Option<u64>, price: u64, entry: usize) -> Label
         dist: cost + price,
         mover: entry,
         closed: false,
+        guess: FAR,
     }
 }

@@ -1,25 +1,29 @@
-ghost use Rattle.std.specs.Prelude.{◌≡◌, ℕ, ◌+◌, ◌<◌, ◌≤◌, ◌↔◌, length, slice_index, IfSome, IfNone, None};
+ghost use Rattle.std.specs.Prelude.{◌≡◌, ℕ, ◌+◌, ◌<◌, ◌≤◌, ◌↔◌, length, slice_index, slice_set, min, IfSome, IfNone, None};
 ghost use Rattle.std.specs.Prelude.{true, false};
 ghost use Rattle.sr_transport.specs.{greatest_charge, consumers};
 ghost use Rattle.sr_transport.specs.Limits.{most_consumers, greatest_fee};
 ghost use Rattle.sr_solver.specs.Limits.{greatest_way, far};
-ghost use Rattle.sr_solver.specs.Labels.{unreached, label_at, open_count, IsFarOrReached};
+ghost use Rattle.sr_solver.specs.Labels.{unreached, label_at, open_count, guess_count, reach_of, IsFarOrReached};
 ghost use Rattle.sr_solver.specs.Placed.{IsStanding};
 ghost use Rattle.sr_solver.specs.Cutoff.{length_of, IsBeyond, IsLimit, IsCutoff, IsCut};
 ghost use Rattle.sr_solver.specs.Exits.{IsNearMover, HasNoMover};
-ghost use Rattle.sr_solver.specs.Sets.{AreWaiting};
+ghost use Rattle.sr_solver.specs.Sets.{IsWith, IsWithout, AreWaiting};
 ghost use Rattle.sr_solver.specs.Pairs.{IsRowOf};
-ghost use Rattle.sr_solver.specs.Search.{IsStarted, IsNearest, IsNearestOf, AreDoneOf, IsAsked, MayBeAsked};
+ghost use Rattle.sr_solver.specs.Search.{IsStarted, IsNearest, IsNextOf, AreDoneOf, IsLatest, ComesAfter, IsAsked, MayBeAsked};
 ghost use Rattle.sr_solver.specs.Seekers.{IsSeeker, IsTableFor, StandsAt, IsCutoffFor, IsFoundBy, IsFrontAt};
-ghost use Rattle.sr_solver.specs.Seekers.{IsFrontBetween, IsExitFrom, IsFrontAfter};
+ghost use Rattle.sr_solver.specs.Seekers.{IsFrontBetween, IsExitFrom, IsFrontAfter, IsOfferedTo};
 
-use crate::front::{End, Exit, Front, exit_of, is_nearer, moved, next_nearer};
+use crate::costs::Costs;
+use crate::front::{End, Exit, Front, exit_of, guessed, is_nearer, moved, next_nearer};
 use crate::label::{FAR, Label, first_label};
 use crate::pairs::Row;
 use crate::placement::Placement;
 use crate::set::ConsumerSet;
 use crate::stepped::Stepped;
 use crate::table::{Bound, Table, least_mover, look_over};
+
+/// After so many offers in a search an entry that is not known is not looked for at once. Most searches make fewer.
+const PATIENCE: usize = 192;
 
 /// An entry that looks for a place, where those before it have theirs.
 #[derive(Drop)]
@@ -44,7 +48,12 @@ pub fn search(seeker: &Seeker<'_>, table: &mut Table, front: &mut Front) -> Opti
 {
     start(seeker, front);
     while let Some(near) = nearest(front) {
-        close(seeker, near, table, front);
+        let label = front.labels[near];
+        if label.guess < label.dist {
+            settle(seeker, near, table, front);
+        } else {
+            close(seeker, near, table, front);
+        }
     }
     front.cutoff
 }
@@ -60,6 +69,7 @@ fn start(seeker: &Seeker<'_>, front: &mut Front)
     ensures cutoff { IsCutoffFor seeker.now front.new.labels.items front.new.cutoff }
 {
     let (problem, placement) = (seeker.problem, seeker.placement);
+    front.patience = patience(&problem.columns);
     if let Some(row) = problem.columns.row(seeker.entry) {
         let cutoff = start_in_row(problem, row, placement, front);
         front.cutoff = cutoff;
@@ -68,6 +78,16 @@ fn start(seeker: &Seeker<'_>, front: &mut Front)
     let cutoff = first_labels(problem, seeker.entry, placement, &mut front.labels);
     front.waiting = reached(&front.labels);
     front.cutoff = cutoff;
+}
+
+/// After how many offers a search guesses. If few pairs are allowed it never does: few entries are looked for then, and
+/// each in little time.
+fn patience(problem: &Costs<'_>) -> usize {
+    if problem.is_sparse() {
+        usize::MAX
+    } else {
+        PATIENCE
+    }
 }
 
 /// Labels each consumer as the new entry itself reaches it; gives the first cutoff.
@@ -142,6 +162,7 @@ fn forget(labels: &mut [Label])
 fn reached(labels: &[Label]) -> ConsumerSet
     requires few { length labels.now ≤ most_consumers }
     requires opened { (c : ℕ) → c < length labels.now → (label_at labels.now c).closed ≡ false }
+    requires no_guess { (c : ℕ) → c < length labels.now → (label_at labels.now c).guess ≡ far }
     ensures { AreWaiting (length labels.now) None labels.now result }
 {
     let mut waiting = ConsumerSet::none();
@@ -195,11 +216,15 @@ fn limit(cutoff: Option<End>) -> u64
     end.dist
 }
 
-/// The nearest of the consumers that wait, if it is nearer than the cutoff. Those that are not wait no longer.
+/// The nearest of the consumers that wait, by its label or by what is guessed, if it is nearer than the cutoff. Those that
+/// are not wait no longer.
 fn nearest(front: &mut Front) -> Option<usize>
     requires few { length front.old.labels.items ≤ most_consumers }
     requires marked { (c : ℕ) → c < length front.old.labels.items
         → IsFarOrReached (label_at front.old.labels.items c) }
+    requires hints { (c : ℕ) → c < length front.old.labels.items
+        → (label_at front.old.labels.items c).guess ≤ far }
+    requires cutoff { IfSome (length_of front.old.cutoff) (λ dist. dist ≤ greatest_way) }
     requires waiting { AreWaiting (length front.old.labels.items) (length_of front.old.cutoff)
         front.old.labels.items front.old.waiting }
     ensures labels { front.new.labels ≡ front.old.labels }
@@ -207,8 +232,8 @@ fn nearest(front: &mut Front) -> Option<usize>
     ensures waiting { AreWaiting (length front.old.labels.items) (length_of front.old.cutoff)
         front.old.labels.items front.new.waiting }
     ensures some { IfSome result (λ near.
-        IsNearestOf (length front.old.labels.items) front.old.labels.items near
-        × (IsBeyond (length_of front.old.cutoff) 0 (label_at front.old.labels.items near).dist → ⊥)) }
+        IsNextOf (length front.old.labels.items) front.old.labels.items near
+        × (IsBeyond (length_of front.old.cutoff) 0 (reach_of (label_at front.old.labels.items near)) → ⊥)) }
     ensures none { IfNone result
         (AreDoneOf (length front.old.labels.items) (length_of front.old.cutoff) front.old.labels.items) }
 {
@@ -218,13 +243,13 @@ fn nearest(front: &mut Front) -> Option<usize>
     let mut least = limit;
     while let Some(consumer) = rest.first() {
         rest = rest.without(consumer);
-        let dist = front.labels[consumer].dist;
-        if limit <= dist {
+        let reach = front.labels[consumer].reach();
+        if limit <= reach {
             front.waiting = front.waiting.without(consumer);
         }
-        if dist < least {
+        if reach < least {
             best = Some(consumer);
-            least = dist;
+            least = reach;
         }
     }
     best
@@ -261,9 +286,103 @@ fn close(seeker: &Seeker<'_>, near: usize, table: &mut Table, front: &mut Front)
         &placement.prices,
         &front.labels,
     ) {
-        ask(seeker, exit, other, table, front);
+        offer(seeker, exit, other, table, front);
         exit = exit_of(near, label.dist, price, dist_of(front.cutoff));
         first = other + 1;
+    }
+}
+
+/// Offers the entries that leave to the consumer `other`. After many offers in this search, if the one that leaves for the
+/// least more is not known, it is looked for only if a path may end there, and else a guess is noted.
+fn offer(seeker: &Seeker<'_>, exit: Exit, other: usize, table: &mut Table, front: &mut Front)
+    requires seeker { IsSeeker seeker.now }
+    requires other { other < consumers seeker.now.problem.now.columns }
+    requires table { IsTableFor seeker.now table.old }
+    requires front { IsFrontAt seeker.now exit.consumer 0 front.old }
+    requires exit { IsExitFrom seeker.now front.old exit }
+    requires is_open { (label_at front.old.labels.items other).closed ≡ false }
+    requires latest { IsLatest seeker.now.problem.now.columns front.old.labels.items exit.consumer }
+    ensures table { IsTableFor seeker.now table.new }
+    ensures front { IsFrontAfter seeker.now front.old front.new }
+    ensures offered { IsOfferedTo seeker.now front.old front.new exit.consumer other }
+{
+    if front.patience != 0 {
+        front.patience -= 1;
+        ask(seeker, exit, other, table, front);
+        return;
+    }
+    let columns = &seeker.problem.columns;
+    let bound = table.pairs[exit.consumer * columns.consumers() + other];
+    let is_full = columns.room(other) <= seeker.placement.loads[other];
+    if columns.entries() <= bound.best && is_full {
+        let dist = guessed(exit, bound.low, seeker.placement.prices[other]);
+        guess(other, dist, front);
+        return;
+    }
+    ask(seeker, exit, other, table, front);
+}
+
+/// Notes that an entry that was not looked for comes no nearer to a consumer than this.
+fn guess(consumer: usize, dist: u64, front: &mut Front)
+    requires consumer { consumer < length front.old.labels.items }
+    requires few { length front.old.labels.items ≤ most_consumers }
+    ensures labels { front.new.labels.items ≡ slice_set front.old.labels.items consumer
+        (record (label_at front.old.labels.items consumer)
+        { guess = min (label_at front.old.labels.items consumer).guess dist }) }
+    ensures waiting { IsWith consumer front.old.waiting front.new.waiting }
+    ensures cutoff { front.new.cutoff ≡ front.old.cutoff }
+{
+    let label = front.labels[consumer];
+    front.labels[consumer] = Label {
+        guess: label.guess.min(dist),
+        ..label
+    };
+    front.waiting = front.waiting.with(consumer);
+}
+
+/// Looks for the entries of which something is guessed at a consumer: those at each closed one are offered to it.
+fn settle(seeker: &Seeker<'_>, near: usize, table: &mut Table, front: &mut Front)
+    requires seeker { IsSeeker seeker.now }
+    requires table { IsTableFor seeker.now table.old }
+    requires front { IsFrontBetween seeker.now front.old }
+    requires near { near < consumers seeker.now.problem.now.columns }
+    requires is_open { (label_at front.old.labels.items near).closed ≡ false }
+    requires guess { (label_at front.old.labels.items near).guess < far }
+    ensures table { IsTableFor seeker.now table.new }
+    ensures front { IsFrontBetween seeker.now front.new }
+    ensures opened { open_count front.new.labels.items ≡ open_count front.old.labels.items }
+    ensures fewer { guess_count front.new.labels.items < guess_count front.old.labels.items }
+{
+    for from in 0..seeker.problem.columns.consumers() {
+        if !front.labels[from].closed {
+            continue;
+        }
+        let dist = front.labels[from].dist;
+        let price = seeker.placement.prices[from];
+        let exit = exit_of(from, dist, price, dist_of(front.cutoff));
+        ask(seeker, exit, near, table, front);
+    }
+    forget_guess(near, front);
+}
+
+/// Forgets what was guessed of a consumer. If it is not reached either, it waits no longer.
+fn forget_guess(consumer: usize, front: &mut Front)
+    requires consumer { consumer < length front.old.labels.items }
+    requires few { length front.old.labels.items ≤ most_consumers }
+    ensures labels { front.new.labels.items ≡ slice_set front.old.labels.items consumer
+        (record (label_at front.old.labels.items consumer) { guess = far }) }
+    ensures reached { 0 < (label_at front.old.labels.items consumer).hops → front.new.waiting ≡ front.old.waiting }
+    ensures unreached { (label_at front.old.labels.items consumer).hops ≡ 0
+        → IsWithout consumer front.old.waiting front.new.waiting }
+    ensures cutoff { front.new.cutoff ≡ front.old.cutoff }
+{
+    let label = front.labels[consumer];
+    front.labels[consumer] = Label {
+        guess: FAR,
+        ..label
+    };
+    if label.hops == 0 {
+        front.waiting = front.waiting.without(consumer);
     }
 }
 
@@ -274,6 +393,7 @@ fn ask_end(seeker: &Seeker<'_>, exit: Exit, table: &mut Table, front: &mut Front
     requires table { IsTableFor seeker.now table.old }
     requires front { IsFrontAt seeker.now exit.consumer 0 front.old }
     requires exit { IsExitFrom seeker.now front.old exit }
+    requires latest { IsLatest seeker.now.problem.now.columns front.old.labels.items exit.consumer }
     ensures table { IsTableFor seeker.now table.new }
     ensures front { IsFrontAfter seeker.now front.old front.new }
     ensures asked { MayBeAsked seeker.now.problem.now.columns seeker.now.entry
@@ -292,6 +412,9 @@ fn ask(seeker: &Seeker<'_>, exit: Exit, other: usize, table: &mut Table, front: 
     requires table { IsTableFor seeker.now table.old }
     requires front { IsFrontAt seeker.now exit.consumer 0 front.old }
     requires exit { IsExitFrom seeker.now front.old exit }
+    requires after { ComesAfter seeker.now.problem.now.columns seeker.now.entry
+        seeker.now.placement.now.assign.items seeker.now.placement.now.prices.items
+        front.old.labels.items exit.consumer other }
     ensures table { IsTableFor seeker.now table.new }
     ensures front { IsFrontAfter seeker.now front.old front.new }
     ensures asked { IsAsked seeker.now.problem.now.columns seeker.now.entry
@@ -307,7 +430,8 @@ fn ask(seeker: &Seeker<'_>, exit: Exit, other: usize, table: &mut Table, front: 
     let Some(known) = mover(seeker, exit, other, label, table) else {
         return;
     };
-    let label = moved(exit, known, prices[other], front.labels[exit.consumer].hops);
+    let hops = front.labels[exit.consumer].hops;
+    let label = moved(exit, known, prices[other], hops, label.guess);
     front.labels[other] = label;
     front.waiting = front.waiting.with(other);
     let gap = problem.gap(other, loads[other], prices[other]);

@@ -84,8 +84,8 @@ cut-front-requires-clause-label c =
     let from : c.index.result.now ≡ label_at labels c.args.exit.consumer =
     c.index.ensures ∙ get_or_default _ _ _ _ ltt in
     let moved : IsMoved c.args.exit c.in-Some.known (get_or prices c.args.other 0)
-    (label_at labels c.args.exit.consumer).hops c.moved-label.result =
-    rw (c.as_slice-prices.ensures.value, from) at c.moved-label.ensures in
+    (label_at labels c.args.exit.consumer).hops (label_at labels c.args.other).guess c.moved-label.result =
+    rw (c.as_slice-prices.ensures.value, from, read) at c.moved-label.ensures in
     let asked : IsAsked p c.args.seeker.now.entry xs prices (length_of c.args.front.now.cutoff) c.args.exit.consumer c.args.other labels
     (set labels c.args.other c.moved-label.result) =
     asked_moved p c.args.seeker.now.entry xs prices c.args.exit.consumer c.args.other (length_of c.args.front.now.cutoff) labels
@@ -96,7 +96,7 @@ cut-front-requires-clause-label c =
       rw (get_or-set_same labels c.args.other c.moved-label.result no_label lt) at (
           asked_small p c.args.seeker.now.entry xs prices labels (set labels c.args.other c.moved-label.result) c.args.exit.consumer
           c.args.other (length_of c.args.front.now.cutoff) c.requires.seeker.standing.placed le c.requires.exit.consumer c.requires.other
-          c.requires.front.search c.requires.exit.closed asked
+          c.requires.front.search c.requires.exit.closed c.requires.after asked
           (rw (get_or-set_same labels c.args.other c.moved-label.result no_label lt) up)
           ),
     )
@@ -115,8 +115,8 @@ returns-clause-asked c =
     let from : c.index.result.now ≡ label_at labels c.args.exit.consumer =
     c.index.ensures ∙ get_or_default _ _ _ _ ltt in
     let moved : IsMoved c.args.exit c.in-Some.known (get_or prices c.args.other 0)
-    (label_at labels c.args.exit.consumer).hops c.moved-label.result =
-    rw (c.as_slice-prices.ensures.value, from) at c.moved-label.ensures in
+    (label_at labels c.args.exit.consumer).hops (label_at labels c.args.other).guess c.moved-label.result =
+    rw (c.as_slice-prices.ensures.value, from, read) at c.moved-label.ensures in
     asked_moved p c.args.seeker.now.entry xs prices c.args.exit.consumer c.args.other (length_of c.args.front.now.cutoff) labels
     c.moved-label.result c.args.exit c.in-Some.known c.requires.seeker.standing.placed le c.requires.exit.consumer lt c.requires.exit.leaves
     c.in-Some.ensures.some.exact c.in-Some.ensures.some.entry (rw read at c.in-Some.ensures.some.nearer) moved
@@ -140,7 +140,7 @@ returns-clause-front c =
       cutoff = cutoff_asked p c.args.seeker.now.problem.now.steps.now c.args.seeker.now.entry xs prices labels
           (set labels c.args.other c.moved-label.result) c.args.exit.consumer c.args.other c.gap-gap.result c.args.front.now.cutoff
           c.cut-front.result c.requires.seeker.standing.placed (omega (arith, c.requires.seeker.entry)) c.requires.exit.consumer c.requires.other
-          c.requires.front.search c.requires.exit.closed (returns-clause-asked c) at (rw here c.cut-front.ensures) c.requires.front.cutoff;
+          c.requires.front.search c.requires.exit.closed c.requires.after (returns-clause-asked c) at (rw here c.cut-front.ensures) c.requires.front.cutoff;
       later = later;
       waiting =
           waiting_later (consumers c.args.seeker.now.problem.now.columns)
@@ -148,7 +148,7 @@ returns-clause-front c =
           (length_of c.cut-front.result) c.with-front.result later (
           waiting_moved (consumers c.args.seeker.now.problem.now.columns) (length_of c.args.front.now.cutoff) c.args.front.now.labels.items c.args.front.now.waiting
           c.with-front.result c.args.other c.moved-label.result c.requires.other
-          (sym c.requires.front.search.one_each) (omega (arith, c.moved-label.ensures.hops)) c.moved-label.ensures.still_open
+          (sym c.requires.front.search.one_each) c.moved-label.ensures.still_open
           c.with-front.ensures c.requires.front.waiting
           );
     }

@@ -1,6 +1,6 @@
 use Rattle.std.proofs.Common.{◌≡◌, ℕ, ◌<◌, ◌≤◌, ◌⊎◌}
 use Rattle.std.specs.Prelude.{IfSome, IfNone}
-use Rattle.sr_solver.specs.Labels.{label_at}
+use Rattle.sr_solver.specs.Labels.{label_at, reach_of}
 use Rattle.sr_solver.specs.Sets.{IsIn}
 use Rattle.sr_solver.proofs.search.nearest.Given as goal
 
@@ -11,11 +11,11 @@ invariant-loop-consumer l = record {
   rest : (c : ℕ) → IsIn l.rest c → IsIn l.fn.front.waiting c;
   back : (c : ℕ) → IsIn l.front.waiting c → IsIn l.fn.front.waiting c;
   kept : (c : ℕ) → IsIn l.fn.front.waiting c
-      → IsIn l.front.waiting c ⊎ (l.limit ≤ (label_at l.fn.front.labels.items c).dist);
+      → IsIn l.front.waiting c ⊎ (l.limit ≤ reach_of (label_at l.fn.front.labels.items c));
   compared : (c : ℕ) → IsIn l.fn.front.waiting c
-      → IsIn l.rest c ⊎ (l.least ≤ (label_at l.fn.front.labels.items c).dist);
+      → IsIn l.rest c ⊎ (l.least ≤ reach_of (label_at l.fn.front.labels.items c));
   best : IfSome l.best (λ b. IsIn l.fn.front.waiting b
-      × ((label_at l.fn.front.labels.items b).dist ≡ l.least) × (l.least < l.limit));
+      × (reach_of (label_at l.fn.front.labels.items b) ≡ l.least) × (l.least < l.limit));
   none : IfNone l.best (l.least ≡ l.limit);
 }
 

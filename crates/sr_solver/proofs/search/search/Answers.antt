@@ -1,6 +1,8 @@
-use Rattle.std.proofs.Common.{None}
+use Rattle.std.proofs.Common.{ℕ, ◌≤◌, None, arith}
 use Rattle.sr_transport.specs.{consumers}
 use Rattle.sr_solver.specs.Cutoff.{length_of}
+use Rattle.sr_solver.proofs.CutoffLemmas.{found_done}
+use Rattle.sr_solver.proofs.OfferLemmas.{far_or_reached}
 use Rattle.sr_solver.proofs.SearchLemmas.{started_round}
 use Rattle.sr_solver.proofs.SetLemmas.{waiting_later}
 use Rattle.sr_solver.proofs.search.search.Goals as goal
@@ -17,3 +19,20 @@ loop-near-init c =
           c.start.new.front.waiting (λ base sum beyond. absurd beyond) c.start.ensures.waiting;
       cutoff = c.start.ensures.cutoff;
     }
+
+pub returns-clause-found : goal.returns-clause-found
+returns-clause-found c =
+    let p = c.args.seeker.now.problem.now.columns in
+    let k : ℕ = c.args.seeker.now.entry in
+    let xs = c.args.seeker.now.placement.now.assign.items in
+    let prices = c.args.seeker.now.placement.now.prices.items in
+    let placed = c.requires.seeker.standing.placed in
+    let le : k ≤ p.entries = omega (arith, c.requires.seeker.entry) in
+    let before = c.loop-near.invariant in
+    rw (c.nearest.ensures.labels, c.nearest.ensures.cutoff) (
+    found_done p c.args.seeker.now.problem.now.steps.now k xs prices c.loop-near.front.labels.items
+    c.loop-near.front.cutoff placed le
+    (far_or_reached p k xs prices (length_of c.loop-near.front.cutoff) c.loop-near.front.labels.items (consumers p)
+    (consumers p) placed le before.round)
+    before.round before.cutoff (rw before.round.one_each at c.in_default.ensures.none)
+    )

@@ -1,5 +1,6 @@
+use Rattle.std.proofs.Common.{◌+◌, ◌*◌}
 use Rattle.sr_transport.specs.{consumers}
-use Rattle.sr_solver.specs.Labels.{open_count}
+use Rattle.sr_solver.specs.Labels.{open_count, guess_count}
 use Rattle.sr_solver.specs.Table.{IsTable}
 use Rattle.sr_solver.specs.Cutoff.{length_of, IsCutoff}
 use Rattle.sr_solver.specs.Sets.{AreWaiting}
@@ -17,4 +18,4 @@ invariant-loop-near l = record {
 }
 
 abbrev pub decreases-loop-near : goal.decreases-loop-near
-decreases-loop-near l = open_count l.front.labels.items
+decreases-loop-near l = open_count l.front.labels.items * 65 + guess_count l.front.labels.items

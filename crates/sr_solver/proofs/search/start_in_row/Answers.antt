@@ -1,4 +1,4 @@
-use Rattle.std.proofs.Common.{◌≡◌, ℕ, ◌<◌, List, length, get_or, None, ap, ◌∙◌, arith}
+use Rattle.std.proofs.Common.{ℕ, ◌<◌, List, length, get_or, None, ap, ◌∙◌, arith}
 use Rattle.std.proofs.Math.ListN.{length-set}
 use Rattle.std.proofs.lemmas.List.{get_or-set_other}
 use Rattle.sr_transport.specs.{consumers}
@@ -36,7 +36,6 @@ loop-pair-preserved c =
     (λ x from below. c.loop-pair.invariant.none x from (omega (arith, below, lt))) c.loop-pair.invariant.cutoff in
     let first : IsFirstLabel (cost_at p k n) (get_or prices n 0) k c.first_label-label.result =
     rw (c.requires.row.cost j c.loop-pair-test.true) (rw c.as_slice-prices.ensures.value at c.first_label-label.ensures) in
-    let hops : c.first_label-label.result.hops ≡ 1 = ap (λ (l : Label). l.hops) c.first_label-label.ensures in
     let at : IsGapAt p c.args.problem.now.steps.now xs prices n c.gap-gap.result =
     gap_read p c.args.problem.now.steps.now xs prices c.args.placement.now.loads.items c.as_slice-loads.result.now
     c.as_slice-prices.result.now n c.gap-gap.result c.requires.standing.are_steps c.requires.standing.loads
@@ -50,7 +49,7 @@ loop-pair-preserved c =
           c.loop-pair.invariant.none x (omega (arith, from, gap.forward)) below
           );
       waiting = waiting_more n None labels c.loop-pair.front.waiting c.with-front.result c.first_label-label.result ltl
-          (omega (arith, hops)) (ap (λ (l : Label). l.closed) c.first_label-label.ensures) c.with-front.ensures
+          (ap (λ (l : Label). l.closed) c.first_label-label.ensures) c.with-front.ensures
           (waiting_skips (looked_at pairs j) n None labels c.loop-pair.front.waiting gap.forward
           (λ x from below. c.loop-pair.invariant.none x from (omega (arith, below, lt))) c.loop-pair.invariant.waiting);
       cutoff = cutoff_more p c.args.problem.now.steps.now k n xs prices labels c.first_label-label.result c.gap-gap.result
