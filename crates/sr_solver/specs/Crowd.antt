@@ -2,8 +2,8 @@
 -- looked for.
 -- Source: P. Hall, "On representatives of subsets", 1935.
 
-use Rattle.std.specs.Prelude.{◌≡◌, ℕ, ◌+◌, ◌*◌, ◌<◌, ◌≤◌, ◌==◌, List, length, slice_index, slice_index_or, All, Contains}
-use Rattle.std.specs.Prelude.{Option, None, IfSome, if◌then◌else◌}
+use Rattle.std.specs.Prelude.{◌≡◌, ℕ, ◌+◌, ◌*◌, ◌<◌, ◌≤◌, ◌==◌, List, length, slice_index, slice_index_or, All}
+use Rattle.std.specs.Prelude.{Contains, Option, None, IfSome, if◌then◌else◌}
 use Rattle.std.specs.Int.{bit_at}
 use Rattle.std.specs.List.Sorted.{IsStrictlyIncreasing}
 use Rattle.sr_transport.specs.{Transport, most_entries}

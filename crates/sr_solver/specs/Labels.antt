@@ -1,7 +1,7 @@
 -- The labels of consumers in a search, as lists.
 
-use Rattle.std.specs.Prelude.{◌≡◌, ℕ, ◌+◌, ◌<◌, ◌≤◌, ◌⊎◌, List, false, slice_index, slice_index_or, not, count_by, nat_lt, min}
-use Rattle.std.specs.Prelude.{Option, Some, None}
+use Rattle.std.specs.Prelude.{◌≡◌, ℕ, ◌+◌, ◌<◌, ◌≤◌, ◌⊎◌, List, false, slice_index, slice_index_or, not, min}
+use Rattle.std.specs.Prelude.{count_by, nat_lt, Option, Some, None}
 use Rattle.sr_transport.specs.{Transport, consumers}
 use Rattle.sr_solver.specs.Limits.{greatest_way, far}
 use Rattle.sr_transport.specs.plain.Problem.{cost_of}

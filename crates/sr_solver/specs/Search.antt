@@ -94,7 +94,8 @@ pub record IsNearestOf (n : ℕ) (labels : List Label) (t : ℕ) : Type 0 where
   pub not_closed : (label_at labels t).closed ≡ false
   pub least : (c : ℕ) → c < n → 0 < (label_at labels c).hops → (label_at labels c).closed ≡ false
       → (label_at labels t).dist ≤ (label_at labels c).dist
-  pub guesses : (c : ℕ) → c < n → (label_at labels c).closed ≡ false → (label_at labels t).dist ≤ (label_at labels c).guess
+  pub guesses : (c : ℕ) → c < n → (label_at labels c).closed ≡ false
+      → (label_at labels t).dist ≤ (label_at labels c).guess
 
 -- of n consumers none that is open may be nearer than t, by its label or by what is guessed
 pub record IsNextOf (n : ℕ) (labels : List Label) (t : ℕ) : Type 0 where
@@ -184,7 +185,8 @@ pub record IsGuessing (p : Transport) (k : ℕ) (xs prices : List ℕ) (t c : �
   pub was_open : (label_at old c).closed ≡ false
   pub same : label_at new c ≡ record (label_at old c) { guess = (label_at new c).guess }
   pub lower : (label_at new c).guess ≤ (label_at old c).guess
-  pub ahead : (d : ℕ) → d < consumers p → (label_at old d).closed ≡ true → (label_at old d).dist ≤ (label_at new c).guess
+  pub ahead : (d : ℕ) → d < consumers p → (label_at old d).closed ≡ true
+      → (label_at old d).dist ≤ (label_at new c).guess
   pub covers : (i : ℕ) → i < k → slice_index xs i ≡ t → IsAllowed p i c
       → (label_at new c).guess + priced p prices i t ≤ (label_at old t).dist + priced p prices i c
   pub others : (d : ℕ) → (d ≡ c → ⊥) → label_at new d ≡ label_at old d

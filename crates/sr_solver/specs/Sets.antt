@@ -30,8 +30,8 @@ pub record IsWithout (c : ℕ) (old new : ConsumerSet) : Type 0 where
   pub back : (d : ℕ) → IsIn new d → IsIn old d
   pub less : IsIn old c → new.bits < old.bits
 
--- whether consumer c, which has this label, waits: only if it is open, and if it is reached, or there is a guess, that is
--- nearer than the cutoff
+-- whether consumer c, which has this label, waits: only if it is open, and if it is reached, or there is a guess, that
+-- is nearer than the cutoff
 pub record IsWaitingAt (cutoff : Option ℕ) (label : Label) (set : ConsumerSet) (c : ℕ) : Type 0 where
   pub waits : IsIn set c → label.closed ≡ false
   pub each : 0 < label.hops → label.closed ≡ false → IsIn set c ⊎ IsBeyond cutoff 0 label.dist

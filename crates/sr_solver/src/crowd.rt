@@ -237,8 +237,8 @@ fn give(seating: &mut Seating<'_>, seat: usize, entry: usize)
     seating.seats[seat] = entry as u16;
 }
 
-/// Looks for a seat that is left, from these consumers on, to which the new entry would come: whoever sits at a consumer
-/// that is reached may move on to each other one that it is allowed.
+/// Looks for a seat that is left, from these consumers on, to which the new entry would come: whoever sits at a
+/// consumer that is reached may move on to each other one that it is allowed.
 fn reach(seating: &mut Seating<'_>, set: ConsumerSet) -> Reached
     requires { IsSeating seating.old }
     ensures sets { seating.new.sets ≡ seating.old.sets }

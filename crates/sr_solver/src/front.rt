@@ -1,8 +1,8 @@
 //! What a search knows of the consumers, and where an entry that leaves one of them comes nearer than is known.
 ghost use Rattle.std.specs.Prelude.{◌≡◌, ℕ, ◌+◌, ◌<◌, ◌≤◌, ◌^◌, length, IfOk, IfSome, IfNone, true, false};
 ghost use Rattle.sr_solver.specs.Limits.{greatest_way, far, unbounded};
-ghost use Rattle.sr_solver.specs.Exits.{IsExit, IsNearer, IsNoNearer, IsNearerAt, IsNoNearerAt, AreNoNearer, IsMoved, IsGuess};
-ghost use Rattle.sr_solver.specs.Exits.{AreComparable};
+ghost use Rattle.sr_solver.specs.Exits.{IsExit, IsNearer, IsNoNearer, IsNearerAt, IsNoNearerAt, AreNoNearer, IsMoved};
+ghost use Rattle.sr_solver.specs.Exits.{IsGuess, AreComparable};
 ghost use Rattle.sr_transport.specs.{greatest_charge};
 
 use crate::label::{FAR, Label};
@@ -24,8 +24,8 @@ pub struct End {
 pub struct Front {
     /// The label of each consumer.
     pub labels: Vec<Label>,
-    /// The consumers that wait: open ones that are reached, or of which there is a guess. One that is no nearer than the
-    /// cutoff need not be among them.
+    /// The consumers that wait: open ones that are reached, or of which there is a guess. One that is no nearer than
+    /// the cutoff need not be among them.
     pub waiting: ConsumerSet,
     /// Where the shortest path ends that was found to a consumer with room, if there is one.
     pub cutoff: Option<End>,
@@ -168,8 +168,8 @@ pub fn moved(exit: Exit, known: Bound, price: u64, hops: usize, guess: u64) -> L
     }
 }
 
-/// No entry that leaves comes nearer than this to a consumer of this price, where its bound is `low`. It is no nearer than
-/// the consumer that they leave.
+/// No entry that leaves comes nearer than this to a consumer of this price, where its bound is `low`. It is no nearer
+/// than the consumer that they leave.
 pub fn guessed(exit: Exit, low: u64, price: u64) -> u64
     requires low { low ≤ unbounded }
     requires price { price ≤ greatest_way }

@@ -1,5 +1,5 @@
-ghost use Rattle.std.specs.Prelude.{◌≡◌, ℕ, ◌+◌, ◌<◌, ◌≤◌, ◌↔◌, length, slice_index, slice_set, min, IfSome, IfNone, None};
-ghost use Rattle.std.specs.Prelude.{true, false};
+ghost use Rattle.std.specs.Prelude.{◌≡◌, ℕ, ◌+◌, ◌<◌, ◌≤◌, ◌↔◌, length, slice_index, slice_set, IfSome, IfNone, None};
+ghost use Rattle.std.specs.Prelude.{min, true, false};
 ghost use Rattle.sr_transport.specs.{greatest_charge, consumers};
 ghost use Rattle.sr_transport.specs.Limits.{most_consumers, greatest_fee};
 ghost use Rattle.sr_solver.specs.Limits.{greatest_way, far};
@@ -9,7 +9,8 @@ ghost use Rattle.sr_solver.specs.Cutoff.{length_of, IsBeyond, IsLimit, IsCutoff,
 ghost use Rattle.sr_solver.specs.Exits.{IsNearMover, HasNoMover};
 ghost use Rattle.sr_solver.specs.Sets.{IsWith, IsWithout, AreWaiting};
 ghost use Rattle.sr_solver.specs.Pairs.{IsRowOf};
-ghost use Rattle.sr_solver.specs.Search.{IsStarted, IsNearest, IsNextOf, AreDoneOf, IsLatest, ComesAfter, IsAsked, MayBeAsked};
+ghost use Rattle.sr_solver.specs.Search.{IsStarted, IsNearest, IsNextOf, AreDoneOf, IsLatest, ComesAfter, IsAsked};
+ghost use Rattle.sr_solver.specs.Search.{MayBeAsked};
 ghost use Rattle.sr_solver.specs.Seekers.{IsSeeker, IsTableFor, StandsAt, IsCutoffFor, IsFoundBy, IsFrontAt};
 ghost use Rattle.sr_solver.specs.Seekers.{IsFrontBetween, IsExitFrom, IsFrontAfter, IsOfferedTo};
 
@@ -216,8 +217,8 @@ fn limit(cutoff: Option<End>) -> u64
     end.dist
 }
 
-/// The nearest of the consumers that wait, by its label or by what is guessed, if it is nearer than the cutoff. Those that
-/// are not wait no longer.
+/// The nearest of the consumers that wait, by its label or by what is guessed, if it is nearer than the cutoff. Those
+/// that are not wait no longer.
 fn nearest(front: &mut Front) -> Option<usize>
     requires few { length front.old.labels.items ≤ most_consumers }
     requires marked { (c : ℕ) → c < length front.old.labels.items
@@ -292,8 +293,8 @@ fn close(seeker: &Seeker<'_>, near: usize, table: &mut Table, front: &mut Front)
     }
 }
 
-/// Offers the entries that leave to the consumer `other`. After many offers in this search, if the one that leaves for the
-/// least more is not known, it is looked for only if a path may end there, and else a guess is noted.
+/// Offers the entries that leave to the consumer `other`. After many offers in this search, if the one that leaves for
+/// the least more is not known, it is looked for only if a path may end there, and else a guess is noted.
 fn offer(seeker: &Seeker<'_>, exit: Exit, other: usize, table: &mut Table, front: &mut Front)
     requires seeker { IsSeeker seeker.now }
     requires other { other < consumers seeker.now.problem.now.columns }
