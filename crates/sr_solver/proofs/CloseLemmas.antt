@@ -9,7 +9,8 @@ use Rattle.sr_solver.specs.declared.label.Label.{Label}
 use Rattle.sr_solver.specs.declared.front.End.{End}
 use Rattle.sr_solver.specs.declared.stepped.Step.{Step}
 use Rattle.sr_solver.specs.Labels.{no_label, label_at, open_count, priced}
-use Rattle.sr_solver.specs.Search.{IsWithin, IsSearch, IsNearest, IsRound, IsClosed}
+use Rattle.sr_solver.specs.Search.{IsWithin, IsSearch, IsNearest, IsRound}
+use Rattle.sr_solver.specs.Offers.{IsClosed}
 use Rattle.sr_solver.specs.Cutoff.{length_of, IsBeyond, IsCutoff}
 use Rattle.sr_solver.proofs.LabelLemmas.{open_count-set_closed, IsSameWay, way_kept, same_way}
 

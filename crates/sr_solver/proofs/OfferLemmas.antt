@@ -14,8 +14,8 @@ use Rattle.sr_solver.specs.Labels.{no_label, label_at, open_count, guess_count, 
 use Rattle.sr_solver.specs.declared.table.Bound.{Bound}
 use Rattle.sr_solver.specs.Table.{IsAt, IsKnown, IsTight, ArePairs}
 use Rattle.sr_solver.specs.Placed.{IsPlaced}
-use Rattle.sr_solver.specs.Search.{IsWithin, IsCovered, IsOffered, IsSearch, IsRound, IsNewAt, IsAsked}
-use Rattle.sr_solver.specs.Search.{IsGuessing, MayBeAsked, IsLatest, ComesAfter}
+use Rattle.sr_solver.specs.Search.{IsWithin, IsCovered, IsOffered, IsSearch, IsRound}
+use Rattle.sr_solver.specs.Offers.{IsNewAt, IsAsked, IsGuessing, MayBeAsked, IsLatest, ComesAfter, IsClosed}
 use Rattle.sr_solver.specs.declared.front.Exit.{Exit}
 use Rattle.sr_solver.specs.Exits.{IsExit, IsNearer, IsMoved, IsGuess, AreNoNearer, AreComparable, HasNoMover}
 use Rattle.sr_solver.proofs.ExitLemmas.{bound_no_nearer, covered_no_nearer}
@@ -27,7 +27,6 @@ use Rattle.sr_solver.proofs.CutoffLemmas.{search_cut, IsGapAt, cutoff_cut}
 use Rattle.sr_solver.proofs.LabelLemmas.{open_count_same, guess_count_same, guess_count-set_far}
 use Rattle.sr_solver.proofs.LabelLemmas.{IsSameWay, way_kept, same_way}
 use Rattle.sr_solver.proofs.SearchLemmas.{cost_small}
-use Rattle.sr_solver.specs.Search.{IsClosed}
 
 -- an entry that stands at a consumer is placed
 pub placed_at : (p : Transport) (k : ℕ) (xs prices : List ℕ) (t i : ℕ) → IsPlaced p k xs prices → t < consumers p

@@ -13,6 +13,7 @@ pub mod Pairs
 pub mod Members
 pub mod Taker
 pub mod Search
+pub mod Offers
 pub mod Exits
 pub mod Seekers
 pub mod Path

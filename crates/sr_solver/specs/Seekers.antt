@@ -13,7 +13,8 @@ use Rattle.sr_solver.specs.Placed.{IsStanding}
 use Rattle.sr_solver.specs.Table.{IsAt, IsTable}
 use Rattle.sr_solver.specs.Cutoff.{length_of, IsCutoff, IsNoLater}
 use Rattle.sr_solver.specs.Sets.{AreWaiting}
-use Rattle.sr_solver.specs.Search.{IsSearch, IsFound, IsAsked, IsGuessing}
+use Rattle.sr_solver.specs.Search.{IsSearch, IsFound}
+use Rattle.sr_solver.specs.Offers.{IsAsked, IsGuessing}
 use Rattle.sr_solver.specs.Exits.{IsExit}
 
 -- the entry is one of the problem, and those before it stand where the placement says

@@ -9,8 +9,8 @@ ghost use Rattle.sr_solver.specs.Cutoff.{length_of, IsBeyond, IsLimit, IsCutoff,
 ghost use Rattle.sr_solver.specs.Exits.{IsNearMover, HasNoMover};
 ghost use Rattle.sr_solver.specs.Sets.{IsWith, IsWithout, AreWaiting};
 ghost use Rattle.sr_solver.specs.Pairs.{IsRowOf};
-ghost use Rattle.sr_solver.specs.Search.{IsStarted, IsNearest, IsNextOf, AreDoneOf, IsLatest, ComesAfter, IsAsked};
-ghost use Rattle.sr_solver.specs.Search.{MayBeAsked};
+ghost use Rattle.sr_solver.specs.Search.{IsStarted, IsNearest, IsNextOf, AreDoneOf};
+ghost use Rattle.sr_solver.specs.Offers.{IsLatest, ComesAfter, IsAsked, MayBeAsked};
 ghost use Rattle.sr_solver.specs.Seekers.{IsSeeker, IsTableFor, StandsAt, IsCutoffFor, IsFoundBy, IsFrontAt};
 ghost use Rattle.sr_solver.specs.Seekers.{IsFrontBetween, IsExitFrom, IsFrontAfter, IsOfferedTo};
 
@@ -23,7 +23,7 @@ use crate::set::ConsumerSet;
 use crate::stepped::Stepped;
 use crate::table::{Bound, Table, least_mover, look_over};
 
-/// After so many offers in a search an entry that is not known is not looked for at once. Most searches make fewer.
+/// A search that has made this many offers no longer looks at once for an entry that is not known. Most make fewer.
 const PATIENCE: usize = 192;
 
 /// An entry that looks for a place, where those before it have theirs.

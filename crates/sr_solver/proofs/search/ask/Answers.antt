@@ -6,7 +6,7 @@ use Rattle.sr_solver.specs.Labels.{no_label, label_at, IsFarOrReached}
 use Rattle.sr_solver.specs.Limits.{greatest_way}
 use Rattle.sr_solver.specs.Cutoff.{length_of}
 use Rattle.sr_solver.specs.Exits.{IsMoved}
-use Rattle.sr_solver.specs.Search.{IsAsked}
+use Rattle.sr_solver.specs.Offers.{IsAsked}
 use Rattle.sr_solver.proofs.CutoffLemmas.{beyond_cut, IsGapAt, gap_read, gap_small}
 use Rattle.sr_solver.proofs.ExitLemmas.{IsLeaving, leaving}
 use Rattle.sr_solver.proofs.OfferLemmas.{asked_left, asked_moved, asked_small, cutoff_asked, dist_small, far_or_reached}

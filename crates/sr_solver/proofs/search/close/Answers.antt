@@ -6,7 +6,7 @@ use Rattle.sr_solver.specs.declared.label.Label.{Label}
 use Rattle.sr_solver.specs.Labels.{no_label, label_at, AreFarOrReached}
 use Rattle.sr_solver.specs.Limits.{greatest_way}
 use Rattle.sr_solver.specs.Cutoff.{length_of}
-use Rattle.sr_solver.specs.Search.{IsClosed, IsAsked, IsGuessing}
+use Rattle.sr_solver.specs.Offers.{IsClosed, IsAsked, IsGuessing}
 use Rattle.sr_solver.proofs.LabelLemmas.{IsSameWay}
 use Rattle.sr_solver.proofs.CloseLemmas.{closed_start, cutoff_closing, closed_round, search_none}
 use Rattle.sr_solver.proofs.OfferLemmas.{offered_stays, closed_passed, closed_may, closed_offer, closed_cut, way_small}

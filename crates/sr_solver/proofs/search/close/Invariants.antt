@@ -5,7 +5,7 @@ use Rattle.sr_solver.specs.Cutoff.{length_of, IsCutoff}
 use Rattle.sr_solver.specs.Exits.{IsExit}
 use Rattle.sr_solver.specs.Sets.{AreWaiting}
 use Rattle.sr_solver.specs.Labels.{label_at}
-use Rattle.sr_solver.specs.Search.{IsClosed}
+use Rattle.sr_solver.specs.Offers.{IsClosed}
 use Rattle.sr_solver.proofs.search.close.Given as goal
 
 abbrev pub invariant-loop-other : goal.invariant-loop-other

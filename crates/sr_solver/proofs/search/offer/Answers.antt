@@ -4,7 +4,7 @@ use Rattle.sr_transport.specs.{consumers}
 use Rattle.sr_solver.specs.declared.label.Label.{Label}
 use Rattle.sr_solver.specs.Cutoff.{length_of}
 use Rattle.sr_solver.specs.Labels.{label_at}
-use Rattle.sr_solver.specs.Search.{IsGuessing}
+use Rattle.sr_solver.specs.Offers.{IsGuessing}
 use Rattle.sr_solver.specs.Table.{bound_at}
 use Rattle.sr_solver.proofs.TableLemmas.{pair_in}
 use Rattle.sr_solver.proofs.OfferLemmas.{price_small, after_latest, guess_noted, cutoff_guessing}

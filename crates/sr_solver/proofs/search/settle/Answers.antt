@@ -5,7 +5,7 @@ use Rattle.sr_transport.specs.{consumers}
 use Rattle.sr_solver.specs.declared.label.Label.{Label}
 use Rattle.sr_solver.specs.Cutoff.{length_of}
 use Rattle.sr_solver.specs.Labels.{label_at}
-use Rattle.sr_solver.specs.Search.{IsAsked}
+use Rattle.sr_solver.specs.Offers.{IsAsked}
 use Rattle.sr_solver.proofs.CloseLemmas.{round_none}
 use Rattle.sr_solver.proofs.OfferLemmas.{price_small, dist_small, read_no_nearer, cutoff_no_nearer, after_settled}
 use Rattle.sr_solver.proofs.OfferLemmas.{settled_skip, settled_more, settled_round, settled_cutoff, asked_same}
