@@ -1,8 +1,8 @@
 -- Options never ask for two things, and for nothing if there is a fault.
-use Rattle.std.proofs.Common.{◌≡◌, ◌∙◌, ℕ, List, [], Option, None, Some, is_some, unwrap_or, true, ap, refl, subst, sym, true≢false}
+use Rattle.std.proofs.Common.{◌≡◌, ◌∙◌, ℕ, List, [], Option, None, Some, is_some, unwrap_or, true, ap, inl, inr, refl, subst, sym, true≢false}
 use Rattle.std.specs.Net.Grammar.{IsSocketText}
 use Rattle.sr_options.specs.Command.{AreNumbers, AsksForAddress, AsksForNothing, AsksForStdio, IsFaultOf, IsWay}
-use Rattle.sr_options.specs.Numbers.{IsConnections, IsIdle, IsKeep, IsUnfinished, IsWorkers}
+use Rattle.sr_options.specs.Numbers.{IsConnections, IsIdle, IsKeep, IsKeepBytes, IsUnfinished, IsWorkers}
 use Rattle.sr_options.specs.Options.{Asked}
 use Rattle.sr_options.specs.declared.command.UsageFault.{UsageFault}
 use Rattle.sr_options.specs.declared.command.UsageFault.TheVariants as faults
@@ -26,6 +26,9 @@ no_idle written none = subst (λ w. IsIdle w None) (sym none) refl
 no_unfinished : (written : Option (List ℕ)) → written ≡ None → IsUnfinished written 1073741824
 no_unfinished written none = subst (λ w. IsUnfinished w 1073741824) (sym none) refl
 
+no_keep_bytes : (written : Option (List ℕ)) → written ≡ None → IsKeepBytes written 67108864
+no_keep_bytes written none = subst (λ w. IsKeepBytes w 67108864) (sym none) refl
+
 no_workers : (written : Option (List ℕ)) → written ≡ None → IsWorkers written 64
 no_workers written none = subst (λ w. IsWorkers w 64) (sym none) refl
 
@@ -36,6 +39,8 @@ numbers_of_stdio asked asks = record {
   connections = (None, no_connections _ asks.no_loop);
   idle = (None, no_idle _ asks.no_pause);
   unfinished = (1073741824, no_unfinished _ asks.no_bound);
+  keep_bytes = (67108864, no_keep_bytes _ asks.no_bytes);
+  idle_waiting = (None, no_idle _ asks.no_wait);
 }
 
 numbers_of_way : (asked : Asked) (way : Way) (keep : Option ℕ) → IsWay asked way → IsKeep asked.keep keep → AreNumbers asked
@@ -45,6 +50,8 @@ numbers_of_way asked (ways.Workers number) keep served kept = record {
   connections = (None, no_connections _ served.1);
   idle = (None, no_idle _ served.2);
   unfinished = (1073741824, no_unfinished _ served.3);
+  keep_bytes = (67108864, no_keep_bytes _ served.4);
+  idle_waiting = (None, no_idle _ served.5);
 }
 numbers_of_way asked (ways.Loop looping) keep served kept = record {
   workers = (64, no_workers _ served.0);
@@ -52,6 +59,8 @@ numbers_of_way asked (ways.Loop looping) keep served kept = record {
   connections = (Some looping.connections, served.1);
   idle = (looping.idle, served.2);
   unfinished = (looping.unfinished, served.3);
+  keep_bytes = (looping.keep_bytes, served.4);
+  idle_waiting = (looping.idle_waiting, served.5);
 }
 
 -- without them nothing is asked for
@@ -74,14 +83,11 @@ not_beside : (asked : Asked) (way : Way) → is_some asked.connections ≡ true 
 not_beside asked (ways.Workers number) connections workers served = is_given _ connections served.1
 not_beside asked (ways.Loop looping) connections workers served = is_given _ workers served.0
 
--- without a loop, what it alone has
-no_idle_way : (asked : Asked) (way : Way) → asked.connections ≡ None → is_some asked.idle ≡ true → IsWay asked way → ⊥
-no_idle_way asked (ways.Workers number) none idle served = is_given _ idle served.2
-no_idle_way asked (ways.Loop looping) none idle served = no_loop _ _ none served.1
-
-no_unfinished_way : (asked : Asked) (way : Way) → asked.connections ≡ None → is_some asked.unfinished ≡ true → IsWay asked way → ⊥
-no_unfinished_way asked (ways.Workers number) none unfinished served = is_given _ unfinished served.3
-no_unfinished_way asked (ways.Loop looping) none unfinished served = no_loop _ _ none served.1
+-- without a loop, nothing that it alone has
+without_loop : (asked : Asked) (way : Way) → asked.connections ≡ None → IsWay asked way
+    → (asked.idle ≡ None) × (asked.unfinished ≡ None) × (asked.keep_bytes ≡ None) × (asked.idle_waiting ≡ None)
+without_loop asked (ways.Workers number) none served = (served.2, served.3, served.4, served.5)
+without_loop asked (ways.Loop looping) none served = absurd (no_loop _ _ none served.1)
 
 -- what one session does not have
 not_stdio : (asked : Asked) → asked.stdio ≡ true → (AsksForStdio asked → ⊥) → AsksForNothing asked
@@ -96,6 +102,8 @@ fault_asks_for_nothing asked faults.Keep is = not_numbers asked (λ n. is.1 n.ke
 fault_asks_for_nothing asked faults.Connections is = not_numbers asked (λ n. is.2 n.connections.0 n.connections.1)
 fault_asks_for_nothing asked faults.Idle is = not_numbers asked (λ n. is.3 n.idle.0 n.idle.1)
 fault_asks_for_nothing asked faults.Unfinished is = not_numbers asked (λ n. is.4 n.unfinished.0 n.unfinished.1)
+fault_asks_for_nothing asked faults.KeepBytes is = not_numbers asked (λ n. is.5 n.keep_bytes.0 n.keep_bytes.1)
+fault_asks_for_nothing asked faults.IdleWaiting is = not_numbers asked (λ n. is.6 n.idle_waiting.0 n.idle_waiting.1)
 fault_asks_for_nothing asked faults.Address is = record {
   no_stdio = λ asks. true≢false (sym asks.over_stdio ∙ is.1);
   no_address = λ asks. is.2.2 asks.1
@@ -112,10 +120,22 @@ fault_asks_for_nothing asked faults.ConnectionsBeside is = record {
   no_address = λ asks. not_beside asked asks.2 is.2 is.3 asks.4.served;
 }
 fault_asks_for_nothing asked faults.IdleAlone is = record {
-  no_stdio = λ asks. is_given _ is.3 asks.no_pause;
-  no_address = λ asks. no_idle_way asked asks.2 is.2 is.3 asks.4.served;
+  no_stdio = λ asks. is_given _ is.1 asks.no_pause;
+  no_address = λ asks. is_given _ is.1 (without_loop asked asks.2 is.0.2 asks.4.served).0;
 }
 fault_asks_for_nothing asked faults.UnfinishedAlone is = record {
-  no_stdio = λ asks. is_given _ is.4 asks.no_bound;
-  no_address = λ asks. no_unfinished_way asked asks.2 is.2 is.4 asks.4.served;
+  no_stdio = λ asks. is_given _ is.2 asks.no_bound;
+  no_address = λ asks. is_given _ is.2 (without_loop asked asks.2 is.0.2 asks.4.served).1;
+}
+fault_asks_for_nothing asked faults.KeepBytesAlone (bytes, inl all) = record {
+  no_stdio = λ asks. is_given _ bytes asks.no_bytes;
+  no_address = λ asks. is_given _ bytes (asks.4.with_keep all.4);
+}
+fault_asks_for_nothing asked faults.KeepBytesAlone (bytes, inr none) = record {
+  no_stdio = λ asks. is_given _ bytes asks.no_bytes;
+  no_address = λ asks. is_given _ bytes (without_loop asked asks.2 none.0.2 asks.4.served).2;
+}
+fault_asks_for_nothing asked faults.IdleWaitingAlone is = record {
+  no_stdio = λ asks. is_given _ is.4 asks.no_wait;
+  no_address = λ asks. is_given _ is.4 (without_loop asked asks.2 is.0.2 asks.4.served).3;
 }

@@ -4,14 +4,17 @@ use Rattle.std.specs.Prelude.{⊤, find, fold, option_and_then, slice_get}
 use Rattle.std.specs.List.{list_all}
 use Rattle.std.specs.Str.{bytes_eq}
 use Rattle.std.proofs.lemmas.Slice.Eq.{bytes_eq-Decides}
-use Rattle.clap.specs.Words.{Row, Text, first_of, is_simple, matches_of, one_of, takes}
+use Rattle.clap.specs.Matches.{first_value}
+use Rattle.clap.specs.Words.{Row, Text, first_of, is_simple, matches_of, one_of, rows_of, takes}
 use Rattle.clap.specs.Simple.{Shape, built, entered}
 use Rattle.clap.specs.Takes.{default_passes, entered_passes, is_valid, settle_passes, turn_passes, walk_passes}
 use Rattle.clap.specs.Walk.{Held, Walk, at_row, finished, has_row, more_values, row_text, walk_from, walked, without}
 use Rattle.clap.specs.declared.builder.value_parser.Reading.TheVariants.{AsWritten}
+use Rattle.clap.specs.declared.parser.matches.Found.{Found}
 use Rattle.clap.specs.declared.parser.matches.ValueSource.TheVariants.{CommandLine, DefaultValue}
 use Rattle.clap.proofs.OnLiterals.{clap_on_literals}
-use Rattle.sr_options.specs.Options.{AreOnce, Asked, Flag, connections, has_name, idle, is_given, keep, listen, name_of, policy, stdio, value_in, value_of, unfinished, word_of, workers}
+use Rattle.clap.proofs.WalkLemmas.{first_value-rows}
+use Rattle.sr_options.specs.Options.{AreOnce, Asked, Flag, connections, has_name, idle, idle_waiting, is_given, keep, keep_bytes, listen, name_of, policy, stdio, value_in, value_of, unfinished, word_of, workers}
 use Rattle.sr_options.specs.steps.Server.{server}
 
 pub server_is_simple : is_simple server ≡ true
@@ -80,6 +83,12 @@ met (idle seconds) rows none =
 met (unfinished bytes) rows none =
     ap (λ (rs : List Row). walk_from (held_with rs))
     (placed (codes "unfinished") (more_values CommandLine (bytes ∷ [])) (row_of (unfinished bytes) ∷ []) rows none)
+met (keep_bytes bytes) rows none =
+    ap (λ (rs : List Row). walk_from (held_with rs))
+    (placed (codes "keep-bytes") (more_values CommandLine (bytes ∷ [])) (row_of (keep_bytes bytes) ∷ []) rows none)
+met (idle_waiting seconds) rows none =
+    ap (λ (rs : List Row). walk_from (held_with rs))
+    (placed (codes "idle-waiting") (more_values CommandLine (seconds ∷ [])) (row_of (idle_waiting seconds) ∷ []) rows none)
 
 passed : (flag : Flag) (rows : List Row) → has_row (name_of flag) rows ≡ false → turn_passes top [] (walk_from (held_with rows)) (word_of flag) ≡ true
 unfolding clap_on_literals
@@ -91,6 +100,8 @@ passed (keep number) rows none = ap (λ b. ((not b || false) && true) && true) n
 passed (connections number) rows none = ap (λ b. ((not b || false) && true) && true) none
 passed (idle seconds) rows none = ap (λ b. ((not b || false) && true) && true) none
 passed (unfinished bytes) rows none = ap (λ b. ((not b || false) && true) && true) none
+passed (keep_bytes bytes) rows none = ap (λ b. ((not b || false) && true) && true) none
+passed (idle_waiting seconds) rows none = ap (λ b. ((not b || false) && true) && true) none
 
 -- no flag has a row yet
 abbrev AreNew : List Flag → List Row → Type 0
@@ -155,8 +166,9 @@ same : (b : Bool) (rows : List Row) → (if b then rows else rows) ≡ rows
 same true rows = refl
 same false rows = refl
 
-abbrev without_default : Text → List Row → List Row
-without_default id rows = if has_row id rows then rows else rows
+-- an option without a default adds no row
+unchanged : (id : Text) (rows : List Row) → (if has_row id rows then rows else rows) ≡ rows
+unchanged id rows = same (has_row id rows) rows
 
 abbrev default_row : Row
 default_row = record { id = codes "stdio"; values = codes "false" ∷ []; count = None; source = Some DefaultValue; reading = AsWritten }
@@ -169,15 +181,10 @@ rows_of_all flags = with_stdio (has_row (codes "stdio") (map row_of flags)) (map
 
 finished_rows : (rows : List Row) → finished top.rules (held_with rows) ≡ with_stdio (has_row (codes "stdio") rows) rows
 finished_rows rows =
-    let r = with_stdio (has_row (codes "stdio") rows) rows in
-    ap (λ xs. without_default (codes "help") (without_default (codes "unfinished") (without_default (codes "idle") (without_default (codes "connections") (without_default (codes "keep") (without_default (codes "workers") (without_default (codes "policy") xs))))))) (same (has_row (codes "listen") r) r)
-    ∙ ap (λ xs. without_default (codes "help") (without_default (codes "unfinished") (without_default (codes "idle") (without_default (codes "connections") (without_default (codes "keep") (without_default (codes "workers") xs)))))) (same (has_row (codes "policy") r) r)
-    ∙ ap (λ xs. without_default (codes "help") (without_default (codes "unfinished") (without_default (codes "idle") (without_default (codes "connections") (without_default (codes "keep") xs))))) (same (has_row (codes "workers") r) r)
-    ∙ ap (λ xs. without_default (codes "help") (without_default (codes "unfinished") (without_default (codes "idle") (without_default (codes "connections") xs)))) (same (has_row (codes "keep") r) r)
-    ∙ ap (λ xs. without_default (codes "help") (without_default (codes "unfinished") (without_default (codes "idle") xs))) (same (has_row (codes "connections") r) r)
-    ∙ ap (λ xs. without_default (codes "help") (without_default (codes "unfinished") xs)) (same (has_row (codes "idle") r) r)
-    ∙ ap (λ xs. without_default (codes "help") xs) (same (has_row (codes "unfinished") r) r)
-    ∙ same (has_row (codes "help") r) r
+    unchanged (codes "help") _ ∙ unchanged (codes "unfinished") _ ∙ unchanged (codes "idle-waiting") _
+    ∙ unchanged (codes "idle") _ ∙ unchanged (codes "keep-bytes") _ ∙ unchanged (codes "keep") _
+    ∙ unchanged (codes "workers") _ ∙ unchanged (codes "policy") _ ∙ unchanged (codes "connections") _
+    ∙ unchanged (codes "listen") _
 
 pub asked_rows : (name : Text) (flags : List Flag) → AreOnce flags → matches_of server (name ∷ map word_of flags) ≡ rows_of_all flags
 asked_rows name flags once = ap (λ (w : Walk). finished top.rules w.held) (all_met flags [] (all_new flags) once) ∙ finished_rows (map row_of flags)
@@ -202,6 +209,10 @@ asked_value id flags other = go (has_row (codes "stdio") (map row_of flags)) ref
     go false e = ap (first_of id) (new_row (codes "stdio") (more_values DefaultValue (codes "false" ∷ [])) (default_row ∷ []) (map row_of flags) e)
         ∙ ap (option_and_then (λ (r : Row). slice_get r.values 0)) (found_before id (map row_of flags) default_row other)
 
+pub read_value : (found : Found) (id : Text) (flags : List Flag) → rows_of found ≡ rows_of_all flags → bytes_eq (codes "stdio") id ≡ false
+    → first_value found id ≡ value_in flags id
+read_value found id flags rows_are other = first_value-rows found id ∙ ap (first_of id) rows_are ∙ asked_value id flags other
+
 has_stdio : (flags : List Flag) → has_row (codes "stdio") (map row_of flags) ≡ is_given flags (codes "stdio")
 has_stdio [] = refl
 has_stdio (stdio ∷ flags) = refl
@@ -212,6 +223,8 @@ has_stdio (keep x ∷ flags) = has_stdio flags
 has_stdio (connections x ∷ flags) = has_stdio flags
 has_stdio (idle x ∷ flags) = has_stdio flags
 has_stdio (unfinished x ∷ flags) = has_stdio flags
+has_stdio (keep_bytes x ∷ flags) = has_stdio flags
+has_stdio (idle_waiting x ∷ flags) = has_stdio flags
 
 stdio_found : (flags : List Flag) → one_of (codes "stdio") (map row_of flags) ≡ (if is_given flags (codes "stdio") then Some (codes "true") else None)
 stdio_found [] = refl
@@ -223,6 +236,8 @@ stdio_found (keep x ∷ flags) = stdio_found flags
 stdio_found (connections x ∷ flags) = stdio_found flags
 stdio_found (idle x ∷ flags) = stdio_found flags
 stdio_found (unfinished x ∷ flags) = stdio_found flags
+stdio_found (keep_bytes x ∷ flags) = stdio_found flags
+stdio_found (idle_waiting x ∷ flags) = stdio_found flags
 
 pub asked_stdio : (flags : List Flag) → one_of (codes "stdio") (rows_of_all flags) ≡ Some (if is_given flags (codes "stdio") then codes "true" else codes "false")
 asked_stdio flags = go (has_row (codes "stdio") (map row_of flags)) refl
@@ -244,8 +259,9 @@ flag_read read true text is if_true if_false = if_true is
 flag_read read false text is if_true if_false = if_false is
 
 pub same_asked : (a b : Asked) → a.stdio ≡ b.stdio → a.listen ≡ b.listen → a.policy ≡ b.policy → a.workers ≡ b.workers → a.keep ≡ b.keep
-    → a.connections ≡ b.connections → a.idle ≡ b.idle → a.unfinished ≡ b.unfinished → a ≡ b
-same_asked a b stdio_is listen_is policy_is workers_is keep_is connections_is idle_is unfinished_is =
+    → a.connections ≡ b.connections → a.idle ≡ b.idle → a.unfinished ≡ b.unfinished
+    → a.keep_bytes ≡ b.keep_bytes → a.idle_waiting ≡ b.idle_waiting → a ≡ b
+same_asked a b stdio_is listen_is policy_is workers_is keep_is connections_is idle_is unfinished_is keep_bytes_is idle_waiting_is =
     λ i. record {
       stdio = stdio_is i;
       listen = listen_is i;
@@ -255,4 +271,6 @@ same_asked a b stdio_is listen_is policy_is workers_is keep_is connections_is id
       connections = connections_is i;
       idle = idle_is i;
       unfinished = unfinished_is i;
+      keep_bytes = keep_bytes_is i;
+      idle_waiting = idle_waiting_is i;
     }

@@ -4,7 +4,7 @@
 use Rattle.std.specs.Prelude.{◌≡◌, ◌⊎◌, ℕ, List, true, false, Option, Some, None, is_some}
 use Rattle.std.specs.Net.Grammar.{IsSocketText}
 use Rattle.std.specs.declared.net.socket_addr.SocketAddr.{SocketAddr}
-use Rattle.sr_options.specs.Numbers.{IsConnections, IsIdle, IsKeep, IsUnfinished, IsWorkers}
+use Rattle.sr_options.specs.Numbers.{IsConnections, IsIdle, IsIdleWaiting, IsKeep, IsKeepBytes, IsUnfinished, IsWorkers}
 use Rattle.sr_options.specs.Options.{Asked}
 use Rattle.sr_options.specs.declared.command.UsageFault.{UsageFault}
 use Rattle.sr_options.specs.declared.command.UsageFault.TheVariants as faults
@@ -22,13 +22,16 @@ pub record AsksForStdio (asked : Asked) : Type 0 where
   pub no_loop : asked.connections ≡ None
   pub no_pause : asked.idle ≡ None
   pub no_bound : asked.unfinished ≡ None
+  pub no_bytes : asked.keep_bytes ≡ None
+  pub no_wait : asked.idle_waiting ≡ None
 
 -- the options ask to serve connections in this way: by workers, or by a loop, which only --connections asks for
 abbrev pub IsWay : Asked → Way → Type 0
 IsWay asked (ways.Workers number) = IsWorkers asked.workers number × (asked.connections ≡ None)
-    × (asked.idle ≡ None) × (asked.unfinished ≡ None)
+    × (asked.idle ≡ None) × (asked.unfinished ≡ None) × (asked.keep_bytes ≡ None) × (asked.idle_waiting ≡ None)
 IsWay asked (ways.Loop looping) = (asked.workers ≡ None) × IsConnections asked.connections (Some looping.connections)
     × IsIdle asked.idle looping.idle × IsUnfinished asked.unfinished looping.unfinished
+    × IsKeepBytes asked.keep_bytes looping.keep_bytes × IsIdleWaiting asked.idle_waiting looping.idle_waiting
 
 -- the options ask to serve the connections that come to an address, which they write as this text
 pub record AsksToListen (asked : Asked) (text : List ℕ) (address : SocketAddr) (way : Way) (keep : Option ℕ) : Type 0
@@ -38,6 +41,7 @@ pub record AsksToListen (asked : Asked) (text : List ℕ) (address : SocketAddr)
     pub spelled : IsSocketText text address
     pub served : IsWay asked way
     pub kept : IsKeep asked.keep keep
+    pub with_keep : asked.keep ≡ None → asked.keep_bytes ≡ None
 
 abbrev pub AsksForAddress : Asked → Type 0
 AsksForAddress asked =
@@ -71,12 +75,20 @@ HasIdle asked = (idle : Option ℕ) × IsIdle asked.idle idle
 abbrev pub HasUnfinished : Asked → Type 0
 HasUnfinished asked = (number : ℕ) × IsUnfinished asked.unfinished number
 
+abbrev pub HasKeepBytes : Asked → Type 0
+HasKeepBytes asked = (number : ℕ) × IsKeepBytes asked.keep_bytes number
+
+abbrev pub HasIdleWaiting : Asked → Type 0
+HasIdleWaiting asked = (idle : Option ℕ) × IsIdleWaiting asked.idle_waiting idle
+
 pub record AreNumbers (asked : Asked) : Type 0 where
   pub workers : HasWorkers asked
   pub keep : HasKeep asked
   pub connections : HasConnections asked
   pub idle : HasIdle asked
   pub unfinished : HasUnfinished asked
+  pub keep_bytes : HasKeepBytes asked
+  pub idle_waiting : HasIdleWaiting asked
 
 -- each number is one that the program can do with, and either a session is asked for, or a server at an address
 pub record IsReadable (asked : Asked) : Type 0 where
@@ -85,9 +97,19 @@ pub record IsReadable (asked : Asked) : Type 0 where
       ⊎ ((asked.stdio ≡ false)
       × ((text : List ℕ) × (address : SocketAddr) × (asked.listen ≡ Some text) × IsSocketText text address))
 
--- what is wrong first: the number of workers, of records, of connections, of seconds, of bytes; then the address, and
--- whether one thing is asked for; then what does not go together: with a session, records that are kept, and a loop;
--- with a loop, workers; and without one what it alone has, seconds and bytes
+-- no loop is asked for, and no records are kept for one session
+abbrev pub HasNoLoop : Asked → Type 0
+HasNoLoop asked = IsReadable asked × ((asked.stdio ≡ false) ⊎ (asked.keep ≡ None)) × (asked.connections ≡ None)
+
+-- a loop is asked for, beside neither a session nor workers, and all records are kept
+abbrev pub KeepsAllInLoop : Asked → Type 0
+KeepsAllInLoop asked = IsReadable asked × (asked.stdio ≡ false) × (is_some asked.connections ≡ true)
+    × (asked.workers ≡ None) × (asked.keep ≡ None)
+
+-- what is wrong first: a number, of the options in the order of the cases; then the address, and whether one thing is
+-- asked for; then what does not go together: with a session, records that are kept, and a loop; with a loop, workers;
+-- and without one what it alone has: seconds, bytes of requests, bytes of records, which also all that are kept have
+-- not, and seconds of a read that waits
 abbrev pub IsFaultOf : Asked → UsageFault → Type 0
 IsFaultOf asked faults.Workers = (number : ℕ) → ¬ (IsWorkers asked.workers number)
 IsFaultOf asked faults.Keep = HasWorkers asked × ((keep : Option ℕ) → ¬ (IsKeep asked.keep keep))
@@ -97,6 +119,10 @@ IsFaultOf asked faults.Idle = HasWorkers asked × HasKeep asked × HasConnection
     × ((idle : Option ℕ) → ¬ (IsIdle asked.idle idle))
 IsFaultOf asked faults.Unfinished = HasWorkers asked × HasKeep asked × HasConnections asked × HasIdle asked
     × ((number : ℕ) → ¬ (IsUnfinished asked.unfinished number))
+IsFaultOf asked faults.KeepBytes = HasWorkers asked × HasKeep asked × HasConnections asked × HasIdle asked
+    × HasUnfinished asked × ((number : ℕ) → ¬ (IsKeepBytes asked.keep_bytes number))
+IsFaultOf asked faults.IdleWaiting = HasWorkers asked × HasKeep asked × HasConnections asked × HasIdle asked
+    × HasUnfinished asked × HasKeepBytes asked × ((idle : Option ℕ) → ¬ (IsIdleWaiting asked.idle_waiting idle))
 IsFaultOf asked faults.Address = AreNumbers asked × (asked.stdio ≡ false)
     × ((text : List ℕ) × (asked.listen ≡ Some text) × ((address : SocketAddr) → ¬ (IsSocketText text address)))
 IsFaultOf asked faults.Mode = AreNumbers asked × (asked.stdio ≡ is_some asked.listen)
@@ -105,7 +131,9 @@ IsFaultOf asked faults.ConnectionsAlone = IsReadable asked × (asked.stdio ≡ t
     × (is_some asked.connections ≡ true)
 IsFaultOf asked faults.ConnectionsBeside = IsReadable asked × (asked.stdio ≡ false)
     × (is_some asked.connections ≡ true) × (is_some asked.workers ≡ true)
-IsFaultOf asked faults.IdleAlone = IsReadable asked × ((asked.stdio ≡ false) ⊎ (asked.keep ≡ None))
-    × (asked.connections ≡ None) × (is_some asked.idle ≡ true)
-IsFaultOf asked faults.UnfinishedAlone = IsReadable asked × ((asked.stdio ≡ false) ⊎ (asked.keep ≡ None))
-    × (asked.connections ≡ None) × (asked.idle ≡ None) × (is_some asked.unfinished ≡ true)
+IsFaultOf asked faults.IdleAlone = HasNoLoop asked × (is_some asked.idle ≡ true)
+IsFaultOf asked faults.UnfinishedAlone = HasNoLoop asked × (asked.idle ≡ None) × (is_some asked.unfinished ≡ true)
+IsFaultOf asked faults.KeepBytesAlone = (is_some asked.keep_bytes ≡ true)
+    × (KeepsAllInLoop asked ⊎ (HasNoLoop asked × (asked.idle ≡ None) × (asked.unfinished ≡ None)))
+IsFaultOf asked faults.IdleWaitingAlone = HasNoLoop asked × (asked.idle ≡ None) × (asked.unfinished ≡ None)
+    × (asked.keep_bytes ≡ None) × (is_some asked.idle_waiting ≡ true)

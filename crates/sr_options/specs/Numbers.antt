@@ -31,8 +31,8 @@ abbrev pub after_seconds : ℕ → Option ℕ
 after_seconds zero = None
 after_seconds (suc n) = Some (suc n)
 
--- after how many seconds without a whole request a connection is closed: never without the option, or the number that
--- is written, from 0, which is never, to 86,400
+-- after how many seconds a connection is closed of which no byte was read or written, unless its read waits: never
+-- without the option, or the number that is written, from 0, which is never, to 86,400
 abbrev pub IsIdle : Option (List ℕ) → Option ℕ → Type 0
 IsIdle None idle = idle ≡ None
 IsIdle (Some text) idle = (number : ℕ) × (idle ≡ after_seconds number) × IsNumber 0 86400 text number
@@ -42,3 +42,13 @@ IsIdle (Some text) idle = (number : ℕ) × (idle ≡ after_seconds number) × I
 abbrev pub IsUnfinished : Option (List ℕ) → ℕ → Type 0
 IsUnfinished None number = number ≡ 1073741824
 IsUnfinished (Some text) number = IsNumber 1 1000000000000 text number
+
+-- about how many bytes the records that are kept take at most, a checkpoint being made beyond them: 67,108,864, or the
+-- number that is written, from 1 to 1,000,000,000,000
+abbrev pub IsKeepBytes : Option (List ℕ) → ℕ → Type 0
+IsKeepBytes None number = number ≡ 67108864
+IsKeepBytes (Some text) number = IsNumber 1 1000000000000 text number
+
+-- after how many seconds a connection is closed of which no byte was read or written, while its read waits: as IsIdle
+abbrev pub IsIdleWaiting : Option (List ℕ) → Option ℕ → Type 0
+IsIdleWaiting written seconds = IsIdle written seconds

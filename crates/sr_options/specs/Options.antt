@@ -15,6 +15,8 @@ pub data Flag : Type 0 where
   connections : List ℕ → Flag
   idle : List ℕ → Flag
   unfinished : List ℕ → Flag
+  keep_bytes : List ℕ → Flag
+  idle_waiting : List ℕ → Flag
 
 abbrev pub name_of : Flag → List ℕ
 name_of stdio = codes "stdio"
@@ -25,6 +27,8 @@ name_of (keep number) = codes "keep"
 name_of (connections number) = codes "connections"
 name_of (idle seconds) = codes "idle"
 name_of (unfinished bytes) = codes "unfinished"
+name_of (keep_bytes bytes) = codes "keep-bytes"
+name_of (idle_waiting seconds) = codes "idle-waiting"
 
 abbrev pub value_of : Flag → List ℕ
 value_of stdio = codes "true"
@@ -35,6 +39,8 @@ value_of (keep number) = number
 value_of (connections number) = number
 value_of (idle seconds) = seconds
 value_of (unfinished bytes) = bytes
+value_of (keep_bytes bytes) = bytes
+value_of (idle_waiting seconds) = seconds
 
 -- how it is written, in one word
 abbrev pub word_of : Flag → List ℕ
@@ -46,6 +52,8 @@ word_of (keep number) = codes "--keep=" ++ number
 word_of (connections number) = codes "--connections=" ++ number
 word_of (idle seconds) = codes "--idle=" ++ seconds
 word_of (unfinished bytes) = codes "--unfinished=" ++ bytes
+word_of (keep_bytes bytes) = codes "--keep-bytes=" ++ bytes
+word_of (idle_waiting seconds) = codes "--idle-waiting=" ++ seconds
 
 abbrev pub has_name : List ℕ → Flag → Bool
 has_name name flag = bytes_eq (name_of flag) name
@@ -72,6 +80,8 @@ pub record Asked : Type 0 where
   pub connections : Option (List ℕ)
   pub idle : Option (List ℕ)
   pub unfinished : Option (List ℕ)
+  pub keep_bytes : Option (List ℕ)
+  pub idle_waiting : Option (List ℕ)
 
 abbrev pub asked_by : List Flag → Asked
 asked_by flags = record {
@@ -83,6 +93,8 @@ asked_by flags = record {
   connections = value_in flags (codes "connections");
   idle = value_in flags (codes "idle");
   unfinished = value_in flags (codes "unfinished");
+  keep_bytes = value_in flags (codes "keep-bytes");
+  idle_waiting = value_in flags (codes "idle-waiting");
 }
 
 abbrev pub asked_of : Options → Asked
@@ -95,4 +107,6 @@ asked_of options = record {
   connections = option_map (λ text. text.now) options.connections;
   idle = option_map (λ text. text.now) options.idle;
   unfinished = option_map (λ text. text.now) options.unfinished;
+  keep_bytes = option_map (λ text. text.now) options.keep_bytes;
+  idle_waiting = option_map (λ text. text.now) options.idle_waiting;
 }

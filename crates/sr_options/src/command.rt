@@ -29,6 +29,12 @@ pub enum UsageFault {
     /// The number of bytes is none from 1 to 1,000,000,000,000.
     #[error("--unfinished takes a number from 1 to 1000000000000")]
     Unfinished,
+    /// The number of bytes that kept records take is none from 1 to 1,000,000,000,000.
+    #[error("--keep-bytes takes a number from 1 to 1000000000000")]
+    KeepBytes,
+    /// The number of seconds of a read that waits is none from 0 to 86,400.
+    #[error("--idle-waiting takes a number from 0 to 86400")]
+    IdleWaiting,
     /// What is to be listened at is not an address and a port.
     #[error("--listen takes an address and a port, as 127.0.0.1:6379 or [::1]:6379")]
     Address,
@@ -50,6 +56,12 @@ pub enum UsageFault {
     /// Requests are to be bounded that no loop reads.
     #[error("--unfinished needs --connections")]
     UnfinishedAlone,
+    /// The bytes of records are to be bounded that no loop keeps, or all of which are kept.
+    #[error("--keep-bytes needs --connections and --keep")]
+    KeepBytesAlone,
+    /// Connections whose reads wait are to be closed that no loop serves.
+    #[error("--idle-waiting needs --connections")]
+    IdleWaitingAlone,
 }
 
 /// What the options ask for.
@@ -94,9 +106,13 @@ fn clash_of(options: &Options<'_>) -> Option<UsageFault>
     match options.connections {
         Some(_) if options.stdio => Some(UsageFault::ConnectionsAlone),
         Some(_) if options.workers.is_some() => Some(UsageFault::ConnectionsBeside),
+        Some(_) if options.keep.is_some() => None,
+        Some(_) if options.keep_bytes.is_some() => Some(UsageFault::KeepBytesAlone),
         Some(_) => None,
         None if options.idle.is_some() => Some(UsageFault::IdleAlone),
         None if options.unfinished.is_some() => Some(UsageFault::UnfinishedAlone),
+        None if options.keep_bytes.is_some() => Some(UsageFault::KeepBytesAlone),
+        None if options.idle_waiting.is_some() => Some(UsageFault::IdleWaitingAlone),
         None => None,
     }
 }
@@ -114,7 +130,9 @@ fn way_of(options: &Options<'_>, numbers: Numbers) -> Way
         Some(connections) => Way::Loop(Looping {
             connections,
             idle: numbers.idle,
+            idle_waiting: numbers.idle_waiting,
             unfinished: numbers.unfinished,
+            keep_bytes: numbers.keep_bytes,
         }),
     }
 }

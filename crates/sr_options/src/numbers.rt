@@ -1,7 +1,8 @@
 //! The numbers of the command line, each in its range.
 ghost use Rattle.std.specs.Prelude.{◌≡◌, ◌≤◌, ℕ, Option, option_map, IfErr, IfOk, IfSome, IsNone};
 ghost use Rattle.sr_options.specs.Command.{IsFaultOf};
-ghost use Rattle.sr_options.specs.Numbers.{IsConnections, IsIdle, IsKeep, IsNumber, IsUnfinished, IsWorkers};
+ghost use Rattle.sr_options.specs.Numbers.{IsConnections, IsIdle, IsKeep, IsKeepBytes, IsNumber, IsUnfinished};
+ghost use Rattle.sr_options.specs.Numbers.{IsWorkers};
 ghost use Rattle.sr_options.specs.Options.{asked_of};
 ghost use Rattle.sr_options.specs.steps.Read.{AreRead};
 
@@ -17,14 +18,17 @@ const MOST_KEPT: u64 = 1_000_000_000;
 /// The most connections that one loop serves.
 const MOST_CONNECTIONS: u64 = 10_000;
 
-/// The most seconds after which a connection is closed that sends no whole request: a day.
+/// The most seconds without a byte after which a connection is closed: a day.
 const MOST_SECONDS: u64 = 86_400;
 
-/// The most bytes that requests which are not answered yet may hold together.
-const MOST_UNFINISHED: u64 = 1_000_000_000_000;
+/// The most bytes that requests which are not answered yet may hold together, and that kept records may take.
+const MOST_BYTES: u64 = 1_000_000_000_000;
 
-/// How many these are without `--unfinished`.
+/// How many bytes requests may hold without `--unfinished`.
 const UNFINISHED: u64 = 1 << 30;
+
+/// About how many bytes kept records take at most without `--keep-bytes`.
+const KEEP_BYTES: u64 = 1 << 26;
 
 /// The numbers that the options give, or what stands for those that are not there.
 #[derive(Clone, Copy)]
@@ -35,10 +39,14 @@ pub(crate) struct Numbers {
     pub(crate) keep: Option<u64>,
     /// How many connections a loop serves. None: there is no loop.
     pub(crate) connections: Option<usize>,
-    /// After how many seconds without a whole request a connection is closed. None: never.
+    /// After how many seconds without a byte a connection is closed, unless its read waits. None: never.
     pub(crate) idle: Option<u64>,
     /// How many bytes the requests that are not answered yet may hold together.
     pub(crate) unfinished: u64,
+    /// About how many bytes the records take at most that are kept.
+    pub(crate) keep_bytes: u64,
+    /// After how many seconds without a byte a connection is closed whose read waits. None: never.
+    pub(crate) idle_waiting: Option<u64>,
 }
 
 /// The numbers of the options, or the first that is out of its range.
@@ -61,12 +69,20 @@ pub(crate) fn numbers_of(options: &Options<'_>) -> Result<Numbers, UsageFault>
     let Some(unfinished) = unfinished_of(options.unfinished) else {
         return Err(UsageFault::Unfinished);
     };
+    let Some(keep_bytes) = keep_bytes_of(options.keep_bytes) else {
+        return Err(UsageFault::KeepBytes);
+    };
+    let Some(idle_waiting) = idle_of(options.idle_waiting) else {
+        return Err(UsageFault::IdleWaiting);
+    };
     Ok(Numbers {
         workers,
         keep,
         connections,
         idle,
         unfinished,
+        keep_bytes,
+        idle_waiting,
     })
 }
 
@@ -113,7 +129,7 @@ fn connections_of(text: Option<&str>) -> Option<Option<usize>>
     }
 }
 
-/// After how many seconds a connection is closed, if it ever is. None if the text is no number for it.
+/// After how many seconds without a byte a connection is closed, if it ever is. None if the text is no number for it.
 fn idle_of(text: Option<&str>) -> Option<Option<u64>>
     ensures some { IfSome result (IsIdle (option_map (λ text. text.now) text.entry)) }
     ensures none { IsNone result → (idle : Option ℕ) → ¬ (IsIdle (option_map (λ text. text.now) text.entry) idle) }
@@ -135,7 +151,18 @@ fn unfinished_of(text: Option<&str>) -> Option<u64>
 {
     match text {
         None => Some(UNFINISHED),
-        Some(text) => number_in(text, 1, MOST_UNFINISHED),
+        Some(text) => number_in(text, 1, MOST_BYTES),
+    }
+}
+
+/// About how many bytes kept records take at most. None if the text is no number for it.
+fn keep_bytes_of(text: Option<&str>) -> Option<u64>
+    ensures some { IfSome result (IsKeepBytes (option_map (λ text. text.now) text.entry)) }
+    ensures none { IsNone result → (number : ℕ) → ¬ (IsKeepBytes (option_map (λ text. text.now) text.entry) number) }
+{
+    match text {
+        None => Some(KEEP_BYTES),
+        Some(text) => number_in(text, 1, MOST_BYTES),
     }
 }
 

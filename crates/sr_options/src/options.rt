@@ -10,8 +10,8 @@ use std::convert::AsStr;
 
 /// What help says at its end.
 const EXAMPLES: &str = "Examples:
-  sr_server --listen 127.0.0.1:6379 --policy policy.toml --keep 100000
-  sr_server --listen 127.0.0.1:6379 --connections 5000 --idle 300
+  sr_server --listen 127.0.0.1:6379 --connections 1000 --keep 100000 --policy policy.toml
+  sr_server --listen 127.0.0.1:6379 --connections 5000 --idle 300 --idle-waiting 3600
   sr_server --stdio < requests > replies";
 
 /// The options of the command line, as they are written.
@@ -29,10 +29,14 @@ pub struct Options<'a> {
     pub keep: Option<&'a str>,
     /// How many connections one loop serves.
     pub connections: Option<&'a str>,
-    /// After how many seconds without a whole request a connection is closed.
+    /// After how many seconds without a byte a connection is closed, unless its read waits.
     pub idle: Option<&'a str>,
     /// How many bytes all requests that are not answered yet may hold together.
     pub unfinished: Option<&'a str>,
+    /// About how many bytes the records take at most that are kept.
+    pub keep_bytes: Option<&'a str>,
+    /// After how many seconds without a byte a connection is closed whose read waits.
+    pub idle_waiting: Option<&'a str>,
 }
 
 /// Reads the options from the words of the command line, of which the first is the program's name.
@@ -55,6 +59,8 @@ pub fn read_options<'a, S: AsStr>(alloc: Global, words: &'a [S]) -> Result<Optio
         connections: matches.get_str("connections"),
         idle: matches.get_str("idle"),
         unfinished: matches.get_str("unfinished"),
+        keep_bytes: matches.get_str("keep-bytes"),
+        idle_waiting: matches.get_str("idle-waiting"),
     })
 }
 
@@ -86,6 +92,12 @@ fn general_options<'a>(alloc: Global) -> Result<Command<'a>, AllocError>
         ))?
         .arg(valued(
             alloc,
+            "connections",
+            "N",
+            "With --listen: serve up to N connections by one loop, from 1 to 10000; what most want [default: by workers]",
+        ))?
+        .arg(valued(
+            alloc,
             "policy",
             "FILE",
             "Read who may take which entries from this file",
@@ -94,7 +106,7 @@ fn general_options<'a>(alloc: Global) -> Result<Command<'a>, AllocError>
             alloc,
             "workers",
             "N",
-            "With --listen: serve at most N connections at a time, by threads, from 1 to 64 [default: 64]",
+            "With --listen: serve at most N connections at a time, by threads, from 1 to 64; a read that waits takes one of them [default: 64]",
         ))?
         .arg(valued(
             alloc,
@@ -111,15 +123,21 @@ fn loop_options<'a>(alloc: Global, command: Command<'a>) -> Result<Command<'a>, 
     command
         .arg(valued(
             alloc,
-            "connections",
-            "N",
-            "With --listen: serve up to N connections by one loop, from 1 to 10000 [default: by workers]",
+            "keep-bytes",
+            "BYTES",
+            "With --connections and --keep: make a checkpoint too once the records take about this much [default: 67108864]",
         ))?
         .arg(valued(
             alloc,
             "idle",
             "SECONDS",
-            "With --connections: close one that has sent no whole request for so long, unless it waits [default: 0, never]",
+            "With --connections: close one of which no byte was read or written for so long, unless its read waits [default: 0, never]",
+        ))?
+        .arg(valued(
+            alloc,
+            "idle-waiting",
+            "SECONDS",
+            "With --connections: close one whose read waits once no byte of it was read or written for so long [default: 0, never]",
         ))?
         .arg(valued(
             alloc,
