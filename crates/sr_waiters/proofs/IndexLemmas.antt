@@ -1,14 +1,15 @@
 -- The sessions of each key: after a list in the map changes, key by key, and after the reads do.
-use Rattle.std.proofs.Common.{◌≡◌, ◌≢◌, ◌==◌, ℕ, Bool, true, false, cond, not, ◌||◌, ◌&&◌, List, [], ◌∷◌, ◌++◌, filter, map, nat_eq, Option, Some, None, inl, inr, refl, ap, sym, subst, ◌∙◌, true≢false}
+use Rattle.std.proofs.Common.{◌≡◌, ◌≢◌, ◌==◌, ℕ, Bool, true, false, cond, not, ◌||◌, ◌&&◌, List, [], ◌∷◌, ◌++◌, filter, map, nat_eq, is_some, Option, Some, None, Result, Ok, Err, OnOk, inl, inr, refl, ap, sym, subst, ◌∙◌, true≢false}
 use Rattle.std.proofs.lemmas.Bool.{eq-eqb, eqb-true, or_parts}
 use Rattle.std.proofs.lemmas.Cmp.{nat_eq_equiv}
 use Rattle.std.specs.List.{AllByRecursion}
 use Rattle.std.specs.Cmp.Lexicographic.{pointwise, bytes_decides}
-use Rattle.std.specs.Global.{Vec}
 use Rattle.std.specs.HashMap.{HashMap, Updates, get}
+use Rattle.std.specs.Map.{keys_of, lookup}
 use Rattle.sr_args.specs.{IsAmong}
 use Rattle.sr_args.specs.declared.call.Call.{Call}
-use Rattle.sr_waiters.specs.Index.{Changes, Gives, IsIndexed, and_read, asking, changed, readers, reads_of, sessions_by, sessions_in, with_session, without}
+use Rattle.sr_waiters.specs.Queue.{without_entry}
+use Rattle.sr_waiters.specs.Index.{Changes, Gives, IsIndexed, Sessions, and_read, asking, changed, readers, reads_of, sessions_by, sessions_in, with_session, without}
 use Rattle.sr_waiters.specs.Waiters.{AreOnce, Key, Waiting, asks, call_of, first_that, has_key, has_session, read_of, session_of, without_session}
 
 abbrev is_same : Key → Key → Bool
@@ -24,10 +25,10 @@ other-key a b apart = by (is_same a b) refl
     by true e = absurd (apart ((bytes_decides a b).0 e))
     by false e = refl
 
-module _ {S : Type 0} (key : Key) (old new : HashMap Key (Vec ℕ) S) where
+module _ {S : Type 0} (key : Key) (old new : HashMap Key Sessions S) where
   -- a key's list becomes another one
-  module _ (sessions : Vec ℕ) (updates : Updates (pointwise nat_eq) old new key (Some sessions)) where
-    pub gives-update : (given : List ℕ) → sessions.items ≡ given → Gives key given old new
+  module _ (sessions : Sessions) (updates : Updates (pointwise nat_eq) old new key (Some sessions)) where
+    pub gives-update : (given : List ℕ) → keys_of sessions.entries ≡ given → Gives key given old new
     gives-update given is other = ap sessions_in (updates.0 other) ∙ by (is_same key other)
       where
         by : (test : Bool) → sessions_in (cond test (Some sessions) (get (pointwise nat_eq) old other)) ≡ cond test given (sessions_by old other)
@@ -43,23 +44,55 @@ module _ {S : Type 0} (key : Key) (old new : HashMap Key (Vec ℕ) S) where
       by false = refl
 
 -- nothing changes
-pub gives-same : {S : Type 0} (key : Key) (given : List ℕ) (index : HashMap Key (Vec ℕ) S) → given ≡ sessions_by index key → Gives key given index index
+pub gives-same : {S : Type 0} (key : Key) (given : List ℕ) (index : HashMap Key Sessions S) → given ≡ sessions_by index key → Gives key given index index
 gives-same key given index is other = by (is_same key other) refl
   where
     by : (test : Bool) → is_same key other ≡ test → sessions_by index other ≡ cond test given (sessions_by index other)
     by true e = ap (sessions_by index) (sym (same-key key other e)) ∙ sym is
     by false e = refl
 
-pub gives-here : {S : Type 0} (key : Key) (given : List ℕ) (old new : HashMap Key (Vec ℕ) S) → Gives key given old new → sessions_by new key ≡ given
+pub gives-here : {S : Type 0} (key : Key) (given : List ℕ) (old new : HashMap Key Sessions S) → Gives key given old new → sessions_by new key ≡ given
 gives-here key given old new gives = gives key ∙ ap (λ (b : Bool). cond b given (sessions_by old key)) ((bytes_decides key key).1 refl)
 
 -- one change after another, which keeps it
-pub gives-then : {S : Type 0} (key : Key) (given : List ℕ) (old middle new : HashMap Key (Vec ℕ) S) → Gives key given old middle → Gives key (sessions_by middle key) middle new → Gives key given old new
+pub gives-then : {S : Type 0} (key : Key) (given : List ℕ) (old middle new : HashMap Key Sessions S) → Gives key given old middle → Gives key (sessions_by middle key) middle new → Gives key given old new
 gives-then key given old middle new first second other = second other ∙ by (is_same key other) (first other)
   where
     by : (test : Bool) → sessions_by middle other ≡ cond test given (sessions_by old other) → cond test (sessions_by middle key) (sessions_by middle other) ≡ cond test given (sessions_by old other)
     by true e = gives-here key given old middle first
     by false e = e
+
+-- a change of a queue that did not fail
+pub on-ok : {A E P Q : Type 0} (r : Result A E) → (P → Q) → OnOk r P → OnOk r Q
+on-ok (Ok x) step p = step p
+on-ok (Err e) step p = tt
+
+-- ---- the sessions of a queue
+
+-- without one of them
+pub keys-left : (session : ℕ) (entries : List (ℕ × Unit {0})) → keys_of (without_entry session entries) ≡ without session (keys_of entries)
+keys-left session [] = refl
+keys-left session (e ∷ entries) = by (e.0 == session) (keys-left session entries)
+  where
+    by : (test : Bool) → keys_of (without_entry session entries) ≡ without session (keys_of entries)
+        → keys_of (cond (not test) (e ∷ without_entry session entries) (without_entry session entries)) ≡ cond (not test) (e.0 ∷ without session (keys_of entries)) (without session (keys_of entries))
+    by true rest = rest
+    by false rest = ap (λ (l : List ℕ). e.0 ∷ l) rest
+
+-- which is then not there
+pub left-is-gone : (session : ℕ) (entries : List (ℕ × Unit {0})) → is_some (lookup (nat_eq session) (without_entry session entries)) ≡ false
+left-is-gone session [] = refl
+left-is-gone session (e ∷ entries) = by (e.0 == session) refl (left-is-gone session entries)
+  where
+    by : (test : Bool) → (e.0 == session) ≡ test → is_some (lookup (nat_eq session) (without_entry session entries)) ≡ false
+        → is_some (lookup (nat_eq session) (cond (not test) (e ∷ without_entry session entries) (without_entry session entries))) ≡ false
+    by true is rest = rest
+    by false is rest = rw (nat_eq_equiv.symm session e.0 ∙ is) rest
+
+-- and goes last
+pub keys-last : (session : ℕ) (entries : List (ℕ × Unit {0})) → keys_of (entries ++ (session, tt) ∷ []) ≡ keys_of entries ++ session ∷ []
+keys-last session [] = refl
+keys-last session (e ∷ entries) = ap (λ (l : List ℕ). e.0 ∷ l) (keys-last session entries)
 
 -- ---- keys one after another
 
@@ -70,7 +103,7 @@ not-among key (stream ∷ streams) apart = rw (other-key stream.0 key (λ same. 
 
 module _ {X S : Type 0} (change : List ℕ → List ℕ) (goal : Key → List ℕ) where
   -- the change is made at the next key
-  pub changes-next : (stream : Key × X) (left : List (Key × X)) (old new : HashMap Key (Vec ℕ) S) → Changes change (stream ∷ left) goal old → Gives stream.0 (change (sessions_by old stream.0)) old new → Changes change left goal new
+  pub changes-next : (stream : Key × X) (left : List (Key × X)) (old new : HashMap Key Sessions S) → Changes change (stream ∷ left) goal old → Gives stream.0 (change (sessions_by old stream.0)) old new → Changes change left goal new
   changes-next stream left old new changes gives = record { sessions = λ key. by key (is_same stream.0 key) refl; different = changes.different.1 }
     where
       by : (key : Key) (test : Bool) → is_same stream.0 key ≡ test → changed change (has_key key left) (sessions_by new key) ≡ goal key
@@ -88,20 +121,22 @@ module _ {X S : Type 0} (change : List ℕ → List ℕ) (goal : Key → List �
 -- ---- the reads that ask the stream at a key
 
 -- one more read
-asking-append : (key : Key) (list : List Waiting) (read : Waiting) → asking key (list ++ read ∷ []) ≡ changed (with_session read.session) (asks key read.call) (asking key list)
+asking-append : (key : Key) (list : List Waiting) (read : Waiting) → asking key (list ++ read ∷ []) ≡ cond (asks key read.call) (asking key list ++ read.session ∷ []) (asking key list)
 asking-append key [] read = by (asks key read.call)
   where
-    by : (asked : Bool) → map (λ (r : Waiting). r.session) (cond asked (read ∷ []) []) ≡ changed (with_session read.session) asked []
+    by : (asked : Bool) → map (λ (r : Waiting). r.session) (cond asked (read ∷ []) []) ≡ cond asked (read.session ∷ []) []
     by true = refl
     by false = refl
 asking-append key (first ∷ list) read = by (asks key first.call) (asks key read.call) (asking-append key list read)
   where
-    by : (asked last : Bool) → asking key (list ++ read ∷ []) ≡ changed (with_session read.session) last (asking key list)
+    by : (asked last : Bool) → asking key (list ++ read ∷ []) ≡ cond last (asking key list ++ read.session ∷ []) (asking key list)
         → map (λ (r : Waiting). r.session) (cond asked (first ∷ filter (λ (r : Waiting). asks key r.call) (list ++ read ∷ [])) (filter (λ (r : Waiting). asks key r.call) (list ++ read ∷ [])))
-        ≡ changed (with_session read.session) last (map (λ (r : Waiting). r.session) (cond asked (first ∷ filter (λ (r : Waiting). asks key r.call) list) (filter (λ (r : Waiting). asks key r.call) list)))
+        ≡ cond last (map (λ (r : Waiting). r.session) (cond asked (first ∷ filter (λ (r : Waiting). asks key r.call) list) (filter (λ (r : Waiting). asks key r.call) list)) ++ read.session ∷ [])
+        (map (λ (r : Waiting). r.session) (cond asked (first ∷ filter (λ (r : Waiting). asks key r.call) list) (filter (λ (r : Waiting). asks key r.call) list)))
     by true true rest = ap (λ (l : List ℕ). first.session ∷ l) rest
     by true false rest = ap (λ (l : List ℕ). first.session ∷ l) rest
-    by false last rest = rest
+    by false true rest = rest
+    by false false rest = rest
 
 -- one read less
 asking-absent : (key : Key) (session : ℕ) (list : List Waiting) → has_session session list ≡ false → without session (asking key list) ≡ asking key list
@@ -151,9 +186,11 @@ asking-unasked key session (first ∷ list) call once found unasked = by (first.
         kept true = rw e (ap (λ (l : List ℕ). first.session ∷ l) (rest found unasked))
         kept false = rest found unasked
 
-module _ {S : Type 0} (old new : HashMap Key (Vec ℕ) S) (list : List Waiting) (indexed : IsIndexed old list) where
-  pub indexed-joined : (read : Waiting) → ((key : Key) → sessions_by new key ≡ changed (with_session read.session) (asks key read.call) (sessions_by old key)) → IsIndexed new (list ++ read ∷ [])
-  indexed-joined read puts key = puts key ∙ ap (changed (with_session read.session) (asks key read.call)) (indexed key) ∙ sym (asking-append key list read)
+module _ {S : Type 0} (old new : HashMap Key Sessions S) (list : List Waiting) (indexed : IsIndexed old list) where
+  pub indexed-joined : (read : Waiting) → has_session read.session list ≡ false → ((key : Key) → sessions_by new key ≡ changed (with_session read.session) (asks key read.call) (sessions_by old key)) → IsIndexed new (list ++ read ∷ [])
+  indexed-joined read absent puts key =
+      puts key ∙ ap (changed (with_session read.session) (asks key read.call)) (indexed key)
+      ∙ ap (λ (l : List ℕ). cond (asks key read.call) (l ++ read.session ∷ []) (asking key list)) (asking-absent key read.session list absent) ∙ sym (asking-append key list read)
 
   pub indexed-left : (session : ℕ) (call : Call) → AreOnce list → call_of (read_of session list) ≡ Some call → ((key : Key) → sessions_by new key ≡ changed (without session) (asks key call) (sessions_by old key))
       → IsIndexed new (without_session session list)
@@ -200,7 +237,7 @@ first-readers key test (read ∷ list) = by (asks key read.call) (first-readers 
     by true rest = ap (cond (test read.call) (Some read)) rest
     by false rest = rest
 
-pub first-indexed : {S : Type 0} (index : HashMap Key (Vec ℕ) S) (list : List Waiting) (key : Key) (test : Call → Bool) → AreOnce list → IsIndexed index list
+pub first-indexed : {S : Type 0} (index : HashMap Key Sessions S) (list : List Waiting) (key : Key) (test : Call → Bool) → AreOnce list → IsIndexed index list
     → session_of (first_that test (reads_of (sessions_by index key) list)) ≡ session_of (first_that (λ call. asks key call && test call) list)
 first-indexed index list key test once indexed =
     ap (λ (l : List ℕ). session_of (first_that test (reads_of l list))) (indexed key)

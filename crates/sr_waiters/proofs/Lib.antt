@@ -1,3 +1,4 @@
 mod CopyLemmas
 pub mod ReadLemmas
 pub mod IndexLemmas
+pub mod QueueLemmas

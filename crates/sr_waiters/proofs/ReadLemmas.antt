@@ -1,15 +1,14 @@
 -- What is shown of the stored reads, against what the map says of them.
 use Rattle.std.proofs.Common.{◌≡◌, ℕ, ◌<◌, ◌==◌, Bool, true, false, cond, not, ◌||◌, List, [], ◌∷◌, ◌++◌, length, Option, Some, None, is_some, nat_eq, slice_get, refl, sym, ap, ◌∙◌, true≢false, arith}
-use Rattle.std.proofs.lemmas.Bool.{eqb-true}
 use Rattle.std.proofs.lemmas.Cmp.{nat_eq_equiv}
 use Rattle.std.proofs.lemmas.Map.Keys.{IsDistinct-head, IsDistinct-tail}
 use Rattle.std.specs.List.{AllByRecursion, IsDistinct, list_any}
-use Rattle.std.specs.Map.{keys_of, lookup, remove_entry}
+use Rattle.std.specs.Map.{keys_of, lookup}
 use Rattle.std.specs.Option.{option_map}
-use Rattle.indexmap.specs.IndexMap.{insert_entry}
 use Rattle.sr_args.specs.declared.call.Call.{Call}
 use Rattle.sr_waiters.specs.declared.waiters.Blocked.{Blocked}
 use Rattle.sr_waiters.specs.Layout.{shown_read, shown_reads}
+use Rattle.sr_waiters.specs.Queue.{without_entry}
 use Rattle.sr_waiters.specs.Waiters.{AreOnce, Waiting, call_of, due_at, first_that, has_session, is_due, is_reached, read_of, session_of, without_session}
 
 abbrev pub Stored : Type 0
@@ -40,16 +39,9 @@ call_of_shown session (e ∷ stored) = rw (nat_eq_equiv.symm session e.0) (by (e
     by false rest = rest
 
 -- a new read goes last
-pub shown_joined : (session : ℕ) (read : Blocked) (stored : Stored) → has_session session (shown_reads stored) ≡ false
-    → shown_reads (insert_entry nat_eq stored session read) ≡ shown_reads stored ++ shown_read (session, read) ∷ []
-shown_joined session read [] absent = refl
-shown_joined session read (e ∷ stored) absent = rw (nat_eq_equiv.symm session e.0) (by (e.0 == session) absent (shown_joined session read stored))
-  where
-    by : (test : Bool) → (test || has_session session (shown_reads stored)) ≡ false
-        → (has_session session (shown_reads stored) ≡ false → shown_reads (insert_entry nat_eq stored session read) ≡ shown_reads stored ++ shown_read (session, read) ∷ [])
-        → shown_reads (cond test ((e.0, read) ∷ stored) (e ∷ insert_entry nat_eq stored session read)) ≡ shown_read e ∷ (shown_reads stored ++ shown_read (session, read) ∷ [])
-    by true absent rest = absurd (true≢false absent)
-    by false absent rest = ap (λ (l : List Waiting). shown_read e ∷ l) (rest absent)
+pub shown_joined : (session : ℕ) (read : Blocked) (stored : Stored) → shown_reads (stored ++ (session, read) ∷ []) ≡ shown_reads stored ++ shown_read (session, read) ∷ []
+shown_joined session read [] = refl
+shown_joined session read (e ∷ stored) = ap (λ (l : List Waiting). shown_read e ∷ l) (shown_joined session read stored)
 
 -- a key that no other key equals is the session of no other read
 pub absent_others : (session : ℕ) (stored : Stored) → AllByRecursion (λ y. nat_eq session y ≡ false) (keys_of stored) → has_session session (shown_reads stored) ≡ false
@@ -74,22 +66,16 @@ without_absent session (read ∷ list) absent = by (read.session == session) abs
     by true absent rest = absurd (true≢false absent)
     by false absent rest = ap (λ (l : List Waiting). read ∷ l) (rest absent)
 
--- the entry that goes is the session's one read
-pub shown_left : (session : ℕ) (stored : Stored) → IsDistinct nat_eq (keys_of stored) → shown_reads (remove_entry (nat_eq session) stored) ≡ without_session session (shown_reads stored)
-shown_left session [] distinct = refl
-shown_left session (e ∷ stored) distinct =
-    by (nat_eq session e.0) refl (shown_left session stored (IsDistinct-tail nat_eq e.0 (keys_of stored) distinct))
+-- the entry that goes is the session's read
+pub shown_left : (session : ℕ) (stored : Stored) → shown_reads (without_entry session stored) ≡ without_session session (shown_reads stored)
+shown_left session [] = refl
+shown_left session (e ∷ stored) = by (e.0 == session) (shown_left session stored)
   where
-    by : (test : Bool) → nat_eq session e.0 ≡ test → shown_reads (remove_entry (nat_eq session) stored) ≡ without_session session (shown_reads stored)
-        → shown_reads (cond test stored (e ∷ remove_entry (nat_eq session) stored)) ≡ without_session session (shown_reads (e ∷ stored))
-    by true is rest =
-        let same : (e.0 == session) ≡ true = sym (nat_eq_equiv.symm session e.0) ∙ is in
-        let one : session ≡ e.0 = eqb-true session e.0 is in
-        let others : has_session session (shown_reads stored) ≡ false = rw one (absent_others e.0 stored (IsDistinct-head nat_eq e.0 (keys_of stored) distinct)) in
-        rw same (sym (without_absent session (shown_reads stored) others))
-    by false is rest =
-        let other : (e.0 == session) ≡ false = sym (nat_eq_equiv.symm session e.0) ∙ is in
-        rw other (ap (λ (l : List Waiting). shown_read e ∷ l) rest)
+    by : (test : Bool) → shown_reads (without_entry session stored) ≡ without_session session (shown_reads stored)
+        → shown_reads (cond (not test) (e ∷ without_entry session stored) (without_entry session stored))
+        ≡ cond (not test) (shown_read e ∷ without_session session (shown_reads stored)) (without_session session (shown_reads stored))
+    by true rest = rest
+    by false rest = ap (λ (l : List Waiting). shown_read e ∷ l) rest
 
 -- a search of the stored reads: what it finds in what is left is what there is to find in all
 module _ (test : Call → Bool) (rest left : Stored) (session : ℕ) (read : Blocked) (all : List Waiting) where

@@ -1,9 +1,11 @@
 //! Which sessions wait for a key, in the order in which they blocked. A key for which none waits takes no memory.
-ghost use Rattle.std.specs.Prelude.{◌≡◌, map, IsTrue, OnOk};
+ghost use Rattle.std.specs.Prelude.{◌≡◌, [], map, IsTrue, OnOk};
+ghost use Rattle.std.specs.Map.{keys_of};
 ghost use Rattle.sr_args.specs.{AreDifferent};
 ghost use Rattle.sr_waiters.specs.Waiters as reads;
 ghost use Rattle.sr_waiters.specs.Index.{Gives, changed, sessions_by, with_session, without};
 
+use crate::queue::Queue;
 use sr_args::Call;
 use sr_bytes::Name;
 use std::alloc::{AllocError, Global};
@@ -11,7 +13,7 @@ use std::collections::HashMap;
 use std::hash::RandomState;
 
 /// The sessions that wait for each key.
-pub(crate) type Index = HashMap<Name, Vec<u64>, RandomState>;
+pub(crate) type Index = HashMap<Name, Queue<()>, RandomState>;
 
 /// Whether a read asks the stream at a key.
 pub(crate) fn asks(call: &Call, key: &Name) -> bool
@@ -29,16 +31,6 @@ fn has_key<X>(streams: &[(Name, X)], key: &Name) -> bool
     ensures { result ≡ reads.has_key key.now streams.now }
 {
     streams.iter().any(|stream| stream.0 == *key)
-}
-
-/// The sessions that wait for a key.
-pub(crate) fn sessions_at<'a>(index: &'a Index, key: &Name) -> &'a [u64]
-    ensures { result.now ≡ sessions_by index.now key.now }
-{
-    match index.get(key) {
-        None => &[],
-        Some(sessions) => sessions.as_slice(),
-    }
 }
 
 /// Puts the session of a read in an index that has each read. Answers whether it has each read then: not if memory is
@@ -62,7 +54,7 @@ pub(crate) fn put_if_indexed(
     }
 }
 
-/// Puts the session of a read last in the list of each key that it asks. An `Err` leaves some of them without it.
+/// Puts the session of a read last in the queue of each key that it asks. An `Err` leaves some of them without it.
 pub(crate) fn put_read(
     index: &mut Index,
     alloc: Global,
@@ -79,7 +71,7 @@ pub(crate) fn put_read(
     }
 }
 
-/// Puts a session last in the lists of these keys. An `Err` leaves some of them without it.
+/// Puts a session last in the queues of these keys. An `Err` leaves some of them without it.
 fn put_all<X>(
     index: &mut Index,
     alloc: Global,
@@ -96,33 +88,40 @@ fn put_all<X>(
     Ok(())
 }
 
-/// Puts a session last in the list of a key.
+/// Puts a session last in the queue of a key.
 fn put(index: &mut Index, alloc: Global, key: &Name, session: u64) -> Result<(), AllocError>
     ensures { OnOk result (Gives key.now (with_session session (sessions_by index.old key.now)) index.old index.new) }
 {
     if index.contains_key(key) {
         return add(index, key, session);
     }
-    let mut sessions = Vec::new(alloc);
-    sessions.push(session)?;
+    let mut sessions = Queue::new(alloc, *index.hasher());
+    put_last(&mut sessions, session)?;
     index.insert(key.copy(alloc)?, sessions)?;
     Ok(())
 }
 
-/// Puts a session last in the list of a key that has one.
+/// Puts a session last in the queue of a key that has one.
 fn add(index: &mut Index, key: &Name, session: u64) -> Result<(), AllocError>
     ensures { OnOk result (Gives key.now (with_session session (sessions_by index.old key.now)) index.old index.new) }
 {
     match index.get_mut(key) {
-        Some(sessions) => {
-            sessions.push(session)?;
-            Ok(())
-        }
+        Some(sessions) => put_last(sessions, session),
         None => Err(AllocError),
     }
 }
 
-/// Takes the session of a read from the list of each key that it asks, and drops the lists that are empty then.
+/// Puts a session last in a queue, also if it is in it.
+fn put_last(sessions: &mut Queue<()>, session: u64) -> Result<(), AllocError>
+    ensures { OnOk result (keys_of sessions.new.entries ≡ with_session session (keys_of sessions.old.entries)) }
+{
+    sessions.reserve(1)?;
+    drop(sessions.remove(session));
+    sessions.push(session, ());
+    Ok(())
+}
+
+/// Takes the session of a read from the queue of each key that it asks, and drops the queues that are empty then.
 pub(crate) fn take_read(index: &mut Index, call: &Call, session: u64)
     ensures { (key : reads.Key) → sessions_by index.new key
         ≡ changed (without session) (reads.asks key call.now) (sessions_by index.old key) }
@@ -134,7 +133,7 @@ pub(crate) fn take_read(index: &mut Index, call: &Call, session: u64)
     }
 }
 
-/// Takes a session from the lists of these keys, and drops those that are empty then.
+/// Takes a session from the queues of these keys, and drops those that are empty then.
 fn take_all<X>(index: &mut Index, streams: &[(Name, X)], session: u64)
     requires { AreDifferent (map (λ stream. stream.0) streams.now) }
     ensures { (key : reads.Key) → sessions_by index.new key
@@ -145,7 +144,7 @@ fn take_all<X>(index: &mut Index, streams: &[(Name, X)], session: u64)
     }
 }
 
-/// Takes a session from the list of a key, and drops the list if it is empty then.
+/// Takes a session from the queue of a key, and drops the queue if it is empty then.
 fn take(index: &mut Index, key: &Name, session: u64)
     ensures { Gives key.now (without session (sessions_by index.old key.now)) index.old index.new }
 {
@@ -153,20 +152,30 @@ fn take(index: &mut Index, key: &Name, session: u64)
     drop_if_empty(index, key);
 }
 
-/// Takes a session from the list of a key.
+/// Takes a session from the queue of a key.
 fn remove(index: &mut Index, key: &Name, session: u64)
     ensures { Gives key.now (without session (sessions_by index.old key.now)) index.old index.new }
 {
     if let Some(sessions) = index.get_mut(key) {
-        sessions.retain(|other| *other != session);
+        drop(sessions.remove(session));
     }
 }
 
-/// Drops the list of a key if it is empty.
+/// Drops the queue of a key if it is empty.
 fn drop_if_empty(index: &mut Index, key: &Name)
     ensures { Gives key.now (sessions_by index.old key.now) index.old index.new }
 {
-    if sessions_at(index, key).is_empty() {
+    if has_empty(index, key) {
         drop(index.remove(key));
+    }
+}
+
+/// Whether the key has a queue in which no session is.
+fn has_empty(index: &Index, key: &Name) -> bool
+    ensures { IsTrue result → sessions_by index.now key.now ≡ [] }
+{
+    match index.get(key) {
+        None => false,
+        Some(sessions) => sessions.is_empty(),
     }
 }

@@ -2,6 +2,7 @@
 #![tactic(auto)]
 
 mod index;
+mod queue;
 mod waiters;
 
 pub use waiters::Waiters;

@@ -1,12 +1,13 @@
 ghost use Rattle.std.specs.Prelude.{◌≡◌, Bool, IfOk, IsTrue};
+ghost use Rattle.std.specs.Map.{keys_of};
 ghost use Rattle.sr_args.specs.declared.call.Call as calls;
 ghost use Rattle.sr_waiters.specs.Calls.{ComputesTest};
-ghost use Rattle.sr_waiters.specs.Index.{IsIndexed, reads_of};
+ghost use Rattle.sr_waiters.specs.Index.{IsIndexed, reads_of, sessions_by};
 ghost use Rattle.sr_waiters.specs.Layout.{shown_reads};
-ghost use Rattle.sr_waiters.specs.Waiters.{first_that, session_of};
+ghost use Rattle.sr_waiters.specs.Waiters.{AreOnce, first_that, session_of};
 
-use crate::index::{Index, asks, put_if_indexed, put_read, sessions_at, take_read};
-use indexmap::IndexMap;
+use crate::index::{Index, asks, put_if_indexed, put_read, take_read};
+use crate::queue::Queue;
 use sr_args::Call;
 use sr_bytes::Name;
 use std::alloc::{AllocError, Global};
@@ -38,7 +39,7 @@ impl Blocked {
 
 /// Reads that wait for entries, in the order in which they blocked, each session once.
 pub struct Waiters {
-    reads: IndexMap<u64, Blocked, RandomState>,
+    reads: Queue<Blocked>,
     index: Index,
     /// Whether the index has each read: not if memory for it was refused when the last one joined.
     indexed: bool,
@@ -57,16 +58,17 @@ impl Drop for Waiters {
 
 impl Model for Waiters {
     ghost use Rattle.std.specs.Prelude.{nat_eq, IsTrue};
-    ghost use Rattle.indexmap.specs.IndexMap.{IsUnique, spare};
+    ghost use Rattle.std.specs.List.{IsDistinct};
+    ghost use Rattle.std.specs.Map.{keys_of};
     ghost use Rattle.sr_waiters.specs.Waiters.{WaitersState};
     ghost use Rattle.sr_waiters.specs.Index.{IsIndexed};
     ghost use Rattle.sr_waiters.specs.Layout.{shown_reads};
 
     ghost Value = { WaitersState };
 
-    ghost view = { λ w. record { list = shown_reads w.reads.entries; room = spare w.reads } };
+    ghost view = { λ w. record { list = shown_reads w.reads.entries; room = w.reads.room } };
 
-    ghost invariant = { λ w. IsUnique nat_eq w.reads
+    ghost invariant = { λ w. IsDistinct nat_eq (keys_of w.reads.entries)
         × (IsTrue w.indexed → IsIndexed w.index (shown_reads w.reads.entries)) };
 }
 
@@ -85,7 +87,7 @@ impl Waiters {
         ensures { result.list ≡ [] }
     {
         Waiters {
-            reads: IndexMap::with_hasher(alloc, hasher),
+            reads: Queue::new(alloc, hasher),
             index: HashMap::with_hasher(alloc, hasher),
             indexed: true,
         }
@@ -122,7 +124,7 @@ impl Waiters {
         let indexed = index_again(&mut self.index, alloc, self.indexed, &self.reads);
         self.indexed = put_if_indexed(&mut self.index, alloc, indexed, &call, session);
         let read = Blocked { call, deadline };
-        drop(self.reads.insert(session, read).unwrap());
+        self.reads.push(session, read);
     }
 
     /// Takes the session's read away, and answers whether it waited. Takes no memory.
@@ -132,7 +134,7 @@ impl Waiters {
         ensures list { self.new.list ≡ without_session session self.old.list }
         ensures room { self.old.room ≤ self.new.room }
     {
-        match self.reads.shift_remove(&session) {
+        match self.reads.remove(session) {
             None => false,
             Some(read) => {
                 take_read(&mut self.index, &read.call, session);
@@ -147,7 +149,7 @@ impl Waiters {
     pub fn has(&self, session: u64) -> bool
         ensures { result ≡ has_session session self.now.list }
     {
-        self.reads.contains_key(&session)
+        self.reads.contains(session)
     }
 
     /// The call that the session waits with.
@@ -155,7 +157,7 @@ impl Waiters {
     pub fn call_of(&self, session: u64) -> Option<&Call>
         ensures { option_copied result ≡ call_of (read_of session self.now.list) }
     {
-        match self.reads.get(&session) {
+        match self.reads.get(session) {
             None => None,
             Some(read) => Some(&read.call),
         }
@@ -189,7 +191,7 @@ impl Waiters {
             → result ≡ session_of (first_that (λ call. asks key.now call && test call) self.now.list) }
     {
         if self.indexed {
-            return first_among(&self.reads, sessions_at(&self.index, key), passes);
+            return first_by_index(&self.reads, &self.index, key, passes);
         }
         self.first_where(|call| asks(call, key) && passes(call))
     }
@@ -239,13 +241,9 @@ impl Waiters {
 }
 
 /// Makes the index of these reads anew if it has not each of them. Answers whether it has: not if memory is refused.
-fn index_again(
-    index: &mut Index,
-    alloc: Global,
-    indexed: bool,
-    reads: &IndexMap<u64, Blocked, RandomState>,
-) -> bool
-    requires { IsTrue indexed → IsIndexed index.old (shown_reads reads.now.entries) }
+fn index_again(index: &mut Index, alloc: Global, indexed: bool, reads: &Queue<Blocked>) -> bool
+    requires once { AreOnce (shown_reads reads.now.entries) }
+    requires indexed { IsTrue indexed → IsIndexed index.old (shown_reads reads.now.entries) }
     ensures { IsTrue result → IsIndexed index.new (shown_reads reads.now.entries) }
 {
     if indexed {
@@ -261,7 +259,8 @@ fn index_again(
 }
 
 /// An index of these reads.
-fn index_of(alloc: Global, reads: &IndexMap<u64, Blocked, RandomState>) -> Result<Index, AllocError>
+fn index_of(alloc: Global, reads: &Queue<Blocked>) -> Result<Index, AllocError>
+    requires { AreOnce (shown_reads reads.now.entries) }
     ensures { IfOk result (λ index. IsIndexed index (shown_reads reads.now.entries)) }
 {
     let mut index = HashMap::with_hasher(alloc, *reads.hasher());
@@ -271,18 +270,37 @@ fn index_of(alloc: Global, reads: &IndexMap<u64, Blocked, RandomState>) -> Resul
     Ok(index)
 }
 
-/// The first of these sessions that waits with a call that passes the test.
-fn first_among<F: Fn(&Call) -> bool>(
-    reads: &IndexMap<u64, Blocked, RandomState>,
-    sessions: &[u64],
+/// The first session of the key, as the index has them, that waits with a call that passes the test.
+fn first_by_index<F: Fn(&Call) -> bool>(
+    reads: &Queue<Blocked>,
+    index: &Index,
+    key: &Name,
     passes: F,
 ) -> Option<u64>
     requires { F.IsAlwaysCallable passes }
     ensures { (test : calls.Call → Bool) → ComputesTest F.Fn test passes
-        → result ≡ session_of (first_that test (reads_of sessions.now (shown_reads reads.now.entries))) }
+        → result ≡ session_of
+        (first_that test (reads_of (sessions_by index.now key.now) (shown_reads reads.now.entries))) }
 {
-    for session in sessions {
-        if let Some(found) = reads.get(session) {
+    match index.get(key) {
+        None => None,
+        Some(sessions) => first_among(reads, sessions, passes),
+    }
+}
+
+/// The first of these sessions that waits with a call that passes the test.
+fn first_among<F: Fn(&Call) -> bool>(
+    reads: &Queue<Blocked>,
+    sessions: &Queue<()>,
+    passes: F,
+) -> Option<u64>
+    requires { F.IsAlwaysCallable passes }
+    ensures { (test : calls.Call → Bool) → ComputesTest F.Fn test passes
+        → result ≡ session_of
+        (first_that test (reads_of (keys_of sessions.now.entries) (shown_reads reads.now.entries))) }
+{
+    for (session, _) in sessions.iter() {
+        if let Some(found) = reads.get(*session) {
             if passes(&found.call) {
                 return Some(*session);
             }

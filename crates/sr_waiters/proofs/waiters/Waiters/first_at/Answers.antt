@@ -1,5 +1,4 @@
-use Rattle.std.proofs.Common.{List, ℕ, ◌&&◌, ◌∙◌, ap}
-use Rattle.sr_waiters.specs.Index.{reads_of}
+use Rattle.std.proofs.Common.{◌&&◌, ◌∙◌, ap}
 use Rattle.sr_waiters.specs.Layout.{shown_reads}
 use Rattle.sr_waiters.specs.Waiters.{WaitersState, asks, first_that, session_of}
 use Rattle.sr_waiters.proofs.IndexLemmas.{first-indexed}
@@ -11,7 +10,6 @@ returns-then-self g c = λ test computes.
     let inside = c.self.inside in
     let shown = shown_reads inside.reads.entries in
     let key = c.args.key.now in
-    c.first_among.ensures test computes
-    ∙ ap (λ (l : List ℕ). session_of (first_that test (reads_of l shown))) c.sessions_at.ensures
+    c.first_by_index.ensures test computes
     ∙ first-indexed inside.index shown key test (once_shown inside.reads.entries c.self.invariant.0) (c.self.invariant.1 c.if-self.true)
     ∙ ap (λ (w : WaitersState). session_of (first_that (λ call. asks key call && test call) w.list)) c.self.view_is

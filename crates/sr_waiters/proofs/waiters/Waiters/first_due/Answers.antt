@@ -6,7 +6,7 @@ use Rattle.sr_waiters.proofs.waiters.Waiters.first_due.Goals as goal
 
 pub loop-session-init : goal.loop-session-init
 loop-session-init c =
-    ap (λ (stored : Stored). due_at c.args.moment (shown_reads stored)) (c.into_iter-session-iterator.ensures.into_iter_gives ∙ c.iter-session-items.ensures.rest)
+    ap (λ (stored : Stored). due_at c.args.moment (shown_reads stored)) (c.into_iter-session-iterator.ensures.into_iter_gives ∙ c.iter-session-items.ensures)
     ∙ ap (λ (waiters : WaitersState). due_at c.args.moment waiters.list) c.self.view_is
 
 pub loop-session-preserved : goal.loop-session-preserved

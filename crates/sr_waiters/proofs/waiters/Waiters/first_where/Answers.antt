@@ -6,7 +6,7 @@ use Rattle.sr_waiters.proofs.waiters.Waiters.first_where.Goals as goal
 
 pub loop-session-init : goal.loop-session-init
 loop-session-init g c = λ test computes.
-    ap (λ (stored : Stored). first_that test (shown_reads stored)) (c.into_iter-session-iterator.ensures.into_iter_gives ∙ c.iter-session-items.ensures.rest)
+    ap (λ (stored : Stored). first_that test (shown_reads stored)) (c.into_iter-session-iterator.ensures.into_iter_gives ∙ c.iter-session-items.ensures)
     ∙ ap (λ (waiters : WaitersState). first_that test waiters.list) c.self.view_is
 
 pub loop-session-preserved : goal.loop-session-preserved
