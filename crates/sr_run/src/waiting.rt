@@ -73,7 +73,8 @@ impl Waiting {
     pub(crate) fn given<R: Wait>(&self, rt: &R, records: &[Record], first: usize) -> Woken {
         let sessions = self.sessions.lock(rt);
         let mut woken = Woken::nobody();
-        for recorded in records.iter().skip(first) {
+        // A slice, and no `skip`: that would step over each record before.
+        for recorded in &records[records.len().min(first)..] {
             for (session, _) in recorded.replies.as_slice() {
                 woken = woken.and(waiting_for(&sessions, *session));
             }

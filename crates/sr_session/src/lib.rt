@@ -17,6 +17,7 @@ pub use clock::Clock;
 pub use desk::{Desk, DeskFault, PlainDesk};
 pub use gate::{Gate, NoGate};
 pub use laws::replies_are_recorded;
+pub use replies::empty;
 pub use request::code_of_fault;
 pub use run::{End, Ended, feed, run_session};
 pub use source::{ReadFailed, ReadFrom, Source};

@@ -7,6 +7,17 @@ use crate::End;
 use sr_resp::{ErrCode, Reply, Sink, append_reply, send_all};
 use std::alloc::{AllocError, Global};
 
+/// A buffer of at most this many bytes is kept once all of it was sent.
+const MOST_KEPT: usize = 64 * 1024;
+
+/// Empties a buffer of replies that were sent, and gives back what it has beyond 64 KiB. Takes no memory.
+pub fn empty(buffer: &mut Vec<u8>)
+    ensures { buffer.new.items ≡ [] }
+{
+    buffer.clear();
+    buffer.shrink_to(MOST_KEPT);
+}
+
 /// The replies of a session: those that are gathered and not sent yet, and how many bytes were sent.
 #[derive(Drop)]
 pub(crate) struct Replies {
@@ -66,7 +77,7 @@ impl Replies {
         match send_all(writer, self.gathered.as_slice()) {
             Ok(()) => {
                 self.sent = self.sent.saturating_add(self.gathered.len());
-                self.gathered.clear();
+                empty(&mut self.gathered);
                 Ok(())
             }
             Err(fault) => {

@@ -8,7 +8,7 @@ send_all-requires g c = c.requires
 
 pub returns-in-Ok : goal.returns-in-Ok
 returns-in-Ok g c = record {
-  gathered = c.clear.ensures.items;
+  gathered = c.empty.ensures;
   sent = c.saturating_add-self.ensures ∙ ap (counted c.args.self.now.sent) (c.len.ensures ∙ c.args.self.now.gathered.ok.0);
   ok = rw c.as_slice.ensures.value at c.in-Ok.ensures.ok;
   err = tt;
