@@ -1,6 +1,6 @@
 -- Connections stay counted and in turn, whatever is noted of one, written to it or told of it.
 
-use Rattle.std.proofs.Common.{◌≡◌, ◌≢◌, ℕ, ◌<◌, ◌≤◌, Bool, true, false, ◌||◌, ◌&&◌, not, cond, ltb, eqb, Some, None}
+use Rattle.std.proofs.Common.{◌⊎◌, ◌≡◌, ◌≢◌, ℕ, ◌<◌, ◌≤◌, Bool, true, false, ◌||◌, ◌&&◌, not, cond, ltb, eqb, Some, None}
 use Rattle.std.proofs.Common.{Option, IfSome, List, [], ◌∷◌, ◌++◌, length, set, refl, sym, ap, ◌∙◌, subst, ⊎_elim}
 use Rattle.std.proofs.Common.{arith}
 use Rattle.std.proofs.lemmas.Bool.{false≢true, cases_eq, cases_Bool, cases_lt, ne_eqb, eq-eqb, or_right, or_left}
@@ -13,9 +13,7 @@ use Rattle.std.specs.List.{list_any}
 use Rattle.mio.specs.declared.event.event.Event.{Event}
 use Rattle.sr_hub.specs.declared.sockets.Heard.{Heard}
 use Rattle.sr_hub.specs.declared.sockets.Heard.TheVariants as heard
-use Rattle.sr_events.specs.declared.slot.Output.{Output}
-use Rattle.sr_events.specs.declared.slot.Output.TheVariants as output
-use Rattle.sr_events.specs.Slot.{SlotState, TellsBy, fresh, has_ended, has_turn, noted}
+use Rattle.sr_events.specs.Slot.{Ends, EndsBy, Reads, SlotState, TellsBy, fresh, has_ended, has_turn, is_read, is_taken, may_have_room, noted}
 use Rattle.sr_events.specs.Turns.{Turns, turns, with_first_turn, with_turn}
 use Rattle.sr_events.specs.Connections.{ChangesAt, IsHeardOf, is_in_turn, open_count, settled, settled_after_event}
 use Rattle.sr_events.specs.Connections.{slot_at, with_event}
@@ -200,45 +198,62 @@ IsKept-event token generation event old new taken ring after kept noted is_after
     (rw is_after (Gives-event token new ring))
 
 -- nothing that is told of a connection opens or closes it
-taken-Tells : (failed : Bool) (result : Output) (token room : ℕ) (old : SlotState) (told : Option Heard)
-    (new : SlotState) → TellsBy failed result token room old told new → new.taken ≡ old.taken
-taken-Tells true result token room old told new tells = ap (λ slot. slot.taken) tells.1
-taken-Tells false output.Taken token room old (Some heard.Came) new tells = absurd tells
-taken-Tells false output.Taken token room old (Some (heard.Bytes of count)) new tells = ap (λ slot. slot.taken) tells.2
-taken-Tells false output.Taken token room old (Some (heard.Room of)) new tells = absurd tells
-taken-Tells false output.Taken token room old (Some (heard.Over of)) new tells = ap (λ slot. slot.taken) tells.1
-taken-Tells false output.Taken token room old (Some heard.Planned) new tells = absurd tells
-taken-Tells false output.Taken token room old (Some heard.Nothing) new tells = absurd tells
-taken-Tells false output.Taken token room old (Some heard.End) new tells = absurd tells
-taken-Tells false output.Taken token room old None new tells =
+taken-Ends : (all_taken : Bool) (token : ℕ) (old : SlotState) (told : Option Heard) (new : SlotState)
+    → EndsBy all_taken token old told new → new.taken ≡ old.taken
+taken-Ends true token old told new ends = ap (λ slot. slot.taken) ends.1
+taken-Ends false token old told new ends = ap (λ slot. slot.taken) ends.1
+
+taken-Reads : (token room : ℕ) (old : SlotState) (told : Option Heard) (new : SlotState)
+    → Reads token room old told new → new.taken ≡ old.taken
+taken-Reads token room old (Some heard.Came) new reads = absurd reads
+taken-Reads token room old (Some (heard.Bytes of count)) new reads = ap (λ slot. slot.taken) reads.2
+taken-Reads token room old (Some (heard.Room of)) new reads = absurd reads
+taken-Reads token room old (Some (heard.Over of)) new reads = ap (λ slot. slot.taken) reads.1
+taken-Reads token room old (Some heard.Planned) new reads = absurd reads
+taken-Reads token room old (Some heard.Nothing) new reads = absurd reads
+taken-Reads token room old (Some heard.End) new reads = absurd reads
+taken-Reads token room old None new reads =
     ⊎_elim
     (λ (unread : new ≡ record old { readable = false }). ap (λ slot. slot.taken) unread)
+    (λ (others : (new ≡ old) ⊎ Ends token old None new).
+    ⊎_elim
     (λ (same : new ≡ old). ap (λ slot. slot.taken) same)
-    tells
-taken-Tells false output.Full token room old told new tells = ap (λ slot. slot.taken) tells.1
-taken-Tells false output.Room token room old told new tells = ap (λ slot. slot.taken) tells.1
+    (λ (ends : Ends token old None new). taken-Ends (is_taken old.output) token old None new ends)
+    others)
+    reads
+
+taken-Tells : (failed room_again read : Bool) (token room : ℕ) (old : SlotState) (told : Option Heard)
+    (new : SlotState) → TellsBy failed room_again read token room old told new → new.taken ≡ old.taken
+taken-Tells true room_again read token room old told new tells = ap (λ slot. slot.taken) tells.1
+taken-Tells false true read token room old told new tells = ap (λ slot. slot.taken) tells.1
+taken-Tells false false true token room old told new tells = taken-Reads token room old told new tells
+taken-Tells false false false token room old told new tells = ap (λ slot. slot.taken) tells.1
 
 -- what is told of a connection names it, and of bytes at most as many as there was room
-heard_of-Tells : (failed : Bool) (result : Output) (token room : ℕ) (old : SlotState) (told : Option Heard)
-    (new : SlotState) → TellsBy failed result token room old told new → IfSome told (IsHeardOf token room)
-heard_of-Tells true result token room old told new tells = rw tells.0 refl
-heard_of-Tells false output.Taken token room old (Some heard.Came) new tells = absurd tells
-heard_of-Tells false output.Taken token room old (Some (heard.Bytes of count)) new tells = (tells.0, tells.1)
-heard_of-Tells false output.Taken token room old (Some (heard.Room of)) new tells = absurd tells
-heard_of-Tells false output.Taken token room old (Some (heard.Over of)) new tells = tells.0
-heard_of-Tells false output.Taken token room old (Some heard.Planned) new tells = absurd tells
-heard_of-Tells false output.Taken token room old (Some heard.Nothing) new tells = absurd tells
-heard_of-Tells false output.Taken token room old (Some heard.End) new tells = absurd tells
-heard_of-Tells false output.Taken token room old None new tells = tt
-heard_of-Tells false output.Full token room old told new tells = rw tells.0 tt
-heard_of-Tells false output.Room token room old told new tells = rw tells.0 refl
+heard_of-Reads : (token room : ℕ) (old : SlotState) (told : Option Heard) (new : SlotState)
+    → Reads token room old told new → IfSome told (IsHeardOf token room)
+heard_of-Reads token room old (Some heard.Came) new reads = absurd reads
+heard_of-Reads token room old (Some (heard.Bytes of count)) new reads = (reads.0, reads.1)
+heard_of-Reads token room old (Some (heard.Room of)) new reads = absurd reads
+heard_of-Reads token room old (Some (heard.Over of)) new reads = reads.0
+heard_of-Reads token room old (Some heard.Planned) new reads = absurd reads
+heard_of-Reads token room old (Some heard.Nothing) new reads = absurd reads
+heard_of-Reads token room old (Some heard.End) new reads = absurd reads
+heard_of-Reads token room old None new reads = tt
+
+heard_of-Tells : (failed room_again read : Bool) (token room : ℕ) (old : SlotState) (told : Option Heard)
+    (new : SlotState) → TellsBy failed room_again read token room old told new → IfSome told (IsHeardOf token room)
+heard_of-Tells true room_again read token room old told new tells = rw tells.0 refl
+heard_of-Tells false true read token room old told new tells = rw tells.0 refl
+heard_of-Tells false false true token room old told new tells = heard_of-Reads token room old told new tells
+heard_of-Tells false false false token room old told new tells = rw tells.0 tt
 
 -- and neither does its turn
 taken-TellsAt : (token room : ℕ) (old new : List SlotState) (told : Option Heard) → TellsAt token room old told new
     → (slot_at new token).taken ≡ (slot_at old token).taken
 taken-TellsAt token room old new told tells = ⊎_elim
     (λ (turn : has_turn (slot_at old token) ≡ true).
-    taken-Tells (slot_at old token).failed (slot_at old token).output token room (slot_at old token) told
+    taken-Tells (slot_at old token).failed (may_have_room (slot_at old token).output) (is_read (slot_at old token)) token room (slot_at old token) told
     (slot_at new token) (tells.some turn))
     (λ (none : has_turn (slot_at old token) ≡ false).
     ap (λ slots. (slot_at slots token).taken) (tells.none none).1)
@@ -258,7 +273,7 @@ pub told_within : (token room : ℕ) (old new : List SlotState) (told : Option H
 told_within token room old new told tells = ⊎_elim
     (λ (turn : has_turn (slot_at old token) ≡ true).
     let of_token : IfSome told (IsHeardOf token room) =
-    heard_of-Tells (slot_at old token).failed (slot_at old token).output token room (slot_at old token) told
+    heard_of-Tells (slot_at old token).failed (may_have_room (slot_at old token).output) (is_read (slot_at old token)) token room (slot_at old token) told
     (slot_at new token) (tells.some turn) in
     let within : token < length new =
     omega (arith, within_from_turn token old turn, same_length token old new tells.others) in

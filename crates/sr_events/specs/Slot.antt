@@ -1,7 +1,7 @@
 -- A place for a connection in an event loop: what is known of the one that is there, and what can be told of it.
 
 use Rattle.std.specs.Prelude.{◌≡◌, ◌<◌, ◌≤◌, ◌==◌, ◌&&◌, ◌||◌, ◌⊎◌, ℕ, Bool, true, false, Option, Some, None}
-use Rattle.std.specs.Prelude.{if◌then◌else◌}
+use Rattle.std.specs.Prelude.{if◌then◌else◌, not}
 use Rattle.mio.specs.declared.event.event.Event.{Event}
 use Rattle.mio.specs.Event.{is_readable, is_writable, is_error, is_read_closed, is_write_closed}
 use Rattle.sr_hub.specs.declared.sockets.Heard.{Heard}
@@ -10,13 +10,14 @@ use Rattle.sr_events.specs.declared.slot.Output.{Output}
 use Rattle.sr_events.specs.declared.slot.Output.TheVariants as output
 
 -- whether a connection is there, which generation of the place it is, whether bytes may wait to be read, whether its
--- peer sends no more, how far the last write came, and whether it is over
+-- peer sends no more, how far the last write came, whether it is not to be read for now, and whether it is over
 pub record SlotState : Type 0 where
   pub taken : Bool
   pub generation : ℕ
   pub readable : Bool
   pub ended : Bool
   pub output : Output
+  pub held : Bool
   pub failed : Bool
 
 -- a place without a connection, or with one that just came
@@ -27,18 +28,29 @@ fresh taken generation = record {
   readable = false;
   ended = false;
   output = output.Taken;
+  held = false;
   failed = false;
 }
 
--- one whose last write came short is not read: there must be room first
-abbrev pub goes_on : Output → Bool → Bool
-goes_on output.Taken readable = readable
-goes_on output.Full readable = false
-goes_on output.Room readable = true
+-- all that was to be written was taken; and there may be room for the rest
+abbrev pub is_taken : Output → Bool
+is_taken output.Taken = true
+is_taken output.Full = false
+is_taken output.Room = false
+
+abbrev pub may_have_room : Output → Bool
+may_have_room output.Taken = false
+may_have_room output.Full = false
+may_have_room output.Room = true
+
+-- the connection is read: bytes may wait, and it is not held back. One whose peer sends no more is read only once all
+-- was written, since its end comes after all that was to be answered
+abbrev pub is_read : SlotState → Bool
+is_read slot = slot.readable && (not slot.held && (not slot.ended || is_taken slot.output))
 
 -- something can be told of the connection
 abbrev pub has_turn : SlotState → Bool
-has_turn slot = slot.taken && (slot.failed || goes_on slot.output slot.readable)
+has_turn slot = slot.taken && (slot.failed || (may_have_room slot.output || is_read slot))
 
 -- the connection is over, or its peer sends no more
 abbrev pub has_ended : SlotState → Bool
@@ -59,6 +71,14 @@ noted event slot = record slot {
   failed = slot.failed || (is_error event || is_write_closed event);
 }
 
+-- what the end of its stream tells of the connection at a token: that it is over, if all was written; else it is noted
+abbrev pub EndsBy : Bool → ℕ → SlotState → Option Heard → SlotState → Type 0
+EndsBy true token old told new = (told ≡ Some (heard.Over token)) × (new ≡ record old { failed = true })
+EndsBy false token old told new = (told ≡ None) × (new ≡ record old { ended = true })
+
+abbrev pub Ends : ℕ → SlotState → Option Heard → SlotState → Type 0
+Ends token old told new = EndsBy (is_taken old.output) token old told new
+
 -- what a read into this many bytes tells of the connection at a token, and what it leaves: more waits after a read that
 -- filled the buffer, and at a peer that sends no more the end
 abbrev pub Reads : ℕ → ℕ → SlotState → Option Heard → SlotState → Type 0
@@ -70,20 +90,23 @@ Reads token room old (Some (heard.Over of)) new = (of ≡ token) × (new ≡ rec
 Reads token room old (Some heard.Planned) new = ⊥
 Reads token room old (Some heard.Nothing) new = ⊥
 Reads token room old (Some heard.End) new = ⊥
-Reads token room old None new = (new ≡ record old { readable = false }) ⊎ (new ≡ old)
+Reads token room old None new =
+    (new ≡ record old { readable = false }) ⊎ ((new ≡ old) ⊎ Ends token old None new)
 
--- what is told of the connection at a token in its turn, by whether it is over and how far the last write came
-abbrev pub TellsBy : Bool → Output → ℕ → ℕ → SlotState → Option Heard → SlotState → Type 0
-TellsBy true result token room old told new = (told ≡ Some (heard.Over token)) × (new ≡ old)
-TellsBy false output.Taken token room old told new = Reads token room old told new
-TellsBy false output.Full token room old told new = (told ≡ None) × (new ≡ old)
-TellsBy false output.Room token room old told new =
+-- what is told of the connection at a token in its turn, by whether it is over, whether there may be room, and whether
+-- it is read
+abbrev pub TellsBy : Bool → Bool → Bool → ℕ → ℕ → SlotState → Option Heard → SlotState → Type 0
+TellsBy true room_again read token room old told new = (told ≡ Some (heard.Over token)) × (new ≡ old)
+TellsBy false true read token room old told new =
     (told ≡ Some (heard.Room token)) × (new ≡ record old { output = output.Full })
+TellsBy false false true token room old told new = Reads token room old told new
+TellsBy false false false token room old told new = (told ≡ None) × (new ≡ old)
 
 abbrev pub Tells : ℕ → ℕ → SlotState → Option Heard → SlotState → Type 0
-Tells token room old told new = TellsBy old.failed old.output token room old told new
+Tells token room old told new =
+    TellsBy old.failed (may_have_room old.output) (is_read old) token room old told new
 
--- this many of `length` bytes were written: if not all, the connection is not read until all are, or it is over
+-- this many of `length` bytes were written: if not all, there is no room until an event says so, or it is over
 pub record Writes (length : ℕ) (old : SlotState) (count : ℕ) (new : SlotState) : Type 0 where
   pub within : count ≤ length
   pub none : old.taken ≡ false → (count ≡ 0) × (new ≡ old)

@@ -142,6 +142,17 @@ impl Connections {
         count
     }
 
+    /// Has the connection in the slot of this token not be read from now on, or read again.
+    pub fn hold(&mut self, token: usize, held: bool)
+        ensures held { token < length self.old.slots
+            → slot_at self.new.slots token ≡ record (slot_at self.old.slots token) { held = held } }
+        ensures others { ChangesAt token self.old.slots self.new.slots }
+        ensures left { self.new.left ≡ self.old.left }
+    {
+        hold_at(&mut self.slots, token, held);
+        settle(&self.slots, &mut self.ring, token);
+    }
+
     /// Closes the connection in the slot of this token, if there is one.
     pub fn close(&mut self, token: usize)
         ensures gone { (slot_at self.new.slots token).taken ≡ false }
@@ -215,6 +226,17 @@ fn write_at(slots: &mut Vec<Slot>, token: usize, bytes: &[u8]) -> usize
         slots[token].write(bytes)
     } else {
         0
+    }
+}
+
+/// Has a connection not be read from now on, or read again.
+fn hold_at(slots: &mut Vec<Slot>, token: usize, held: bool)
+    ensures held { token < length slots.old.items
+        → slot_at slots.new.items token ≡ record (slot_at slots.old.items token) { held = held } }
+    ensures others { ChangesAt token slots.old.items slots.new.items }
+{
+    if token < slots.len() {
+        slots[token].hold(held);
     }
 }
 

@@ -10,6 +10,9 @@ pub trait Planner {
     /// Whether a plan is made for a session, and was not told yet.
     fn is_planning(&self, session: u64) -> bool;
 
+    /// Whether as many plans are wanted as may be at a time.
+    fn is_busy(&self) -> bool;
+
     /// What came of a job, if there is one that is done and was not told yet.
     fn planned(&mut self) -> Option<Planned>;
 }
@@ -26,6 +29,12 @@ impl Planner for NoPlanner {
     }
 
     fn is_planning(&self, _session: u64) -> bool
+        ensures { result ≡ false }
+    {
+        false
+    }
+
+    fn is_busy(&self) -> bool
         ensures { result ≡ false }
     {
         false

@@ -1,6 +1,6 @@
 ghost use Rattle.std.specs.Prelude.{◌≡◌, ◌≢◌, ◌||◌, true, false, length};
 ghost use Rattle.mio.specs.Event.{is_readable, is_error, is_read_closed, is_write_closed};
-ghost use Rattle.sr_events.specs.Slot.{Reads, Tells, Writes, fresh, has_ended, has_turn, noted};
+ghost use Rattle.sr_events.specs.Slot.{Ends, Reads, Tells, Writes, fresh, has_ended, has_turn, is_read, noted};
 
 use crate::key::generation_after;
 use mio::event::Event;
@@ -46,6 +46,8 @@ pub(crate) struct Slot {
     /// The peer closed its writing half: after the bytes that wait comes the end.
     ended: bool,
     output: Output,
+    /// It is not to be read for now.
+    held: bool,
     /// The connection is over.
     failed: bool,
 }
@@ -62,6 +64,7 @@ impl Model for Slot {
       readable = slot.readable;
       ended = slot.ended;
       output = slot.output;
+      held = slot.held;
       failed = slot.failed;
     } };
 }
@@ -77,6 +80,7 @@ impl Slot {
             readable: false,
             ended: false,
             output: Output::Taken,
+            held: false,
             failed: false,
         }
     }
@@ -96,6 +100,7 @@ impl Slot {
         self.readable = false;
         self.ended = false;
         self.output = Output::Taken;
+        self.held = false;
         self.failed = false;
     }
 
@@ -114,22 +119,28 @@ impl Slot {
         true
     }
 
+    /// Has the connection not be read from now on, or read again.
+    pub fn hold(&mut self, held: bool)
+        ensures { self.new ≡ record self.old { held = held } }
+    {
+        self.held = held;
+    }
+
     /// Whether something can be told of the connection.
-    ///
-    /// One whose last write came short is not read: it has bytes that wait to be written, and the end of its stream is
-    /// seen only after all that came before it was answered.
     pub fn has_turn(&self) -> bool
         ensures { result ≡ has_turn self.now }
     {
-        if self.stream.is_none() {
-            return false;
-        }
-        self.failed
-            || match self.output {
-                Output::Taken => self.readable,
-                Output::Full => false,
-                Output::Room => true,
-            }
+        self.stream.is_some() && (self.failed || self.output == Output::Room || self.is_read())
+    }
+
+    /// Whether the connection is to be read: bytes wait, and it is not held back.
+    ///
+    /// If its peer sends no more it is read only once all was written to it: the end of its stream is seen after all
+    /// that came before it was answered.
+    fn is_read(&self) -> bool
+        ensures { result ≡ is_read self.now }
+    {
+        self.readable && !self.held && (!self.ended || self.output == Output::Taken)
     }
 
     /// Whether the connection is over, or its peer sends no more.
@@ -159,14 +170,14 @@ impl Slot {
         if self.failed {
             return Some(Heard::Over { token });
         }
-        match self.output {
-            Output::Taken => self.read(token, buffer),
-            Output::Full => None,
-            Output::Room => {
-                self.output = Output::Full;
-                Some(Heard::Room { token })
-            }
+        if self.output == Output::Room {
+            self.output = Output::Full;
+            return Some(Heard::Room { token });
         }
+        if self.is_read() {
+            return self.read(token, buffer);
+        }
+        None
     }
 
     /// Reads the connection once.
@@ -175,7 +186,7 @@ impl Slot {
     {
         let stream = self.stream.as_mut()?;
         match stream.read(buffer) {
-            Ok(0) if !buffer.is_empty() => self.fail(token),
+            Ok(0) if !buffer.is_empty() => self.end(token),
             Ok(count) => {
                 // After a short read nothing waits, but the end of a stream whose peer sends no more.
                 self.readable = self.ended || count == buffer.len();
@@ -190,6 +201,17 @@ impl Slot {
                 _ => self.fail(token),
             },
         }
+    }
+
+    /// The end of the stream was read. It is told once all was written: until then it is as if it was not read.
+    fn end(&mut self, token: usize) -> Option<Heard>
+        ensures { Ends token self.old result self.new }
+    {
+        if self.output == Output::Taken {
+            return self.fail(token);
+        }
+        self.ended = true;
+        None
     }
 
     /// The connection is over.

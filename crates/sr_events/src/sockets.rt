@@ -30,7 +30,7 @@ const RETRY: u64 = 10;
 ///
 /// Each call of `next` tells one thing. Connections are told of in turn, those that have gone first, and then others
 /// come. The sockets are polled after each pass over those that have a turn, so that one that sends without pause keeps
-/// nobody out. A connection that has bytes to be written is not read.
+/// nobody out. A connection that is held back is not read.
 #[derive(Drop)]
 pub struct EventSockets<P: Planner> {
     poll: Poll,
@@ -194,7 +194,7 @@ impl<P: Planner + Drop> EventSockets<P> {
 }
 
 impl<P: Planner + Drop> Sockets for EventSockets<P> {
-    ghost use Rattle.std.specs.Prelude.{◌≡◌, ◌≤◌, ◌⊎◌, ⊤, ℕ, true, false, length, Some};
+    ghost use Rattle.std.specs.Prelude.{◌≡◌, ◌<◌, ◌≤◌, ◌⊎◌, ⊤, ℕ, true, false, length, Some};
     ghost use Rattle.sr_hub.specs.Heard.{count_of};
     ghost use Rattle.sr_events.specs.Connections.{ChangesAt, slot_at};
     ghost use Rattle.sr_events.specs.Slot.{Writes};
@@ -247,6 +247,14 @@ impl<P: Planner + Drop> Sockets for EventSockets<P> {
         self.connections.write(token, bytes)
     }
 
+    fn hold(&mut self, token: usize, held: bool)
+        ensures held { token < length self.old.kept.slots
+            → slot_at self.new.kept.slots token ≡ record (slot_at self.old.kept.slots token) { held = held } }
+        ensures others { ChangesAt token self.old.kept.slots self.new.kept.slots }
+    {
+        self.connections.hold(token, held);
+    }
+
     fn close(&mut self, token: usize)
         ensures gone { (slot_at self.new.kept.slots token).taken ≡ false }
         ensures others { ChangesAt token self.old.kept.slots self.new.kept.slots }
@@ -262,6 +270,10 @@ impl<P: Planner + Drop> Sockets for EventSockets<P> {
 
     fn is_planning(&self, session: u64) -> bool {
         self.planner.is_planning(session)
+    }
+
+    fn is_busy(&self) -> bool {
+        self.planner.is_busy()
     }
 
     fn planned(&mut self) -> Option<Planned>

@@ -1,8 +1,9 @@
 -- All connections of a hub: one goes on, the others are left alone, and no two have one session.
-use Rattle.std.proofs.Common.{◌≡◌, ◌≢◌, ◌==◌, ◌⊎◌, ◌↔◌, inl, inr, ℕ, Bool, true, false, cond, List, [], ◌++◌, take, drop, Option, Some, None, option_map, IfSome, IsSomeAnd, IsTrue, Result, Ok, Err, IfErr, OnOk, OnErr, IsErrOf, refl, ap, sym, subst, ◌∙◌, true≢false}
+use Rattle.std.proofs.Common.{◌≡◌, ◌≢◌, ◌==◌, ◌⊎◌, ◌↔◌, inl, inr, ℕ, Bool, true, false, cond, List, [], ◌++◌, take, drop, Option, Some, None, option_map, IfSome, IsSome, IsSomeAnd, IsTrue, Result, Ok, Err, IfErr, OnOk, OnErr, IsErrOf, refl, ap, sym, subst, ◌∙◌, true≢false}
 use Rattle.std.proofs.lemmas.Bool.{eq-eqb, eqb-true, ne_eqb}
 use Rattle.std.proofs.lemmas.List.{append-nil}
-use Rattle.slab.specs.Slab.{Slab, Updates, get}
+use Rattle.slab.specs.Slab.{ContainsKey, Slab, Updates, get, with_value}
+use Rattle.slab.proofs.SlabLemmas.{Updates-with_value}
 use Rattle.sr_book.specs.{is_open, BookState, Recorded}
 use Rattle.sr_book.specs.Server.{Server}
 use Rattle.sr_book.specs.Records.{rebased}
@@ -57,19 +58,18 @@ apart-changes token old new before after changes opened apart = record {
 pub apart-other : (hub : HubState) (a b : ℕ) (first second : ConnectionState) → AreApart hub → hub.at a ≡ Some first → hub.at b ≡ Some second → b ≢ a → (first.session == second.session) ≡ false
 apart-other hub a b first second apart at_a at_b away = ne_eqb first.session second.session (λ same. away (sym (apart.own a b first second at_a at_b same)))
 
--- a connection is taken out of its slab, and put back under the same token
-pub slab-changes : (before removed new : Slab ConnectionState) (book after_book : BookState) (token key : ℕ) (first last : ConnectionState)
-    → Some first ≡ get before token → Updates before removed token None → removed.vacant_key ≡ token → key ≡ removed.vacant_key → Updates removed new key (Some last)
-    → last.session ≡ first.session
-    → Changes token (hub_of book before) (hub_of after_book new) first last
-slab-changes before removed new book after_book token key first last there takes next is puts same =
-    let own : key ≡ token = is ∙ next in
-    let puts_here : Updates removed new token (Some last) = subst (λ (k : ℕ). Updates removed new k (Some last)) own puts in
+-- a connection changes in its slot
+pub slot-changes : (before : Slab ConnectionState) (book after_book : BookState) (token : ℕ) (first last : ConnectionState)
+    → Some first ≡ get before token → last.session ≡ first.session
+    → Changes token (hub_of book before) (hub_of after_book (with_value before token last)) first last
+slot-changes before book after_book token first last there same =
+    let present : ContainsKey before token = subst (λ (o : Option ConnectionState). IsSome o) there refl in
+    let updates : Updates before (with_value before token last) token (Some last) = Updates-with_value before token last present in
     record {
       was = sym there;
-      is = puts_here.changed;
+      is = updates.changed;
       same = same;
-      others = λ other away. puts_here.others other away ∙ takes.others other away;
+      others = updates.others;
     }
 
 -- records are added whose events are of its session: each connection is a line
@@ -418,41 +418,39 @@ go_on-clauses token false old new apart moves none = record {
 pub hub-same : (old_book book : BookState) (before slab : Slab ConnectionState) → book ≡ old_book → slab ≡ before → hub_of book slab ≡ hub_of old_book before
 hub-same old_book book before slab one two = ap (λ (b : BookState). hub_of b slab) one ∙ ap (λ (s : Slab ConnectionState). hub_of old_book s) two
 
--- ---- a connection is taken out of its slab, changes and is put back
+-- ---- a connection changes in its slot
 
-module _ (before removed new : Slab ConnectionState) (old_book book : BookState) (token key : ℕ) (first last : ConnectionState)
-    (there : Some first ≡ get before token) (takes : Updates before removed token None) (next : removed.vacant_key ≡ token) (is : key ≡ removed.vacant_key)
-    (puts : Updates removed new key (Some last)) where
-  pub moves-at : Moves old_book first book last → IsAtRest 65536 book.server last last.stage → MovesAt token (hub_of old_book before) (hub_of book new)
+module _ (before : Slab ConnectionState) (old_book book : BookState) (token : ℕ) (first last : ConnectionState) (there : Some first ≡ get before token) where
+  pub moves-at : Moves old_book first book last → IsAtRest 65536 book.server last last.stage → MovesAt token (hub_of old_book before) (hub_of book (with_value before token last))
   moves-at moves rests = record {
     before = first;
     after = last;
-    changes = slab-changes before removed new old_book book token key first last there takes next is puts moves.same;
+    changes = slot-changes before old_book book token first last there moves.same;
     moves = moves;
     rests = rests;
   }
 
   pub takes-at : (piece : List ℕ) (result : Result (Unit {0}) TakeFault) → OnOk result (is_ended first.stage ≡ false) → OnOk result (Takes piece old_book first book last)
-      → OnOk result (IsAtRest 65536 book.server last last.stage) → OnOk result (TakesAt token piece (hub_of old_book before) (hub_of book new))
-  takes-at piece (Ok done) goes takes_piece rests = record {
+      → OnOk result (IsAtRest 65536 book.server last last.stage) → OnOk result (TakesAt token piece (hub_of old_book before) (hub_of book (with_value before token last)))
+  takes-at piece (Ok done) goes takes rests = record {
     before = first;
     after = last;
-    changes = slab-changes before removed new old_book book token key first last there takes next is puts takes_piece.same;
+    changes = slot-changes before old_book book token first last there takes.same;
     goes = goes;
-    takes = takes_piece;
+    takes = takes;
     rests = rests;
   }
-  takes-at piece (Err fault) goes takes_piece rests = tt
+  takes-at piece (Err fault) goes takes rests = tt
 
   untaken-same : (fault : TakeFault) → IsUntaken fault first last → last.session ≡ first.session
   untaken-same fault (ended why stage same) = ap (λ (c : ConnectionState). c.session) same
   untaken-same fault (unfed looked why goes same) = ap (λ (c : ConnectionState). c.session) same
 
   pub refuses-at : (result : Result (Unit {0}) TakeFault) → IfErr result (λ fault. IsUntaken fault first last) → OnErr result (book ≡ old_book)
-      → IfErr result (λ fault. IsRefusedAt token fault (hub_of old_book before) (hub_of book new))
+      → IfErr result (λ fault. IsRefusedAt token fault (hub_of old_book before) (hub_of book (with_value before token last)))
   refuses-at (Ok done) untaken same = tt
   refuses-at (Err fault) untaken same =
-      is_there first last (slab-changes before removed new old_book book token key first last there takes next is puts (untaken-same fault untaken)) same untaken
+      is_there first last (slot-changes before old_book book token first last there (untaken-same fault untaken)) same untaken
 
 -- ---- a piece is taken
 
@@ -499,14 +497,13 @@ sent-clauses token count old new s = record {
 }
 
 -- the first bytes of a connection are sent
-pub sends-to : (before removed new : Slab ConnectionState) (book : BookState) (token key count : ℕ) (first last : ConnectionState)
-    → Some first ≡ get before token → Updates before removed token None → removed.vacant_key ≡ token → key ≡ removed.vacant_key → Updates removed new key (Some last)
-    → last ≡ record first { unsent = drop count first.unsent } → SendsAt token count (hub_of book before) (hub_of book new)
-sends-to before removed new book token key count first last there takes next is puts sends =
+pub sends-to : (before : Slab ConnectionState) (book : BookState) (token count : ℕ) (first last : ConnectionState) → Some first ≡ get before token
+    → last ≡ record first { unsent = drop count first.unsent } → SendsAt token count (hub_of book before) (hub_of book (with_value before token last))
+sends-to before book token count first last there sends =
     let sent : ConnectionState = record first { unsent = drop count first.unsent } in
-    let puts_sent : Updates removed new key (Some sent) = subst (λ (l : ConnectionState). Updates removed new key (Some l)) sends puts in
-    record {
+    let at_once : SendsAt token count (hub_of book before) (hub_of book (with_value before token sent)) = record {
       before = first;
-      changes = slab-changes before removed new book book token key first sent there takes next is puts_sent refl;
+      changes = slot-changes before book book token first sent there refl;
       same = refl;
-    }
+    } in
+    subst (λ (l : ConnectionState). SendsAt token count (hub_of book before) (hub_of book (with_value before token l))) (sym sends) at_once

@@ -65,6 +65,7 @@ fn answer_next(alloc: Global, book: &mut Book, connection: &mut Connection, mome
     ensures timed { IsTimed moment book.old book.new }
 {
     if connection.unsent.len() >= FULL {
+        connection.usage.stops();
         return false;
     }
     let Some(words) = connection.requests.next_request() else {

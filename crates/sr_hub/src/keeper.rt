@@ -1,9 +1,9 @@
 ghost use Rattle.sr_hub.specs.Lines.{state_of};
 ghost use Rattle.sr_hub.specs.steps.Serving.{Keeps};
 
-use crate::watch::Watch;
+use crate::past::{Bounds, Past};
+use crate::watch::{Watch, has_unsent};
 use crate::{Heard, Hub};
-use sr_book::Record;
 use sr_session::Clock;
 use std::alloc::Global;
 use std::collections::VecDeque;
@@ -17,8 +17,12 @@ const SWEEP: u64 = 1_000;
 /// After how long others have their turn while a connection has more to be answered, in milliseconds.
 const LONG: u64 = 5;
 
-/// How many records that are kept no longer are let go after one turn. One turn adds fewer.
-const PART: usize = 1_000;
+/// A connection that was put off goes on once others had this many times as long as the last long turn took.
+const SHARE: u64 = 2;
+
+/// If others came meanwhile it goes on before only if nothing comes for this long, in milliseconds: who was answered
+/// needs a moment to ask again.
+const PAUSE: u64 = 1;
 
 /// Within which bounds a loop keeps what it serves.
 #[derive(Clone, Copy)]
@@ -28,8 +32,14 @@ pub struct Habits {
     pub connections: usize,
     /// How many records are kept: if there are more, a checkpoint is made. None: all of them.
     pub keep: Option<u64>,
-    /// After this many milliseconds without a whole request a connection that does not wait is closed. None: never.
+    /// About how many bytes they take at most: if they take more, a checkpoint is made too. Requests and replies are
+    /// counted by their bytes, verdicts by what they are of, and each record by some more.
+    pub keep_bytes: u64,
+    /// A connection that does not wait is closed once no byte of it was read or written for this many milliseconds.
+    /// None: never.
     pub idle: Option<u64>,
+    /// The same for one whose read waits.
+    pub idle_waiting: Option<u64>,
     /// How many bytes requests that are not answered yet may hold together, not counting the first 16 KiB of each
     /// connection. A connection that sends more is closed.
     pub unfinished: u64,
@@ -51,12 +61,24 @@ pub(crate) struct Keeper<'a, C> {
     swept: u64,
     /// Whether nothing came since then, and no read with a deadline waits.
     quiet: bool,
+    /// Whether something came since the last long turn.
+    others: bool,
+    /// Whether the sockets were asked last to wait as long as who was put off has to wait at least.
+    paused: bool,
+    /// Whether nothing came then.
+    still: bool,
     /// When the turn of a connection began.
     began: u64,
+    /// When the last long turn ended, and how long it took.
+    ended: u64,
+    took: u64,
     /// Connections that had a long turn and have more to be answered.
     later: VecDeque<usize>,
-    /// Records that are kept no longer.
-    dropped: Vec<Record>,
+    /// Connections that wait until their plans can be made elsewhere.
+    wanting: VecDeque<usize>,
+    /// Whether plans may be there that were made elsewhere.
+    planned: bool,
+    past: Past,
 }
 
 impl<'a, C: Clock> Keeper<'a, C> {
@@ -73,9 +95,16 @@ impl<'a, C: Clock> Keeper<'a, C> {
             ticked: 0,
             swept: 0,
             quiet: false,
+            others: false,
+            paused: false,
+            still: false,
             began: 0,
+            ended: 0,
+            took: 0,
             later: VecDeque::new(alloc),
-            dropped: Vec::new(alloc),
+            wanting: VecDeque::new(alloc),
+            planned: false,
+            past: Past::new(alloc),
         }
     }
 
@@ -96,21 +125,48 @@ impl<'a, C: Clock> Keeper<'a, C> {
         self.moment = self.clock.now();
     }
 
-    /// How long the loop may wait for what comes next, in milliseconds.
-    pub(crate) fn patience(&self) -> Option<u64> {
-        if !self.later.is_empty() {
-            return Some(0);
-        }
-        Some(if self.quiet { SWEEP } else { TICK })
+    /// How long the loop may wait for what comes next, in milliseconds: not at all while something is left to be done,
+    /// and not long while a connection was put off.
+    pub(crate) fn patience(&mut self, hub: &Hub) -> Option<u64> {
+        let wait = if self.has_more(hub) {
+            0
+        } else if !self.later.is_empty() {
+            if self.others { PAUSE } else { 0 }
+        } else if self.quiet {
+            SWEEP
+        } else {
+            TICK
+        };
+        self.paused = wait >= PAUSE || !self.others;
+        Some(wait)
+    }
+
+    /// Whether something is left to be done: plans, letters, or records to let go of.
+    fn has_more(&self, hub: &Hub) -> bool {
+        self.planned || self.watch.is_behind(hub.book()) || self.past.has_dropped()
     }
 
     /// This came just now.
     pub(crate) fn hears(&mut self, heard: Heard) {
-        self.looks_up();
-        self.began = self.moment;
+        self.begins();
+        self.still = heard == Heard::Nothing && self.paused;
         if heard != Heard::Nothing {
             self.quiet = false;
+            self.others = true;
         }
+    }
+
+    /// The turn of a connection begins.
+    pub(crate) fn begins(&mut self)
+        ensures { self.new.later ≡ self.old.later }
+    {
+        self.looks_up();
+        self.began = self.moment;
+    }
+
+    /// Whether a turn is long that began when the last one did.
+    pub(crate) fn is_long(&self) -> bool {
+        self.clock.now().saturating_sub(self.began) >= LONG
     }
 
     /// Whether a connection that has more to be answered goes on later, since its turn is long already. If memory is
@@ -119,8 +175,21 @@ impl<'a, C: Clock> Keeper<'a, C> {
         ensures later { result ≡ true → self.new.later.items ≡ self.old.later.items ++ token ∷ [] }
         ensures now { result ≡ false → self.new.later.items ≡ self.old.later.items }
     {
-        let long = self.clock.now().saturating_sub(self.began) >= LONG;
-        long && self.later.push_back(token).is_ok()
+        let now = self.clock.now();
+        let took = now.saturating_sub(self.began);
+        if took < LONG || self.later.push_back(token).is_err() {
+            return false;
+        }
+        self.watch.note_later(token, true);
+        self.ended = now;
+        self.took = took;
+        self.others = false;
+        true
+    }
+
+    /// Whether a connection that was put off may go on: nobody else comes, or others had their share of the time.
+    pub(crate) fn may_resume(&self) -> bool {
+        self.still || self.moment.saturating_sub(self.ended) >= self.took.saturating_mul(SHARE)
     }
 
     /// A connection that goes on now since it was put off, the one that has waited longest.
@@ -129,9 +198,47 @@ impl<'a, C: Clock> Keeper<'a, C> {
         ensures none { IfNone result (self.old.later.items ≡ []) }
     {
         let token = self.later.pop_front()?;
-        self.looks_up();
-        self.began = self.moment;
+        self.begins();
+        self.watch.note_later(token, false);
         Some(token)
+    }
+
+    /// Has a connection wait until its plan can be made elsewhere. Answers whether it does: not if memory is refused.
+    pub(crate) fn waits_for_plan(&mut self, token: usize) -> bool {
+        if self.watch.is_wanting(token) {
+            return true;
+        }
+        if self.wanting.push_back(token).is_err() {
+            return false;
+        }
+        self.watch.note_wanting(token, true);
+        true
+    }
+
+    /// The connection that has waited longest until its plan can be made elsewhere. It waits no longer.
+    pub(crate) fn wants_plan(&mut self) -> Option<usize> {
+        let token = self.wanting.pop_front()?;
+        self.begins();
+        self.watch.note_wanting(token, false);
+        Some(token)
+    }
+
+    /// Notes whether plans may be there that were made elsewhere.
+    pub(crate) fn note_planned(&mut self, planned: bool) {
+        self.planned = planned;
+    }
+
+    /// Whether plans may be there that were made elsewhere.
+    pub(crate) fn expects_plans(&self) -> bool {
+        self.planned
+    }
+
+    /// Whether a connection is not to be read now: it was put off, its plan is being made, or it does not read its
+    /// replies while requests that are not answered yet hold much.
+    pub(crate) fn holds_back(&self, hub: &Hub, token: usize) -> bool {
+        self.watch.is_later(token)
+            || hub.wants_verdict(token).is_some()
+            || (self.watch.total() > self.habits.unfinished / 2 && has_unsent(hub, token))
     }
 
     /// Whether deadlines are to be looked at: not since a while.
@@ -162,27 +269,41 @@ impl<'a, C: Clock> Keeper<'a, C> {
         self.watch.hears(token, self.moment);
     }
 
-    /// Whether a connection has been idle for too long.
+    /// Whether a connection has been idle for too long. One whose plan is made is not idle.
     pub(crate) fn is_idle(&self, hub: &Hub, token: usize) -> bool {
-        match (self.habits.idle, hub.quiet_since(token)) {
-            (Some(most), Some(since)) => {
-                let since = since.max(self.watch.heard(token));
-                self.moment.saturating_sub(since) >= most
-            }
-            _ => false,
+        if hub.session(token).is_none() || hub.wants_verdict(token).is_some() {
+            return false;
+        }
+        let (most, since) = match hub.quiet_since(token) {
+            Some(since) => (self.habits.idle, since),
+            None => (self.habits.idle_waiting, 0),
+        };
+        match most {
+            Some(most) => self
+                .moment
+                .saturating_sub(since.max(self.watch.heard(token)))
+                >= most,
+            None => false,
         }
     }
 
-    /// Lets go of a part of the records that are kept no longer. Once none is left, makes a checkpoint if the book
-    /// keeps too many.
+    /// Bytes came or are to be sent, or a verdict is made: records say as many more.
+    pub(crate) fn weighs(&mut self, bytes: u64) {
+        self.past.says(bytes);
+    }
+
+    /// Lets go of a part of the records that are kept no longer, and makes a checkpoint if the book keeps too many and
+    /// each of them was looked at.
     pub(crate) fn forget(&mut self, hub: &mut Hub)
         ensures { Keeps (state_of hub.old) (state_of hub.new) }
     {
-        let Some(keep) = self.habits.keep else { return };
-        self.dropped
-            .truncate(self.dropped.len().saturating_sub(PART));
-        if self.dropped.is_empty() {
-            hub.compact_into(keep, &mut self.dropped);
+        let Some(records) = self.habits.keep else {
+            return;
+        };
+        if self.watch.is_behind(hub.book()) {
+            return;
         }
+        let bytes = self.habits.keep_bytes;
+        self.past.forget(hub, Bounds { records, bytes });
     }
 }

@@ -1,4 +1,4 @@
-//! What is done with the connection at a token: it is taken out of its slab, and put back at the same token.
+//! What is done with the connection at a token, in its place in the slab.
 ghost use Rattle.std.specs.Prelude.{◌≡◌, ◌≤◌, ◌↔◌, None, IfOk, IfErr, IfSome, IsSomeAnd, IsTrue, OnOk, OnErr};
 ghost use Rattle.std.specs.Prelude.{IsSome, false, true, length};
 ghost use Rattle.slab.specs.Slab.{get};
@@ -79,11 +79,10 @@ pub(crate) fn go_on_at(
     ensures none { result ≡ false → (book.new ≡ book.old) × (connections.new ≡ connections.old) }
     ensures timed { IsTimed moment book.old book.new }
 {
-    let Some(mut connection) = connections.try_remove(token) else {
+    let Some(connection) = connections.get_mut(token) else {
         return false;
     };
-    answer_waiting(alloc, book, &mut connection, moment);
-    connections.insert_reserved(connection);
+    answer_waiting(alloc, book, connection, moment);
     true
 }
 
@@ -103,12 +102,10 @@ pub(crate) fn take_at(
         IsRefusedAt token fault (hub_of book.old connections.old) (hub_of book.new connections.new)) }
     ensures timed { IsTimed moment book.old book.new }
 {
-    let Some(mut connection) = connections.try_remove(token) else {
+    let Some(connection) = connections.get_mut(token) else {
         return Err(TakeFault::Gone);
     };
-    let taken = take_piece(alloc, book, &mut connection, moment, piece);
-    connections.insert_reserved(connection);
-    taken
+    take_piece(alloc, book, connection, moment, piece)
 }
 
 /// Cuts the connection at a token off, if there is one that is not at its end.
@@ -120,12 +117,10 @@ pub(crate) fn pass_over_at(
     ensures refused { IsRefusedAt token result (hub_of book.now connections.old) (hub_of book.now connections.new) }
     ensures ended { IfSome (get connections.new token) (λ line. is_ended line.stage ≡ true) }
 {
-    let Some(mut connection) = connections.try_remove(token) else {
+    let Some(connection) = connections.get_mut(token) else {
         return TakeFault::Gone;
     };
-    let fault = cut_off(&mut connection);
-    connections.insert_reserved(connection);
-    fault
+    cut_off(connection)
 }
 
 /// Cuts a connection off that is not at its end.
@@ -145,11 +140,10 @@ pub(crate) fn sent_at(connections: &mut Slab<Connection>, token: usize, count: u
     requires { IsSomeAnd (get connections.old token) (λ line. count ≤ length line.unsent) }
     ensures { (book : BookState) → SendsAt token count (hub_of book connections.old) (hub_of book connections.new) }
 {
-    let Some(mut connection) = connections.try_remove(token) else {
+    let Some(connection) = connections.get_mut(token) else {
         unreachable!()
     };
     connection.sent(count);
-    connections.insert_reserved(connection);
 }
 
 /// Concludes a verdict for the connection at a token, and goes on with it.
@@ -166,12 +160,11 @@ pub(crate) fn conclude_at(
     ensures moves { MovesAt token (hub_of book.old connections.old) (hub_of book.new connections.new) }
     ensures timed { IsTimed moment book.old book.new }
 {
-    let Some(mut connection) = connections.try_remove(token) else {
+    let Some(connection) = connections.get_mut(token) else {
         unreachable!()
     };
-    conclude_round(alloc, book, &mut connection, moment, verdict);
-    answer_waiting(alloc, book, &mut connection, moment);
-    connections.insert_reserved(connection);
+    conclude_round(alloc, book, connection, moment, verdict);
+    answer_waiting(alloc, book, connection, moment);
 }
 
 /// Makes a verdict for the connection at a token, concludes it, and goes on with the connection.
@@ -186,12 +179,11 @@ pub(crate) fn judge_at(
     ensures moves { MovesAt token (hub_of book.old connections.old) (hub_of book.new connections.new) }
     ensures timed { IsTimed moment book.old book.new }
 {
-    let Some(mut connection) = connections.try_remove(token) else {
+    let Some(connection) = connections.get_mut(token) else {
         unreachable!()
     };
-    judge_round(alloc, book, &mut connection, moment);
-    answer_waiting(alloc, book, &mut connection, moment);
-    connections.insert_reserved(connection);
+    judge_round(alloc, book, connection, moment);
+    answer_waiting(alloc, book, connection, moment);
 }
 
 /// Takes the next piece of a connection's bytes, and answers each request that is whole now, as far as it goes.

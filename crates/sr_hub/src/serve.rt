@@ -1,23 +1,19 @@
 //! The event loop: what the network does is told to the hub, and what the hub has for a connection is written to it.
-ghost use Rattle.std.specs.Prelude.{◌≡◌, ℕ, List, IfSome};
+ghost use Rattle.std.specs.Prelude.{ℕ, List};
 ghost use Rattle.sr_book.specs.{Recorded};
 ghost use Rattle.sr_hub.specs.Heard.{GoOnAs};
 ghost use Rattle.sr_hub.specs.Lines.{AreLines, GoOn, state_of, with_more};
 ghost use Rattle.sr_hub.specs.steps.Serving.{Keeps, Serves};
 
-use crate::copy::copy_of;
 use crate::keeper::{Habits, Keeper};
-use crate::{Heard, Hub, Job, Planned, Sockets};
-use sr_plan::Verdict;
-use sr_policy::Snapshot;
+use crate::plans::{conclude_planned, judge, make_plan};
+use crate::watch::unsent_len;
+use crate::{Heard, Hub, Sockets};
 use sr_session::Clock;
 use std::alloc::Global;
 
 /// How many bytes are read at a time.
 const PIECE: usize = 16 * 1024;
-
-/// A plan for at most this many pairs of an entry and a consumer is made in the loop.
-const SMALL: usize = 65_536;
 
 /// Serves these sockets until nothing will come again, at most as many turns as the habits say.
 ///
@@ -56,7 +52,7 @@ fn hear<S: Sockets, C: Clock>(
 ) -> bool
     ensures { Serves (state_of hub.old) (S.may_have sockets.old) (state_of hub.new) (S.may_have sockets.new) }
 {
-    let heard = sockets.next(buffer, keeper.patience());
+    let heard = sockets.next(buffer, keeper.patience(hub));
     keeper.hears(heard);
     match heard {
         Heard::Came => admit(hub, sockets, keeper),
@@ -66,7 +62,7 @@ fn hear<S: Sockets, C: Clock>(
         }
         Heard::Room { token } => attend(hub, sockets, keeper, token),
         Heard::Over { token } => leave(hub, sockets, keeper, token),
-        Heard::Planned => conclude_planned(hub, sockets, keeper),
+        Heard::Planned => keeper.note_planned(true),
         Heard::Nothing => {}
         Heard::End => return false,
     }
@@ -99,14 +95,24 @@ fn take<C: Clock>(hub: &mut Hub, keeper: &mut Keeper<'_, C>, token: usize, piece
     ensures { (records : List Recorded) (taken given : ℕ → List ℕ) → AreLines records taken given (state_of hub.old)
         → GoOn records (with_more token piece.now taken) given (state_of hub.new) }
 {
+    let now = keeper.now();
+    keeper.watch.hears(token, now);
     if keeper
         .watch
         .exceeds(hub, token, piece.len(), keeper.habits.unfinished)
     {
         hub.pass_over(token);
-    } else {
-        let _taken = hub.take(keeper.alloc, token, keeper.now(), piece);
+        return;
     }
+    let before = unsent_len(hub, token);
+    let _taken = hub.take(keeper.alloc, token, now, piece);
+    keeper.weighs(piece.len() as u64);
+    keeper.weighs(added(before, unsent_len(hub, token)));
+}
+
+/// How many bytes came to those that are to be sent.
+pub(crate) fn added(before: usize, after: usize) -> u64 {
+    after.saturating_sub(before) as u64
 }
 
 /// A connection will send no more: makes the plan that it wants, if it wants one, and closes it.
@@ -131,7 +137,7 @@ fn finish<S: Sockets, C: Clock>(
 )
     ensures { Serves (state_of hub.old) (S.may_have sockets.old) (state_of hub.new) (S.may_have sockets.new) }
 {
-    if !hub.judge(keeper.alloc, token, keeper.now()) {
+    if !make_plan(hub, keeper, token) {
         return;
     }
     advance(hub, sockets, keeper, token);
@@ -162,8 +168,8 @@ fn release<C: Clock>(hub: &mut Hub, keeper: &mut Keeper<'_, C>, token: usize)
 }
 
 /// Goes on with a connection as far as it goes, writes what there is for it, and closes it if it is at its end and
-/// nothing is left to write.
-fn attend<S: Sockets, C: Clock>(
+/// nothing is left to write. One that was put off waits for its turn.
+pub(crate) fn attend<S: Sockets, C: Clock>(
     hub: &mut Hub,
     sockets: &mut S,
     keeper: &mut Keeper<'_, C>,
@@ -171,10 +177,31 @@ fn attend<S: Sockets, C: Clock>(
 )
     ensures { Serves (state_of hub.old) (S.may_have sockets.old) (state_of hub.new) (S.may_have sockets.new) }
 {
+    if keeper.watch.is_later(token) {
+        return;
+    }
     advance(hub, sockets, keeper, token);
-    keeper.watch.look_at(hub, token);
+    close_if_over(hub, sockets, keeper, token);
+}
+
+/// Closes a connection if it is at its end and nothing is left to write. Otherwise notes what it holds, and whether it
+/// is to be read.
+fn close_if_over<S: Sockets, C: Clock>(
+    hub: &mut Hub,
+    sockets: &mut S,
+    keeper: &mut Keeper<'_, C>,
+    token: usize,
+)
+    ensures { Serves (state_of hub.old) (S.may_have sockets.old) (state_of hub.new) (S.may_have sockets.new) }
+{
     if hub.is_over(token) {
         dismiss(hub, sockets, keeper, token);
+        return;
+    }
+    keeper.watch.look_at(hub, token);
+    let held = keeper.holds_back(hub, token);
+    if keeper.watch.note_held(token, held) {
+        sockets.hold(token, held);
     }
 }
 
@@ -198,8 +225,8 @@ fn advance<S: Sockets, C: Clock>(
     }
 }
 
-/// Makes the plan that a connection wants, or writes what there is for it and goes on with it if all of it was written.
-/// Answers whether it did.
+/// Makes the plan that a connection wants, or writes what there is for it and goes on with it if all of it was written
+/// and requests are left. Answers whether it did.
 fn go_on<S: Sockets, C: Clock>(
     hub: &mut Hub,
     sockets: &mut S,
@@ -211,14 +238,29 @@ fn go_on<S: Sockets, C: Clock>(
     if judge(hub, sockets, keeper, token) {
         return true;
     }
-    if !write_some(hub, sockets, token) {
+    if !write_some(hub, sockets, keeper, token) || !hub.has_stopped(token) {
         return false;
     }
-    hub.go_on(keeper.alloc, token, keeper.now())
+    further(hub, keeper, token)
+}
+
+/// Goes on with a connection at the book, and counts what it is to be sent. Answers whether there is such a connection.
+fn further<C: Clock>(hub: &mut Hub, keeper: &mut Keeper<'_, C>, token: usize) -> bool
+    ensures { Keeps (state_of hub.old) (state_of hub.new) }
+{
+    let before = unsent_len(hub, token);
+    let there = hub.go_on(keeper.alloc, token, keeper.now());
+    keeper.weighs(added(before, unsent_len(hub, token)));
+    there
 }
 
 /// Writes what there is for a connection. Answers whether there was something, and all of it was written.
-fn write_some<S: Sockets>(hub: &mut Hub, sockets: &mut S, token: usize) -> bool
+fn write_some<S: Sockets, C: Clock>(
+    hub: &mut Hub,
+    sockets: &mut S,
+    keeper: &mut Keeper<'_, C>,
+    token: usize,
+) -> bool
     ensures { Serves (state_of hub.old) (S.may_have sockets.old) (state_of hub.new) (S.may_have sockets.new) }
 {
     let Some(bytes) = hub.unsent(token) else {
@@ -230,118 +272,32 @@ fn write_some<S: Sockets>(hub: &mut Hub, sockets: &mut S, token: usize) -> bool
     }
     let count = sockets.write(token, bytes);
     hub.sent(token, count);
+    if count > 0 {
+        let now = keeper.now();
+        keeper.watch.hears(token, now);
+    }
     count == length
 }
 
-/// Makes the plan that a connection wants, if it wants one, and concludes it; or has it made elsewhere. Answers whether
-/// it was concluded.
-fn judge<S: Sockets, C: Clock>(
-    hub: &mut Hub,
-    sockets: &mut S,
-    keeper: &mut Keeper<'_, C>,
-    token: usize,
-) -> bool
-    ensures { Serves (state_of hub.old) (S.may_have sockets.old) (state_of hub.new) (S.may_have sockets.new) }
-{
-    let Some(wanted) = hub.wants_verdict(token) else {
-        return false;
-    };
-    if is_large(wanted) && hand_over(hub, sockets, keeper.alloc, token) {
-        return false;
-    }
-    let done = hub.judge(keeper.alloc, token, keeper.now());
-    keeper.looks_up();
-    done
-}
-
-/// Whether a plan is for many pairs of an entry and a consumer.
-fn is_large(wanted: &Snapshot) -> bool {
-    wanted.stranded().len().saturating_mul(wanted.live().len()) > SMALL
-}
-
-/// Has the plan that a connection wants made elsewhere, if it is not already. Answers whether it is made there.
-fn hand_over<S: Sockets>(hub: &Hub, sockets: &mut S, alloc: Global, token: usize) -> bool
-    ensures { (taken given : ℕ → List ℕ) → S.may_have sockets.old taken given
-        → S.may_have sockets.new taken given }
-{
-    let (Some(session), Some(wanted)) = (hub.session(token), hub.wants_verdict(token)) else {
-        return false;
-    };
-    if sockets.is_planning(session) {
-        return true;
-    }
-    match copy_of(alloc, wanted) {
-        Some(snapshot) => sockets.plan(Job {
-            token,
-            session,
-            snapshot,
-        }),
-        None => false,
-    }
-}
-
-/// Concludes the plans that were made elsewhere, and goes on with their connections.
-fn conclude_planned<S: Sockets, C: Clock>(
-    hub: &mut Hub,
-    sockets: &mut S,
-    keeper: &mut Keeper<'_, C>,
-)
-    ensures { Serves (state_of hub.old) (S.may_have sockets.old) (state_of hub.new) (S.may_have sockets.new) }
-{
-    for _plan in 0..u64::MAX {
-        let Some(planned) = sockets.planned() else {
-            return;
-        };
-        let token = planned.token;
-        conclude(hub, keeper, planned);
-        keeper.hands(token);
-        attend(hub, sockets, keeper, token);
-    }
-}
-
-/// Concludes a plan that was made elsewhere, if its connection is still there.
-fn conclude<C: Clock>(hub: &mut Hub, keeper: &mut Keeper<'_, C>, planned: Planned)
-    ensures { Keeps (state_of hub.old) (state_of hub.new) }
-{
-    let Planned {
-        token,
-        session,
-        verdict,
-    } = planned;
-    if hub.session(token) != Some(session) {
-        return;
-    }
-    match hub.wants_verdict(token) {
-        None => {}
-        Some(wanted) => {
-            let verdict = verdict_on(wanted, verdict);
-            hub.conclude(keeper.alloc, token, keeper.now(), verdict);
-        }
-    }
-}
-
-/// The verdict, if it is one on this snapshot.
-fn verdict_on(wanted: &Snapshot, verdict: Option<Verdict>) -> Option<Verdict>
-    ensures { IfSome result (λ judged. judged.snapshot ≡ wanted.now) }
-{
-    let verdict = verdict?;
-    if *verdict.snapshot() == *wanted {
-        Some(verdict)
-    } else {
-        None
-    }
-}
-
-/// Answers the reads whose deadline is reached, serves each connection that has a letter, goes on with one that was put
-/// off, and drops old records.
+/// Answers the reads whose deadline is reached, concludes a plan that was made elsewhere, serves connections that have
+/// a letter, goes on with one that was put off, and drops old records.
 fn settle<S: Sockets, C: Clock>(hub: &mut Hub, sockets: &mut S, keeper: &mut Keeper<'_, C>)
     ensures { Serves (state_of hub.old) (S.may_have sockets.old) (state_of hub.new) (S.may_have sockets.new) }
 {
     tick(hub, keeper);
+    conclude_planned(hub, sockets, keeper);
     hand_letters(hub, sockets, keeper);
+    // Before others go on, who have the book make records that are not looked at yet.
+    keeper.forget(hub);
+    look_after(hub, sockets, keeper);
+}
+
+/// Goes on with one connection that was put off, and looks at all of them if that was not done for a while.
+fn look_after<S: Sockets, C: Clock>(hub: &mut Hub, sockets: &mut S, keeper: &mut Keeper<'_, C>)
+    ensures { Serves (state_of hub.old) (S.may_have sockets.old) (state_of hub.new) (S.may_have sockets.new) }
+{
     resume(hub, sockets, keeper);
     sweep(hub, sockets, keeper);
-    keeper.forget(hub);
 }
 
 /// Answers the reads whose deadline is reached, if that was not looked at for a while.
@@ -355,7 +311,8 @@ fn tick<C: Clock>(hub: &mut Hub, keeper: &mut Keeper<'_, C>)
     }
 }
 
-/// Goes on with each connection that was given its reply while it waited, and writes to it.
+/// Goes on with connections that were given their replies while they waited, and writes to them: with the others later,
+/// if that takes long.
 fn hand_letters<S: Sockets, C: Clock>(hub: &mut Hub, sockets: &mut S, keeper: &mut Keeper<'_, C>)
     ensures { Serves (state_of hub.old) (S.may_have sockets.old) (state_of hub.new) (S.may_have sockets.new) }
 {
@@ -363,16 +320,34 @@ fn hand_letters<S: Sockets, C: Clock>(hub: &mut Hub, sockets: &mut S, keeper: &m
         let Some(token) = keeper.watch.next_lettered(hub) else {
             return;
         };
-        hub.go_on(keeper.alloc, token, keeper.now());
-        keeper.hands(token);
-        attend(hub, sockets, keeper, token);
+        hand(hub, sockets, keeper, token);
+        if keeper.is_long() {
+            return;
+        }
     }
 }
 
-/// Goes on with the connection that was put off first, if one was.
+/// Hands a connection its reply, and goes on with it.
+fn hand<S: Sockets, C: Clock>(
+    hub: &mut Hub,
+    sockets: &mut S,
+    keeper: &mut Keeper<'_, C>,
+    token: usize,
+)
+    ensures { Serves (state_of hub.old) (S.may_have sockets.old) (state_of hub.new) (S.may_have sockets.new) }
+{
+    further(hub, keeper, token);
+    keeper.hands(token);
+    attend(hub, sockets, keeper, token);
+}
+
+/// Goes on with the connection that was put off first, if one was and others had their share.
 fn resume<S: Sockets, C: Clock>(hub: &mut Hub, sockets: &mut S, keeper: &mut Keeper<'_, C>)
     ensures { Serves (state_of hub.old) (S.may_have sockets.old) (state_of hub.new) (S.may_have sockets.new) }
 {
+    if !keeper.may_resume() {
+        return;
+    }
     if let Some(token) = keeper.goes_on() {
         attend(hub, sockets, keeper, token);
     }
@@ -402,9 +377,7 @@ fn look_at<S: Sockets, C: Clock>(
     if keeper.watch.is_over(token) {
         release(hub, keeper, token);
     } else if hub.has_letter(token) {
-        hub.go_on(keeper.alloc, token, keeper.now());
-        keeper.hands(token);
-        attend(hub, sockets, keeper, token);
+        hand(hub, sockets, keeper, token);
     } else if keeper.is_idle(hub, token) {
         dismiss(hub, sockets, keeper, token);
     }

@@ -79,6 +79,11 @@ pub trait Sockets {
         ensures bytes { (taken given : ℕ → List ℕ) → may_have self.old taken given
             → may_have self.new taken (with_more token (take result bytes.now) given) };
 
+    /// Reads no bytes of a connection from now on, or reads them again: what it sends waits outside meanwhile. That it
+    /// is over is told all the same, but not that its client will send no more.
+    fn hold(&mut self, token: usize, held: bool)
+        ensures { (taken given : ℕ → List ℕ) → may_have self.old taken given → may_have self.new taken given };
+
     /// Closes a connection, if there is one.
     fn close(&mut self, token: usize)
         ensures { (taken given : ℕ → List ℕ) → may_have self.old taken given → may_have self.new taken given };
@@ -90,6 +95,9 @@ pub trait Sockets {
 
     /// Whether a plan is made elsewhere for a session, and was not told yet.
     fn is_planning(&self, session: u64) -> bool;
+
+    /// Whether as many plans are wanted elsewhere as may be at a time.
+    fn is_busy(&self) -> bool;
 
     /// What came of a job, if there is one that is done and was not told yet.
     fn planned(&mut self) -> Option<Planned>

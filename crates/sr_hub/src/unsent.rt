@@ -1,9 +1,13 @@
-ghost use Rattle.std.specs.Prelude.{◌≡◌, ◌≤◌, ◌++◌, [], length, drop, OnOk, OnErr};
+ghost use Rattle.std.specs.Prelude.{◌≡◌, ◌≤◌, ◌++◌, [], length, drop, vec_len, OnOk, OnErr};
 ghost use Rattle.sr_resp.specs.{error_reply, reply_text};
 
 use sr_resp::{ErrCode, Reply, append_reply};
+use sr_session::empty;
 use std::alloc::{AllocError, Global};
 use std::marker::Model;
+
+/// Bytes that were sent are let go once they are at least this many, and at least as many as those that are to be sent.
+const MUCH: usize = 64 * 1024;
 
 /// The bytes of a connection that are to be sent.
 pub struct Unsent {
@@ -80,8 +84,29 @@ impl Unsent {
     {
         self.start += count;
         if self.start == self.bytes.len() {
-            self.bytes.clear();
             self.start = 0;
+            empty(&mut self.bytes);
+        } else if self.start >= MUCH && self.start >= self.len() {
+            self.close_up();
         }
     }
+
+    /// Lets go of the bytes that were sent.
+    fn close_up(&mut self)
+        ensures { self.new ≡ self.old }
+    {
+        let start = self.start;
+        drop_front(&mut self.bytes, start);
+        self.start = 0;
+    }
+}
+
+/// Removes this many bytes from the front.
+fn drop_front(bytes: &mut Vec<u8>, count: usize)
+    requires { count ≤ vec_len bytes.old }
+    ensures { bytes.new.items ≡ drop count bytes.old.items }
+{
+    let len = bytes.len();
+    bytes.as_mut_slice().copy_within(count..len, 0);
+    bytes.truncate(len - count);
 }

@@ -9,6 +9,8 @@ pub(crate) struct Usage {
     last: usize,
     /// Whether a request was looked at since then.
     answers: bool,
+    /// Whether no request was begun last since many bytes are to be sent.
+    stopped: bool,
 }
 
 impl Usage {
@@ -19,6 +21,7 @@ impl Usage {
             unanswered: 0,
             last: 0,
             answers: false,
+            stopped: false,
         }
     }
 
@@ -32,10 +35,22 @@ impl Usage {
     pub(crate) fn looks(&mut self, moment: u64) {
         self.heard = moment;
         self.answers = true;
+        self.stopped = false;
+    }
+
+    /// No request is begun, since many bytes are to be sent.
+    pub(crate) fn stops(&mut self) {
+        self.stopped = true;
+    }
+
+    /// Whether no request was begun last since many bytes are to be sent.
+    pub(crate) fn has_stopped(&self) -> bool {
+        self.stopped
     }
 
     /// No whole request is left.
     pub(crate) fn has_looked(&mut self) {
+        self.stopped = false;
         if self.answers {
             self.unanswered = self.unanswered.min(self.last);
             self.answers = false;

@@ -4,9 +4,17 @@ ghost use Rattle.sr_hub.specs.Lines.{IsLettered, state_of};
 use crate::Hub;
 use sr_book::{Book, Kind};
 use std::alloc::{AllocError, Global};
+use std::mem;
 
 /// A connection may hold this many bytes of unanswered requests before they are counted.
 const FREE: usize = 16 * 1024;
+
+/// Requests hold at most this many times their bytes while they wait: the shortest are queued each in a block of its
+/// own, and a key of a few bytes of a read that waits is in its call and in an index.
+const WAITING: usize = 16;
+
+/// What stands for the token of a session that is gone. No token is so high.
+const GONE: usize = usize::MAX;
 
 /// What a loop notes of one connection.
 #[derive(Clone, Copy)]
@@ -15,15 +23,38 @@ struct Note {
     bytes: u64,
     /// Whether it is over, and its session could not leave yet.
     over: bool,
-    /// The moment at which it was last given a reply for which it waited.
+    /// The moment at which bytes of it were last read or written, or it was given a reply for which it waited.
     heard: u64,
+    /// Whether it was put off, and goes on later.
+    later: bool,
+    /// Whether the sockets were told not to read it.
+    held: bool,
+    /// Whether it waits until its plan can be made elsewhere.
+    wanting: bool,
+}
+
+impl Note {
+    /// That of a connection that comes.
+    fn new() -> Note {
+        Note {
+            bytes: 0,
+            over: false,
+            heard: 0,
+            later: false,
+            held: false,
+            wanting: false,
+        }
+    }
 }
 
 /// What a loop notes of the connections of a hub, so that it finds one without walking all of them.
 #[derive(Drop)]
 pub(crate) struct Watch {
-    /// The token of each session, in order of the sessions. A later session has a higher number.
+    /// The token of each session, in order of the sessions. A later session has a higher number. Those that are gone
+    /// keep their place until they are more than half of all: so one that goes moves no other.
     tokens: Vec<(u64, usize)>,
+    /// How many of these are gone.
+    gone: usize,
     /// The connection at each token.
     notes: Vec<Note>,
     /// How many bytes are counted in all.
@@ -39,6 +70,7 @@ impl Watch {
     pub(crate) fn new(alloc: Global) -> Watch {
         Watch {
             tokens: Vec::new(alloc),
+            gone: 0,
             notes: Vec::new(alloc),
             total: 0,
             looked: 0,
@@ -48,7 +80,7 @@ impl Watch {
 
     /// How many connections there are.
     pub(crate) fn len(&self) -> usize {
-        self.tokens.len()
+        self.tokens.len().saturating_sub(self.gone)
     }
 
     /// Makes room for one more connection.
@@ -59,14 +91,9 @@ impl Watch {
 
     /// A connection came to this token, and has the latest session.
     pub(crate) fn comes(&mut self, hub: &Hub, token: usize) {
-        let note = Note {
-            bytes: 0,
-            over: false,
-            heard: 0,
-        };
         // There is room: the least token that was never used is one more than the last.
         for _ in self.notes.len()..=token {
-            let _ = self.notes.push(note);
+            let _ = self.notes.push(Note::new());
         }
         if let Some(session) = hub.session(token) {
             let _ = self.tokens.push((session, token));
@@ -76,13 +103,29 @@ impl Watch {
     /// The connection of this session went.
     pub(crate) fn goes(&mut self, session: Option<u64>) {
         let Some(session) = session else { return };
-        if let Ok(place) = self.place_of(session)
-            && place < self.tokens.len()
-        {
-            let (_, token) = self.tokens.remove(place);
-            self.count(token, 0);
-            self.note_over(token, false);
-            self.hears(token, 0);
+        let Ok(place) = self.place_of(session) else {
+            return;
+        };
+        let Some((_, token)) = self.tokens.get_mut(place) else {
+            return;
+        };
+        let token = mem::replace(token, GONE);
+        if token == GONE {
+            return;
+        }
+        self.gone = self.gone.saturating_add(1);
+        self.count(token, 0);
+        if let Some(note) = self.notes.get_mut(token) {
+            *note = Note::new();
+        }
+        self.close_up();
+    }
+
+    /// Lets go of the places of those that are gone, if they are more than half of all.
+    fn close_up(&mut self) {
+        if self.gone > self.tokens.len() / 2 {
+            self.tokens.retain(|(_, token)| *token != GONE);
+            self.gone = 0;
         }
     }
 
@@ -93,16 +136,53 @@ impl Watch {
         }
     }
 
-    /// Notes that the connection at a token was given a reply for which it waited.
+    /// Notes that bytes of the connection at a token were read or written, or that it was given a reply for which it
+    /// waited.
     pub(crate) fn hears(&mut self, token: usize, moment: u64) {
         if let Some(note) = self.notes.get_mut(token) {
             note.heard = moment;
         }
     }
 
-    /// The moment at which the connection at a token was last given a reply for which it waited, or 0.
+    /// The moment at which the connection at a token was last heard of so, or 0.
     pub(crate) fn heard(&self, token: usize) -> u64 {
         self.notes.get(token).map_or(0, |note| note.heard)
+    }
+
+    /// Notes whether the connection at a token was put off, and goes on later.
+    pub(crate) fn note_later(&mut self, token: usize, later: bool) {
+        if let Some(note) = self.notes.get_mut(token) {
+            note.later = later;
+        }
+    }
+
+    /// Whether the connection at a token was put off, and goes on later.
+    pub(crate) fn is_later(&self, token: usize) -> bool {
+        self.notes.get(token).map_or(false, |note| note.later)
+    }
+
+    /// Notes whether the connection at a token waits until its plan can be made elsewhere.
+    pub(crate) fn note_wanting(&mut self, token: usize, wanting: bool) {
+        if let Some(note) = self.notes.get_mut(token) {
+            note.wanting = wanting;
+        }
+    }
+
+    /// Whether the connection at a token waits until its plan can be made elsewhere.
+    pub(crate) fn is_wanting(&self, token: usize) -> bool {
+        self.notes.get(token).map_or(false, |note| note.wanting)
+    }
+
+    /// Notes whether the sockets are told not to read the connection at a token. Answers whether that is new to them.
+    pub(crate) fn note_held(&mut self, token: usize, held: bool) -> bool {
+        match self.notes.get_mut(token) {
+            Some(note) => {
+                let changed = note.held != held;
+                note.held = held;
+                changed
+            }
+            None => false,
+        }
     }
 
     /// Whether the connection at a token is over, and its session could not leave yet.
@@ -113,7 +193,8 @@ impl Watch {
     /// The token of a session.
     pub(crate) fn token_of(&self, session: u64) -> Option<usize> {
         let place = self.place_of(session).ok()?;
-        self.tokens.get(place).map(|(_, token)| *token)
+        let (_, token) = self.tokens.get(place)?;
+        if *token == GONE { None } else { Some(*token) }
     }
 
     /// Where the session is noted.
@@ -124,7 +205,7 @@ impl Watch {
 
     /// Counts the unanswered requests of a connection again.
     pub(crate) fn look_at(&mut self, hub: &Hub, token: usize) {
-        self.count(token, counted(hub.unanswered(token)));
+        self.count(token, counted(held_by(hub, token)));
     }
 
     /// That many bytes are counted of a connection from now on.
@@ -137,9 +218,19 @@ impl Watch {
 
     /// Whether a connection that takes that many more bytes has all together hold more than `most`, itself among them.
     pub(crate) fn exceeds(&self, hub: &Hub, token: usize, more: usize, most: u64) -> bool {
-        let bytes = counted(hub.unanswered(token).saturating_add(more));
+        let bytes = counted(held_by(hub, token).saturating_add(more));
         let before = self.notes.get(token).map_or(0, |note| note.bytes);
         bytes > 0 && self.total.saturating_sub(before).saturating_add(bytes) > most
+    }
+
+    /// How many bytes are counted of all connections.
+    pub(crate) fn total(&self) -> u64 {
+        self.total
+    }
+
+    /// Whether there are records whose replies were not looked at yet.
+    pub(crate) fn is_behind(&self, book: &Book) -> bool {
+        self.looked < book.last_index()
     }
 
     /// The next connection that was given its reply while it waited, of those of which a record says so that was not
@@ -165,8 +256,10 @@ impl Watch {
             self.looked = base;
             self.replies = 0;
         }
-        let seen = (self.looked - base) as usize;
-        for record in book.records().iter().skip(seen) {
+        let records = book.records();
+        // A slice, and no `skip`: that would step over each record that was seen.
+        let seen = records.len().min((self.looked - base) as usize);
+        for record in &records[seen..] {
             if gives_letters(record.kind())
                 && let Some((session, _)) = record.replies.as_slice().get(self.replies)
             {
@@ -178,6 +271,27 @@ impl Watch {
         }
         None
     }
+}
+
+/// At most how many bytes the requests of a connection hold that are not answered yet.
+fn held_by(hub: &Hub, token: usize) -> usize {
+    let bytes = hub.unanswered(token);
+    // Of one whose call waits there is no moment since which it is quiet.
+    if hub.quiet_since(token).is_none() || has_unsent(hub, token) {
+        bytes.saturating_mul(WAITING)
+    } else {
+        bytes
+    }
+}
+
+/// Whether bytes are to be sent to a connection.
+pub(crate) fn has_unsent(hub: &Hub, token: usize) -> bool {
+    unsent_len(hub, token) > 0
+}
+
+/// How many bytes are to be sent to a connection.
+pub(crate) fn unsent_len(hub: &Hub, token: usize) -> usize {
+    hub.unsent(token).map_or(0, |bytes| bytes.len())
 }
 
 /// What is counted of a connection that holds so many bytes.

@@ -19,7 +19,7 @@ mod text_files;
 
 pub use clock::SystemClock;
 pub use fault::{Fault, outcome};
-pub use listen::WARNING;
+pub use listen::{KEEPS_ALL, WARNING};
 pub use looping::{LoopServing, Polled, serve_loop};
 pub use network::{Begun, Bound, ListenFault, Network};
 pub use program::start;

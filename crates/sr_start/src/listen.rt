@@ -16,7 +16,8 @@ use std::random::RandomSource;
 
 /// Serves the connections that come to an address, and answers why that ended.
 ///
-/// Once its threads stand, it says so to `writer`. If clients of other machines may come, it warns of that at `err`.
+/// Once its threads stand, it says so to `writer`. If clients of other machines may come, it warns of that at `err`,
+/// and if all records are kept it says so there.
 pub(crate) fn listen<R, F, N, O, E>(
     rt: &R,
     files: &mut F,
@@ -48,6 +49,7 @@ where
         Ok(bound) => match network.begin(bound, book, asked.way, asked.keep) {
             Ok(begun) => {
                 warn(err, asked.address);
+                note(err, asked.keep);
                 let _ = announce(writer, asked.text);
                 serving_fault(network.end(begun))
             }
@@ -75,6 +77,17 @@ fn warn<E: Write>(err: &mut E, address: SocketAddr) {
         let _ = err.write_all(WARNING.as_bytes());
     }
 }
+
+/// Says that memory grows, if all records are kept.
+fn note<E: Write>(err: &mut E, keep: Option<u64>) {
+    if keep.is_none() {
+        let _ = err.write_all(KEEPS_ALL.as_bytes());
+    }
+}
+
+/// What is said if all records are kept.
+pub const KEEPS_ALL: &str =
+    "note: all records are kept, so memory grows with each request; --keep N lets go of them\n";
 
 /// What is said of an address that other machines may reach.
 pub const WARNING: &str =

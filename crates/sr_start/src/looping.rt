@@ -1,5 +1,5 @@
 //! Serving the connections of a listener by one loop, while a thread beside it makes the plans that take long.
-ghost use Rattle.std.specs.Prelude.{◌≡◌, ◌*◌, option_map};
+ghost use Rattle.std.specs.Prelude.{◌≡◌, ◌≤◌, ◌*◌, option_map, unwrap_or};
 
 use crate::clock::SystemClock;
 use crate::planning::{ThreadPlanner, make_plans, planner};
@@ -99,19 +99,30 @@ fn run_loop<R: Wait + rt::Clock>(
 fn habits_of(looping: Looping, keep: Option<u64>) -> Habits
     ensures connections { result.connections ≡ looping.connections }
     ensures keep { result.keep ≡ keep }
+    ensures keep_bytes { result.keep_bytes ≡ looping.keep_bytes }
     ensures idle { result.idle ≡ option_map (λ seconds. seconds * 1000) looping.idle }
+    ensures idle_waiting { result.idle_waiting ≡ option_map (λ seconds. seconds * 1000) looping.idle_waiting }
     ensures unfinished { result.unfinished ≡ looping.unfinished }
 {
-    let idle = match looping.idle {
-        Some(seconds) => Some(seconds * MILLISECONDS),
-        None => None,
-    };
     Habits {
         connections: looping.connections,
         keep,
-        idle,
+        keep_bytes: looping.keep_bytes,
+        idle: milliseconds_of(looping.idle),
+        idle_waiting: milliseconds_of(looping.idle_waiting),
         unfinished: looping.unfinished,
         turns: u64::MAX,
+    }
+}
+
+/// How many milliseconds these seconds are.
+fn milliseconds_of(seconds: Option<u64>) -> Option<u64>
+    requires { unwrap_or seconds 0 ≤ 86400 }
+    ensures { result ≡ option_map (λ seconds. seconds * 1000) seconds }
+{
+    match seconds {
+        Some(seconds) => Some(seconds * MILLISECONDS),
+        None => None,
     }
 }
 

@@ -10,8 +10,9 @@ use sr_plan::Verdict;
 use std::alloc::{AllocError, Global};
 use std::sync::Wait;
 
-/// How many plans may be wanted at a time. The loop makes further ones itself.
-const MOST_JOBS: usize = 64;
+/// How many plans may be wanted at a time: one is made, and others are there when it is done. Each takes a copy of its
+/// snapshot.
+const MOST_JOBS: usize = 4;
 
 /// Whoever has plans made by another thread. No call waits for one.
 #[derive(Drop)]
@@ -22,7 +23,7 @@ pub(crate) struct ThreadPlanner<'a, R: Wait> {
     /// The sessions whose plans are wanted and were not told yet. There are at most `MOST_JOBS`, and each channel has
     /// room for as many: so no send waits.
     sessions: Vec<u64>,
-    ghost few: { length sessions.items ≤ 64 },
+    ghost few: { length sessions.items ≤ 4 },
 }
 
 /// What that thread takes jobs from, where it puts the plans, and whom it wakes then.
@@ -59,7 +60,7 @@ impl<'a, R: Wait> Planner for ThreadPlanner<'a, R> {
     fn plan(&mut self, job: Job) -> bool
         ensures some { IsTrue result → self.new.sessions.items ≡ self.old.sessions.items ++ job.session ∷ [] }
         ensures none { result ≡ false → self.new.sessions.items ≡ self.old.sessions.items }
-        ensures full { 64 ≤ length self.old.sessions.items → result ≡ false }
+        ensures full { 4 ≤ length self.old.sessions.items → result ≡ false }
     {
         if self.sessions.len() >= MOST_JOBS || self.sessions.push(job.session).is_err() {
             return false;
@@ -76,6 +77,12 @@ impl<'a, R: Wait> Planner for ThreadPlanner<'a, R> {
         ensures { IsTrue result ↔ Contains self.now.sessions.items session }
     {
         self.sessions.contains(&session)
+    }
+
+    fn is_busy(&self) -> bool
+        ensures { IsTrue result ↔ (4 ≤ length self.now.sessions.items) }
+    {
+        MOST_JOBS <= self.sessions.len()
     }
 
     /// While the thread is putting a further plan there, this may tell of none although one is there. The thread wakes

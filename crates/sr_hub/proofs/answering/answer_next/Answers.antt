@@ -9,7 +9,8 @@ use Rattle.sr_hub.proofs.LineLemmas.{next-held}
 use Rattle.sr_hub.proofs.answering.answer_next.Goals as goal
 
 pub returns-then-len-ge-FULL-clause-moves : goal.returns-then-len-ge-FULL-clause-moves
-returns-then-len-ge-FULL-clause-moves c = moves-none c.args.book.now c.args.connection.now
+returns-then-len-ge-FULL-clause-moves c =
+    subst (λ (l : ConnectionState). Moves c.args.book.now c.args.connection.now c.args.book.now l) (sym c.connection.view_is) (moves-none c.args.book.now c.args.connection.now)
 
 pub returns-in_default-clause-moves : goal.returns-in_default-clause-moves
 returns-in_default-clause-moves c =

@@ -5,8 +5,8 @@ use Rattle.sr_hub.proofs.placed.judge_at.Goals as goal
 
 pub returns-clause-moves : goal.returns-clause-moves
 returns-clause-moves c =
-    moves-at c.args.connections.now c.try_remove.new.self c.insert_reserved.new.self c.args.book.now c.answer_waiting.new.book c.args.token c.insert_reserved.result c.in-Some.connection c.answer_waiting.new.connection c.in-Some.ensures.value c.try_remove.ensures.updates c.in-Some.ensures.key_is_next c.insert_reserved.ensures.key c.insert_reserved.ensures.updates
-    (moves-then c.args.book.now c.in-Some.connection c.judge_round.new.book c.judge_round.new.connection c.answer_waiting.new.book c.answer_waiting.new.connection c.judge_round.ensures.moves c.answer_waiting.ensures.moves)
+    moves-at c.args.connections.now c.args.book.now c.answer_waiting.new.book c.args.token c.in-Some.connection.now c.answer_waiting.new.connection c.in-Some.ensures.value
+    (moves-then c.args.book.now c.in-Some.connection.now c.judge_round.new.book c.judge_round.new.connection c.answer_waiting.new.book c.answer_waiting.new.connection c.judge_round.ensures.moves c.answer_waiting.ensures.moves)
     c.answer_waiting.ensures.rest
 
 pub returns-clause-timed : goal.returns-clause-timed

@@ -11,5 +11,4 @@ sent-requires c = subst (λ (o : Option ConnectionState). IsSomeAnd o (λ line. 
 
 pub returns : goal.returns
 returns c = λ book.
-    sends-to c.args.connections.now c.try_remove.new.self c.insert_reserved.new.self book c.args.token c.insert_reserved.result c.args.count c.in-Some.connection c.sent.new.self
-    c.in-Some.ensures.value c.try_remove.ensures.updates c.in-Some.ensures.key_is_next c.insert_reserved.ensures.key c.insert_reserved.ensures.updates c.sent.ensures
+    sends-to c.args.connections.now book c.args.token c.args.count c.in-Some.connection.now c.sent.new.self c.in-Some.ensures.value c.sent.ensures

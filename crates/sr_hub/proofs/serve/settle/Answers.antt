@@ -4,12 +4,12 @@ use Rattle.sr_hub.proofs.serve.settle.Goals as goal
 
 pub returns : goal.returns
 returns g c =
-    serves-then (state_of c.args.hub.now) (state_of c.tick.new.hub) (state_of c.forget.new.hub) (g.S.Sockets.may_have c.args.sockets.now) (g.S.Sockets.may_have c.args.sockets.now) (g.S.Sockets.may_have c.sweep.new.sockets)
+    serves-then (state_of c.args.hub.now) (state_of c.tick.new.hub) (state_of c.look_after.new.hub) (g.S.Sockets.may_have c.args.sockets.now) (g.S.Sockets.may_have c.args.sockets.now) (g.S.Sockets.may_have c.look_after.new.sockets)
     (serves-keeps (state_of c.args.hub.now) (state_of c.tick.new.hub) (g.S.Sockets.may_have c.args.sockets.now) c.tick.ensures)
-    (serves-then (state_of c.tick.new.hub) (state_of c.hand_letters.new.hub) (state_of c.forget.new.hub) (g.S.Sockets.may_have c.args.sockets.now) (g.S.Sockets.may_have c.hand_letters.new.sockets) (g.S.Sockets.may_have c.sweep.new.sockets)
+    (serves-then (state_of c.tick.new.hub) (state_of c.conclude_planned.new.hub) (state_of c.look_after.new.hub) (g.S.Sockets.may_have c.args.sockets.now) (g.S.Sockets.may_have c.conclude_planned.new.sockets) (g.S.Sockets.may_have c.look_after.new.sockets)
+    c.conclude_planned.ensures
+    (serves-then (state_of c.conclude_planned.new.hub) (state_of c.hand_letters.new.hub) (state_of c.look_after.new.hub) (g.S.Sockets.may_have c.conclude_planned.new.sockets) (g.S.Sockets.may_have c.hand_letters.new.sockets) (g.S.Sockets.may_have c.look_after.new.sockets)
     c.hand_letters.ensures
-    (serves-then (state_of c.hand_letters.new.hub) (state_of c.resume.new.hub) (state_of c.forget.new.hub) (g.S.Sockets.may_have c.hand_letters.new.sockets) (g.S.Sockets.may_have c.resume.new.sockets) (g.S.Sockets.may_have c.sweep.new.sockets)
-    c.resume.ensures
-    (serves-then (state_of c.resume.new.hub) (state_of c.sweep.new.hub) (state_of c.forget.new.hub) (g.S.Sockets.may_have c.resume.new.sockets) (g.S.Sockets.may_have c.sweep.new.sockets) (g.S.Sockets.may_have c.sweep.new.sockets)
-    c.sweep.ensures
-    (serves-keeps (state_of c.sweep.new.hub) (state_of c.forget.new.hub) (g.S.Sockets.may_have c.sweep.new.sockets) c.forget.ensures))))
+    (serves-then (state_of c.hand_letters.new.hub) (state_of c.forget.new.hub) (state_of c.look_after.new.hub) (g.S.Sockets.may_have c.hand_letters.new.sockets) (g.S.Sockets.may_have c.hand_letters.new.sockets) (g.S.Sockets.may_have c.look_after.new.sockets)
+    (serves-keeps (state_of c.hand_letters.new.hub) (state_of c.forget.new.hub) (g.S.Sockets.may_have c.hand_letters.new.sockets) c.forget.ensures)
+    c.look_after.ensures)))

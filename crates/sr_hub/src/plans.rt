@@ -1,0 +1,162 @@
+//! The plans of recoveries in an event loop: a small one is made at once, others by whoever makes them beside the loop.
+ghost use Rattle.std.specs.Prelude.{◌≡◌, ℕ, List, IfSome};
+ghost use Rattle.sr_hub.specs.Lines.{state_of};
+ghost use Rattle.sr_hub.specs.steps.Serving.{Keeps, Serves};
+
+use crate::copy::copy_of;
+use crate::keeper::Keeper;
+use crate::past::weight_of;
+use crate::serve::{added, attend};
+use crate::watch::unsent_len;
+use crate::{Hub, Job, Planned, Sockets};
+use sr_plan::Verdict;
+use sr_policy::Snapshot;
+use sr_session::Clock;
+use std::alloc::Global;
+
+/// A plan for at most this many pairs of an entry and a consumer is made in the loop.
+const SMALL: usize = 16_384;
+
+/// Makes the plan that a connection wants, if it wants one, and concludes it; or has it made elsewhere. Answers whether
+/// it was concluded.
+pub(crate) fn judge<S: Sockets, C: Clock>(
+    hub: &mut Hub,
+    sockets: &mut S,
+    keeper: &mut Keeper<'_, C>,
+    token: usize,
+) -> bool
+    ensures { Serves (state_of hub.old) (S.may_have sockets.old) (state_of hub.new) (S.may_have sockets.new) }
+{
+    let Some(wanted) = hub.wants_verdict(token) else {
+        return false;
+    };
+    if is_large(wanted) && hand_over(hub, sockets, keeper, token) {
+        return false;
+    }
+    let done = make_plan(hub, keeper, token);
+    keeper.looks_up();
+    done
+}
+
+/// Makes the plan that a connection wants, if it wants one, and concludes it. Answers whether it did.
+pub(crate) fn make_plan<C: Clock>(hub: &mut Hub, keeper: &mut Keeper<'_, C>, token: usize) -> bool
+    ensures { Keeps (state_of hub.old) (state_of hub.new) }
+{
+    let Some(wanted) = hub.wants_verdict(token) else {
+        return false;
+    };
+    keeper.weighs(weight_of(wanted));
+    let before = unsent_len(hub, token);
+    let done = hub.judge(keeper.alloc, token, keeper.now());
+    keeper.weighs(added(before, unsent_len(hub, token)));
+    done
+}
+
+/// Whether a plan is for many pairs of an entry and a consumer.
+fn is_large(wanted: &Snapshot) -> bool {
+    wanted.stranded().len().saturating_mul(wanted.live().len()) > SMALL
+}
+
+/// Has the plan that a connection wants made elsewhere, if it is not already, or once there is a place for it. Answers
+/// whether it will be made there.
+fn hand_over<S: Sockets, C: Clock>(
+    hub: &Hub,
+    sockets: &mut S,
+    keeper: &mut Keeper<'_, C>,
+    token: usize,
+) -> bool
+    ensures { (taken given : ℕ → List ℕ) → S.may_have sockets.old taken given
+        → S.may_have sockets.new taken given }
+{
+    let (Some(session), Some(wanted)) = (hub.session(token), hub.wants_verdict(token)) else {
+        return false;
+    };
+    if sockets.is_planning(session) {
+        return true;
+    }
+    if sockets.is_busy() {
+        return keeper.waits_for_plan(token);
+    }
+    match copy_of(keeper.alloc, wanted) {
+        Some(snapshot) => sockets.plan(Job {
+            token,
+            session,
+            snapshot,
+        }),
+        None => false,
+    }
+}
+
+/// Concludes one plan that was made elsewhere, if there is one, and goes on with its connection. Then there is a place
+/// for another plan.
+pub(crate) fn conclude_planned<S: Sockets, C: Clock>(
+    hub: &mut Hub,
+    sockets: &mut S,
+    keeper: &mut Keeper<'_, C>,
+)
+    ensures { Serves (state_of hub.old) (S.may_have sockets.old) (state_of hub.new) (S.may_have sockets.new) }
+{
+    if !keeper.expects_plans() {
+        return;
+    }
+    let Some(planned) = sockets.planned() else {
+        keeper.note_planned(false);
+        return;
+    };
+    let token = planned.token;
+    conclude(hub, keeper, planned);
+    go_on_planned(hub, sockets, keeper, token);
+}
+
+/// Goes on with a connection whose plan was made elsewhere, and with one that waits until its plan can be made there.
+fn go_on_planned<S: Sockets, C: Clock>(
+    hub: &mut Hub,
+    sockets: &mut S,
+    keeper: &mut Keeper<'_, C>,
+    token: usize,
+)
+    ensures { Serves (state_of hub.old) (S.may_have sockets.old) (state_of hub.new) (S.may_have sockets.new) }
+{
+    keeper.begins();
+    keeper.hands(token);
+    attend(hub, sockets, keeper, token);
+    if let Some(next) = keeper.wants_plan() {
+        attend(hub, sockets, keeper, next);
+    }
+}
+
+/// Concludes a plan that was made elsewhere, if its connection is still there.
+fn conclude<C: Clock>(hub: &mut Hub, keeper: &mut Keeper<'_, C>, planned: Planned)
+    ensures { Keeps (state_of hub.old) (state_of hub.new) }
+{
+    let Planned {
+        token,
+        session,
+        verdict,
+    } = planned;
+    if hub.session(token) != Some(session) {
+        return;
+    }
+    match hub.wants_verdict(token) {
+        None => {}
+        Some(wanted) => {
+            keeper.weighs(weight_of(wanted));
+            let before = unsent_len(hub, token);
+            let verdict = verdict_on(wanted, verdict);
+            hub.conclude(keeper.alloc, token, keeper.now(), verdict);
+            keeper.weighs(added(before, unsent_len(hub, token)));
+        }
+    }
+}
+
+/// The verdict, if it is one on this snapshot.
+fn verdict_on(wanted: &Snapshot, verdict: Option<Verdict>) -> Option<Verdict>
+    ensures { IfSome result (λ judged. judged.snapshot ≡ wanted.now) }
+{
+    let verdict = verdict?;
+    if *verdict.snapshot() == *wanted {
+        Some(verdict)
+    } else {
+        None
+    }
+}
