@@ -8,10 +8,13 @@
 //! - `--workers N` is how many threads serve connections, each one at a time, from 1 to 64, and 64 without it;
 //! - `--connections N`, with `--listen` alone and without `--workers`, is up to how many connections one loop serves,
 //! from 1 to 10,000, and without it workers do;
-//! - `--idle SECONDS`, with `--connections` alone, is after how long without a whole request the loop closes a
-//! connection that does not wait, from 0 to 86,400, and never for 0 and without it;
+//! - `--idle SECONDS`, with `--connections` alone, is after how long without a byte read or written the loop closes a
+//! connection, unless its read waits, from 0 to 86,400, and never for 0 and without it;
+//! - `--idle-waiting SECONDS`, with `--connections` alone, is the same for a connection whose read waits;
 //! - `--unfinished BYTES`, with `--connections` alone, is how many bytes the requests hold together that are not
-//! answered yet, from 1 to 1,000,000,000,000, and 1,073,741,824 without it.
+//! answered yet, from 1 to 1,000,000,000,000, and 1,073,741,824 without it;
+//! - `--keep-bytes BYTES`, with `--connections` and `--keep` alone, is about how many bytes the records take at most
+//! that are kept, from 1 to 1,000,000,000,000, and 67,108,864 without it.
 //!
 //! It ends with status 0 at the end of standard input, with 1 after a fault, which is one line on standard error, and
 //! with 2 if the command line is refused, or the process may not open as many files as a loop needs. Of several faults
@@ -28,6 +31,7 @@ mod command_line;
 mod files;
 mod limits;
 mod network;
+mod standard;
 #[cfg(test)]
 mod tests;
 

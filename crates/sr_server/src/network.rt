@@ -1,11 +1,12 @@
 //! The system's network: TCP, at an IP address and a port. Any reason why an address cannot be bound is one fault; a
-//! failed allocation is another.
+//! failed allocation is another. No socket is standard input, output or error: that they are taken is part of binding.
 ghost use Rattle.std.specs.Prelude.{◌≡◌, ◌≤◌, IfOk, IfErr, IsTrue};
 ghost use Rattle.sr_options.specs.{threads_of};
 ghost use Rattle.sr_options.specs.declared.way.Way.{Way};
 ghost use Rattle.sr_start.specs.Listening.{any_end, any_files, any_refusal};
 
 use crate::limits::{LIMITS, most_files};
+use crate::standard::take_standard;
 use crossbeam_channel::{Receiver, Sender, bounded};
 use mio::{Poll, Waker, net};
 use sr_book::Book;
@@ -195,6 +196,7 @@ impl<'a> Network for SystemNetwork<'a> {
 /// Listens at an address, for connections that will be served in this way. A loop's listener has the longest queue that
 /// the system allows.
 fn bind(rt: &HostRuntime, address: SocketAddr, way: Way) -> Result<SystemListener, Error> {
+    take_standard(rt)?;
     match way {
         Way::Workers(_) => Ok(SystemListener::Waits(TcpListener::bind(rt, address)?)),
         Way::Loop(_) => Ok(SystemListener::Polls(net::TcpListener::bind(rt, address)?)),
