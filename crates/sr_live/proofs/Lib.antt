@@ -7,6 +7,8 @@ pub mod TiersLemmas
 pub mod WorkLemmas
 pub mod LookingLemmas
 pub mod TalkLemmas
+pub mod ReadingLemmas
 pub mod ServerLemmas
 pub mod RoundsLemmas
+pub mod ConclusionLemmas
 pub mod FirstLemmas

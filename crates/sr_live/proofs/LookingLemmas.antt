@@ -1,15 +1,19 @@
 -- How a group is looked up: what one more word, entry or reply adds to what was asked and answered.
 use Rattle.std.proofs.Common.{◌≡◌, ℕ, ◌+◌, ◌<◌, ◌≤◌, List, [], ◌∷◌, ◌++◌, length, get_or, map, take, drop, codes}
 use Rattle.std.proofs.Common.{Option, Result, Ok, refl, sym, ap, ◌∙◌, subst}
+use Rattle.std.proofs.Common.{Bool, true, false, cond, ◌&&◌, ◌||◌, ◌==◌, nat_lt}
 use Rattle.std.proofs.Common.{append-nil, append_assoc, take-append-drop}
 use Rattle.std.proofs.lemmas.List.{flat_map_more, map-append, take_all, take_more}
 use Rattle.std.proofs.lemmas.List.Concat.{flat_map-append}
 use Rattle.std.proofs.lemmas.Result.{IfOk-at_ok, IfOk-weaker}
 use Rattle.std.specs.Io.KnownBytes.{Appends}
 use Rattle.std.specs.List.{flat_map}
+use Rattle.std.specs.List.Sorted.{IsSortedBy}
+use Rattle.std.specs.Ordering.{is_lt, nat_cmp, ordering_then}
 use Rattle.std.specs.Result.{IfOk}
+use Rattle.std.specs.declared.cmp.Ordering.TheVariants.{Less, Equal, Greater}
 use Rattle.sr_ids.specs.declared.id.Id.{Id}
-use Rattle.sr_ids.specs.{spelling}
+use Rattle.sr_ids.specs.{is_below, spelling}
 use Rattle.sr_policy.specs.{Text}
 use Rattle.sr_peer.specs.{Part, part_text, request_text}
 use Rattle.sr_live.specs.declared.looked.Row.{Row}
@@ -254,3 +258,26 @@ AreLooked-all key sent got sent_then got_then rows left listed none (talk, talks
   sym (append-nil (map listed_of rows))
       ∙ ap (λ (l : List (Id × Text)). map listed_of rows ++ l) (sym none) ∙ are,
 )
+
+-- ---- the order of ids
+
+-- a comes before b, as the comparison of ids has it
+abbrev is_less : Id → Id → Bool
+is_less a b = is_lt (ordering_then (nat_cmp a.ms b.ms) (nat_cmp a.seq b.seq))
+
+is_below-less : (a b : Id) → is_below a b ≡ is_less a b
+is_below-less a b = by (nat_lt a.ms b.ms) (a.ms == b.ms) (nat_lt a.seq b.seq) (a.seq == b.seq)
+  where
+    by : (lt eq less same : Bool) → (lt || (eq && less))
+        ≡ is_lt (ordering_then (cond lt Less (cond eq Equal Greater)) (cond less Less (cond same Equal Greater)))
+    by true eq less same = refl
+    by false true true same = refl
+    by false true false true = refl
+    by false true false false = refl
+    by false false less same = refl
+
+-- sorted by that, no id is below the one before it
+pub sorted-below : (listed : List (Id × Text)) → IsSortedBy (λ a b. is_less a.0 b.0) listed
+    → IsSortedBy (λ a b. is_below a.0 b.0) listed
+sorted-below listed sorted k d low high =
+    is_below-less (get_or listed (k + 1) d).0 (get_or listed k d).0 ∙ sorted k d low high

@@ -5,7 +5,9 @@ pub mod Conclusion
 pub mod First
 pub mod Looked
 pub mod Looking
+pub mod Reading
 pub mod Rounds
 pub mod Said
 pub mod Server
 pub mod Words
+pub mod steps

@@ -1,12 +1,12 @@
 -- How a group is looked up: which calls are made, and what their replies say.
 -- Source: Redis documentation, commands XINFO CONSUMERS, XPENDING and XRANGE.
 
-use Rattle.std.specs.Prelude.{◌≡◌, ℕ, ◌<◌, ◌≤◌, List, [], ◌∷◌, ◌++◌, length, map, codes, Option}
+use Rattle.std.specs.Prelude.{◌≡◌, ℕ, ◌<◌, ◌≤◌, List, [], ◌∷◌, ◌++◌, length, map, codes, decimal, Option}
 use Rattle.std.specs.Io.KnownBytes.{Appends}
 use Rattle.std.specs.List.{flat_map}
-use Rattle.std.specs.List.Sorted.{IsPermutation}
+use Rattle.std.specs.List.Sorted.{IsPermutation, IsSortedBy}
 use Rattle.sr_ids.specs.declared.id.Id.{Id}
-use Rattle.sr_ids.specs.{spelling}
+use Rattle.sr_ids.specs.{is_below, spelling}
 use Rattle.sr_policy.specs.{Text}
 use Rattle.sr_peer.specs.{Part, part_text, request_text}
 use Rattle.sr_live.specs.declared.looked.Row.{Row}
@@ -34,9 +34,13 @@ pub record Talks (sent got sent_then got_then : Option (List ℕ)) (talk : List 
 abbrev pub consumers_call : Text → Text → List Text
 consumers_call key group = codes "XINFO" ∷ codes "CONSUMERS" ∷ key ∷ group ∷ []
 
-abbrev pub pending_call : Text → Text → Text → Text → List Text
-pending_call key group start name =
-    codes "XPENDING" ∷ key ∷ group ∷ start ∷ codes "+" ∷ codes "1000" ∷ name ∷ []
+abbrev pub pending_words : Text → Text → Text → Text → Text → List Text
+pending_words key group idle start name =
+    codes "XPENDING" ∷ key ∷ group ∷ codes "IDLE" ∷ idle ∷ start ∷ codes "+" ∷ codes "1000" ∷ name ∷ []
+
+-- those that have been idle for so many milliseconds at least
+abbrev pub pending_call : Text → Text → ℕ → Text → Text → List Text
+pending_call key group idle start name = pending_words key group (decimal idle) start name
 
 abbrev pub entry_call : Text → Id → List Text
 entry_call key id = codes "XRANGE" ∷ key ∷ spelling id ∷ spelling id ∷ []
@@ -54,21 +58,21 @@ start_behind (id ∷ []) = codes "(" ++ spelling id
 start_behind (id ∷ next ∷ ids) = start_behind (next ∷ ids)
 
 -- the entries that are pending for the consumer from this start on, page by page: the last page is not full
-abbrev pub ListsPages : Text → Text → Text → Text → List Exchange → List Id → Type 0
-ListsPages key group name start [] ids = ⊥
-ListsPages key group name start (exchange ∷ []) ids =
-    (exchange.0 ≡ pending_call key group start name) × SaysPending exchange.1 name ids × (length ids < page)
-ListsPages key group name start (exchange ∷ next ∷ talk) ids =
-    (front : List Id) × (behind : List Id) × (exchange.0 ≡ pending_call key group start name)
+abbrev pub ListsPages : Text → Text → ℕ → Text → Text → List Exchange → List Id → Type 0
+ListsPages key group idle name start [] ids = ⊥
+ListsPages key group idle name start (exchange ∷ []) ids =
+    (exchange.0 ≡ pending_call key group idle start name) × SaysPending exchange.1 name ids × (length ids < page)
+ListsPages key group idle name start (exchange ∷ next ∷ talk) ids =
+    (front : List Id) × (behind : List Id) × (exchange.0 ≡ pending_call key group idle start name)
     × SaysPending exchange.1 name front × (page ≤ length front)
-    × ListsPages key group name (start_behind front) (next ∷ talk) behind × (ids ≡ front ++ behind)
+    × ListsPages key group idle name (start_behind front) (next ∷ talk) behind × (ids ≡ front ++ behind)
 
 -- the same of several consumers, one after another, each entry with its owner
-abbrev pub ListsDead : Text → Text → List Text → List Exchange → List (Id × Text) → Type 0
-ListsDead key group [] talk listed = (talk ≡ []) × (listed ≡ [])
-ListsDead key group (name ∷ dead) talk listed =
+abbrev pub ListsDead : Text → Text → ℕ → List Text → List Exchange → List (Id × Text) → Type 0
+ListsDead key group idle [] talk listed = (talk ≡ []) × (listed ≡ [])
+ListsDead key group idle (name ∷ dead) talk listed =
     (own : List Exchange) × (others : List Exchange) × (ids : List Id) × (rest : List (Id × Text))
-    × ListsPages key group name (codes "-") own ids × ListsDead key group dead others rest
+    × ListsPages key group idle name (codes "-") own ids × ListsDead key group idle dead others rest
     × (talk ≡ own ++ others) × (listed ≡ map (λ id. (id, name)) ids ++ rest)
 
 -- each of these entries as it is in the stream
@@ -78,16 +82,22 @@ LooksEntries key (row ∷ rows) talk =
     (parts : List Part) × (others : List Exchange) × SaysEntry parts row.id row.fields
     × LooksEntries key rows others × (talk ≡ (entry_call key row.id, parts) ∷ others)
 
--- what was looked up of a group by these calls: how many entries are pending for each consumer, and which are pending
--- for the dead, in another order, with what the stream has at their ids
-pub record IsLooked (key group : Text) (dead : List Text) (talk : List Exchange) (numbers : List (Text × ℕ))
+-- an entry with its owner, as it was listed
+abbrev pub listed_as : Row → Id × Text
+listed_as row = (row.id, row.owner)
+
+-- what was looked up of a group by these calls: which entries are pending for all of the dead, in the order of their
+-- ids, with what the stream has there, and last how many are pending for each consumer. Entries of the dead that have
+-- not been idle for so long are left out
+pub record IsLooked (key group : Text) (idle : ℕ) (dead : List Text) (talk : List Exchange) (numbers : List (Text × ℕ))
     (rows : List Row) : Type 0 where
   pub parts : List Part
   pub pending : List Exchange
   pub entries : List Exchange
   pub listed : List (Id × Text)
   pub says : SaysNumbers parts numbers
-  pub lists : ListsDead key group dead pending listed
-  pub same : IsPermutation listed (map (λ row. (row.id, row.owner)) rows)
+  pub lists : ListsDead key group idle dead pending listed
+  pub same : IsPermutation listed (map listed_as rows)
+  pub rising : IsSortedBy (λ a b. is_below a.0 b.0) (map listed_as rows)
   pub looks : LooksEntries key rows entries
-  pub spelled : talk ≡ (consumers_call key group, parts) ∷ pending ++ entries
+  pub spelled : talk ≡ pending ++ (entries ++ (consumers_call key group, parts) ∷ [])

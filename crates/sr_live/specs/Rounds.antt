@@ -1,75 +1,174 @@
--- What came of the rounds.
+-- What a round makes, what came of all rounds, and what is known after a fault.
 -- Source: docs/LIVE.md.
 
-use Rattle.std.specs.Prelude.{◌≡◌, ℕ, List, [], ◌∷◌, ◌++◌, Option, Some}
+use Rattle.std.specs.Prelude.{◌≡◌, ◌⊎◌, ℕ, zero, suc, ◌+◌, ◌<◌, ◌≤◌, List, [], ◌∷◌, ◌++◌, length, Option, Some, None}
+use Rattle.sr_check.specs.PlanAnswer.{short}
 use Rattle.sr_policy.specs.{Text}
 use Rattle.sr_policy.specs.Rules.{Rules}
+use Rattle.sr_policy.specs.Snapshot.{IsSnapshot}
 use Rattle.sr_peer.specs.{Part}
+use Rattle.sr_live.specs.declared.conclusion.Concluded.{Concluded}
 use Rattle.sr_live.specs.declared.conclusion.Concluded.TheVariants as concluded
+use Rattle.sr_live.specs.declared.fault.LiveFault.{LiveFault}
+use Rattle.sr_live.specs.declared.fault.LiveFault.TheVariants.{Changed, Unfit}
 use Rattle.sr_live.specs.declared.looked.Asked.{Asked}
 use Rattle.sr_live.specs.declared.looked.Row.{Row}
 use Rattle.sr_live.specs.declared.rounds.Planned.{Planned}
 use Rattle.sr_live.specs.declared.rounds.Ran.{Ran}
 use Rattle.sr_live.specs.declared.rounds.Ran.TheVariants.{Done, Impossible, Stale}
 use Rattle.sr_live.specs.declared.rounds.Terms.{Terms}
-use Rattle.sr_live.specs.Conclusion.{SaysConcluded, script_call}
+use Rattle.sr_live.specs.Conclusion.{IsCalled, IsUnanswered, SaysConcluded}
 use Rattle.sr_live.specs.First.{kept_rows}
 use Rattle.sr_live.specs.Looked.{shown_by}
 use Rattle.sr_live.specs.Looking.{Exchange, IsLooked, Talks}
+use Rattle.sr_live.specs.Reading.{BreaksOff}
 use Rattle.sr_live.specs.Words.{last_word, words_for}
 
 -- the rows, or the first of them, were looked up in this talk, and the verdict is of the snapshot of them
 pub record IsPlanned (rules : Rules) (asked : Asked) (at_most : Option ℕ) (talk : List Exchange) (planned : Planned)
     : Type 0 where
   pub rows : List Row
-  pub looked : IsLooked asked.key asked.group asked.dead.items talk planned.looked.numbers.items rows
+  pub looked : IsLooked asked.key asked.group asked.idle asked.dead.items talk planned.looked.numbers.items rows
   pub first : planned.looked.rows.items ≡ (kept_rows at_most rows).0
   pub last : planned.last ≡ (kept_rows at_most rows).1
   pub snapshot : planned.verdict.snapshot
       ≡ shown_by rules asked.key asked.group asked.dead.items planned.looked.numbers.items planned.looked.rows.items
 
--- since these bytes were sent and got: other rounds, the calls by which the plan was looked up, what came before the
--- script, and a call with exactly the words of this plan, whose reply says that it was carried out
-pub record IsDone (rules : Rules) (asked : Asked) (terms : Terms) (sent got sent_then got_then : Option (List ℕ))
-    (planned : Planned) (claimed gap : ℕ) : Type 0 where
-  pub earlier : List Exchange
-  pub talk : List Exchange
+-- what was looked up in this talk is of no one moment: it makes no snapshot
+pub record HasChanged (rules : Rules) (asked : Asked) (at_most : Option ℕ) (talk : List Exchange) : Type 0 where
+  pub numbers : List (Text × ℕ)
+  pub rows : List Row
+  pub looked : IsLooked asked.key asked.group asked.idle asked.dead.items talk numbers rows
+  pub none : IsSnapshot (shown_by rules asked.key asked.group asked.dead.items numbers (kept_rows at_most rows).0) → ⊥
+
+abbrev pub IsJudged : Rules → Asked → Option ℕ → List Exchange → Option Planned → Type 0
+IsJudged rules asked at_most talk None = HasChanged rules asked at_most talk
+IsJudged rules asked at_most talk (Some planned) = IsPlanned rules asked at_most talk planned
+
+-- a round up to this call of its script: the plan is of what was looked up, and the words are exactly those of the plan
+pub record IsReady (rules : Rules) (asked : Asked) (terms : Terms) (talk : List Exchange) (planned : Planned)
+    (call : List Text) : Type 0 where
+  pub look : List Exchange
   pub before : List Exchange
-  pub by : Text
-  pub script : Text
   pub words : List Text
-  pub parts : List Part
-  pub planned_so : IsPlanned rules asked terms.at_most talk planned
-  pub are_words : words_for planned.verdict.snapshot.group terms.within (last_word planned.last)
+  pub planned_so : IsPlanned rules asked terms.at_most look planned
+  pub are_words : words_for planned.verdict.snapshot.group terms.within (last_word planned.last) asked.idle
       planned.looked.rows.items planned.verdict.snapshot planned.verdict.answer ≡ Some words
-  pub talks : Talks sent got sent_then got_then
-      (earlier ++ (talk ++ (before ++ (script_call by script asked.key words, parts) ∷ [])))
-  pub says : SaysConcluded parts (concluded.Done claimed gap)
+  pub called : IsCalled asked.key words before call
+  pub spelled : talk ≡ look ++ before
 
--- since these bytes: other rounds, and the calls by which the group was looked up; the verdict is of that
-pub record IsImpossible (rules : Rules) (asked : Asked) (at_most : Option ℕ)
-    (sent got sent_then got_then : Option (List ℕ)) (planned : Planned) : Type 0 where
-  pub earlier : List Exchange
-  pub talk : List Exchange
-  pub planned_so : IsPlanned rules asked at_most talk planned
-  pub talks : Talks sent got sent_then got_then (earlier ++ talk)
-
--- since these bytes: other calls, and a call of the script, whose reply says that the group is not as it was looked up
-pub record IsStale (asked : Asked) (sent got sent_then got_then : Option (List ℕ)) (what of : Text) : Type 0 where
-  pub before : List Exchange
-  pub by : Text
-  pub script : Text
-  pub words : List Text
+-- a round whose last reply, to the call of the script, says this
+pub record IsConcluded (rules : Rules) (asked : Asked) (terms : Terms) (talk : List Exchange) (planned : Planned)
+    (told : Concluded) : Type 0 where
+  pub first : List Exchange
+  pub call : List Text
   pub parts : List Part
-  pub talks : Talks sent got sent_then got_then (before ++ (script_call by script asked.key words, parts) ∷ [])
-  pub says : SaysConcluded parts (concluded.Stale what of)
+  pub ready : IsReady rules asked terms first planned call
+  pub says : SaysConcluded parts told
+  pub spelled : talk ≡ first ++ (call, parts) ∷ []
 
--- a plan was carried out; or there is none, for the snapshot that was looked up; or the group changed in each round
-abbrev pub HasRun : Rules → Asked → Terms → Option (List ℕ) → Option (List ℕ) → Option (List ℕ) → Option (List ℕ) → Ran
-    → Type 0
-HasRun rules asked terms sent got sent_then got_then (Done planned claimed gap) =
-    IsDone rules asked terms sent got sent_then got_then planned claimed gap
-HasRun rules asked terms sent got sent_then got_then (Impossible planned) =
-    IsImpossible rules asked terms.at_most sent got sent_then got_then planned
-HasRun rules asked terms sent got sent_then got_then (Stale what of) =
-    IsStale asked sent got sent_then got_then what of
+-- all entries of the plan were claimed, and the gap is within what was asked for
+pub record FitsPlan (terms : Terms) (planned : Planned) (claimed gap : ℕ) : Type 0 where
+  pub whole : claimed ≡ length planned.verdict.snapshot.stranded
+  pub within : gap ≤ terms.within
+
+-- the plan was carried out
+pub record IsDone (rules : Rules) (asked : Asked) (terms : Terms) (talk : List Exchange) (planned : Planned)
+    (claimed gap : ℕ) : Type 0 where
+  pub concluded : IsConcluded rules asked terms talk planned (concluded.Done claimed gap)
+  pub fits : FitsPlan terms planned claimed gap
+
+-- there is no plan for what was looked up: too few places
+pub record IsImpossible (rules : Rules) (asked : Asked) (at_most : Option ℕ) (talk : List Exchange) (planned : Planned)
+    : Type 0 where
+  pub planned_so : IsPlanned rules asked at_most talk planned
+  pub set : List ℕ
+  pub shortage : planned.verdict.answer ≡ short set
+
+-- the group is not as it was looked up, and nothing was carried out
+pub record IsStale (rules : Rules) (asked : Asked) (terms : Terms) (talk : List Exchange) (what of : Text) : Type 0
+  where
+    pub planned : Planned
+    pub concluded : IsConcluded rules asked terms talk planned (concluded.Stale what of)
+
+-- what one round made; nothing, if what was looked up is of no one moment
+abbrev pub HasMade : Rules → Asked → Terms → List Exchange → Option Ran → Type 0
+HasMade rules asked terms talk None = HasChanged rules asked terms.at_most talk
+HasMade rules asked terms talk (Some (Done planned claimed gap)) = IsDone rules asked terms talk planned claimed gap
+HasMade rules asked terms talk (Some (Impossible planned)) = IsImpossible rules asked terms.at_most talk planned
+HasMade rules asked terms talk (Some (Stale what of)) = IsStale rules asked terms talk what of
+
+-- nothing was carried out in this round, and another one may come
+abbrev pub IsPassed : Rules → Asked → Terms → List Exchange → Type 0
+IsPassed rules asked terms talk =
+    HasChanged rules asked terms.at_most talk ⊎ ((what : Text) × (of : Text) × IsStale rules asked terms talk what of)
+
+-- this many such rounds, one after another
+abbrev pub ArePassed : Rules → Asked → Terms → ℕ → List Exchange → Type 0
+ArePassed rules asked terms zero talk = talk ≡ []
+ArePassed rules asked terms (suc tried) talk =
+    (earlier : List Exchange) × (last : List Exchange) × ArePassed rules asked terms tried earlier
+    × IsPassed rules asked terms last × (talk ≡ earlier ++ last)
+
+abbrev pub EndsAll : Ran → ℕ → ℕ → Type 0
+EndsAll (Stale what of) rounds tries = rounds ≡ tries
+EndsAll ran rounds tries = rounds ≤ tries
+
+-- since these bytes: rounds in which nothing was carried out, and one that made this. They are at most as many as were
+-- asked for, and as many if it is stale
+pub record HasRun (rules : Rules) (asked : Asked) (terms : Terms) (sent got sent_then got_then : Option (List ℕ))
+    (ran : Ran) : Type 0 where
+  pub tried : ℕ
+  pub earlier : List Exchange
+  pub last : List Exchange
+  pub passed : ArePassed rules asked terms tried earlier
+  pub made : HasMade rules asked terms last (Some ran)
+  pub rounds : EndsAll ran (tried + 1) terms.tries
+  pub talks : Talks sent got sent_then got_then (earlier ++ last)
+
+-- ---- faults
+
+-- a round that came as far as this call of its script, which brought no conclusion
+pub record BreaksAtScript (rules : Rules) (asked : Asked) (terms : Terms)
+    (sent got sent_then got_then : Option (List ℕ)) (fault : LiveFault) : Type 0 where
+  pub sent_by_then : Option (List ℕ)
+  pub got_by_then : Option (List ℕ)
+  pub talk : List Exchange
+  pub planned : Planned
+  pub call : List Text
+  pub ready : IsReady rules asked terms talk planned call
+  pub talks : Talks sent got sent_by_then got_by_then talk
+  pub unanswered : IsUnanswered call sent_by_then got_by_then sent_then got_then fault
+
+-- a round whose script says that it carried out something else than the plan
+pub record IsUnfit (rules : Rules) (asked : Asked) (terms : Terms) (sent got sent_then got_then : Option (List ℕ))
+    (fault : LiveFault) : Type 0 where
+  pub talk : List Exchange
+  pub planned : Planned
+  pub claimed : ℕ
+  pub gap : ℕ
+  pub concluded : IsConcluded rules asked terms talk planned (concluded.Done claimed gap)
+  pub unfit : FitsPlan terms planned claimed gap → ⊥
+  pub talks : Talks sent got sent_then got_then talk
+  pub told : fault ≡ Unfit
+
+-- why a round made nothing. Before its script is called, nothing was sent but calls that change nothing
+abbrev pub HasBroken : Rules → Asked → Terms → Option (List ℕ) → Option (List ℕ) → Option (List ℕ) → Option (List ℕ)
+    → LiveFault → Type 0
+HasBroken rules asked terms sent got sent_then got_then fault =
+    BreaksOff sent sent_then fault
+    ⊎ (BreaksAtScript rules asked terms sent got sent_then got_then fault
+    ⊎ IsUnfit rules asked terms sent got sent_then got_then fault)
+
+-- since these bytes: rounds in which nothing was carried out, and a fault in the next one; or all rounds that were
+-- asked for, and what was looked up last is of no one moment
+pub record HasFailed (rules : Rules) (asked : Asked) (terms : Terms) (sent got sent_then got_then : Option (List ℕ))
+    (fault : LiveFault) : Type 0 where
+  pub tried : ℕ
+  pub earlier : List Exchange
+  pub sent_by_then : Option (List ℕ)
+  pub got_by_then : Option (List ℕ)
+  pub passed : ArePassed rules asked terms tried earlier
+  pub talks : Talks sent got sent_by_then got_by_then earlier
+  pub so : ((tried < terms.tries) × HasBroken rules asked terms sent_by_then got_by_then sent_then got_then fault)
+      ⊎ ((tried ≡ terms.tries) × (fault ≡ Changed) × (sent_then ≡ sent_by_then) × (got_then ≡ got_by_then))

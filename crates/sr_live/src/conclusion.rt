@@ -1,13 +1,18 @@
 //! A plan is carried out in Redis by one script, which first compares.
-ghost use Rattle.std.specs.Prelude.{◌≡◌, ◌++◌, ◌∷◌, [], ℕ, List, IfOk, OnOk};
+ghost use Rattle.std.specs.Prelude.{◌≡◌, ◌++◌, ◌∷◌, [], List, Err, Ok, IfErr, IfOk, IsTrue, OnOk, codes};
 ghost use Rattle.std.specs.List.{flat_map};
+ghost use Rattle.std.specs.String.{string_bytes};
+ghost use Rattle.sr_policy.specs.{Text};
 ghost use Rattle.sr_peer.specs.Reply as wire;
 ghost use Rattle.sr_peer.specs.{Bulk, part_text, request_text};
-ghost use Rattle.sr_live.specs.Conclusion.{SaysConcluded, script_call};
+ghost use Rattle.sr_live.specs.declared.fault.LiveCall.TheVariants.{Script};
+ghost use Rattle.sr_live.specs.declared.fault.LiveFault.TheVariants.{ErrorReply};
+ghost use Rattle.sr_live.specs.Conclusion.{HasNoConclusion, IsCalled, IsUnanswered, SaysConcluded};
+ghost use Rattle.sr_live.specs.Conclusion.{script_call, script_digest, script_text};
 ghost use Rattle.sr_live.specs.Looking.{Exchange, Talks};
+ghost use Rattle.sr_live.specs.steps.Misread.{IsToldBy};
 
 use crate::fault::{LiveCall, LiveFault};
-use crate::looking::understood;
 use crate::said::{Misread, conclusion_said};
 use crate::script::SCRIPT;
 use hex::encode;
@@ -45,39 +50,45 @@ pub fn conclude<P: Peer>(
     key: &Name,
     words: &[Name],
 ) -> Result<Concluded, LiveFault>
-    // the last call has exactly these words, and its reply says this
-    ensures { IfOk result (λ concluded. (before : List Exchange) × (by script : List ℕ) × (parts : List wire.Part)
-        × Talks (P.sent peer.old) (P.got peer.old) (P.sent peer.new) (P.got peer.new)
-        (before ++ (script_call by script key.now words.now, parts) ∷ []) × SaysConcluded parts concluded) }
+    // the last call is the script's, with exactly these words, and its reply says this
+    ensures ok { IfOk result (λ concluded. (before : List Exchange) × (call : List Text) × (parts : List wire.Part)
+        × IsCalled key.now words.now before call
+        × Talks (P.sent peer.old) (P.got peer.old) (P.sent peer.new) (P.got peer.new) (before ++ (call, parts) ∷ [])
+        × SaysConcluded parts concluded) }
+    ensures err { IfErr result (HasNoConclusion key.now words.now (P.sent peer.old) (P.got peer.old) (P.sent peer.new)
+        (P.got peer.new)) }
 {
-    let said = run_script(peer, alloc, key, words)?;
-    understood(LiveCall::Script, said)
-}
-
-/// What comes of the script, which is sent whole if Redis does not have it.
-fn run_script<P: Peer>(
-    peer: &mut P,
-    alloc: Global,
-    key: &Name,
-    words: &[Name],
-) -> Result<Result<Concluded, Misread>, LiveFault>
-    ensures { IfOk result (λ said. (before : List Exchange) × (by script : List ℕ) × (parts : List wire.Part)
-        × Talks (P.sent peer.old) (P.got peer.old) (P.sent peer.new) (P.got peer.new)
-        (before ++ (script_call by script key.now words.now, parts) ∷ []) × IfOk said (SaysConcluded parts)) }
-{
-    let digest = encode(alloc, Sha1::digest(SCRIPT.as_bytes()))?;
-    let said = call_script(peer, alloc, (b"EVALSHA", digest.as_bytes()), key, words)?;
+    let digest = digest_of_script(alloc)?;
+    let said = call_script(peer, alloc, (b"EVALSHA", digest.as_bytes()), key, words);
     if is_missing(&said) {
-        call_script(peer, alloc, (b"EVAL", SCRIPT.as_bytes()), key, words)
+        call_script(peer, alloc, (b"EVAL", text_of_script()), key, words)
     } else {
-        Ok(said)
+        said
     }
 }
 
-/// Whether Redis does not have the script.
-fn is_missing(said: &Result<Concluded, Misread>) -> bool {
+/// The text of the script.
+fn text_of_script() -> &'static [u8]
+    ensures { result.now ≡ script_text }
+{
+    SCRIPT.as_bytes()
+}
+
+/// What Redis knows the script by.
+fn digest_of_script(alloc: Global) -> Result<String, AllocError>
+    ensures { IfOk result (λ digest. string_bytes digest ≡ script_digest) }
+{
+    encode(alloc, Sha1::digest(text_of_script()))
+}
+
+/// Whether Redis replied that it does not have the script.
+fn is_missing(said: &Result<Concluded, LiveFault>) -> bool
+    ensures { IsTrue result → (rest : Text) × (said.now ≡ Err (ErrorReply Script (codes "NOSCRIPT" ++ rest))) }
+{
     match said {
-        Err(Misread::ErrorReply(text)) => text.as_slice().starts_with(b"NOSCRIPT"),
+        Err(LiveFault::ErrorReply(LiveCall::Script, text)) => text
+            .as_slice()
+            .starts_with(b"NOSCRIPT"),
         _ => false,
     }
 }
@@ -89,10 +100,13 @@ fn call_script<P: Peer>(
     call: (&[u8], &[u8]),
     key: &Name,
     words: &[Name],
-) -> Result<Result<Concluded, Misread>, LiveFault>
-    ensures { IfOk result (λ said. (by script : List ℕ) × (parts : List wire.Part)
+) -> Result<Concluded, LiveFault>
+    ensures ok { IfOk result (λ concluded. (parts : List wire.Part)
         × Talks (P.sent peer.old) (P.got peer.old) (P.sent peer.new) (P.got peer.new)
-        ((script_call by script key.now words.now, parts) ∷ []) × IfOk said (SaysConcluded parts)) }
+        ((script_call call.entry.0.now call.entry.1.now key.now words.now, parts) ∷ [])
+        × SaysConcluded parts concluded) }
+    ensures err { IfErr result (IsUnanswered (script_call call.entry.0.now call.entry.1.now key.now words.now)
+        (P.sent peer.old) (P.got peer.old) (P.sent peer.new) (P.got peer.new)) }
 {
     let request = script_request(alloc, call.0, call.1, key, words)?;
     match ask(peer, alloc, request.as_slice(), 1) {
@@ -101,13 +115,17 @@ fn call_script<P: Peer>(
     }
 }
 
-/// What a reply says: if memory was refused while it was read, what came of the script is not known.
-fn known(said: Result<Concluded, Misread>) -> Result<Result<Concluded, Misread>, LiveFault>
-    ensures { IfOk result (λ known. known ≡ said) }
+/// What a reply says, or why it says nothing. If memory was refused while it was read, what came of the script is not
+/// known.
+fn known(said: Result<Concluded, Misread>) -> Result<Concluded, LiveFault>
+    ensures ok { IfOk result (λ concluded. said ≡ Ok concluded) }
+    ensures err { IfErr result (IsToldBy said) }
 {
     match said {
+        Ok(concluded) => Ok(concluded),
         Err(Misread::Memory) => Err(LiveFault::Unknown(PeerFault::Memory)),
-        said => Ok(said),
+        Err(Misread::ErrorReply(text)) => Err(LiveFault::ErrorReply(LiveCall::Script, text)),
+        Err(Misread::Shape) => Err(LiveFault::Shape(LiveCall::Script)),
     }
 }
 

@@ -1,3 +1,6 @@
+ghost use Rattle.std.specs.Prelude.{◌≡◌};
+ghost use Rattle.sr_live.specs.declared.fault.LiveFault.TheVariants.{Memory};
+
 use sr_bytes::Name;
 use sr_peer::PeerFault;
 use std::alloc::{AllocError, AllocFailed};
@@ -30,17 +33,24 @@ pub enum LiveFault {
     TooMany,
     /// What was looked up is of no one moment.
     Changed,
-    /// The script was sent, and no answer came: it may have been carried out.
+    /// The script was sent, at least in part, and no answer came: the plan may have been carried out.
     Unknown(PeerFault),
+    /// The script answered that it carried out something else than the plan: fewer or more entries, or at a gap above
+    /// what was asked for.
+    Unfit,
 }
 
 impl From<AllocError> for LiveFault {
+    ghost from_gives = { λ _ fault. fault ≡ Memory };
+
     fn from(_: AllocError) -> LiveFault {
         LiveFault::Memory
     }
 }
 
 impl<T: Drop> From<AllocFailed<T>> for LiveFault {
+    ghost from_gives = { λ _ fault. fault ≡ Memory };
+
     fn from(_: AllocFailed<T>) -> LiveFault {
         LiveFault::Memory
     }

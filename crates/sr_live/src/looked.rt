@@ -10,6 +10,8 @@ pub struct Asked {
     pub group: Name,
     /// The consumers that are dead, in byte order, each once.
     pub dead: Vec<Name>,
+    /// For how many milliseconds an entry has to have been idle, or it is left with the dead.
+    pub idle: u64,
 }
 
 /// An entry that is pending for a dead consumer.

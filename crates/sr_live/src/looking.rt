@@ -1,16 +1,20 @@
 //! A group is looked up by ordinary commands.
-ghost use Rattle.std.specs.Prelude.{◌≡◌, ◌++◌, ◌∷◌, [], ℕ, List, Ok, codes, length, map, IfOk, OnOk};
+ghost use Rattle.std.specs.Prelude.{◌≡◌, ◌++◌, ◌∷◌, [], ℕ, List, Ok, codes, length, map, IfErr, IfOk, OnOk};
 ghost use Rattle.std.specs.List.{flat_map};
-ghost use Rattle.std.specs.List.Sorted.{IsPermutation};
+ghost use Rattle.std.specs.List.Sorted.{IsPermutation, IsSortedBy};
+ghost use Rattle.sr_ids.specs.{is_below};
 ghost use Rattle.sr_peer.specs.Reply as wire;
 ghost use Rattle.sr_peer.specs.{request_text};
 ghost use Rattle.sr_live.specs.Looking.{Exchange, IsLooked, ListsDead, ListsPages, LooksEntries, Talks};
-ghost use Rattle.sr_live.specs.Looking.{consumers_call, entry_call, pending_call, start_behind};
+ghost use Rattle.sr_live.specs.Looking.{consumers_call, entry_call, pending_call, pending_words};
+ghost use Rattle.sr_live.specs.Looking.{start_behind};
+ghost use Rattle.sr_live.specs.Reading.{BreaksOff, IsOfLooking, IsReading};
 ghost use Rattle.sr_live.specs.Said.{SayEntries, SaysNumbers, SaysPending};
 
 use crate::fault::{LiveCall, LiveFault};
 use crate::looked::{Asked, Looked, Row};
 use crate::said::{Misread, end, entry_said, numbers_said, pending_said};
+use itoa::Buffer;
 use sr_bytes::Name;
 use sr_ids::{Id, write_id};
 use sr_peer::{Parts, Peer, append_header, append_word, ask};
@@ -30,13 +34,16 @@ const TOGETHER: usize = 32;
 ///
 /// Source: Redis documentation, commands XINFO CONSUMERS, XPENDING and XRANGE.
 pub fn look<P: Peer>(peer: &mut P, alloc: Global, asked: &Asked) -> Result<Looked, LiveFault>
-    ensures { IfOk result (λ looked. (talk : List Exchange)
+    ensures ok { IfOk result (λ looked. (talk : List Exchange)
         × Talks (P.sent peer.old) (P.got peer.old) (P.sent peer.new) (P.got peer.new) talk
-        × IsLooked asked.now.key asked.now.group asked.now.dead.items talk looked.numbers.items looked.rows.items) }
+        × IsLooked asked.now.key asked.now.group asked.now.idle asked.now.dead.items talk looked.numbers.items
+        looked.rows.items) }
+    ensures err { IfErr result (BreaksOff (P.sent peer.old) (P.sent peer.new)) }
 {
-    let numbers = look_numbers(peer, alloc, &asked.key, &asked.group)?;
     let listed = in_order(look_dead(peer, alloc, asked)?)?;
     let rows = look_entries(peer, alloc, &asked.key, listed.as_slice())?;
+    // The numbers change most, so they are the youngest part when the script compares.
+    let numbers = look_numbers(peer, alloc, &asked.key, &asked.group)?;
     Ok(Looked { numbers, rows })
 }
 
@@ -49,19 +56,27 @@ pub fn look_numbers<P: Peer>(
     key: &Name,
     group: &Name,
 ) -> Result<Vec<(Name, u64)>, LiveFault>
-    ensures { IfOk result (λ numbers. (parts : List wire.Part)
+    ensures ok { IfOk result (λ numbers. (parts : List wire.Part)
         × Talks (P.sent peer.old) (P.got peer.old) (P.sent peer.new) (P.got peer.new)
         ((consumers_call key.now group.now, parts) ∷ [])
         × SaysNumbers parts numbers.items) }
+    ensures err { IfErr result (BreaksOff (P.sent peer.old) (P.sent peer.new)) }
 {
-    let request = request_of(
-        alloc,
-        &[b"XINFO", b"CONSUMERS", key.as_slice(), group.as_slice()],
-    )?;
+    let request = consumers_request(alloc, key, group)?;
     match ask(peer, alloc, request.as_slice(), 1) {
         Ok(answers) => understood(LiveCall::Consumers, numbers_said(alloc, answers.parts())),
         Err(fault) => Err(LiveFault::Peer(fault)),
     }
+}
+
+/// The request for the consumers of a group.
+fn consumers_request(alloc: Global, key: &Name, group: &Name) -> Result<Vec<u8>, AllocError>
+    ensures { IfOk result (λ request. request.items ≡ request_text (consumers_call key.now group.now)) }
+{
+    request_of(
+        alloc,
+        &[b"XINFO", b"CONSUMERS", key.as_slice(), group.as_slice()],
+    )
 }
 
 /// Looks up the entries that are pending for the dead, each with its owner.
@@ -70,9 +85,10 @@ fn look_dead<P: Peer>(
     alloc: Global,
     asked: &Asked,
 ) -> Result<Vec<(Id, Name)>, LiveFault>
-    ensures { IfOk result (λ listed. (talk : List Exchange)
+    ensures ok { IfOk result (λ listed. (talk : List Exchange)
         × Talks (P.sent peer.old) (P.got peer.old) (P.sent peer.new) (P.got peer.new) talk
-        × ListsDead asked.now.key asked.now.group asked.now.dead.items talk listed.items) }
+        × ListsDead asked.now.key asked.now.group asked.now.idle asked.now.dead.items talk listed.items) }
+    ensures err { IfErr result (BreaksOff (P.sent peer.old) (P.sent peer.new)) }
 {
     let mut listed = Vec::new(alloc);
     for name in &asked.dead {
@@ -107,9 +123,10 @@ fn look_pending<P: Peer>(
     asked: &Asked,
     name: &Name,
 ) -> Result<Vec<Id>, LiveFault>
-    ensures { IfOk result (λ ids. (talk : List Exchange)
+    ensures ok { IfOk result (λ ids. (talk : List Exchange)
         × Talks (P.sent peer.old) (P.got peer.old) (P.sent peer.new) (P.got peer.new) talk
-        × ListsPages asked.now.key asked.now.group name.now (codes "-") talk ids.items) }
+        × ListsPages asked.now.key asked.now.group asked.now.idle name.now (codes "-") talk ids.items) }
+    ensures err { IfErr result (BreaksOff (P.sent peer.old) (P.sent peer.new)) }
 {
     let mut ids = look_page(peer, alloc, asked, name, b"-")?;
     let mut full = ids.len() >= PAGE;
@@ -133,22 +150,19 @@ fn look_page<P: Peer>(
     name: &Name,
     start: &[u8],
 ) -> Result<Vec<Id>, LiveFault>
-    ensures { IfOk result (λ listed. (parts : List wire.Part)
+    ensures ok { IfOk result (λ listed. (parts : List wire.Part)
         × Talks (P.sent peer.old) (P.got peer.old) (P.sent peer.new) (P.got peer.new)
-        ((pending_call asked.now.key asked.now.group start.now name.now, parts) ∷ [])
+        ((pending_call asked.now.key asked.now.group asked.now.idle start.now name.now, parts) ∷ [])
         × SaysPending parts name.now listed.items) }
+    ensures err { IfErr result (BreaksOff (P.sent peer.old) (P.sent peer.new)) }
 {
-    let request = request_of(
+    let mut idle = Buffer::new();
+    let request = page_request(
         alloc,
-        &[
-            b"XPENDING",
-            asked.key.as_slice(),
-            asked.group.as_slice(),
-            start,
-            b"+",
-            b"1000",
-            name.as_slice(),
-        ],
+        asked,
+        name,
+        start,
+        idle.format(asked.idle).as_bytes(),
     )?;
     match ask(peer, alloc, request.as_slice(), 1) {
         Ok(answers) => understood(
@@ -157,6 +171,33 @@ fn look_page<P: Peer>(
         ),
         Err(fault) => Err(LiveFault::Peer(fault)),
     }
+}
+
+/// The request for the entries that are pending for a consumer from this start on, and have been idle for so long.
+fn page_request(
+    alloc: Global,
+    asked: &Asked,
+    name: &Name,
+    start: &[u8],
+    idle: &[u8],
+) -> Result<Vec<u8>, AllocError>
+    ensures { IfOk result (λ request. request.items
+        ≡ request_text (pending_words asked.now.key asked.now.group idle.now start.now name.now)) }
+{
+    request_of(
+        alloc,
+        &[
+            b"XPENDING",
+            asked.key.as_slice(),
+            asked.group.as_slice(),
+            b"IDLE",
+            idle,
+            start,
+            b"+",
+            b"1000",
+            name.as_slice(),
+        ],
+    )
 }
 
 /// The start of a range behind the last of these ids.
@@ -175,7 +216,8 @@ fn start_text(alloc: Global, ids: &[Id]) -> Result<Vec<u8>, AllocError>
 
 /// The entries in order of their ids.
 fn in_order(mut listed: Vec<(Id, Name)>) -> Result<Vec<(Id, Name)>, AllocError>
-    ensures { IfOk result (λ sorted. IsPermutation listed.items sorted.items) }
+    ensures same { IfOk result (λ sorted. IsPermutation listed.items sorted.items) }
+    ensures rising { IfOk result (λ sorted. IsSortedBy (λ a b. is_below a.0 b.0) sorted.items) }
 {
     listed.sort_by_key(|entry| entry.0)?;
     Ok(listed)
@@ -188,9 +230,10 @@ fn look_entries<P: Peer>(
     key: &Name,
     listed: &[(Id, Name)],
 ) -> Result<Vec<Row>, LiveFault>
-    ensures { IfOk result (λ rows. (talk : List Exchange)
+    ensures ok { IfOk result (λ rows. (talk : List Exchange)
         × Talks (P.sent peer.old) (P.got peer.old) (P.sent peer.new) (P.got peer.new) talk
         × LooksEntries key.now rows.items talk × (map (λ row. (row.id, row.owner)) rows.items ≡ listed.now)) }
+    ensures err { IfErr result (BreaksOff (P.sent peer.old) (P.sent peer.new)) }
 {
     let mut rows = Vec::with_capacity(alloc, listed.len())?;
     let mut left = listed;
@@ -210,10 +253,11 @@ fn look_together<P: Peer>(
     listed: &[(Id, Name)],
     rows: &mut Vec<Row>,
 ) -> Result<(), LiveFault>
-    ensures { OnOk result ((talk : List Exchange) × (more : List Row)
+    ensures ok { OnOk result ((talk : List Exchange) × (more : List Row)
         × Talks (P.sent peer.old) (P.got peer.old) (P.sent peer.new) (P.got peer.new) talk
         × LooksEntries key.now more talk × (map (λ row. (row.id, row.owner)) more ≡ listed.now)
         × (rows.new.items ≡ rows.old.items ++ more)) }
+    ensures err { IfErr result (BreaksOff (P.sent peer.old) (P.sent peer.new)) }
 {
     let requests = entry_requests(alloc, key, listed)?;
     match ask(peer, alloc, requests.as_slice(), listed.len()) {
@@ -293,7 +337,8 @@ fn append_request(out: &mut Vec<u8>, words: &[&[u8]]) -> Result<(), AllocError>
 
 /// What the reply to this call says, or why it says nothing.
 pub(crate) fn understood<T>(call: LiveCall, said: Result<T, Misread>) -> Result<T, LiveFault>
-    ensures { IfOk result (λ value. said ≡ Ok value) }
+    ensures ok { IfOk result (λ value. said ≡ Ok value) }
+    ensures err { IsReading call → IfErr result IsOfLooking }
 {
     match said {
         Ok(value) => Ok(value),

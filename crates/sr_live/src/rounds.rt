@@ -1,8 +1,11 @@
 //! Plans for a group of another Redis, and their being carried out there.
-ghost use Rattle.std.specs.Prelude.{◌≡◌, List, IfOk, IfSome};
+ghost use Rattle.std.specs.Prelude.{◌≡◌, List, Some, IfErr, IfOk, OnErr};
+ghost use Rattle.sr_live.specs.declared.fault.LiveFault.TheVariants.{Unfit};
+ghost use Rattle.sr_live.specs.declared.rounds.Ran.TheVariants.{Done};
 ghost use Rattle.sr_live.specs.First.{kept_rows};
 ghost use Rattle.sr_live.specs.Looking.{Exchange, Talks};
-ghost use Rattle.sr_live.specs.Rounds.{HasRun, IsPlanned};
+ghost use Rattle.sr_live.specs.Reading.{BreaksOff, HasOnlyRead};
+ghost use Rattle.sr_live.specs.Rounds.{FitsPlan, HasBroken, HasFailed, HasMade, HasRun, IsJudged, IsPlanned};
 
 use crate::conclusion::{Concluded, conclude};
 use crate::fault::LiveFault;
@@ -72,9 +75,10 @@ pub fn plan<P: Peer>(
     at_most: Option<u64>,
 ) -> Result<Planned, LiveFault>
     // the rows, or as many of them as `at_most` leaves, were looked up by these calls, and the verdict is of these
-    ensures { IfOk result (λ planned. (talk : List Exchange)
+    ensures ok { IfOk result (λ planned. (talk : List Exchange)
         × Talks (P.sent peer.old) (P.got peer.old) (P.sent peer.new) (P.got peer.new) talk
         × IsPlanned policy.now asked.now at_most talk planned) }
+    ensures err { OnErr result (HasOnlyRead (P.sent peer.old) (P.sent peer.new)) }
 {
     judged(peer, alloc, policy, asked, at_most)?.ok_or(LiveFault::Changed)
 }
@@ -87,9 +91,10 @@ fn judged<P: Peer>(
     asked: &Asked,
     at_most: Option<u64>,
 ) -> Result<Option<Planned>, LiveFault>
-    ensures { IfOk result (λ judged. (talk : List Exchange)
+    ensures ok { IfOk result (λ judged. (talk : List Exchange)
         × Talks (P.sent peer.old) (P.got peer.old) (P.sent peer.new) (P.got peer.new) talk
-        × IfSome judged (IsPlanned policy.now asked.now at_most talk)) }
+        × IsJudged policy.now asked.now at_most talk judged) }
+    ensures err { IfErr result (BreaksOff (P.sent peer.old) (P.sent peer.new)) }
 {
     let mut looked = look(peer, alloc, asked)?;
     let last = keep_first(&mut looked.rows, at_most);
@@ -117,15 +122,31 @@ pub fn run<P: Peer>(
     asked: &Asked,
     terms: Terms,
 ) -> Result<Ran, LiveFault>
-    ensures { IfOk result (HasRun policy.now asked.now terms (P.sent peer.old) (P.got peer.old)
+    ensures ok { IfOk result (HasRun policy.now asked.now terms (P.sent peer.old) (P.got peer.old)
+        (P.sent peer.new) (P.got peer.new)) }
+    // `Unknown` comes exactly if a script was sent whose answer is not known
+    ensures err { IfErr result (HasFailed policy.now asked.now terms (P.sent peer.old) (P.got peer.old)
         (P.sent peer.new) (P.got peer.new)) }
 {
     let mut ran = Err(LiveFault::Changed);
-    for _ in 0..terms.tries {
+    for _tried in 0..terms.tries {
         ran = match round(peer, alloc, policy, asked, terms)? {
             None => Err(LiveFault::Changed),
             Some(Ran::Stale { what, of }) => Ok(Ran::Stale { what, of }),
-            Some(told) => return Ok(told),
+            Some(Ran::Impossible(planned)) => return Ok(Ran::Impossible(planned)),
+            Some(
+                Ran::Done {
+                    planned,
+                    claimed,
+                    gap,
+                },
+            ) => {
+                return Ok(Ran::Done {
+                    planned,
+                    claimed,
+                    gap,
+                });
+            }
         };
     }
     ran
@@ -139,10 +160,11 @@ fn round<P: Peer>(
     asked: &Asked,
     terms: Terms,
 ) -> Result<Option<Ran>, LiveFault>
-    ensures all { IfOk result (λ ran. (talk : List Exchange)
-        × Talks (P.sent peer.old) (P.got peer.old) (P.sent peer.new) (P.got peer.new) talk) }
-    ensures ran { IfOk result (λ ran. IfSome ran (HasRun policy.now asked.now terms
-        (P.sent peer.old) (P.got peer.old) (P.sent peer.new) (P.got peer.new))) }
+    ensures ok { IfOk result (λ ran. (talk : List Exchange)
+        × Talks (P.sent peer.old) (P.got peer.old) (P.sent peer.new) (P.got peer.new) talk
+        × HasMade policy.now asked.now terms talk ran) }
+    ensures err { IfErr result (HasBroken policy.now asked.now terms (P.sent peer.old) (P.got peer.old)
+        (P.sent peer.new) (P.got peer.new)) }
 {
     let Some(planned) = judged(peer, alloc, policy, asked, terms.at_most)? else {
         return Ok(None);
@@ -150,19 +172,31 @@ fn round<P: Peer>(
     let limits = Limits {
         within: terms.within,
         last: planned.last,
+        idle: asked.idle,
     };
     let rows = planned.looked.rows.as_slice();
     let Some(words) = script_words(alloc, &planned.verdict, rows, limits)? else {
         return Ok(Some(Ran::Impossible(planned)));
     };
     match conclude(peer, alloc, &asked.key, words.as_slice())? {
-        Concluded::Done { claimed, gap } => Ok(Some(Ran::Done {
-            planned,
-            claimed,
-            gap,
-        })),
+        Concluded::Done { claimed, gap } => done(terms, planned, claimed, gap),
         Concluded::Stale { what, of } => Ok(Some(Ran::Stale { what, of })),
     }
+}
+
+/// A plan that was carried out, if what the script answers fits it.
+fn done(terms: Terms, planned: Planned, claimed: u64, gap: u64) -> Result<Option<Ran>, LiveFault>
+    ensures ok { IfOk result (λ ran. (ran ≡ Some (Done planned claimed gap)) × FitsPlan terms planned claimed gap) }
+    ensures err { IfErr result (λ fault. (fault ≡ Unfit) × (FitsPlan terms planned claimed gap → ⊥)) }
+{
+    if claimed != planned.verdict.snapshot().stranded().len() as u64 || gap > terms.within {
+        return Err(LiveFault::Unfit);
+    }
+    Ok(Some(Ran::Done {
+        planned,
+        claimed,
+        gap,
+    }))
 }
 
 /// Keeps the entries up to that one with which so many are stranded, if so many are, and answers its id.

@@ -1,10 +1,13 @@
 //! What the replies of Redis say of a group.
-ghost use Rattle.std.specs.Prelude.{◌≡◌, ◌++◌, ◌∷◌, ◌*◌, [], ℕ, List, pos, codes, length, option_map, IfOk, OnOk};
+ghost use Rattle.std.specs.Prelude.{◌≡◌, ◌++◌, ◌∷◌, ◌*◌, [], ℕ, List, pos, codes, length, option_map};
+ghost use Rattle.std.specs.Prelude.{IfErr, IfOk, OnOk};
 ghost use Rattle.sr_ids.specs.{SpellsId};
 ghost use Rattle.sr_policy.specs.Rules.{value_at};
 ghost use Rattle.sr_peer.specs.Reply as wire;
 ghost use Rattle.sr_peer.specs.{Array, Bulk, Int, part_of};
 ghost use Rattle.sr_live.specs.Conclusion.{SaysConcluded};
+ghost use Rattle.sr_live.specs.declared.said.Misread.TheVariants.{Memory};
+ghost use Rattle.sr_live.specs.steps.Misread.{IsMisread, IsNoError};
 ghost use Rattle.sr_live.specs.Said.{IsPendingRow, SaysConsumer, SaysEntry, SaysNumbers, SaysPending};
 ghost use Rattle.sr_live.specs.Said.{consumer_parts, fields_parts, pairs_parts};
 
@@ -26,12 +29,16 @@ pub(crate) enum Misread {
 }
 
 impl From<AllocError> for Misread {
+    ghost from_gives = { λ _ misread. misread ≡ Memory };
+
     fn from(_: AllocError) -> Misread {
         Misread::Memory
     }
 }
 
 impl<T: Drop> From<AllocFailed<T>> for Misread {
+    ghost from_gives = { λ _ misread. misread ≡ Memory };
+
     fn from(_: AllocFailed<T>) -> Misread {
         Misread::Memory
     }
@@ -240,7 +247,8 @@ fn pairs_said(alloc: Global, parts: &mut Parts<'_>, count: usize) -> Result<Fiel
 
 /// The number of items of the next array.
 fn header(alloc: Global, parts: &mut Parts<'_>) -> Result<usize, Misread>
-    ensures { IfOk result (λ count. parts.old ≡ Array count ∷ parts.new) }
+    ensures ok { IfOk result (λ count. parts.old ≡ Array count ∷ parts.new) }
+    ensures err { IfErr result (IsMisread parts.old) }
 {
     match parts.next() {
         Some(Part::Array(count)) => Ok(count),
@@ -251,7 +259,8 @@ fn header(alloc: Global, parts: &mut Parts<'_>) -> Result<usize, Misread>
 
 /// The next bulk string.
 fn string<'a>(parts: &mut Parts<'a>) -> Result<&'a [u8], Misread>
-    ensures { IfOk result (λ text. parts.old ≡ Bulk text.now ∷ parts.new) }
+    ensures ok { IfOk result (λ text. parts.old ≡ Bulk text.now ∷ parts.new) }
+    ensures err { IfErr result IsNoError }
 {
     match parts.next() {
         Some(Part::Bulk(text)) => Ok(text),
@@ -261,7 +270,8 @@ fn string<'a>(parts: &mut Parts<'a>) -> Result<&'a [u8], Misread>
 
 /// The next integer.
 fn integer(parts: &mut Parts<'_>) -> Result<i64, Misread>
-    ensures { IfOk result (λ number. parts.old ≡ Int number ∷ parts.new) }
+    ensures ok { IfOk result (λ number. parts.old ≡ Int number ∷ parts.new) }
+    ensures err { IfErr result IsNoError }
 {
     match parts.next() {
         Some(Part::Int(number)) => Ok(number),
@@ -288,7 +298,8 @@ fn name_of(alloc: Global, text: &[u8]) -> Result<Name, AllocError>
 
 /// Nothing is left.
 pub(crate) fn end(parts: &mut Parts<'_>) -> Result<(), Misread>
-    ensures { OnOk result (parts.old ≡ []) }
+    ensures ok { OnOk result (parts.old ≡ []) }
+    ensures err { IfErr result IsNoError }
 {
     match parts.next() {
         None => Ok(()),
@@ -300,7 +311,8 @@ pub(crate) fn end(parts: &mut Parts<'_>) -> Result<(), Misread>
 ///
 /// Source: docs/LIVE.md.
 pub(crate) fn conclusion_said(alloc: Global, mut parts: Parts<'_>) -> Result<Concluded, Misread>
-    ensures { IfOk result (SaysConcluded parts.entry) }
+    ensures ok { IfOk result (SaysConcluded parts.entry) }
+    ensures err { IfErr result (IsMisread parts.entry) }
 {
     if header(alloc, &mut parts)? != 3 {
         return Err(Misread::Shape);
@@ -314,7 +326,8 @@ pub(crate) fn conclusion_said(alloc: Global, mut parts: Parts<'_>) -> Result<Con
 
 /// How many entries were claimed, and the gap.
 fn done_said(parts: &mut Parts<'_>) -> Result<Concluded, Misread>
-    ensures { IfOk result (λ said. SaysConcluded (Array 3 ∷ Bulk (codes "done") ∷ parts.old) said) }
+    ensures ok { IfOk result (λ said. SaysConcluded (Array 3 ∷ Bulk (codes "done") ∷ parts.old) said) }
+    ensures err { IfErr result IsNoError }
 {
     let claimed = natural(parts)?;
     let gap = natural(parts)?;
@@ -324,7 +337,8 @@ fn done_said(parts: &mut Parts<'_>) -> Result<Concluded, Misread>
 
 /// What is not as it was looked up, and of what.
 fn stale_said(alloc: Global, parts: &mut Parts<'_>) -> Result<Concluded, Misread>
-    ensures { IfOk result (λ said. SaysConcluded (Array 3 ∷ Bulk (codes "stale") ∷ parts.old) said) }
+    ensures ok { IfOk result (λ said. SaysConcluded (Array 3 ∷ Bulk (codes "stale") ∷ parts.old) said) }
+    ensures err { IfErr result IsNoError }
 {
     let what = name_of(alloc, string(parts)?)?;
     let of = name_of(alloc, string(parts)?)?;
@@ -334,7 +348,8 @@ fn stale_said(alloc: Global, parts: &mut Parts<'_>) -> Result<Concluded, Misread
 
 /// The next integer, if it is not below 0.
 fn natural(parts: &mut Parts<'_>) -> Result<u64, Misread>
-    ensures { IfOk result (λ number. parts.old ≡ Int (pos number) ∷ parts.new) }
+    ensures ok { IfOk result (λ number. parts.old ≡ Int (pos number) ∷ parts.new) }
+    ensures err { IfErr result IsNoError }
 {
     let number = integer(parts)?;
     if number < 0 {

@@ -6,19 +6,21 @@ pub const SCRIPT: &str =
 -- KEYS[1] is the key. ARGV, one word after another; a list is its length and then its items:
 --   group, within (decimal)
 --   last    `+`, or an id: what is pending for the dead above it is not compared
+--   idle    for how many milliseconds an entry has to have been idle (decimal); any, if it is 0
 --   dead    for each its name, and a list of rows: an id, and `1` if the entry is in the stream, `0` if it is gone
 --   live    for each its name, its limit, its soft limit or `-`, how many entries the plan gives it, how many of these
 --           without a fee, the price of its first tier, that of its second (0 if it has none), and their ids
 --
--- Compared: exactly these rows are pending for the dead, and exactly these entries are gone; each live consumer has
--- room for what it is given, and as many of its entries are without a fee. Then the plan is still an assignment at the
--- total that it had. No plan of this moment costs less than it by more than the gap, which is price times free places,
--- summed over all tiers; at a gap of 0 it is still cheapest.
+-- Compared: these rows are pending for the dead, as idle as asked for, and no others (but those that have become as
+-- idle since then, if any time is asked for), and none of their entries is deleted. What was gone does not matter,
+-- since no plan moves it. Each live consumer has room for what it is given, and as many of its entries are
+-- without a fee. Then the plan is still an assignment at the total that it had. No plan of this moment costs less than
+-- it by more than the gap, which is price times free places, summed over all tiers; at a gap of 0 it is still cheapest.
 --
 -- Answers:  done, how many entries were claimed, the gap
 --           stale, and then  group NAME    there is no such group, or no such key
 --                            pending NAME  other entries are pending for this dead consumer
---                            entry ID      this entry is gone, or is there although it was gone
+--                            entry ID      this entry is gone
 --                            room NAME     this live consumer has too little room
 --                            fee NAME      of what this live consumer is given, another number is without a fee
 --                            gap NUMBER    the gap, which is above `within`, or 2^53 if it is that or more
@@ -93,32 +95,43 @@ local function pending_numbers(group)
   return numbers
 end
 
--- Whether exactly these rows are pending for the consumer. It asks for one more than these.
-local function are_pending(group, last, dead)
-  local seen, start = 0, '-'
+-- The number of the first row from this number on that is this entry or is in the stream: those before it are gone, and
+-- may no longer be pending.
+local function behind_gone(rows, at, id)
+  while rows[at] and not rows[at].is_there and rows[at].id ~= id do
+    at = at + 1
+  end
+  return at
+end
+
+-- Whether these rows are pending for the consumer, and no others. It asks for one more than these. If entries have to
+-- be idle, others may have become so since then.
+local function are_pending(group, last, idle, dead)
+  local rows, at, start = dead.rows, 1, '-'
+  local is_any = idle == '0'
   repeat
-    local count = math.min(MOST_ROWS, #dead.rows + 1 - seen)
-    local found = redis.call('XPENDING', key, group, start, last, count, dead.name)
-    for at, pending in ipairs(found) do
-      local row = dead.rows[seen + at]
-      if not row or row.id ~= pending[1] then
+    local count = is_any and math.min(MOST_ROWS, #rows + 2 - at) or MOST_ROWS
+    local found = redis.call('XPENDING', key, group, 'IDLE', idle, start, last, count, dead.name)
+    for _, pending in ipairs(found) do
+      at = behind_gone(rows, at, pending[1])
+      if rows[at] and rows[at].id == pending[1] then
+        at = at + 1
+      elseif is_any then
         return false
       end
-      start = '(' .. row.id
+      start = '(' .. pending[1]
     end
-    seen = seen + #found
-  until #found < count
-  return seen == #dead.rows
+  until #found < count or not is_any and at > #rows
+  return behind_gone(rows, at) > #rows
 end
 
 -- What is not as it was with a dead consumer, as two words, or nil.
-local function change_of(group, last, dead)
-  if not are_pending(group, last, dead) then
+local function change_of(group, last, idle, dead)
+  if not are_pending(group, last, idle, dead) then
     return 'pending', dead.name
   end
   for _, row in ipairs(dead.rows) do
-    local is_there = #redis.call('XRANGE', key, row.id, row.id) > 0
-    if is_there ~= row.is_there then
+    if row.is_there and #redis.call('XRANGE', key, row.id, row.id) == 0 then
       return 'entry', row.id
     end
   end
@@ -153,7 +166,7 @@ local function carry_out(group, one)
 end
 
 local function conclude()
-  local group, within, last = word(), number(), word()
+  local group, within, last, idle = word(), number(), word(), word()
   local dead, live = list(read_dead), list(read_live)
   local numbers, fault = pending_numbers(group)
   if fault then
@@ -161,7 +174,7 @@ local function conclude()
     return is_missing and { 'stale', 'group', group } or fault
   end
   for _, one in ipairs(dead) do
-    local what, which = change_of(group, last, one)
+    local what, which = change_of(group, last, idle, one)
     if what then
       return { 'stale', what, which }
     end

@@ -20,6 +20,8 @@ pub struct Limits {
     pub within: u64,
     /// The last entry that it moves, if it moves the first ones alone: what is behind it is not compared.
     pub last: Option<Id>,
+    /// For how many milliseconds each of its entries has to have been idle.
+    pub idle: u64,
 }
 
 /// The words behind the key with which Redis is asked to carry out the plan of a verdict. `None` for a shortage.
@@ -34,8 +36,8 @@ pub fn script_words(
     limits: Limits,
 ) -> Result<Option<Vec<Name>>, AllocError>
     ensures { IfOk result (λ words. option_map (λ list. list.items) words
-        ≡ words_for verdict.now.snapshot.group limits.within (last_word limits.last) rows.now verdict.now.snapshot
-        verdict.now.answer) }
+        ≡ words_for verdict.now.snapshot.group limits.within (last_word limits.last) limits.idle rows.now
+        verdict.now.snapshot verdict.now.answer) }
 {
     let Some(prices) = verdict.prices() else {
         return Ok(None);
@@ -54,7 +56,7 @@ pub fn script_words(
     Ok(Some(words))
 }
 
-/// Adds the group, by how much the plan may cost more, and up to which id is compared.
+/// Adds the group, by how much the plan may cost more, up to which id is compared, and how idle entries have to be.
 fn push_asked(
     words: &mut Vec<Name>,
     alloc: Global,
@@ -62,11 +64,19 @@ fn push_asked(
     limits: Limits,
 ) -> Result<(), AllocError>
     ensures { OnOk result (words.new.items
-        ≡ words.old.items ++ group.now ∷ decimal limits.within ∷ last_word limits.last ∷ []) }
+        ≡ words.old.items ++ group.now ∷ decimal limits.within ∷ last_word limits.last ∷ decimal limits.idle ∷ []) }
 {
     words.push(group.copy(alloc)?)?;
     push_number(words, alloc, limits.within)?;
-    match limits.last {
+    push_last(words, alloc, limits.last)?;
+    push_number(words, alloc, limits.idle)
+}
+
+/// Adds the id, or `+` if there is none.
+fn push_last(words: &mut Vec<Name>, alloc: Global, last: Option<Id>) -> Result<(), AllocError>
+    ensures { OnOk result (words.new.items ≡ words.old.items ++ last_word last ∷ []) }
+{
+    match last {
         Some(id) => push_id(words, alloc, id),
         None => push_text(words, alloc, b"+"),
     }

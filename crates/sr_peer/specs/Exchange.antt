@@ -1,5 +1,7 @@
 -- An exchange with another server.
 
+use Rattle.std.specs.Prelude.{◌≡◌, ℕ, List, ◌++◌, Option}
+use Rattle.std.specs.Io.KnownBytes.{Appends}
 use Rattle.sr_peer.specs.declared.peer.PeerFault.{PeerFault}
 use Rattle.sr_peer.specs.declared.peer.PeerFault.TheVariants as faults
 
@@ -11,3 +13,10 @@ IsOfConnection faults.Silent = Unit {0}
 IsOfConnection faults.Failed = Unit {0}
 IsOfConnection faults.Malformed = ⊥
 IsOfConnection faults.TooLong = ⊥
+
+-- of these bytes a front was sent, perhaps none and perhaps all
+pub record SendsPart (sent sent_then : Option (List ℕ)) (bytes : List ℕ) : Type 0 where
+  pub front : List ℕ
+  pub rest : List ℕ
+  pub splits : bytes ≡ front ++ rest
+  pub sends : Appends sent sent_then front

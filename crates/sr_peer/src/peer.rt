@@ -1,7 +1,7 @@
 ghost use Rattle.std.specs.Prelude.{◌≡◌, ◌<◌, ℕ, List, Option, length, IfErr, IfOk, IsErrOf, OnOk, OnErr};
 ghost use Rattle.std.specs.Io.KnownBytes.{Appends};
 ghost use Rattle.sr_peer.specs.Arriving.{AreWhole, CannotBecome, Outgrows};
-ghost use Rattle.sr_peer.specs.Exchange.{IsOfConnection};
+ghost use Rattle.sr_peer.specs.Exchange.{IsOfConnection, SendsPart};
 
 use crate::{Answers, TakeFault};
 use std::alloc::Global;
@@ -34,6 +34,7 @@ pub trait Peer {
     /// Sends all of the bytes. After an `Err` it is not known how many of them were sent.
     fn send(&mut self, bytes: &[u8]) -> Result<(), PeerFault>
         ensures ok { OnOk result (Appends (sent self.old) (sent self.new) bytes.now) }
+        ensures err { OnErr result (SendsPart (sent self.old) (sent self.new) bytes.now) }
         ensures got { got self.new ≡ got self.old }
         ensures fault { IfErr result IsOfConnection };
 
@@ -58,6 +59,7 @@ pub fn ask<P: Peer>(
     count: usize,
 ) -> Result<Answers, PeerFault>
     ensures sent { OnOk result (Appends (P.sent peer.old) (P.sent peer.new) requests.now) }
+    ensures err { OnErr result (SendsPart (P.sent peer.old) (P.sent peer.new) requests.now) }
     ensures got { IfOk result (λ answers. Appends (P.got peer.old) (P.got peer.new) answers.text) }
     ensures count { IfOk result (λ answers. answers.count ≡ count) }
     ensures whole { IfOk result (λ answers. AreWhole answers.count answers.text) }

@@ -2,9 +2,10 @@
 use crate::blame::policy_fault;
 use crate::board::print_board;
 use crate::check::print_check;
-use crate::fault::{Fault, live_fault};
+use crate::fault::{Fault, live_fault, unreadable};
 use crate::options::{Action, Options};
-use crate::print::{print_done, print_plan, print_stale, print_unknown};
+use crate::place::{place_named, read_place};
+use crate::print::{print_done, print_newcomers, print_plan, print_stale, print_unknown};
 use crate::wire::{Wire, authenticate, connect, select};
 use sr_bytes::Name;
 use sr_live::{Asked, Planned, Ran, Terms, look_numbers, plan, run};
@@ -40,6 +41,7 @@ impl Status {
 
 /// Does what is asked for, at the node that has the key.
 pub(crate) fn act(rt: &HostRuntime, options: &Options<'_>) -> Result<Status, Fault> {
+    let mut place = read_place(rt.alloc(), options.redis)?;
     let policy = read_policy(rt, options.policy)?;
     let password = password(rt, options)?;
     if options.user.is_some() && password.is_none() {
@@ -48,9 +50,8 @@ pub(crate) fn act(rt: &HostRuntime, options: &Options<'_>) -> Result<Status, Fau
         ));
     }
     let asked = asked(rt.alloc(), options)?;
-    let mut place = String::from_str(rt.alloc(), options.redis)?;
     for _ in 0..=MAX_MOVES {
-        let mut wire = connect(rt, place.as_str(), options.timeout)?;
+        let mut wire = connect(rt, &place, options.timeout)?;
         authenticate(
             &mut wire,
             rt.alloc(),
@@ -59,24 +60,11 @@ pub(crate) fn act(rt: &HostRuntime, options: &Options<'_>) -> Result<Status, Fau
         )?;
         select(&mut wire, rt.alloc(), options.database)?;
         match act_at(rt, options, &policy, &asked, &mut wire) {
-            Err(Fault::Moved(to)) => place = place_of(rt.alloc(), place.as_str(), to)?,
+            Err(Fault::Moved(to)) => place = place_named(rt.alloc(), &place, to.as_str())?,
             ended => return ended,
         }
     }
     Err(Fault::Moves)
-}
-
-/// Where a node is that a node at this place names. A cluster that does not know its hosts names a port alone.
-fn place_of(alloc: Global, asked: &str, named: String) -> Result<String, AllocError> {
-    if !named.as_bytes().starts_with(b":") {
-        return Ok(named);
-    }
-    let mut place = match asked.rsplit_once(':') {
-        Some((host, _port)) => String::from_str(alloc, host)?,
-        None => String::from_str(alloc, asked)?,
-    };
-    place.push_str(named.as_str())?;
-    Ok(place)
 }
 
 /// Does what is asked for, at this node.
@@ -106,7 +94,7 @@ fn show_board(
             print_board(&mut rt.stdout(), rt.alloc(), policy, numbers.as_slice())?;
             Ok(Status::Done)
         }
-        Err(fault) => Err(live_fault(rt.alloc(), fault)),
+        Err(fault) => Err(live_fault(rt.alloc(), fault, wire.script())),
     }
 }
 
@@ -120,7 +108,7 @@ fn show_plan(
 ) -> Result<Status, Fault> {
     match plan(wire, rt.alloc(), policy, asked, options.at_most) {
         Ok(planned) => print_planned(rt, options, asked, &planned, false),
-        Err(fault) => Err(live_fault(rt.alloc(), fault)),
+        Err(fault) => Err(live_fault(rt.alloc(), fault, wire.script())),
     }
 }
 
@@ -136,6 +124,12 @@ fn print_planned(
         &mut rt.stderr(),
         rt.alloc(),
         asked.dead.as_slice(),
+        planned.looked.numbers.as_slice(),
+    )?;
+    print_newcomers(
+        &mut rt.stderr(),
+        rt.alloc(),
+        &planned.verdict,
         planned.looked.numbers.as_slice(),
     )?;
     let mut out = rt.stdout();
@@ -173,7 +167,7 @@ fn carry_out(
             },
         ) => {
             match print_carried_out(rt, options, asked, &planned, (claimed, gap)) {
-                Err(Fault::Output) => Err(Fault::OutputOfDone),
+                Err(Fault::Output | Fault::Memory) => Err(Fault::OutputOfDone),
                 printed => printed,
             }
         }
@@ -182,7 +176,7 @@ fn carry_out(
             print_stale(&mut rt.stdout(), rt.alloc(), what.as_slice(), of.as_slice())?;
             Ok(Status::Stale)
         }
-        Err(fault) => Err(live_fault(rt.alloc(), fault)),
+        Err(fault) => Err(live_fault(rt.alloc(), fault, wire.script())),
     }
 }
 
@@ -204,8 +198,9 @@ fn print_carried_out(
 
 /// The policy that a file holds.
 fn read_policy(rt: &HostRuntime, path: &str) -> Result<Policy, Fault> {
-    let Ok(text) = fs::read_to_string(rt, path) else {
-        return Err(Fault::PolicyUnreadable);
+    let text = match fs::read_to_string(rt, path) {
+        Ok(text) => text,
+        Err(error) => return Err(unreadable(rt.alloc(), "policy", path, error)),
     };
     match Policy::read(rt.alloc(), text.as_str()) {
         Ok(policy) => Ok(policy),
@@ -223,7 +218,7 @@ fn password(rt: &HostRuntime, options: &Options<'_>) -> Result<Option<String>, F
     };
     match fs::read_to_string(rt, path) {
         Ok(text) => Ok(Some(String::from_str(rt.alloc(), without_line_end(text.as_str()))?)),
-        Err(_) => Err(Fault::PasswordUnreadable),
+        Err(error) => Err(unreadable(rt.alloc(), "password", path, error)),
     }
 }
 
@@ -242,6 +237,7 @@ fn asked(alloc: Global, options: &Options<'_>) -> Result<Asked, Fault> {
         key: name_of(alloc, options.key)?,
         group: name_of(alloc, options.group)?,
         dead: names_in_order(alloc, dead.as_slice())?,
+        idle: options.idle_over,
     })
 }
 

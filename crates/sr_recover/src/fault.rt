@@ -1,7 +1,10 @@
 //! What went wrong. Its text is the line on standard error.
+use crate::errors::{call_text, told};
 use sr_live::{LiveCall, LiveFault};
 use sr_peer::PeerFault;
 use std::alloc::{AllocError, AllocFailed, Global};
+use std::io;
+use std::io::ErrorKind;
 use thiserror::Error;
 
 #[derive(Debug, Drop, Error)]
@@ -16,22 +19,24 @@ pub(crate) enum Fault {
     Usage(String),
     #[error("help")]
     Help(String),
-    #[error("policy: cannot read the file")]
-    PolicyUnreadable,
+    #[error("error: cannot open /dev/null, which replaces a standard stream that is closed: {0}")]
+    Standard(String),
+    #[error("{0}: cannot read the file {1}: {2}")]
+    Unreadable(&'static str, String, String),
     #[error("policy: {0}")]
     Policy(String),
-    #[error("password: cannot read the file")]
-    PasswordUnreadable,
-    #[error("redis: no such address")]
-    Address,
-    #[error("redis: cannot connect")]
-    Connect,
+    #[error("redis: cannot find the host {0}: {1}. Is its name right?")]
+    Host(String, String),
+    #[error("redis: cannot connect to {0}: {1}{2}")]
+    Connect(String, String, &'static str),
     #[error("redis: the user's name or the password is refused: {0}")]
     Auth(String),
     #[error("redis: moved from node to node too often")]
     Moves,
     #[error("redis: the key is on another node: {0}")]
     Moved(String),
+    #[error("redis: the key is on another node, whose name is not a host and a port: {0}. See CLUSTER NODES")]
+    Node(String),
     #[error("redis: {0} is answered with an error: {1}{2}")]
     ErrorReply(&'static str, String, &'static str),
     #[error("redis: {0} is answered with a reply of another shape")]
@@ -40,6 +45,8 @@ pub(crate) enum Fault {
     Peer(&'static str),
     #[error("redis: the plan was sent, and what came of it is not known: {0}. Plan again to see what is left")]
     Unknown(&'static str),
+    #[error("redis: the plan was sent, and what came of it is not known: {0}. Plan again to see what is left")]
+    UnknownError(String),
     #[error("group: too many entries: 100,000 may be pending for the dead, and without --at-most 4,096 stranded")]
     TooMany,
     #[error("group: it changed while it was looked at: try again")]
@@ -57,7 +64,7 @@ impl Fault {
             Fault::Help(_) => 0,
             Fault::Words | Fault::Asked(_) | Fault::Usage(_) => 2,
             Fault::Changed => 4,
-            Fault::Unknown(_) => 5,
+            Fault::Unknown(_) | Fault::UnknownError(..) => 5,
             _ => 1,
         }
     }
@@ -75,17 +82,42 @@ impl<T: Drop> From<AllocFailed<T>> for Fault {
     }
 }
 
-/// What a fault of a live plan is to the user.
-pub(crate) fn live_fault(alloc: Global, fault: LiveFault) -> Fault {
+/// What it is to the user that no file could take the place of a standard one that is closed.
+pub(crate) fn standard_fault(alloc: Global, error: io::Error) -> Fault {
+    match why(alloc, &error) {
+        Ok(why) => Fault::Standard(why),
+        Err(_) => Fault::Memory,
+    }
+}
+
+/// What it is to the user that a file at this path cannot be read.
+pub(crate) fn unreadable(alloc: Global, what: &'static str, path: &str, error: io::Error) -> Fault {
+    if error.kind() == ErrorKind::OutOfMemory {
+        return Fault::Memory;
+    }
+    match (text_of(alloc, path.as_bytes()), why(alloc, &error)) {
+        (Ok(path), Ok(why)) => Fault::Unreadable(what, path, why),
+        _ => Fault::Memory,
+    }
+}
+
+/// Why the system refused something, in its words.
+pub(crate) fn why(alloc: Global, error: &io::Error) -> Result<String, AllocError> {
+    format!(in alloc; "{error}")
+}
+
+/// What a fault of a live plan is to the user. The last script was called by this word.
+pub(crate) fn live_fault(alloc: Global, fault: LiveFault, script: &'static str) -> Fault {
     match fault {
         LiveFault::Memory => Fault::Memory,
         LiveFault::Peer(fault) => peer_fault(fault),
-        LiveFault::ErrorReply(call, text) => told(alloc, call, text.as_slice()),
+        LiveFault::ErrorReply(call, text) => told(alloc, call, script, text.as_slice()),
         // A script that was answered so may have run.
         LiveFault::Shape(LiveCall::Script) => Fault::Unknown("the answer has another shape"),
         LiveFault::Shape(call) => Fault::Shape(call_text(call)),
         LiveFault::TooMany => Fault::TooMany,
         LiveFault::Changed => Fault::Changed,
+        LiveFault::Unfit => Fault::Unknown("the answer does not fit the plan"),
         LiveFault::Unknown(fault) => Fault::Unknown(peer_text(fault)),
     }
 }
@@ -109,74 +141,6 @@ fn peer_text(fault: PeerFault) -> &'static str {
         PeerFault::TooLong => "a reply is too long",
     }
 }
-
-/// The name of a call.
-fn call_text(call: LiveCall) -> &'static str {
-    match call {
-        LiveCall::Consumers => "XINFO CONSUMERS",
-        LiveCall::Pending => "XPENDING",
-        LiveCall::Entry => "XRANGE",
-        LiveCall::Script => "EVALSHA",
-    }
-}
-
-/// An error that Redis replies: a node that the key has moved to, or what the user can do.
-fn told(alloc: Global, call: LiveCall, text: &[u8]) -> Fault {
-    if let Some(place) = text.strip_prefix(b"MOVED ") {
-        let mut words = place.split(|byte| *byte == b' ');
-        if words.next().is_some() {
-            if let Some(node) = words.next() {
-                return match text_of(alloc, node) {
-                    Ok(node) => Fault::Moved(node),
-                    Err(_) => Fault::Memory,
-                };
-            }
-        }
-    }
-    match text_of(alloc, text) {
-        Ok(said) => Fault::ErrorReply(call_text(call), said, advice_for(text)),
-        Err(_) => Fault::Memory,
-    }
-}
-
-/// What the user can do about an error of Redis.
-fn advice_for(text: &[u8]) -> &'static str {
-    for (start, advice) in ADVICE {
-        if text.starts_with(start) {
-            return advice;
-        }
-    }
-    ""
-}
-
-/// What errors begin with, and what to do.
-const ADVICE: &[(&[u8], &str)] = &[
-    (b"NOAUTH", " (give a password: --password-file FILE)"),
-    (
-        b"NOPERM",
-        " (the user lacks a right: docs/LIVE.md has the line for ACL SETUSER)",
-    ),
-    (
-        b"ERR The user executing the script",
-        " (the user lacks a right: docs/LIVE.md has the line for ACL SETUSER)",
-    ),
-    (b"NOGROUP", " (look for its name: XINFO GROUPS)"),
-    (b"ERR no such key", " (look for its name: SCAN)"),
-    (b"LOADING", " (it reads its data: try again later)"),
-    (b"READONLY", " (a replica: name its primary)"),
-    (
-        b"ASK",
-        " (the key is being moved to another node: try again later)",
-    ),
-    (
-        b"TRYAGAIN",
-        " (the key is being moved to another node: try again later)",
-    ),
-    (
-        b"CLUSTERDOWN",
-        " (the cluster does not serve: see CLUSTER INFO)",
-    ),
-];
 
 /// The bytes as text: each byte that is not of ASCII's printable ones as `?`.
 pub(crate) fn text_of(alloc: Global, bytes: &[u8]) -> Result<String, AllocError> {

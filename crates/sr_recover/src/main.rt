@@ -4,22 +4,26 @@
 //!
 //! It ends with status 0 if there is a plan, or it was carried out; 1 after a fault, which is one line on standard
 //! error; 2 if the command line is refused; 3 if no plan exists; 4 if the group changed at each try; and 5 if the plan
-//! was sent, and no answer came.
+//! was sent, and what came of it is not known.
 #![tactic(auto)]
 
 mod action;
 mod blame;
 mod board;
 mod check;
+mod errors;
 mod fault;
 mod options;
+mod place;
 mod print;
+mod standard;
 mod table;
 mod wire;
 
 use crate::action::{Status, act};
-use crate::fault::Fault;
+use crate::fault::{Fault, standard_fault};
 use crate::options::read_options;
+use crate::standard::take_standard;
 use std::env;
 use std::io::Write;
 use std::net::Net;
@@ -29,15 +33,18 @@ use std::rt::{Env, Files};
 fn main(rt: HostRuntime) -> ExitCode {
     match start(&rt) {
         Ok(status) => ExitCode::from(status.code()),
-        Err(Fault::Help(text)) => {
-            let _ = print!(rt; "{text}");
-            ExitCode::SUCCESS
-        }
-        Err(fault) => {
-            let _ = eprintln!(rt; "{fault}");
-            ExitCode::from(fault.code())
-        }
+        Err(Fault::Help(text)) => match print!(rt; "{text}") {
+            Ok(()) => ExitCode::SUCCESS,
+            Err(_) => end(&rt, &Fault::Output),
+        },
+        Err(fault) => end(&rt, &fault),
     }
+}
+
+/// Says what went wrong, as far as that can be said, and the status for it.
+fn end(rt: &HostRuntime, fault: &Fault) -> ExitCode {
+    let _ = eprintln!(rt; "{fault}");
+    ExitCode::from(fault.code())
 }
 
 /// Reads the command line, and does what it asks for.
@@ -47,5 +54,8 @@ fn start(rt: &HostRuntime) -> Result<Status, Fault> {
         Err(_) => return Err(Fault::Words),
     };
     let options = read_options(rt.alloc(), words.as_slice())?;
-    act(rt, &options)
+    match take_standard(rt) {
+        Ok(()) => act(rt, &options),
+        Err(error) => Err(standard_fault(rt.alloc(), error)),
+    }
 }

@@ -5,6 +5,18 @@ use clap::{Arg, ArgAction, ArgMatches, Command, Error};
 use std::alloc::{AllocError, Global};
 use std::convert::AsStr;
 
+/// The version: its date in CHANGELOG.md.
+const VERSION: &str = "2026-11-30";
+
+/// What the statuses mean.
+const STATUSES: &str = "Statuses:
+  0  a plan is printed, or carried out
+  1  any other fault
+  2  the command line is refused
+  3  there is no plan
+  4  the group changed in each try, and nothing was carried out
+  5  the plan was sent, and what came of it is not known";
+
 /// What is asked for.
 #[derive(Clone, Copy, PartialEq, Eq)]
 pub(crate) enum Action {
@@ -30,6 +42,8 @@ pub(crate) struct Options<'a> {
     pub(crate) within: u64,
     /// How many of the stranded entries are moved at most.
     pub(crate) at_most: Option<u64>,
+    /// For how many milliseconds an entry has to have been idle.
+    pub(crate) idle_over: u64,
     /// The user's name.
     pub(crate) user: Option<&'a str>,
     /// The path of the file with the password.
@@ -64,13 +78,13 @@ pub(crate) fn read_options<'a, S: AsStr>(
     }
 }
 
-/// What a command line that is refused is to the user, or one that asks for help.
+/// What a command line that is refused is to the user, or one that asks for help or the version.
 fn usage(alloc: Global, error: &Error) -> Fault {
     if error.kind() == ErrorKind::OutOfMemory {
         return Fault::Memory;
     }
     match format!(in alloc; "{error}") {
-        Ok(text) if error.kind() == ErrorKind::DisplayHelp => Fault::Help(text),
+        Ok(text) if !error.use_stderr() => Fault::Help(text),
         Ok(text) => Fault::Usage(text),
         Err(_) => Fault::Memory,
     }
@@ -92,7 +106,7 @@ fn options_of<'a>(
         policy: given.get_str("policy").unwrap_or(""),
         tries: number(
             given.get_str("tries"),
-            1,
+            3,
             1,
             16,
             "--tries: a number from 1 to 16",
@@ -105,6 +119,13 @@ fn options_of<'a>(
             "--within: a number from 0",
         )?,
         at_most: at_most(given.get_str("at-most"))?,
+        idle_over: number(
+            given.get_str("idle-over"),
+            0,
+            0,
+            1_000_000_000_000,
+            "--idle-over: a number from 0 to 1000000000000",
+        )?,
         user: given.get_str("user"),
         password_file: given.get_str("password-file"),
         timeout: number(
@@ -157,6 +178,8 @@ fn at_most(text: Option<&str>) -> Result<Option<u64>, Fault> {
 fn command_line<'a>(alloc: Global) -> Result<Command<'a>, Fault> {
     let command = Command::new(alloc, "sr_recover")
         .about("Recovery plans for the consumer groups of a Redis that already runs")
+        .version(VERSION)
+        .after_help(STATUSES)
         .subcommand_required(true)
         .subcommand(planner(
             alloc,
@@ -183,7 +206,7 @@ fn runner<'a>(alloc: Global, name: &'a str, about: &'a str) -> Result<Command<'a
             alloc,
             "tries",
             "N",
-            "Try at most N times, from 1 to 16 [default: 1]",
+            "Try at most N times, from 1 to 16 [default: 3]",
         ))?
         .arg(valued(
             alloc,
@@ -201,6 +224,12 @@ fn planner<'a>(alloc: Global, name: &'a str, about: &'a str) -> Result<Command<'
             "at-most",
             "N",
             "Move the first N stranded entries alone",
+        ))?
+        .arg(valued(
+            alloc,
+            "idle-over",
+            "MS",
+            "Move those entries alone that have been idle for MS milliseconds [default: 0]",
         ))?
         .arg(
             Arg::new(alloc, "check")

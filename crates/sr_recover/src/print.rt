@@ -18,7 +18,10 @@ struct Share {
     cost: u64,
 }
 
-/// Prints a plan with its prices, or that there is none, and the entries that no plan moves.
+/// How many entries that are gone are printed at most.
+const MAX_GONE: usize = 20;
+
+/// Prints a plan with its prices, or that there is none, and how many entries are gone, of which it prints the first.
 pub(crate) fn print_plan<W: Write>(
     out: &mut W,
     alloc: Global,
@@ -28,7 +31,17 @@ pub(crate) fn print_plan<W: Write>(
         Some(total) => print_shares(out, alloc, verdict, total)?,
         None => print_shortage(out, verdict)?,
     }
-    for (id, owner) in verdict.gone() {
+    print_gone(out, alloc, verdict.gone())
+}
+
+/// Prints how many entries are gone, and the first of them, which no plan moves.
+fn print_gone<W: Write>(out: &mut W, alloc: Global, gone: &[(Id, Name)]) -> Result<(), Fault> {
+    if gone.is_empty() {
+        return Ok(());
+    }
+    print_number(out, b"gone: ", gone.len() as u64)?;
+    say(out, b"\n")?;
+    for (id, owner) in gone.iter().take(MAX_GONE) {
         say(out, b"gone ")?;
         print_id(out, *id)?;
         say(out, b" of ")?;
@@ -194,13 +207,35 @@ pub(crate) fn print_unknown<W: Write>(
     numbers: &[(Name, u64)],
 ) -> Result<(), Fault> {
     for name in dead {
-        if !numbers.iter().any(|number| number.0 == *name) {
+        if !is_in(numbers, name) {
             say(out, b"note: the group has no consumer ")?;
             print_name(out, alloc, name.as_slice())?;
             say(out, b"\n")?;
         }
     }
     Ok(())
+}
+
+/// Notes each consumer that is given entries and that the group does not have: nobody may be there to read them.
+pub(crate) fn print_newcomers<W: Write>(
+    out: &mut W,
+    alloc: Global,
+    verdict: &Verdict,
+    numbers: &[(Name, u64)],
+) -> Result<(), Fault> {
+    for (place, consumer) in verdict.snapshot().live().iter().enumerate() {
+        if !is_in(numbers, &consumer.name) && share_of(verdict, consumer, place).entries > 0 {
+            say(out, b"note: the group has no consumer ")?;
+            print_name(out, alloc, consumer.name.as_slice())?;
+            say(out, b", and the plan gives it entries\n")?;
+        }
+    }
+    Ok(())
+}
+
+/// Whether the group has the consumer.
+fn is_in(numbers: &[(Name, u64)], name: &Name) -> bool {
+    numbers.iter().any(|number| number.0 == *name)
 }
 
 /// Prints a number behind a text.

@@ -2,11 +2,13 @@
 ghost use Rattle.std.specs.Prelude.{None};
 ghost use Rattle.sr_peer.specs.Exchange.{IsOfConnection};
 
-use crate::fault::{Fault, peer_fault, text_of};
+use crate::errors::advice_for;
+use crate::fault::{Fault, peer_fault, text_of, why};
+use crate::place::Place;
 use sr_peer::{Part, Peer, PeerFault, append_header, append_number, append_word, ask};
 use std::alloc::{AllocError, Global};
-use std::io::{ErrorKind, Read, Write};
-use std::net::{TcpStream, ToSocketAddrs};
+use std::io::{Error, ErrorKind, Read, Write};
+use std::net::{SocketAddr, TcpStream, ToSocketAddrs};
 use std::time::Duration;
 
 /// How many bytes one read takes at most.
@@ -16,6 +18,15 @@ const PIECE: usize = 16_384;
 #[derive(Drop)]
 pub(crate) struct Wire {
     stream: TcpStream,
+    /// Whether the last request was an EVAL.
+    is_eval: bool,
+}
+
+impl Wire {
+    /// The word by which a script was called, if it was by the last request.
+    pub(crate) fn script(&self) -> &'static str {
+        if self.is_eval { "EVAL" } else { "EVALSHA" }
+    }
 }
 
 impl Peer for Wire {
@@ -24,6 +35,7 @@ impl Peer for Wire {
     ghost got = { λ _. None };
 
     fn send(&mut self, bytes: &[u8]) -> Result<(), PeerFault> {
+        self.is_eval = first_word(bytes) == Some(b"EVAL");
         match self.stream.write_all(bytes) {
             Ok(()) => Ok(()),
             Err(error) => Err(fault_of(error.kind())),
@@ -43,6 +55,14 @@ impl Peer for Wire {
     }
 }
 
+/// The first word of a request, which has no line end.
+fn first_word(request: &[u8]) -> Option<&[u8]> {
+    let mut lines = request.split(|byte| *byte == b'\n');
+    lines.next()?;
+    lines.next()?;
+    lines.next()?.strip_suffix(b"\r")
+}
+
 /// Why a read or a write did not succeed.
 fn fault_of(kind: ErrorKind) -> PeerFault
     ensures { IsOfConnection result }
@@ -55,28 +75,56 @@ fn fault_of(kind: ErrorKind) -> PeerFault
 }
 
 /// Connects to one of the addresses that a host and a port stand for.
-pub(crate) fn connect(rt: &HostRuntime, place: &str, timeout: u64) -> Result<Wire, Fault> {
+pub(crate) fn connect(rt: &HostRuntime, place: &Place, timeout: u64) -> Result<Wire, Fault> {
     let limit = Duration::from_millis(timeout);
-    let Ok(addresses) = place.to_socket_addrs(rt) else {
-        return Err(Fault::Address);
+    let addresses = match (place.host.as_str(), place.port).to_socket_addrs(rt) {
+        Ok(addresses) => addresses,
+        Err(error) => return Err(host_fault(rt.alloc(), place, error)),
     };
+    let mut refused = Error::from(ErrorKind::AddrNotAvailable);
     for address in addresses {
-        if let Ok(stream) = TcpStream::connect_timeout(rt, &address, limit) {
-            return limited(stream, limit);
+        match connect_to(rt, address, limit) {
+            Ok(wire) => return Ok(wire),
+            Err(error) => refused = error,
         }
     }
-    Err(Fault::Connect)
+    Err(connect_fault(rt.alloc(), place, refused))
 }
 
-/// The connection, on which a read and a write may take so long.
-fn limited(stream: TcpStream, limit: Duration) -> Result<Wire, Fault> {
-    if stream.set_read_timeout(Some(limit)).is_err()
-        || stream.set_write_timeout(Some(limit)).is_err()
-    {
-        return Err(Fault::Connect);
-    }
+/// A connection to an address, on which a read and a write may take so long, as the connecting may.
+fn connect_to(rt: &HostRuntime, address: SocketAddr, limit: Duration) -> Result<Wire, Error> {
+    let stream = TcpStream::connect_timeout(rt, &address, limit)?;
+    stream.set_read_timeout(Some(limit))?;
+    stream.set_write_timeout(Some(limit))?;
     let _ = stream.set_nodelay(true);
-    Ok(Wire { stream })
+    Ok(Wire {
+        stream,
+        is_eval: false,
+    })
+}
+
+/// What it is to the user that a host has no address.
+fn host_fault(alloc: Global, place: &Place, error: Error) -> Fault {
+    if error.kind() == ErrorKind::OutOfMemory {
+        return Fault::Memory;
+    }
+    match (text_of(alloc, place.host.as_bytes()), why(alloc, &error)) {
+        (Ok(host), Ok(why)) => Fault::Host(host, why),
+        _ => Fault::Memory,
+    }
+}
+
+/// What it is to the user that there is no connection.
+fn connect_fault(alloc: Global, place: &Place, error: Error) -> Fault {
+    let advice = match error.kind() {
+        ErrorKind::ConnectionRefused => ". Is Redis running there, and is this its port?",
+        ErrorKind::TimedOut => ". Is a firewall in between? --timeout MS is how long it waits",
+        _ => ". Can it be reached from here?",
+    };
+    match (place.shown(alloc), why(alloc, &error)) {
+        (Ok(place), Ok(why)) => Fault::Connect(place, why, advice),
+        _ => Fault::Memory,
+    }
 }
 
 /// Tells Redis who asks. Without a password nothing is sent.
@@ -92,7 +140,10 @@ pub(crate) fn authenticate(
     let request = auth_request(alloc, user, password)?;
     match refusal(wire, alloc, request.as_slice(), "AUTH")? {
         None => Ok(()),
-        Some(text) => Err(Fault::Auth(untold(alloc, text)?)),
+        Some(text) => match advice_for(text.as_bytes()) {
+            "" => Err(Fault::Auth(untold(alloc, text)?)),
+            advice => Err(Fault::ErrorReply("AUTH", text, advice)),
+        },
     }
 }
 
@@ -116,7 +167,10 @@ pub(crate) fn select(wire: &mut Wire, alloc: Global, database: u64) -> Result<()
     append_number(&mut request, database)?;
     match refusal(wire, alloc, request.as_slice(), "SELECT")? {
         None => Ok(()),
-        Some(text) => Err(Fault::ErrorReply("SELECT", text, "")),
+        Some(text) => {
+            let advice = advice_for(text.as_bytes());
+            Err(Fault::ErrorReply("SELECT", text, advice))
+        }
     }
 }
 

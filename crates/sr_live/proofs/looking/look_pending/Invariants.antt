@@ -7,4 +7,4 @@ abbrev pub invariant-loop : goal.invariant-loop
 invariant-loop g l =
     (talk : List Exchange)
     × Talks (g.P.Peer.sent l.fn.peer) (g.P.Peer.got l.fn.peer) (g.P.Peer.sent l.peer) (g.P.Peer.got l.peer) talk
-    × Pages l.full l.asked.key l.asked.group l.name (codes "-") talk l.ids.items
+    × Pages l.full l.asked.key l.asked.group l.asked.idle l.name (codes "-") talk l.ids.items

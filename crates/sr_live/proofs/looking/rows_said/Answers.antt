@@ -27,4 +27,4 @@ returns c =
     on_ok_weaker c.end.result
     (λ none. AreSaid-all c.args.parts c.loop-id.parts c.args.listed.now c.loop-id.id-index c.args.rows.now.items
     c.loop-id.rows.items c.loop-id-test.false none c.loop-id.invariant)
-    c.end.ensures
+    c.end.ensures.ok

@@ -1,76 +1,100 @@
-use Rattle.std.proofs.Common.{rules, ◌≡◌, IfSome, List, [], ◌∷◌, ◌++◌, Option, Some, subst, sym, append_assoc}
-use Rattle.sr_live.specs.declared.rounds.Planned.{Planned}
-use Rattle.sr_live.specs.Conclusion.{SaysConcluded, script_call}
-use Rattle.sr_live.specs.Looking.{Exchange, Talks}
-use Rattle.sr_live.specs.Rounds.{IsPlanned}
+use Rattle.std.proofs.Common.{rules, ◌≡◌, List, None, Some, subst}
+use Rattle.sr_live.specs.declared.conclusion.Concluded.TheVariants as concluded
+use Rattle.sr_live.specs.Rounds.{IsJudged, IsPlanned}
+use Rattle.sr_live.specs.Conclusion.{SaysConcluded}
 use Rattle.sr_live.specs.Words.{last_word, words_for}
-use Rattle.sr_live.proofs.TalkLemmas.{Talks-trans}
+use Rattle.sr_live.proofs.ReadingLemmas.{IsLooked-reads, reads-whole}
+use Rattle.sr_live.proofs.RoundsLemmas.{broken-at-script, broken-memory, broken-off, concluded-from, done-made}
+use Rattle.sr_live.proofs.RoundsLemmas.{done-unfit, short-from-none}
 use Rattle.sr_live.proofs.rounds.round.Goals as goal
 
+pub returns-in_err-planned-clause-err : goal.returns-in_err-planned-clause-err
+returns-in_err-planned-clause-err g c =
+    broken-off c.args.policy.now c.args.asked.now c.args.terms _ _
+    (g.P.Peer.sent c.args.peer.now) (g.P.Peer.got c.args.peer.now) _ _ c.from_residual.result _
+    c.from_residual.ensures.1 c.in_err-planned.ensures.err
+
+pub returns-in_err-words-clause-err : goal.returns-in_err-words-clause-err
+returns-in_err-words-clause-err g c =
+    let seen = c.in_ok-planned.ensures.ok in
+    let is : IsPlanned c.args.policy.now c.args.asked.now c.args.terms.at_most seen.0 c.in-Some.planned =
+    subst (IsJudged c.args.policy.now c.args.asked.now c.args.terms.at_most seen.0) c.in-Some.is seen.2 in
+    broken-memory c.args.policy.now c.args.asked.now c.args.terms _ _
+    (g.P.Peer.sent c.args.peer.now) (g.P.Peer.got c.args.peer.now) _ _ c.from_residual-in_err-words.result
+    c.from_residual-in_err-words.ensures.1
+    (reads-whole _ _ _ _ seen.0 seen.1 (IsLooked-reads _ _ c.args.asked.now.idle _ _ _ _ is.looked))
+
 -- there is no plan
-pub returns-in_default-2-clause-ran : goal.returns-in_default-2-clause-ran
-returns-in_default-2-clause-ran g c =
-    let seen = c.in_ok-planned.ensures in
-    record {
-      earlier = [];
-      talk = seen.0;
-      planned_so = subst (λ (planned : Option Planned). IfSome planned (IsPlanned c.args.policy.now c.args.asked.now
-          c.args.terms.at_most seen.0))
-          c.in-Some.is seen.2;
-      talks = seen.1;
-    }
-
--- the group was looked up, and then the script was called
-pub returns-in-Done-clause-all : goal.returns-in-Done-clause-all
-returns-in-Done-clause-all g c =
-    let seen = c.in_ok-planned.ensures in
-    let told = c.in_ok-claimed.ensures in
-    (_, Talks-trans _ _ _ _ _ _ _ _ seen.1 told.4)
-
-pub returns-in-Done-clause-ran : goal.returns-in-Done-clause-ran
-returns-in-Done-clause-ran g c =
-    let seen = c.in_ok-planned.ensures in
-    let told = c.in_ok-claimed.ensures in
+pub returns-in_default-2-clause-ok : goal.returns-in_default-2-clause-ok
+returns-in_default-2-clause-ok g c =
+    let seen = c.in_ok-planned.ensures.ok in
     let planned = c.in-Some.planned in
-    let are_words : words_for planned.verdict.snapshot.group c.args.terms.within (last_word planned.last)
-    planned.looked.rows.items planned.verdict.snapshot planned.verdict.answer ≡ Some c.as_slice.result.now =
+    let is : IsPlanned c.args.policy.now c.args.asked.now c.args.terms.at_most seen.0 planned =
+    subst (IsJudged c.args.policy.now c.args.asked.now c.args.terms.at_most seen.0) c.in-Some.is seen.2 in
+    let none : words_for planned.verdict.snapshot.group c.args.terms.within (last_word planned.last)
+    c.args.asked.now.idle planned.looked.rows.items planned.verdict.snapshot planned.verdict.answer ≡ None =
     search rules in
-    record {
-      earlier = [];
-      talk = seen.0;
-      before = told.0;
-      by = told.1;
-      script = told.2;
-      words = c.as_slice.result.now;
-      parts = told.3;
-      planned_so = subst (λ (planned : Option Planned). IfSome planned (IsPlanned c.args.policy.now c.args.asked.now
-          c.args.terms.at_most seen.0))
-          c.in-Some.is seen.2;
-      are_words = are_words;
-      talks = Talks-trans _ _ _ _ _ _ _ _ seen.1 told.4;
-      says = subst (SaysConcluded told.3) c.in-Done.is told.5;
-    }
+    let shortage = short-from-none planned.verdict.snapshot.group c.args.terms.within (last_word planned.last)
+    c.args.asked.now.idle planned.looked.rows.items planned.verdict.snapshot planned.verdict.answer none in
+    (seen.0, seen.1, record { planned_so = is; set = shortage.0; shortage = shortage.1 })
 
-pub returns-in-Stale-clause-all : goal.returns-in-Stale-clause-all
-returns-in-Stale-clause-all g c =
-    let seen = c.in_ok-planned.ensures in
-    let told = c.in_ok-claimed.ensures in
-    (_, Talks-trans _ _ _ _ _ _ _ _ seen.1 told.4)
+pub returns-in_err-claimed-clause-err : goal.returns-in_err-claimed-clause-err
+returns-in_err-claimed-clause-err g c =
+    let seen = c.in_ok-planned.ensures.ok in
+    let planned = c.in-Some.planned in
+    let is : IsPlanned c.args.policy.now c.args.asked.now c.args.terms.at_most seen.0 planned =
+    subst (IsJudged c.args.policy.now c.args.asked.now c.args.terms.at_most seen.0) c.in-Some.is seen.2 in
+    let are_words : words_for planned.verdict.snapshot.group c.args.terms.within (last_word planned.last)
+    c.args.asked.now.idle planned.looked.rows.items planned.verdict.snapshot planned.verdict.answer
+    ≡ Some c.as_slice.result.now = search rules in
+    broken-at-script c.args.policy.now c.args.asked.now c.args.terms _ _ _ _ _ _ c.from_residual-in_err-claimed.result _ planned
+    seen.0 c.as_slice.result.now c.from_residual-in_err-claimed.ensures.1 seen.1 is are_words c.in_err-claimed.ensures.err
 
-pub returns-in-Stale-clause-ran : goal.returns-in-Stale-clause-ran
-returns-in-Stale-clause-ran g c =
-    let seen = c.in_ok-planned.ensures in
-    let told = c.in_ok-claimed.ensures in
-    let last : List Exchange = (script_call told.1 told.2 c.args.asked.now.key c.as_slice.result.now, told.3) ∷ [] in
-    record {
-      before = seen.0 ++ told.0;
-      by = told.1;
-      script = told.2;
-      words = c.as_slice.result.now;
-      parts = told.3;
-      talks = subst (Talks (g.P.Peer.sent c.args.peer.now) (g.P.Peer.got c.args.peer.now)
-          (g.P.Peer.sent c.conclude.new.peer) (g.P.Peer.got c.conclude.new.peer))
-          (sym (append_assoc seen.0 told.0 last))
-          (Talks-trans _ _ _ _ _ _ _ _ seen.1 told.4);
-      says = subst (SaysConcluded told.3) c.in-Stale.is told.5;
-    }
+pub returns-in-Stale-clause-ok : goal.returns-in-Stale-clause-ok
+returns-in-Stale-clause-ok g c =
+    let seen = c.in_ok-planned.ensures.ok in
+    let told = c.in_ok-claimed.ensures.ok in
+    let planned = c.in-Some.planned in
+    let is : IsPlanned c.args.policy.now c.args.asked.now c.args.terms.at_most seen.0 planned =
+    subst (IsJudged c.args.policy.now c.args.asked.now c.args.terms.at_most seen.0) c.in-Some.is seen.2 in
+    let are_words : words_for planned.verdict.snapshot.group c.args.terms.within (last_word planned.last)
+    c.args.asked.now.idle planned.looked.rows.items planned.verdict.snapshot planned.verdict.answer
+    ≡ Some c.as_slice.result.now = search rules in
+    let so = concluded-from c.args.policy.now c.args.asked.now c.args.terms _ _ _ _ _ _ planned
+    (concluded.Stale c.in-Stale.what c.in-Stale.of) seen.0 c.as_slice.result.now seen.1 is are_words
+    (told.0, told.1, told.2, told.3, told.4, subst (SaysConcluded told.2) c.in-Stale.is told.5) in
+    (so.0, so.1, record { planned = planned; concluded = so.2 })
+
+pub returns-in-Done-clause-ok : goal.returns-in-Done-clause-ok
+returns-in-Done-clause-ok g c =
+    let seen = c.in_ok-planned.ensures.ok in
+    let told = c.in_ok-claimed.ensures.ok in
+    let planned = c.in-Some.planned in
+    let is : IsPlanned c.args.policy.now c.args.asked.now c.args.terms.at_most seen.0 planned =
+    subst (IsJudged c.args.policy.now c.args.asked.now c.args.terms.at_most seen.0) c.in-Some.is seen.2 in
+    let are_words : words_for planned.verdict.snapshot.group c.args.terms.within (last_word planned.last)
+    c.args.asked.now.idle planned.looked.rows.items planned.verdict.snapshot planned.verdict.answer
+    ≡ Some c.as_slice.result.now = search rules in
+    done-made c.args.policy.now c.args.asked.now c.args.terms _ _
+    (g.P.Peer.sent c.args.peer.now) (g.P.Peer.got c.args.peer.now) _ _ c.done.result planned c.in-Done.claimed
+    c.in-Done.gap c.done.ensures.ok
+    (concluded-from c.args.policy.now c.args.asked.now c.args.terms _ _ _ _ _ _ planned
+    (concluded.Done c.in-Done.claimed c.in-Done.gap) seen.0 c.as_slice.result.now seen.1 is are_words
+    (told.0, told.1, told.2, told.3, told.4, subst (SaysConcluded told.2) c.in-Done.is told.5))
+
+pub returns-in-Done-clause-err : goal.returns-in-Done-clause-err
+returns-in-Done-clause-err g c =
+    let seen = c.in_ok-planned.ensures.ok in
+    let told = c.in_ok-claimed.ensures.ok in
+    let planned = c.in-Some.planned in
+    let is : IsPlanned c.args.policy.now c.args.asked.now c.args.terms.at_most seen.0 planned =
+    subst (IsJudged c.args.policy.now c.args.asked.now c.args.terms.at_most seen.0) c.in-Some.is seen.2 in
+    let are_words : words_for planned.verdict.snapshot.group c.args.terms.within (last_word planned.last)
+    c.args.asked.now.idle planned.looked.rows.items planned.verdict.snapshot planned.verdict.answer
+    ≡ Some c.as_slice.result.now = search rules in
+    done-unfit c.args.policy.now c.args.asked.now c.args.terms _ _
+    (g.P.Peer.sent c.args.peer.now) (g.P.Peer.got c.args.peer.now) _ _ c.done.result planned c.in-Done.claimed
+    c.in-Done.gap c.done.ensures.err
+    (concluded-from c.args.policy.now c.args.asked.now c.args.terms _ _ _ _ _ _ planned
+    (concluded.Done c.in-Done.claimed c.in-Done.gap) seen.0 c.as_slice.result.now seen.1 is are_words
+    (told.0, told.1, told.2, told.3, told.4, subst (SaysConcluded told.2) c.in-Done.is told.5))

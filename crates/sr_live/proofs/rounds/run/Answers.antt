@@ -1,34 +1,82 @@
-use Rattle.std.proofs.Common.{◌++◌, ◌∙◌, IfOk, Result, Some, ap, subst, sym}
+use Rattle.std.proofs.Common.{rules, ◌≡◌, ◌+◌, ◌<◌, ◌≤◌, IfErr, IfOk, Result, Err, Ok, None, Some, inl, inr, refl, subst, sym}
+use Rattle.std.proofs.Common.{arith}
+use Rattle.std.proofs.lemmas.Result.{IfErr-weaker, IfOk-weaker}
 use Rattle.sr_live.specs.declared.fault.LiveFault.{LiveFault}
+use Rattle.sr_live.specs.declared.fault.LiveFault.TheVariants.{Changed}
 use Rattle.sr_live.specs.declared.rounds.Ran.{Ran}
-use Rattle.sr_live.specs.declared.rounds.Ran.TheVariants.{Stale}
-use Rattle.sr_live.specs.Rounds.{HasRun}
-use Rattle.sr_live.proofs.RoundsLemmas.{HasRun-next}
-use Rattle.sr_live.proofs.TalkLemmas.{Talks-trans}
+use Rattle.sr_live.specs.declared.rounds.Ran.TheVariants.{Done, Impossible, Stale}
+use Rattle.sr_live.specs.Rounds.{HasMade}
+use Rattle.sr_live.proofs.RoundsLemmas.{IsStaleAt, made-at, run-changed, run-failed, run-made, run-stale, so-far-next}
+use Rattle.sr_live.proofs.RoundsLemmas.{so-far-none, stale-next}
 use Rattle.sr_live.proofs.rounds.run.Goals.{in-None, in-Some-Stale}
 use Rattle.sr_live.proofs.rounds.run.Goals as goal
 
-pub returns-in-Some : goal.returns-in-Some
-returns-in-Some g c =
-    let before = c.loop.invariant.0 in
-    HasRun-next c.args.policy.now c.args.asked.now c.args.terms _ _ _ _ _ _ before.0 c.in_ok-round.field-0
-    c.in-Some.told before.1 c.in_ok-round.ensures.ran c.in-Some.is
+pub loop-tried-init : goal.loop-tried-init
+loop-tried-init g c = record {
+  so_far = so-far-none c.args.policy.now c.args.asked.now c.args.terms _ _;
+  stale = tt;
+  changed = refl;
+}
 
-pub loop-preserved : goal.loop-preserved
-loop-preserved g c =
-    let before = c.loop.invariant.0 in
-    let now = c.in_ok-round.ensures.all in
-    let HasRunNow : Ran → Type 0 = HasRun c.args.policy.now c.args.asked.now c.args.terms
-    (g.P.Peer.sent c.args.peer.now) (g.P.Peer.got c.args.peer.now) (g.P.Peer.sent c.round.new.peer)
-    (g.P.Peer.got c.round.new.peer) in (
-      (before.0 ++ now.0, Talks-trans _ _ _ _ _ _ _ _ before.1 now.1),
-      elim c.match-branch-2.branch [
-        | in-None w ↦ subst (λ (ran : Result Ran LiveFault). IfOk ran HasRunNow) (sym w.ran-is) tt
-        | in-Some-Stale w ↦
-            let stale = w.in-Some-Stale in
-            subst (λ (ran : Result Ran LiveFault). IfOk ran HasRunNow) (sym w.ran-is)
-            (HasRun-next c.args.policy.now c.args.asked.now c.args.terms _ _ _ _ _ _ before.0
-            c.in_ok-round.field-0 (Stale stale.what stale.of) before.1 c.in_ok-round.ensures.ran
-            (stale.is ∙ ap (λ (ran : Ran). Some ran) stale.field-0-is))
-      ],
-    )
+pub returns-in_err-round-clause-err : goal.returns-in_err-round-clause-err
+returns-in_err-round-clause-err g c =
+    run-failed c.args.policy.now c.args.asked.now c.args.terms _ _ _ _ _ _ c.loop-tried._tried
+    c.from_residual.result _ c.from_residual.ensures.1 c.loop-tried-test.true c.loop-tried.invariant.so_far
+    c.in_err-round.ensures.err
+
+pub returns-in-Some-Impossible-clause-ok : goal.returns-in-Some-Impossible-clause-ok
+returns-in-Some-Impossible-clause-ok g c =
+    let now = c.in_ok-round.ensures.ok in
+    run-made c.args.policy.now c.args.asked.now c.args.terms _ _ _ _ _ _ c.loop-tried._tried
+    (Impossible c.in-Some-Impossible.planned) now.0 c.loop-tried.invariant.so_far now.1
+    (made-at c.args.policy.now c.args.asked.now c.args.terms now.0 _ _ _ c.in-Some-Impossible.is
+    c.in-Some-Impossible.field-0-is now.2)
+    (omega (arith, c.loop-tried-test.true))
+
+pub returns-in-Some-Done-clause-ok : goal.returns-in-Some-Done-clause-ok
+returns-in-Some-Done-clause-ok g c =
+    let now = c.in_ok-round.ensures.ok in
+    run-made c.args.policy.now c.args.asked.now c.args.terms _ _ _ _ _ _ c.loop-tried._tried
+    (Done c.in-Some-Done.planned c.in-Some-Done.claimed c.in-Some-Done.gap) now.0 c.loop-tried.invariant.so_far now.1
+    (made-at c.args.policy.now c.args.asked.now c.args.terms now.0 _ _ _ c.in-Some-Done.is
+    c.in-Some-Done.field-0-is now.2)
+    (omega (arith, c.loop-tried-test.true))
+
+pub loop-tried-preserved : goal.loop-tried-preserved
+loop-tried-preserved g c =
+    let now = c.in_ok-round.ensures.ok in
+    let before = c.loop-tried.invariant.so_far in
+    elim c.match-branch-2.branch [
+      | in-None w ↦ record {
+        so_far = so-far-next c.args.policy.now c.args.asked.now c.args.terms _ _ _ _ _ _ c.loop-tried._tried now.0
+            before now.1 (inl (subst (HasMade c.args.policy.now c.args.asked.now c.args.terms now.0) w.in-None.is now.2));
+        stale = rw w.ran-is tt;
+        changed = rw w.ran-is refl;
+      }
+      | in-Some-Stale w ↦
+          let one = w.in-Some-Stale in
+          let made = made-at c.args.policy.now c.args.asked.now c.args.terms now.0 _ _ (Stale one.what one.of) one.is
+          one.field-0-is now.2 in
+          record {
+            so_far = so-far-next c.args.policy.now c.args.asked.now c.args.terms _ _ _ _ _ _ c.loop-tried._tried now.0
+                before now.1 (inr (one.what, one.of, made));
+            stale = rw w.ran-is (stale-next c.args.policy.now c.args.asked.now c.args.terms _ _ _ _ _ _
+                c.loop-tried._tried one.what one.of now.0 before now.1 made);
+            changed = rw w.ran-is tt;
+          }
+    ]
+
+pub returns-clause-ok : goal.returns-clause-ok
+returns-clause-ok g c =
+    let all : c.loop-tried._tried ≡ c.args.terms.tries = omega arith in
+    IfOk-weaker c.loop-tried.ran _ _
+    (run-stale c.args.policy.now c.args.asked.now c.args.terms _ _ _ _ c.loop-tried._tried all)
+    c.loop-tried.invariant.stale
+
+pub returns-clause-err : goal.returns-clause-err
+returns-clause-err g c =
+    let all : c.loop-tried._tried ≡ c.args.terms.tries = omega arith in
+    IfErr-weaker c.loop-tried.ran _ _
+    (λ fault is. run-changed c.args.policy.now c.args.asked.now c.args.terms _ _ _ _ c.loop-tried._tried all fault is
+    c.loop-tried.invariant.so_far)
+    c.loop-tried.invariant.changed

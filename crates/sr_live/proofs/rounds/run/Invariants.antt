@@ -1,11 +1,13 @@
-use Rattle.std.proofs.Common.{List, IfOk}
-use Rattle.sr_live.specs.Looking.{Exchange, Talks}
-use Rattle.sr_live.specs.Rounds.{HasRun}
+use Rattle.std.proofs.Common.{◌≡◌, IfErr, IfOk}
+use Rattle.sr_live.specs.declared.fault.LiveFault.TheVariants.{Changed}
+use Rattle.sr_live.proofs.RoundsLemmas.{IsStaleAt, SoFar}
 use Rattle.sr_live.proofs.rounds.run.Given as goal
 
-abbrev pub invariant-loop : goal.invariant-loop
-invariant-loop g l =
-    ((talk : List Exchange) × Talks (g.P.Peer.sent l.initial.peer) (g.P.Peer.got l.initial.peer)
-    (g.P.Peer.sent l.peer) (g.P.Peer.got l.peer) talk)
-    × IfOk l.ran (HasRun l.policy l.asked l.terms (g.P.Peer.sent l.initial.peer) (g.P.Peer.got l.initial.peer)
-    (g.P.Peer.sent l.peer) (g.P.Peer.got l.peer))
+abbrev pub invariant-loop-tried : goal.invariant-loop-tried
+invariant-loop-tried g l = record {
+  so_far : SoFar l.policy l.asked l.terms (g.P.Peer.sent l.initial.peer) (g.P.Peer.got l.initial.peer)
+      (g.P.Peer.sent l.peer) (g.P.Peer.got l.peer) l._tried;
+  stale : IfOk l.ran (IsStaleAt l.policy l.asked l.terms (g.P.Peer.sent l.initial.peer)
+      (g.P.Peer.got l.initial.peer) (g.P.Peer.sent l.peer) (g.P.Peer.got l.peer) l._tried);
+  changed : IfErr l.ran (λ fault. fault ≡ Changed);
+}

@@ -16,6 +16,6 @@ returns c =
       text,
       spells,
       fields-spelled text fields c.in_ok-header.field-0 c.in_ok-places.places all c.header.new.parts
-          c.id_said.new.parts c.header-2.new.parts rest c.if-branch-ne2.false (omega arith) c.in_ok-header.ensures
-          c.in_ok-id_said.ensures.2 c.in_ok-places.ensures has.1,
+          c.id_said.new.parts c.header-2.new.parts rest c.if-branch-ne2.false (omega arith) c.in_ok-header.ensures.ok
+          c.in_ok-id_said.ensures.2 c.in_ok-places.ensures.ok has.1,
     )) c.pairs_said.ensures

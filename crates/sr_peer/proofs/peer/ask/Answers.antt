@@ -1,4 +1,5 @@
-use Rattle.std.proofs.Common.{rules, ◌≡◌, ◌++◌, ◌∙◌, List, Option, ℕ, ap, subst, sym}
+use Rattle.std.proofs.Common.{rules, ◌≡◌, ◌++◌, ◌∙◌, List, [], Option, ℕ, ap, append-nil, subst, sym}
+use Rattle.std.proofs.lemmas.Result.{err_from_is_err_and}
 use Rattle.std.specs.Io.KnownBytes.{Appends}
 use Rattle.std.proofs.KnownBytes.{Appends-trans}
 use Rattle.sr_peer.specs.Arriving.{CannotBecome, Outgrows}
@@ -45,3 +46,15 @@ loop-alloc-preserved g c =
       count = ap (λ a. a.count) c.in-Ok.ensures.ok ∙ c.loop-alloc.invariant.count;
       short = search rules;
     }
+
+-- the requests were sent as a whole, and then nothing came
+pub returns-in_err-piece-clause-err : goal.returns-in_err-piece-clause-err
+returns-in_err-piece-clause-err g c =
+    let told = err_from_is_err_and c.from_residual-in_err-piece.result c.from_residual-in_err-piece.ensures.1 in
+    rw told.1 (record {
+      front = c.args.requests.now;
+      rest = [];
+      splits = sym (append-nil c.args.requests.now);
+      sends = subst (λ (s : Option (List ℕ)). Appends (g.P.Peer.sent c.args.peer.now) s c.args.requests.now)
+          (sym c.receive.ensures.sent) c.loop-alloc.invariant.sent;
+    })

@@ -1,0 +1,222 @@
+-- Calls that only read: of a look-up that breaks off, what was sent before and what is sent then add up.
+use Rattle.std.proofs.Common.{◌≡◌, ℕ, List, [], ◌∷◌, ◌++◌, map, codes, Option, Result, Err, refl, sym, ap, ◌∙◌, subst}
+use Rattle.std.proofs.Common.{Bool, true, false, Ok, append-nil, append_assoc, arith, inl, inr}
+use Rattle.std.proofs.KnownBytes.{Appends-nil, Appends-trans}
+use Rattle.std.proofs.lemmas.List.Concat.{flat_map-append}
+use Rattle.std.proofs.lemmas.Result.{err_from_is_err_and}
+use Rattle.std.specs.Io.KnownBytes.{Appends}
+use Rattle.std.specs.List.{AllByRecursion, flat_map}
+use Rattle.std.specs.Result.{IfErr, IsErrAnd}
+use Rattle.sr_ids.specs.declared.id.Id.{Id}
+use Rattle.sr_policy.specs.{Text}
+use Rattle.sr_peer.specs.{Part, Array, request_text}
+use Rattle.sr_peer.specs.Exchange.{SendsPart}
+use Rattle.sr_live.specs.declared.fault.LiveFault.{LiveFault}
+use Rattle.sr_live.specs.declared.fault.LiveFault.TheVariants.{Memory}
+use Rattle.sr_live.specs.declared.looked.Row.{Row}
+use Rattle.sr_live.specs.Looking.{Exchange, IsLooked, ListsDead, ListsPages, LooksEntries, Talks, asked_of}
+use Rattle.sr_live.specs.Looking.{consumers_call, entry_call, pending_call, start_behind}
+use Rattle.sr_live.specs.Reading.{BreaksOff, HasOnlyRead, IsOfLooking, Reads}
+use Rattle.sr_live.proofs.TalkLemmas.{FullPages, Pages}
+
+-- ---- what was sent
+
+reads-append : (xs ys : List (List Text)) → AllByRecursion Reads xs → AllByRecursion Reads ys
+    → AllByRecursion Reads (xs ++ ys)
+reads-append [] ys first then = then
+reads-append (x ∷ xs) ys first then = (first.0, reads-append xs ys first.1 then)
+
+reads-front : (xs ys : List (List Text)) → AllByRecursion Reads (xs ++ ys) → AllByRecursion Reads xs
+reads-front [] ys all = tt
+reads-front (x ∷ xs) ys all = (all.0, reads-front xs ys all.1)
+
+-- the calls of a talk
+abbrev pub calls_of : List Exchange → List (List Text)
+calls_of talk = map (λ (exchange : Exchange). exchange.0) talk
+
+-- they only read
+abbrev pub AreReading : List Exchange → Type 0
+AreReading talk = AllByRecursion Reads (calls_of talk)
+
+calls_of-append : (xs ys : List Exchange) → calls_of (xs ++ ys) ≡ calls_of xs ++ calls_of ys
+calls_of-append [] ys = refl
+calls_of-append (x ∷ xs) ys = ap (λ (calls : List (List Text)). x.0 ∷ calls) (calls_of-append xs ys)
+
+pub reading-append : (xs ys : List Exchange) → AreReading xs → AreReading ys → AreReading (xs ++ ys)
+reading-append xs ys first then =
+    subst (AllByRecursion Reads) (sym (calls_of-append xs ys)) (reads-append (calls_of xs) (calls_of ys) first then)
+
+reading-front : (xs ys : List Exchange) → AreReading (xs ++ ys) → AreReading xs
+reading-front xs ys all =
+    reads-front (calls_of xs) (calls_of ys) (subst (AllByRecursion Reads) (calls_of-append xs ys) all)
+
+asked-calls : (talk : List Exchange) → flat_map request_text (calls_of talk) ≡ asked_of talk
+asked-calls [] = refl
+asked-calls (exchange ∷ talk) = ap (λ (text : List ℕ). request_text exchange.0 ++ text) (asked-calls talk)
+
+pub sends-whole : (sent sent_then : Option (List ℕ)) (bytes : List ℕ) → Appends sent sent_then bytes
+    → SendsPart sent sent_then bytes
+sends-whole sent sent_then bytes all =
+    record { front = bytes; rest = []; splits = sym (append-nil bytes); sends = all }
+
+pub reads-none : (sent : Option (List ℕ)) → HasOnlyRead sent sent
+reads-none sent = record {
+  calls = [];
+  read = tt;
+  sends = record { front = []; rest = []; splits = refl; sends = Appends-nil sent };
+}
+
+-- a request of such a call, or a part of it
+pub reads-part : (sent sent_then : Option (List ℕ)) (call : List Text) (request : List ℕ)
+    → request ≡ request_text call → Reads call → SendsPart sent sent_then request → HasOnlyRead sent sent_then
+reads-part sent sent_then call request is reads part = record {
+  calls = call ∷ [];
+  read = (reads, tt);
+  sends = record {
+    front = part.front;
+    rest = part.rest;
+    splits = append-nil (request_text call) ∙ sym is ∙ part.splits;
+    sends = part.sends;
+  };
+}
+
+-- requests for these entries, or a part of them
+entries-asked : (key : Text) (listed : List (Id × Text))
+    → flat_map request_text (map (λ (entry : Id × Text). entry_call key entry.0) listed)
+    ≡ flat_map (λ (entry : Id × Text). request_text (entry_call key entry.0)) listed
+entries-asked key [] = refl
+entries-asked key (entry ∷ listed) =
+    ap (λ (text : List ℕ). request_text (entry_call key entry.0) ++ text) (entries-asked key listed)
+
+entries-read : (key : Text) (listed : List (Id × Text))
+    → AllByRecursion Reads (map (λ (entry : Id × Text). entry_call key entry.0) listed)
+entries-read key [] = tt
+entries-read key (entry ∷ listed) = (inr (inr refl), entries-read key listed)
+
+pub reads-entries : (sent sent_then : Option (List ℕ)) (key : Text) (listed : List (Id × Text)) (requests : List ℕ)
+    → requests ≡ flat_map (λ (entry : Id × Text). request_text (entry_call key entry.0)) listed
+    → SendsPart sent sent_then requests → HasOnlyRead sent sent_then
+reads-entries sent sent_then key listed requests is part = record {
+  calls = map (λ (entry : Id × Text). entry_call key entry.0) listed;
+  read = entries-read key listed;
+  sends = record {
+    front = part.front;
+    rest = part.rest;
+    splits = entries-asked key listed ∙ sym is ∙ part.splits;
+    sends = part.sends;
+  };
+}
+
+-- such calls with their replies, and then others
+pub reads-later : (sent got sent_then got_then sent_last : Option (List ℕ)) (talk : List Exchange)
+    → Talks sent got sent_then got_then talk → AreReading talk → HasOnlyRead sent_then sent_last
+    → HasOnlyRead sent sent_last
+reads-later sent got sent_then got_then sent_last talk talks reading then = record {
+  calls = calls_of talk ++ then.calls;
+  read = reads-append (calls_of talk) then.calls reading then.read;
+  sends = record {
+    front = asked_of talk ++ then.sends.front;
+    rest = then.sends.rest;
+    splits = flat_map-append request_text (calls_of talk) then.calls
+        ∙ ap (λ (text : List ℕ). text ++ flat_map request_text then.calls) (asked-calls talk)
+        ∙ ap (λ (text : List ℕ). asked_of talk ++ text) then.sends.splits
+        ∙ sym (append_assoc (asked_of talk) then.sends.front then.sends.rest);
+    sends = Appends-trans sent sent_then sent_last (asked_of talk) then.sends.front talks.asked then.sends.sends;
+  };
+}
+
+pub reads-whole : (sent got sent_then got_then : Option (List ℕ)) (talk : List Exchange)
+    → Talks sent got sent_then got_then talk → AreReading talk → HasOnlyRead sent sent_then
+reads-whole sent got sent_then got_then talk talks reading =
+    reads-later sent got sent_then got_then sent_then talk talks reading (reads-none sent_then)
+
+-- ---- the calls of a look-up only read
+
+pub pending-reads : (key group : Text) (idle : ℕ) (start name : Text) → Reads (pending_call key group idle start name)
+pending-reads key group idle start name = inr (inl refl)
+
+pub consumers-reads : (key group : Text) → Reads (consumers_call key group)
+consumers-reads key group = inl refl
+
+pub entry-reads : (key : Text) (id : Id) → Reads (entry_call key id)
+entry-reads key id = inr (inr refl)
+
+reads-as : (call other : List Text) → call ≡ other → Reads other → Reads call
+reads-as call other is reads = subst Reads (sym is) reads
+
+pub ListsPages-reads : (key group : Text) (idle : ℕ) (name start : Text) (talk : List Exchange) (ids : List Id)
+    → ListsPages key group idle name start talk ids → AreReading talk
+ListsPages-reads key group idle name start [] ids lists = absurd lists
+ListsPages-reads key group idle name start (exchange ∷ []) ids (is, says, short) =
+    (reads-as exchange.0 (pending_call key group idle start name) is (pending-reads key group idle start name), tt)
+ListsPages-reads key group idle name start (exchange ∷ next ∷ talk) ids (front, behind, is, says, full, lists, joined) = (
+  reads-as exchange.0 (pending_call key group idle start name) is (pending-reads key group idle start name),
+  ListsPages-reads key group idle name (start_behind front) (next ∷ talk) behind lists,
+)
+
+-- pages that are all full: with an empty one after them they are pages
+FullPages-reads : (key group : Text) (idle : ℕ) (name start : Text) (talk : List Exchange) (ids : List Id)
+    → FullPages key group idle name start talk ids → AreReading talk
+FullPages-reads key group idle name start talk ids full =
+    let parts : List Part = Array 0 ∷ [] in
+    let last : Exchange = (pending_call key group idle (start_behind ids) name, parts) in
+    reading-front talk (last ∷ [])
+    (ListsPages-reads key group idle name start (talk ++ last ∷ []) (ids ++ [])
+    (full (last ∷ []) [] (refl, record { body = []; spelled = refl; rows = refl }, omega arith)))
+
+pub Pages-reads : (full : Bool) (key group : Text) (idle : ℕ) (name start : Text) (talk : List Exchange) (ids : List Id)
+    → Pages full key group idle name start talk ids → AreReading talk
+Pages-reads true key group idle name start talk ids pages = FullPages-reads key group idle name start talk ids pages
+Pages-reads false key group idle name start talk ids pages = ListsPages-reads key group idle name start talk ids pages
+
+pub ListsDead-reads : (key group : Text) (idle : ℕ) (dead : List Text) (talk : List Exchange) (listed : List (Id × Text))
+    → ListsDead key group idle dead talk listed → AreReading talk
+ListsDead-reads key group idle [] talk listed lists = subst AreReading (sym lists.0) tt
+ListsDead-reads key group idle (name ∷ dead) talk listed (own, others, ids, rest, pages, lists, talk_is, listed_is) =
+    subst AreReading (sym talk_is)
+    (reading-append own others (ListsPages-reads key group idle name (codes "-") own ids pages)
+    (ListsDead-reads key group idle dead others rest lists))
+
+pub LooksEntries-reads : (key : Text) (rows : List Row) (talk : List Exchange) → LooksEntries key rows talk
+    → AreReading talk
+LooksEntries-reads key [] talk looks = subst AreReading (sym looks) tt
+LooksEntries-reads key (row ∷ rows) talk (parts, others, says, looks, talk_is) =
+    subst AreReading (sym talk_is) (entry-reads key row.id, LooksEntries-reads key rows others looks)
+
+pub IsLooked-reads : (key group : Text) (idle : ℕ) (dead : List Text) (talk : List Exchange) (numbers : List (Text × ℕ))
+    (rows : List Row) → IsLooked key group idle dead talk numbers rows → AreReading talk
+IsLooked-reads key group idle dead talk numbers rows looked =
+    let last : List Exchange = (consumers_call key group, looked.parts) ∷ [] in
+    subst AreReading (sym looked.spelled)
+    (reading-append looked.pending (looked.entries ++ last)
+    (ListsDead-reads key group idle dead looked.pending looked.listed looked.lists)
+    (reading-append looked.entries last (LooksEntries-reads key rows looked.entries looked.looks)
+    (consumers-reads key group, tt)))
+
+-- ---- faults
+
+module _ {T : Type 0} (result : Result T LiveFault) (sent sent_then : Option (List ℕ)) where
+  -- memory was refused
+  pub breaks-memory : IsErrAnd result (λ fault. fault ≡ Memory) → HasOnlyRead sent sent_then
+      → IfErr result (BreaksOff sent sent_then)
+  breaks-memory is read =
+      let told = err_from_is_err_and result is in
+      subst (λ (r : Result T LiveFault). IfErr r (BreaksOff sent sent_then)) (sym told.1)
+      (record { looking = subst IsOfLooking (sym told.2) tt; read = read })
+
+  -- a fault is passed on
+  pub breaks-passed : (fault : LiveFault) → IsErrAnd result (λ passed. passed ≡ fault) → IsOfLooking fault
+      → HasOnlyRead sent sent_then → IfErr result (BreaksOff sent sent_then)
+  breaks-passed fault is looking read =
+      let told = err_from_is_err_and result is in
+      subst (λ (r : Result T LiveFault). IfErr r (BreaksOff sent sent_then)) (sym told.1)
+      (record { looking = subst IsOfLooking (sym told.2) looking; read = read })
+
+  -- what was read says nothing
+  pub breaks-understood : IfErr result IsOfLooking → HasOnlyRead sent sent_then → IfErr result (BreaksOff sent sent_then)
+  breaks-understood = by result
+    where
+      by : (r : Result T LiveFault) → IfErr r IsOfLooking → HasOnlyRead sent sent_then
+          → IfErr r (BreaksOff sent sent_then)
+      by (Ok value) looking read = tt
+      by (Err fault) looking read = record { looking = looking; read = read }
