@@ -1,6 +1,6 @@
 # All that is needed is the Rattle toolchain, whose command is `rt`, and the python3 that it runs on; for the whole gate also a C compiler, `cc`.
 
-.PHONY: run help try demo demo-live try-live install test replay histories plans check memory refusals compare clients live soak
+.PHONY: run help try demo demo-live try-live install test replay histories plans check memory refusals compare clients live soak soak-jobs
 .PHONY: connections bench bench-net bench-solver check-solver
 .PHONY: given given-server given-driver given-checker given-demo given-sessions given-requests given-groups given-moves given-streams
 .PHONY: given-room given-refused given-tests given-histories given-refusals given-plans given-live given-hub hub
@@ -32,7 +32,8 @@ REFUSED = examples/histories/*.history tests/histories/runs.history tests/histor
     tests/histories/commands.history tests/histories/carried-out.history tests/histories/refused-serving.history
 
 # The parts of tests/connections.py that measure no time.
-STEADY = readers_of_a_group readers_that_leave beyond_limit come_again few_descriptors half_closed long_pipelines cut
+STEADY = readers_of_a_group readers_that_leave beyond_limit come_again few_descriptors half_closed long_pipelines cut unread \
+    kept_pings kept_bytes kept_by_default kept_put_off kept_later given_back waiting_reads share adds_first letters_between
 
 # Proves and builds the server, and sends it the commands of examples/first.session as a client spells them.
 run:
@@ -43,8 +44,8 @@ help:
 	@awk '/^# / { text = text substr($$0, 2); next } \
 	    /^[a-z-]+:/ && !/^given/ && text != "" { sub(/:.*/, ""); sub(/\. .*/, ".", text); printf "  make %-14s%s\n", $$0, text } { text = "" }' Makefile
 
-# Builds the server without any proof in a minute or two, and serves until it is interrupted. Nothing of it is kept, and only the proved
-# program of the other rules counts: make try, or make try ADDR=127.0.0.1:7000
+# Builds the server without any proof in a minute or two, and serves by one loop until it is interrupted. Nothing of it is kept, and only the
+# proved program of the other rules counts: make try, or make try ADDR=127.0.0.1:7000
 try:
 	@scripts/try $(ADDR)
 
@@ -60,16 +61,16 @@ demo-live:
 	@cd crates/sr_recover && rt run -- --help > /dev/null
 	@scripts/demo-live $(RECOVER)
 
-# The same in some five minutes, with a program without proofs that is built for each command and not kept.
+# The same with a program without proofs, which is built in a minute or two and kept for the run.
 try-live:
 	@scripts/demo-live
 
-# Installs the proved server, plan_check, the systemd unit, policies and pages. `make demo` builds the programs; then: make install, or
-# make install PREFIX=/opt/sr DESTDIR=/tmp/package
+# Installs the proved server, plan_check, sr_recover, the systemd unit, policies and pages. `make demo` and `make demo-live` build the programs;
+# then: make install, or make install PREFIX=/opt/sr DESTDIR=/tmp/package
 install:
-	@for program in $(SERVER) $(CHECKER); do \
-	    test -x $$program || { echo "$$program is missing: make demo proves and builds it"; exit 1; }; done
-	install -D -t $(DESTDIR)$(PREFIX)/bin $(SERVER) $(CHECKER)
+	@for program in $(SERVER) $(CHECKER) $(RECOVER); do \
+	    test -x $$program || { echo "$$program is missing: make demo and make demo-live prove and build it"; exit 1; }; done
+	install -D -t $(DESTDIR)$(PREFIX)/bin $(SERVER) $(CHECKER) $(RECOVER)
 	for page in README.md CHANGELOG.md docs/* crates/*/*.md examples/*.session examples/*/*; do \
 	    install -D -m 644 $$page $(PAGES)/$$page || exit 1; done
 	install -d $(UNITS)
@@ -82,6 +83,7 @@ test:
 	@scripts/links
 	@scripts/guide
 	@scripts/lines
+	@scripts/numbers
 	@command -v cc > /dev/null || { echo 'test: FAILED, since there is no C compiler, cc, with which memory is refused'; exit 1; }
 	RT_JOBS=$(JOBS) rt ci
 	@$(TWO) given
@@ -108,8 +110,10 @@ given-requests:
 	@tests/requests.py $(SERVER)
 	@tests/fuzz.py $(SERVER)
 	@tests/long_reply.py $(SERVER)
+	@tests/writes.py $(SERVER) 31
 	@tests/many_stranded.py $(SERVER)
 	@tests/many_entries.py $(SERVER)
+	@tests/limits.py $(SERVER)
 	@tests/bytes.py $(SERVER)
 
 given-groups:
@@ -237,7 +241,14 @@ soak:
 	@cd crates/sr_server && rt run -- --stdio < /dev/null
 	@scripts/soak $(SERVER) $(or $(SECONDS),60) $(SEED)
 
-# Times the server on streams of requests over a pipe. It also tells what memory a client can claim, as docs/BENCH.md describes.
+# Has workers that die, recoveries and idle clients use the server for 20 minutes. It serves as the README recommends. No job may be
+# lost, and memory at the end is to be what it was in the fifth minute. For less: make soak-jobs SECONDS=60
+soak-jobs:
+	@cd crates/sr_server && rt run -- --stdio < /dev/null
+	@scripts/soak $(SERVER) $(or $(SECONDS),1200) $(or $(SEED),1) jobs
+
+# Times the server on streams of requests over a pipe, and under load over sockets, beside a Redis server (Debian: redis-server). It also
+# tells what memory a client can claim, as docs/BENCH.md describes.
 bench:
 	@cd crates/sr_server && rt run -- --stdio < /dev/null
 	@python3 bench/streams.py $(SERVER)
@@ -251,6 +262,7 @@ bench:
 	@python3 bench/recovery.py $(SERVER) $(DRIVER)
 	@cd crates/sr_recover && rt run -- --help > /dev/null
 	@bench/live.py $(RECOVER)
+	@bench/load.py $(SERVER)
 
 # Times the server over sockets, by turns with a Redis server. (Debian: redis-server redis-tools; alone if there is none. It needs cc.)
 bench-net:

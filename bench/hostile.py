@@ -16,7 +16,7 @@ import time
 
 sys.path.insert(0, os.path.join(os.path.dirname(os.path.realpath(__file__)), "..", "tests"))
 from lib import servers  # noqa: E402
-from lib.live import all_replies  # noqa: E402
+from lib.heavy import carried_out, settled  # noqa: E402
 from lib.resp import spelled  # noqa: E402
 
 SECONDS = 120
@@ -78,18 +78,11 @@ def timed(connection, *words):
     return run.took
 
 
-def send_all(connection, commands, part=2_000):
-    """Carries out many commands, and passes over their replies."""
-    commands = list(commands)
-    for first in range(0, len(commands), part):
-        all_replies(connection, commands[first : first + part])
-
-
 def pending(connection, entries, consumer, group=True):
     """Entries of a stream `s` that are pending for a consumer."""
     if group:
         connection.call("XGROUP", "CREATE", "s", "g", "0", "MKSTREAM")
-    send_all(connection, (["XADD", "s", "*", "c", "k"] for _ in range(entries)))
+    carried_out(connection, (["XADD", "s", "*", "c", "k"] for _ in range(entries)))
     connection.call("XREADGROUP", "GROUP", "g", consumer, "COUNT", entries, "STREAMS", "s", ">")
 
 
@@ -101,7 +94,7 @@ def many_dead(server, runs):
     with server.connect(SECONDS) as connection:
         pending(connection, 100_000, "w")
         names = [f"dead-{number}" for number in range(4_000)]
-        until_idle(server)
+        settled(server)
         return [timed(connection, "RECOVER.PLAN", "s", "g", "DEAD", *names) for _ in range(runs)]
 
 
@@ -110,9 +103,9 @@ def many_owners(server, runs):
     with server.connect(SECONDS) as connection:
         pending(connection, 100_000, "w")
         names = [f"dead-{number}" for number in range(4_000)]
-        send_all(connection, (["XADD", "s", "*", "c", "k"] for _ in names))
-        send_all(connection, (["XREADGROUP", "GROUP", "g", name, "COUNT", 1, "STREAMS", "s", ">"] for name in names))
-        until_idle(server)
+        carried_out(connection, (["XADD", "s", "*", "c", "k"] for _ in names))
+        carried_out(connection, (["XREADGROUP", "GROUP", "g", name, "COUNT", 1, "STREAMS", "s", ">"] for name in names))
+        settled(server)
         return [timed(connection, "RECOVER.PLAN", "s", "g", "DEAD", *names) for _ in range(runs)]
 
 
@@ -122,25 +115,14 @@ def many_rates(classes):
         with server.connect(SECONDS) as connection:
             for run in range(runs):
                 connection.call("XGROUP", "CREATE", f"s{run}", "g", "0", "MKSTREAM")
-                send_all(connection, (["XADD", f"s{run}", "*", "c", f"k{number % classes}"] for number in range(4_096)))
+                carried_out(connection, (["XADD", f"s{run}", "*", "c", f"k{number % classes}"] for number in range(4_096)))
                 connection.call("XREADGROUP", "GROUP", "g", "dead", "COUNT", 4_096, "STREAMS", f"s{run}", ">")
-                until_idle(server)
+                settled(server)
                 times.append(timed(connection, "RECOVER.RUN", f"s{run}", "g", "DEAD", "dead"))
         return times
 
     row.__doc__ = f"RECOVER.RUN of 4,096 entries of {classes:,} classes of 64 rates."
     return row
-
-
-def until_idle(server):
-    """Waits until all that was sent to the server is done: a PING is answered at once some times in a row."""
-    with server.connect(SECONDS) as connection:
-        quick = 0
-        while quick < 20:
-            time.sleep(0.02)
-            began = time.perf_counter()
-            connection.call("PING")
-            quick = quick + 1 if time.perf_counter() - began < 0.005 else 0
 
 
 class Readers:
@@ -151,14 +133,14 @@ class Readers:
         with server.connect(SECONDS) as connection:
             if group:
                 connection.call("XGROUP", "CREATE", "jobs", "g", "0", "MKSTREAM")
-                send_all(connection, (["XGROUP", "CREATE", f"key-{number}", "g", "0", "MKSTREAM"] for number in range(KEYS)))
+                carried_out(connection, (["XGROUP", "CREATE", f"key-{number}", "g", "0", "MKSTREAM"] for number in range(KEYS)))
         keys = [f"key-{number}" for number in range(KEYS)]
         for connection in self.connections:
             if group:
                 connection.send("XREADGROUP", "GROUP", "g", "w", "BLOCK", 0, "STREAMS", *keys, *[">"] * KEYS)
             else:
                 connection.send("XREAD", "BLOCK", 0, "STREAMS", *keys, *["$"] * KEYS)
-        until_idle(server)
+        settled(server)
 
     def __enter__(self):
         return self
@@ -201,7 +183,7 @@ def wake_one(server, _):
 def long_ranges(server, _):
     """110 XRANGEs of 20,000 entries each in one packet, to the last byte."""
     with server.connect(SECONDS) as connection:
-        send_all(connection, (["XADD", "s", f"{number}-1", "f", "v"] for number in range(1, LONG + 1)))
+        carried_out(connection, (["XADD", "s", f"{number}-1", "f", "v"] for number in range(1, LONG + 1)))
         request = spelled("XRANGE", "s", "-", "+")
         connection.socket.sendall(request)
         names = (f"{number}-1" for number in range(1, LONG + 1))
@@ -227,7 +209,7 @@ def missing_keys(length):
 def heavy_deletion(server, runs):
     """XDEL of one of 128 entries of 256 KiB."""
     with server.connect(SECONDS) as connection:
-        send_all(connection, (["XADD", "s", f"{number}-1", "v", b"x" * (256 * KIB)] for number in range(1, 129)), 16)
+        carried_out(connection, (["XADD", "s", f"{number}-1", "v", b"x" * (256 * KIB)] for number in range(1, 129)), 16)
         return [timed(connection, "XDEL", "s", f"{number}-1") for number in random.Random(1).sample(range(20, 110), runs)]
 
 
@@ -235,14 +217,14 @@ def heavy_trim(server, runs):
     """XADD of 64 KiB with MAXLEN 200."""
     with server.connect(SECONDS) as connection:
         words = ["XADD", "s", "MAXLEN", 200, "*", "v", b"x" * (64 * KIB)]
-        send_all(connection, [words] * 400, 64)
+        carried_out(connection, [words] * 400, 64)
         return [timed(connection, *words) for _ in range(runs * 20)]
 
 
 def heaviest_deletion(server, _):
     """XDEL of 100 entries of 1 MiB."""
     with server.connect(SECONDS) as connection:
-        send_all(connection, (["XADD", "s", f"{number}-1", "v", b"x" * MIB] for number in range(1, 131)), 8)
+        carried_out(connection, (["XADD", "s", f"{number}-1", "v", b"x" * MIB] for number in range(1, 131)), 8)
         return [timed(connection, "XDEL", "s", *(f"{number}-1" for number in range(1, 101)))]
 
 
@@ -256,7 +238,7 @@ def grouped(words, before):
     def row(server, runs):
         with server.connect(SECONDS) as connection:
             connection.call("XGROUP", "CREATE", "s", "g", "0", "MKSTREAM")
-            send_all(connection, before)
+            carried_out(connection, before)
             return [timed(connection, *words(number)) for number in range(runs * 4)]
 
     return row

@@ -2,12 +2,13 @@
 //
 // usage: load PORT fill NUMBER                               adds entries `f v` with ids 1-1, 1-2 and so on to the stream s
 //        load PORT requests CONNECTIONS DEPTH NUMBER WORD .. sends the request of these words; a reply that is an error ends it
+//        load PORT during CONNECTIONS DEPTH SECONDS WORD ..  the same for some seconds
 //        load PORT groups CONNECTIONS DEPTH NUMBER COUNT     reads COUNT entries of group g of s, waits for them, and acknowledges them
 //        load PORT wake READERS ROUNDS                       has readers wait in XREAD, and adds an entry for all of them
 //        load PORT turns READERS ROUNDS                      has readers of group g wait, and adds an entry for one of them
 //
 // DEPTH requests of a connection are on their way at a time, and sent again once all are answered: NUMBER in all. Prints the seconds from
-// the first of them to the last reply; of `wake` and `turns`, a line for each round: microseconds from the XADD to the last reply that it
+// the first of them to the last reply; of `during`, how many were answered; of `wake` and `turns`, a line for each round: microseconds from the XADD to the last reply that it
 // brings. The connections are open before. What goes otherwise than it must ends it with status 1 and a line on standard error.
 #include <arpa/inet.h>
 #include <netinet/tcp.h>
@@ -250,6 +251,34 @@ static void run_requests(int connections, int depth, long number, const char *wo
     printf("%.6f\n", now() - began);
 }
 
+static void run_during(int connections, int depth, double seconds, const char *words)
+{
+    struct connection *all = opened(connections);
+    struct text piece = {0};
+    put_request(&piece, words, depth);
+    double until = now() + seconds;
+    for (int place = 0; place < connections; place++) {
+        all[place].missing = depth;
+        send_all(all[place].socket, piece.bytes, piece.length);
+    }
+    long answered = 0;
+    for (double left; (left = until - now()) > 0;) {
+        struct epoll_event events[LINES];
+        for (int count = epoll_wait(poller, events, LINES, 1 + left * 1000); count-- > 0;) {
+            struct connection *one = events[count].data.ptr;
+            size_t looked = 0;
+            int before = one->missing, done = all_read(one, &looked);
+            answered += before - one->missing;
+            drop(&one->read, one->read.bytes + looked);
+            if (!done)
+                continue;
+            one->missing = depth;
+            send_all(one->socket, piece.bytes, piece.length);
+        }
+    }
+    printf("%ld\n", answered);
+}
+
 // Puts the acknowledgements of what reads were answered, each of this many entries.
 static void put_acknowledgements(struct text *text, struct text *replies, int depth, int entries)
 {
@@ -391,7 +420,7 @@ static void run_fill(long number)
 int main(int count, char **words)
 {
     if (count < 4)
-        fail("usage: load PORT fill|requests|groups|wake|turns NUMBER ..");
+        fail("usage: load PORT fill|requests|during|groups|wake|turns NUMBER ..");
     port = atoi(words[1]);
     poller = epoll_create1(0);
     const char *kind = words[2];
@@ -399,6 +428,8 @@ int main(int count, char **words)
         run_fill(atol(words[3]));
     else if (!strcmp(kind, "requests") && count == 7)
         run_requests(atoi(words[3]), atoi(words[4]), atol(words[5]), words[6]);
+    else if (!strcmp(kind, "during") && count == 7)
+        run_during(atoi(words[3]), atoi(words[4]), atof(words[5]), words[6]);
     else if (!strcmp(kind, "groups") && count == 7)
         run_groups(atoi(words[3]), atoi(words[4]), atol(words[5]), atoi(words[6]));
     else if (count == 5)

@@ -12,6 +12,7 @@ reads            a second: XREADGROUP, and XACK of what it brought once it is th
 wake-up          microseconds from an XADD until the last of the readers that wait in XREAD has it, or the one that is served of those that
                  wait in XREADGROUP: half of the rounds, and 99 of 100
 busy             the part of the time that the server worked. If it is far below 1, the client or the machine was the limit, and not the server
+µs               processor time of the server for each request, or for each read with its XACK, and the ratio of it
 
 The status is 1 if a reply was wrong: the row then says so and has no number.
 """
@@ -27,7 +28,8 @@ import time
 
 HERE = os.path.dirname(os.path.realpath(__file__))
 sys.path.insert(0, os.path.join(HERE, "..", "tests"))
-from lib import servers  # noqa: E402
+from lib import crowd, servers  # noqa: E402
+from lib.resp import spelled  # noqa: E402
 
 ENTRIES = 1_000  # of the stream that XLEN and XRANGE look at
 CLIENTS = 50  # connections of most rows
@@ -45,6 +47,7 @@ CROWDS = 1_000, 5_000
 READERS, ROUNDS = (1, 10, 50), 200
 CONNECTIONS, KEPT, WORKERS = 10_000, 100_000, 64
 SECONDS = 240
+BUSY = "   busy             µs           ratio"  # the head of what follows a rate
 
 
 class Wrong(Exception):
@@ -88,31 +91,31 @@ def by_load(load):
 
 
 def requests(load, tool, words, connections, depth, number):
-    """A second, at a stream of some entries, and the part of the time that the server worked."""
+    """A second, at a stream of some entries; the part of the time that the server worked, and microseconds of its work for each."""
     def run(server):
         load.fill(server, ENTRIES)
         worked, began = server.processor(), time.monotonic()
         rate = tool(server, words, connections, depth, number)
-        busy = (server.processor() - worked) / (time.monotonic() - began)
+        worked, took = server.processor() - worked, time.monotonic() - began
         with server.connect() as connection:
             added = connection.call("XLEN", "s") - ENTRIES
         if words.startswith("XADD") != (added >= number - connections * depth > 0):
             raise Wrong(f"{added} entries were added")
-        return rate, busy
+        return rate, worked / took, 1e6 * worked / number
     return run
 
 
 def reads(load, depth, number, entries):
-    """Reads a second, each acknowledged, and the part of the time that the server worked."""
+    """Reads a second, each acknowledged; the part of the time that the server worked, and microseconds of its work for each."""
     def run(server):
         load.fill(server, number * entries)
         worked, began = server.processor(), time.monotonic()
         rate = number / load.run(server, "groups", CLIENTS, depth, number, entries)[0]
-        busy = (server.processor() - worked) / (time.monotonic() - began)
+        worked, took = server.processor() - worked, time.monotonic() - began
         with server.connect() as connection:
             if connection.call("XPENDING", "s", "g")[0]:
                 raise Wrong("entries are pending")
-        return rate, busy
+        return rate, worked / took, 1e6 * worked / number
     return run
 
 
@@ -150,9 +153,11 @@ class Table:
         return [[statistics.median(column) for column in zip(*runs)] for runs in found]
 
     def row(self, name, measure):
-        """A rate of each server, the ratio, and how much each worked."""
+        """A rate of each server, the ratio, how much each worked, and for how long for each request."""
         if medians := self.measured(name, measure):
-            self.show(name, [rate for rate, _ in medians], "12,.0f", "".join(f"{busy:7.2f}" for _, busy in medians))
+            rates, parts, costs = zip(*medians)
+            more = "".join(f"{busy:7.2f}" for busy in parts) + "".join(f"{cost:9.2f}" for cost in costs)
+            self.show(name, rates, "12,.0f", more + (f"{costs[0] / costs[1]:8.2f}" if len(costs) > 1 else ""))
 
     def show(self, name, numbers, form, more=""):
         ratio = f"{numbers[0] / numbers[1]:8.2f}" if len(numbers) > 1 and numbers[1] else ""
@@ -173,14 +178,14 @@ def tools(load):
 
 def time_requests(table, load):
     for title, tool in tools(load):
-        table.head(f"requests a second, by {title}", "   busy")
+        table.head(f"requests a second, by {title}", BUSY)
         for place, depth in enumerate(DEPTHS):
             for words, *numbers in COMMANDS:
                 table.row(f"{words:27} {CLIENTS} connections, -P {depth}", requests(load, tool, words, CLIENTS, depth, numbers[place]))
 
 
 def time_reads(table, load):
-    table.head("reads a second, each acknowledged", "   busy")
+    table.head("reads a second, each acknowledged", BUSY)
     for place, depth in enumerate(DEPTHS):
         for entries, *numbers in READS:
             name = f"XREADGROUP COUNT {entries}, XACK"
@@ -189,10 +194,27 @@ def time_reads(table, load):
 
 def time_crowds(table, load):
     for title, tool in tools(load):
-        table.head(f"requests a second, by {title}", "   busy")
+        table.head(f"requests a second, by {title}", BUSY)
         for connections in CROWDS:
             for words, number, _ in COMMANDS[:2]:
                 table.row(f"{words:27} {connections:,} connections", requests(load, tool, words, connections, 1, number))
+
+
+def beside(others, measure):
+    """A measure beside so many connections, of which half are idle and half wait in XREAD."""
+    def run(server):
+        with crowd.Crowd(server, others // 2), crowd.Crowd(server, others // 2) as waiting:
+            waiting.send(spelled("XREAD", "BLOCK", 0, "STREAMS", "none", "$"))
+            return measure(server)
+    return run
+
+
+def time_beside(table, load):
+    table.head("requests a second beside others, by load", BUSY)
+    for others in CROWDS:
+        for words, number, _ in COMMANDS[:3]:
+            measure = requests(load, by_load(load), words, CLIENTS, 1, number)
+            table.row(f"{words:27} beside {others:,}", beside(others, measure))
 
 
 def time_wake_ups(table, load):
@@ -217,6 +239,7 @@ def main(program, turns=3, way=servers.LOOP):
         time_wake_ups(table, load)
         if way == servers.LOOP:
             time_crowds(table, load)
+            time_beside(table, load)
     print()
     print_load()
     return 1 if table.failed else 0

@@ -34,6 +34,7 @@ SOURCE = os.path.join(os.path.dirname(os.path.abspath(__file__)), "lib", "faults
 SECONDS = 20  # for all of one way
 PATIENCE = 3  # seconds for one answer, and for the end of the program
 SERVED = 4  # connections that are served at a time
+KEPT = 100_000  # records: without it the server says that it keeps all
 NEEDED = {servers.THREADS: SERVED + 2, servers.LOOP: 2}  # threads that a server begins: a loop, and one for its plans
 NUMBERS = ["error", "times", "failed", "ahead", "threads"]  # in the file that faults.c reads
 ALL = -1
@@ -83,7 +84,7 @@ class Trial:
 
     def __init__(self, program, way, faults, served=SERVED):
         self.errors = tempfile.TemporaryFile()
-        self.server = servers.Server(program, **{way: served}, env=faults.environment, errors=self.errors)
+        self.server = servers.Server(program, **{way: served}, keep=KEPT, env=faults.environment, errors=self.errors)
 
     def __enter__(self):
         return self

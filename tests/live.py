@@ -11,10 +11,11 @@ done       judged as tests/live_script.py does it, by the state right before and
 stale      nothing has changed by any call of the program, and what is printed is what the script answered
 the rest   there is no plan for what the replies told; or Redis replied an error, which is printed
 
-Before that come rows worked out by hand (lib/recover_rows.py) and replies that are cut or wrong (lib/recover_cuts.py),
+Before that come rows worked out by hand (lib/recover_rows.py), standard input, output or error that is closed
+(lib/recover_closed.py), replies that are cut or wrong (lib/recover_cuts.py), and errors (lib/recover_errors.py);
 afterwards a busy group (lib/recover_busy.py) and a cluster (lib/recover_cluster.py). Prints what is wrong, a tally, and
-one last line; the status is 1 if something is wrong. It needs redis-server. For a slow build of the program
-BUSY_ENTRIES=512 in the environment makes the busy group smaller.
+one last line; the status is 1 if something is wrong. It needs redis-server. For a slow build of the program BUSY_ENTRIES=512 in the
+environment makes the busy group smaller.
 """
 
 import collections
@@ -25,7 +26,7 @@ import sys
 import time
 
 import live_script
-from lib import recover, recover_busy, recover_cluster, recover_cuts, recover_rows, servers
+from lib import recover, recover_busy, recover_closed, recover_cluster, recover_cuts, recover_errors, recover_rows, servers
 from lib.live import Dump, Plan, all_replies, number_of, problem_of, seen_by, up_to
 from lib.resp import ErrorReply, value_of
 
@@ -145,7 +146,7 @@ def faults_of_print(watch, ended):
         shares[live.name] = len(costs), sum(costs) + sum(fees), plan.prices[to]
     wanted = shares, plan.total, gone, tuple(watch.scripts[-1][1:])
     found = printed.shares, printed.total, printed.gone, printed.done
-    if found != wanted or not printed.is_whole:
+    if found != wanted or printed.gone_in_all != len(gone) or not printed.is_whole:
         yield f"printed {found}, wanted {wanted}"
 
 
@@ -244,7 +245,9 @@ def main():
     tally = recover.Tally()
     with servers.Redis() as server, server.connect() as connection:
         timed("rows", recover_rows.compare, tally, connection)
+        timed("closed", recover_closed.compare, tally, connection)
         timed("cuts", recover_cuts.compare, tally)
+        timed("errors", recover_errors.compare, tally)
         ends, wrong = timed("histories", played, connection, histories, seed)
     timed("busy", recover_busy.compare, tally)
     timed("cluster", recover_cluster.compare, tally)

@@ -103,14 +103,14 @@ class History:
 
 
 def changed_rows(plan, now):
-    """The answers that are right since the rows of the dead are others."""
+    """The answers that are right since the rows of the dead are others. A row that was gone may be there or not."""
     for name, rows in plan.seen.rows.items():
-        old, new = up_to(rows, plan.last), up_to(now.rows[name], plan.last)
-        if [entry_id for entry_id, _ in old] != [entry_id for entry_id, _ in new]:
+        old, new = dict(up_to(rows, plan.last)), dict(up_to(now.rows[name], plan.last))
+        stranded = [entry_id for entry_id, fields in old.items() if fields is not None]
+        if not set(stranded) <= set(new) <= set(old):
             yield [b"stale", b"pending", name]
         else:
-            pairs = zip(old, new)
-            yield from ([b"stale", b"entry", row[0]] for row, other in pairs if (row[1] is None) != (other[1] is None))
+            yield from ([b"stale", b"entry", entry_id] for entry_id in stranded if new[entry_id] is None)
 
 
 def changed_places(plan, now):

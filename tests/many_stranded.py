@@ -13,7 +13,7 @@ import tempfile
 from lib import piped
 
 MOST = 4096
-GREATEST_PRICE = 2**58
+GREATEST_PRICE = 2**60
 
 POLICY = f"""
 class_field = "c"

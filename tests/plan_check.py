@@ -9,6 +9,8 @@ Prints what differs; the status is 1 if anything does.
 import subprocess
 import sys
 
+from lib import session
+
 SECONDS = 60
 
 # A has room for one entry, and B for one. An entry of class y costs B a hundred times what it costs A, and one of class x
@@ -67,6 +69,8 @@ GREATEST = "entry 1-1 x 1048576\nconsumer A 1000000000\nrate x A 1048576\n"
 MOST = "".join(f"consumer C{number} 1\n" for number in range(64))
 CROWDED = MOST + "consumer C64 1\n"
 MOST_ENTRIES = "".join(f"entry {number}-1 x 1\n" for number in range(1, 4097))
+ALL = [b"%d-1" % number for number in range(1, 4097)]
+ALL_SENT = " ".join(["*4096", *(f"${len(entry)} {entry.decode()}" for entry in ALL)])
 
 # There is one entry, and A, which it costs 1, is full with it: A's price may be anything.
 FULL = "entry 1-1 x 1\nconsumer A 1\nrate x A 1\n"
@@ -171,6 +175,7 @@ SENT = [
     ("entry 1-1 x 1\nconsumer A 1\n", "*4 $4 none *1 $3 1-1 *0 :0", "impossible, 0 places for 1 entry"),
     (MOST + "entry 1-1 x 1\n", "*4 $4 none *1 $3 1-1 *0 :0", "impossible, 0 places for 1 entry"),
     (MOST_ENTRIES, "*4 $4 none *1 $3 1-1 *0 :0", "impossible, 0 places for 1 entry"),
+    (MOST_ENTRIES, f"*4 $4 none {ALL_SENT} *0 :0", "impossible, 0 places for 4096 entries"),
     ("", "*5 $4 plan :0 *0 *0 *0", "cheapest, total 0"),
     (GREATEST, "*5 $4 plan :1099511627776 *1 *2 $3 1-1 $1 A *1 *2 $1 A :0 *0", "cheapest, total 1099511627776"),
     # Both go to A, the second of them at the fee. A's first place is worth the fee.
@@ -266,9 +271,10 @@ def printed(program, text):
 
 
 def rows():
-    """Each input with its line."""
+    """Each input with its line. The longest shortage is also read as redis-cli prints it."""
     for problem, reply, wanted in SENT:
         yield problem + "reply\n" + "".join(word + "\r\n" for word in reply.split(" ")), wanted
+    yield MOST_ENTRIES + "reply\n" + session.printed([b"none", ALL, [], 0]) + "\n", f"impossible, 0 places for {len(ALL)} entries"
     for part, other, wanted in CHANGED:
         yield TWO + "reply\n" + PLAN.replace(part, other), wanted
     yield from INPUTS

@@ -17,6 +17,15 @@ from lib.resp import spelled
 SECONDS = 60
 PING, PONG = spelled("PING"), b"+PONG\r\n"
 
+LEVELS = 80  # of a key, and of arrays and inline tables
+
+
+def deep(levels):
+    """A key of this many parts in three forms, and a value that is as deep in two."""
+    key = ".".join("a" * levels)
+    return [f"{key} = 1\n", f"[{key}]\n", f"[[{key}]]\n", f"a = {'[' * levels}{']' * levels}\n", f"a = {'{a=' * levels}1{'}' * levels}\n"]
+
+
 NOT_TOML = [
     "[limits",
     "limits",
@@ -30,6 +39,7 @@ NOT_TOML = [
     "[limits]\nA = 1 B = 2\n",
     "version = 01\n",
     "top = 1\n[limits\n",
+    *deep(LEVELS + 1),
 ]
 
 WRONG_SHAPE = [
@@ -80,6 +90,8 @@ WRONG_SHAPE = [
     "version = 2\n[limits]\nA = 2\n[soft.x]\nA = 1\n[fees]\nx = 1\n",
     "version = 2\n[limits]\nA = 2\n[soft]\nA = 3\n[fees]\nB = 1\n",
     "version = 2\n[limits]\nA = -1\n[soft]\n",
+    "version = 07:32\n",
+    *deep(LEVELS),
 ]
 
 
@@ -123,6 +135,10 @@ POLICIES = [
     "limits = { \"a b\" = 1, 'c\"d' = 2, \"\u00e9\" = 3 }\nrates.\"\u00e9\".\"\u00e9\" = 1\n",
     'class_field = "c"\n[limits]\nA = 1\nB = 1\n[rates.x]\nA = 1\nB = 2\n[rates.y]\nA = 1\nB = 100\n',
     file_of(64, 1024),
+    # What is read beyond TOML 1.0.
+    'limits = { A = 1,\n  # in between\n  "\u00e9" = 2, }\n[rates.x]\n"\\x41" = 1\n"\\xe9" = 1\n',
+    'limits = { "\\e" = 1 }\nrates.x."\\u001b" = 1\n',
+    '\ufeffclass_field = "c"\n',
 ]
 
 

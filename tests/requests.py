@@ -29,6 +29,7 @@ PROTOCOL = b"-ERR Protocol error\r\n"
 # Bytes, the place of the first after which no bytes make a request, and the replies before it. Without such a place the input just ends.
 ROWS = [
     (b"*4097", 4, b""),
+    (b"*4097" + 100 * b"x", 4, b""),
     (b"*4096\r\n$", None, b""),
     (b"*00000000001", 11, b""),
     (b"*0000000001\r\n$0000000001\r\na\r\n", None, UNKNOWN),

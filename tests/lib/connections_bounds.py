@@ -1,4 +1,4 @@
-"""What bounds the connections of one loop: their number, the time that one is idle, what unanswered requests hold, and descriptors."""
+"""What bounds the connections of one loop: their number, what unanswered requests hold, and descriptors."""
 
 import re
 import subprocess
@@ -14,13 +14,6 @@ MORE = 200  # that come at once beyond them
 REFUSAL = b"-ERR max number of clients reached\r\n"
 SOON = 5  # seconds in which one is let in once another has closed
 AGAIN = 100  # times that a client closes and connects again
-
-IDLE = 1  # seconds, as --idle has it
-CLOSED = IDLE - 0.1, IDLE + 2  # when an idle connection is closed: the server looks at them once a second
-LASTS = 3.5  # seconds that this is looked at
-STEP = 0.1
-WORKERS = 10  # whose reads wait longer than a connection may be idle: the first ends after 1.5 seconds, each other a step later
-RESTS = 0.4  # seconds after which a worker goes on
 
 UNFINISHED = 8 << 20  # bytes, as --unfinished has it
 PART, PARTS = 1_000_000, 4  # a request that is not finished yet, and how many of them there are
@@ -101,81 +94,6 @@ def come_again(tally, server):
         again.close()
         tally.compare("how often it is let in", AGAIN, served)
         tally.compare("those that are served beside it", LIMIT - 2, others.pinged())
-
-
-class Idlers:
-    """Connections of a server that closes idle ones. Each is looked at in each step; those that are closed have their times."""
-
-    def __init__(self, server):
-        self.server, self.began, self.closed = server, time.monotonic(), {}
-        self.silent, self.half, self.slow, self.asking, self.waiting, self.other = Crowd(server, 6).sockets
-        self.half.sendall(spelled("XADD", "s", "*", "f", "v")[:-3])
-        self.waiting.sendall(spelled("XREAD", "BLOCK", 0, "STREAMS", "s", "$"))
-        self.workers = Crowd(server, WORKERS).sockets
-        for place, worker in enumerate(self.workers):
-            worker.sendall(spelled("XREAD", "BLOCK", 1500 + int(1000 * STEP) * place, "STREAMS", "none", "$"))
-        self.asks, self.pongs, self.goes_on = 0, 0, {}
-        self.trickle = iter(spelled("XADD", "s", "*", "f", "v" * 99))
-
-    def __enter__(self):
-        return self
-
-    def __exit__(self, *_):
-        for each in [self.silent, self.half, self.slow, self.asking, self.waiting, self.other, *self.workers]:
-            each.close()
-
-    def now(self):
-        return time.monotonic() - self.began
-
-    def step(self):
-        """One client sends a PING, one a byte of its request, and a worker that has its answer rests, sends a PING and reads again."""
-        self.ask(self.asking)
-        if self.slow not in self.closed:
-            self.slow.sendall(bytes([next(self.trickle)]))
-        for worker, begins in list(self.goes_on.items()):
-            if self.now() >= begins:
-                del self.goes_on[worker]
-                self.ask(worker, spelled("XREAD", "BLOCK", 0, "STREAMS", "none", "$"))
-        self.look(STEP)
-
-    def ask(self, connection, more=b""):
-        self.asks += 1
-        connection.sendall(PING + more)
-
-    def look(self, seconds):
-        """Takes what has come, and notes who is closed."""
-        open_ones = [each for each in [self.silent, self.half, self.slow, self.asking, *self.workers] if each not in self.closed]
-        until = time.monotonic() + seconds
-        while (left := until - time.monotonic()) > 0:
-            for place in crowd.answered(open_ones, left):
-                self.take(open_ones[place], crowd.received(open_ones[place]))
-            open_ones = [each for each in open_ones if each not in self.closed]
-
-    def take(self, connection, text):
-        if not text:
-            self.closed[connection] = self.now()
-        elif connection in self.workers and text == b"*-1\r\n":
-            self.goes_on[connection] = self.now() + RESTS
-        else:
-            self.pongs += text.count(PONG)
-
-
-def idle(tally, server):
-    """A connection without a whole request is closed, also if it sends byte after byte. One that asks is not, nor one whose read waits."""
-    with Idlers(server) as idlers:
-        while idlers.now() < LASTS:
-            idlers.step()
-        for name in ("silent", "half", "slow"):
-            when = idlers.closed.get(getattr(idlers, name))
-            tally.holds(f"the {name} one is closed after {when} seconds", when is not None and CLOSED[0] < when < CLOSED[1])
-        kept = [idlers.asking, *idlers.workers]
-        tally.compare("who asks or waits for a while is closed", [], [idlers.closed[each] for each in kept if each in idlers.closed])
-        idlers.look(STEP)
-        tally.compare("PINGs that are answered", idlers.asks, idlers.pongs)
-        tally.compare("workers that went on", {}, idlers.goes_on)
-        with server.connect() as maker:
-            maker.call("XADD", "s", "1-1", "a", "b")
-        tally.holds("a read that waited all the time has the entry", crowd.gathered([idlers.waiting], 20)[0].startswith(b"*1\r\n*2\r\n"))
 
 
 def push(connection, text, most):

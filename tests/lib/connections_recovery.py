@@ -12,7 +12,7 @@ from . import crowd, servers
 from .resp import ErrorReply, Fault, Replies, spelled, spelled_all
 
 TAKERS, CLIENTS = 64, 20  # consumers of the policy, and how many of them are busy
-RUNS, ENTRIES = 10, 1_000  # recoveries, and the entries of each: 64,000 pairs, which are solved in the loop
+RUNS, ENTRIES = 10, 250  # recoveries, and the entries of each: 16,000 pairs, which are solved in the loop
 LARGE = 4_096  # entries of one more, which is solved beside it
 LIMIT = 1_000  # entries that a taker may have
 CLASSES = 4

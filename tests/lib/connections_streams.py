@@ -142,23 +142,32 @@ def cut(tally, server):
 
 
 def unread(tally, server):
-    """A client sends without end and reads nothing: the server takes no more of it than buffers hold. Once it reads, it gets all."""
+    """A client sends without end and reads nothing: the server takes no more of it than unanswered requests may hold and the system's buffers.
+    It is closed then, or gets all once it reads."""
     request, reply = spelled("PING", WORD), bulk(WORD)
     with server.connect() as other, crowd.opened(server.port, 1) as client:
-        before, count = server.memory(), 0
+        before, count, closed = server.memory(), 0, False
         try:
             while count < SENT:
                 count += client.send(request[count % len(request):])
         except TimeoutError:
             pass
+        except ConnectionError:
+            closed = True
         grown = server.memory() - before
         tally.holds(f"{count >> 20} MiB were taken of a client that does not read, of {SENT >> 20}", count < BUFFERED)
         tally.holds(f"the server grew by {grown >> 20} MiB for it", grown < BUFFERED)
         crowd.pinged(other.socket)
-        client.settimeout(servers.SECONDS)
-        sender = threading.Thread(target=client.sendall, args=(request[count % len(request):],), daemon=True)
-        sender.start()
-        number = count // len(request) + 1
-        [found] = crowd.gathered([client], number * len(reply))
-        tally.holds(f"{number} replies are read in the end", found == reply * number)
-        sender.join()
+        if not closed:
+            goes_on(tally, client, count, request, reply)
+
+
+def goes_on(tally, client, count, request, reply):
+    """A client that has sent so many bytes sends the rest of its request, and reads."""
+    client.settimeout(servers.SECONDS)
+    sender = threading.Thread(target=client.sendall, args=(request[count % len(request):],), daemon=True)
+    sender.start()
+    number = count // len(request) + 1
+    [found] = crowd.gathered([client], number * len(reply))
+    tally.holds(f"{number} replies are read in the end", found == reply * number)
+    sender.join()

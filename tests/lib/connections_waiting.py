@@ -2,7 +2,8 @@
 
 import time
 
-from . import busy, crowd
+from . import busy, crowd, heavy
+from .connections_load import settled
 from .crowd import Crowd
 from .resp import array, bulk, spelled, spelled_all
 
@@ -11,6 +12,8 @@ LEAVING = 2_000  # readers of a group of whom every second one goes away
 ROUNDS, MISSED = 10, 2  # times that one reader goes away just before an entry comes, and how often the entry may be lost to it: the
 # machine may let the server wait just before it reads what asked for much, so that it reads the entry with it
 LOT = b"x" * 20_000  # more than the server reads at a time (16 KiB)
+FEW, MANY = 1_000, 5_500  # readers whose costs are compared
+LONGER = 2.5  # times that each of many may cost of what each of a few does
 QUIET = 0.2  # seconds after which nothing more is expected
 
 
@@ -128,3 +131,30 @@ def one_leaves(server, maker, number, begin, end):
         end()
         wanted = delivered(b"%d-1" % number)
         return maker.reply() == b"%d-1" % number and crowd.gathered([here], len(wanted), seconds=1)[0] == wanted
+
+
+def cost_of(server, number, entry):
+    """Microseconds of processor time for each of so many readers that wait: to give it this entry, and to leave it once it is reset."""
+    handles, read = server.handles(), spelled("XREAD", "BLOCK", 0, "STREAMS", "s", "$")
+    with server.connect() as maker, Crowd(server, number) as readers:
+        readers.send(read)
+        heavy.settled(server)
+        before = server.processor()
+        add(maker, ids(entry, entry))
+        readers.gathered(len(delivered(b"%d-1" % entry)))
+        woken = server.processor() - before
+        readers.send(read)
+        heavy.settled(server)
+        before = server.processor()
+        for each in readers:
+            crowd.leave(each, killed=True)
+        settled(server, handles + 1)
+        return 1e6 * woken / number, 1e6 * (server.processor() - before) / number
+
+
+def each_of_many(tally, server):
+    """A reader that is woken or reset beside very many others costs what it does beside a few."""
+    few, many = cost_of(server, FEW, 1), cost_of(server, MANY, 2)
+    for what, one, other in zip(("woken", "reset"), few, many):
+        told = f"{one:.1f} microseconds for each of {FEW:,} readers that are {what}, and {other:.1f} for each of {MANY:,}"
+        tally.holds(told, other <= LONGER * one)

@@ -39,18 +39,18 @@ def all_replies(connection, commands):
     return [connection.reply() for _ in commands]
 
 
-def seen_by(connection, key, group, dead):
+def seen_by(connection, key, group, dead, idle=0):
     """What ordinary commands tell, which are not of one moment."""
     consumers = map(texts, connection.call("XINFO", "CONSUMERS", key, group))
     numbers = {consumer[b"name"]: consumer[b"pending"] for consumer in consumers}
-    return Seen({name: rows_of(connection, key, group, name) for name in sorted(dead)}, numbers)
+    return Seen({name: rows_of(connection, key, group, name, idle) for name in sorted(dead)}, numbers)
 
 
-def rows_of(connection, key, group, name):
-    """The rows of a dead consumer, in pages, and the fields of each."""
+def rows_of(connection, key, group, name, idle):
+    """The rows of a dead consumer that have been idle for so many milliseconds, in pages, and the fields of each."""
     ids, start, page = [], "-", [None] * PAGE
     while len(page) == PAGE:
-        page = connection.call("XPENDING", key, group, start, "+", PAGE, name)
+        page = connection.call("XPENDING", key, group, "IDLE", idle, start, "+", PAGE, name)
         ids += [row[0] for row in page]
         start = b"(" + ids[-1] if ids else start
     entries = all_replies(connection, (["XRANGE", key, entry_id, entry_id] for entry_id in ids))
@@ -126,7 +126,7 @@ class Plan:
     """A cheapest plan for what was seen, or for the first entries of it (`most`), and the prices that show it."""
 
     def __init__(self, lives, seen, most=None, above=None):
-        self.lives, self.seen, self.last = lives, seen, "+"
+        self.lives, self.seen, self.last, self.idle = lives, seen, "+", 0
         self.ids, problem = problem_of(lives, seen, self.last)
         if most is not None and len(self.ids) >= most:
             self.last = self.ids[most - 1]
@@ -144,7 +144,7 @@ class Plan:
 
     def words(self, group, within):
         """What the script gets after the key."""
-        yield from (group, within, self.last, len(self.seen.rows))
+        yield from (group, within, self.last, self.idle, len(self.seen.rows))
         for name, rows in self.seen.rows.items():
             compared = up_to(rows, self.last)
             yield from (name, len(compared))

@@ -60,6 +60,7 @@ TWO_ROWS = [
     ("it is delivered to B", "XGROUP SETID s g 0-2\nXREADGROUP GROUP g B COUNT 1 STREAMS s >", stale(b"pending", b"D")),
     ("the dead gets one more", "XADD s * c x\nXREADGROUP GROUP g D STREAMS s >", stale(b"pending", b"D")),
     ("the dead gets an earlier one", "XCLAIM s g D 0 0-1", stale(b"pending", b"D")),
+    ("the dead gets one in place of another", "XACK s g 1-1\nXCLAIM s g D 0 0-2", stale(b"pending", b"D")),
     ("the dead leaves the group", "XGROUP DELCONSUMER s g D", stale(b"pending", b"D")),
     ("an entry of the dead is deleted", "XDEL s 2-1", stale(b"entry", b"2-1")),
     ("the stream is trimmed", "XTRIM s MAXLEN 0", stale(b"entry", b"1-1")),
@@ -91,6 +92,40 @@ FEE_LIVE = [Live(b"A", 4, (2, 7), SOFT_RATES[0]), Live(b"B", 4, None, SOFT_RATES
 FEE_ROWS = [
     ("A has a place more without a fee", "XACK s g 0-1", stale(b"gap", b"6")),
     ("A is given one and one would be at a fee", GIVEN_TO_A, stale(b"fee", b"A")),
+]
+
+# 1-1 was deleted before the snapshot, and stays with the dead. The plan gives 2-1 to A, at 2, with prices of 0.
+GONE = [*TWO, *lines("XDEL s 1-1")]
+GONE_ROWS = [
+    ("the gone entry stays pending", "PING", done(1)),
+    ("the gone entry is acknowledged", "XACK s g 1-1", done(1)),
+    ("it is acknowledged, and A is given one", "XACK s g 1-1\n" + GIVEN_TO_A, stale(b"room", b"A")),
+    ("the other one is acknowledged", "XACK s g 2-1", stale(b"pending", b"D")),
+    ("both are", "XACK s g 1-1 2-1", stale(b"pending", b"D")),
+    ("the other one is deleted", "XDEL s 2-1", stale(b"entry", b"2-1")),
+    ("the gone entry is acknowledged and the dead gets one more", "XACK s g 1-1\nXCLAIM s g D 0 0-2", stale(b"pending", b"D")),
+    ("the dead gets one more behind", "XADD s 3-1 c x\nXREADGROUP GROUP g D STREAMS s >", stale(b"pending", b"D")),
+]
+
+# 1-1 has been idle for longer than asked for, and 2-1 has not: the plan gives 1-1 to A, at 2, with prices of 0. What is
+# as idle before the script, and was not, is for another plan.
+OLD, IDLE = 7_200_000, 3_600_000
+IDLE_TWO = [*TWO, *lines(f"XCLAIM s g D 0 1-1 IDLE {OLD} JUSTID")]
+IDLE_ROWS = [
+    ("nothing has changed, and one is not idle", "PING", done(1)),
+    ("the other one is as idle now", f"XCLAIM s g D 0 2-1 IDLE {OLD} JUSTID", done(1)),
+    ("an earlier one is as idle now", f"XCLAIM s g D 0 0-2 IDLE {OLD} JUSTID", done(1)),
+    ("both others are as idle now", f"XCLAIM s g D 0 0-2 2-1 IDLE {OLD} JUSTID", done(1)),
+    ("the other one is acknowledged", "XACK s g 2-1", done(1)),
+    ("the dead gets one more, which is not idle", "XADD s * c x\nXREADGROUP GROUP g D STREAMS s >", done(1)),
+    ("it is as idle as asked for, to the second", f"XCLAIM s g D 0 1-1 IDLE {IDLE + 1000} JUSTID", done(1)),
+    ("it is less idle than asked for", f"XCLAIM s g D 0 1-1 IDLE {IDLE - 60000} JUSTID", stale(b"pending", b"D")),
+    ("the dead reads its entries again", "XREADGROUP GROUP g D STREAMS s 0", stale(b"pending", b"D")),
+    ("the dead gets it again", "XCLAIM s g D 0 1-1", stale(b"pending", b"D")),
+    ("the idle one is acknowledged", "XACK s g 1-1", stale(b"pending", b"D")),
+    ("it is acknowledged, and another one is as idle", f"XACK s g 1-1\nXCLAIM s g D 0 2-1 IDLE {OLD} JUSTID", stale(b"pending", b"D")),
+    ("A claims it", f"XCLAIM s g A 0 1-1 IDLE {OLD} JUSTID", stale(b"pending", b"D")),
+    ("the idle one is deleted", "XDEL s 1-1", stale(b"entry", b"1-1")),
 ]
 
 # With the first entry alone (--at-most 1) the plan gives it to A, at 2, and the least prices are 0.
@@ -154,8 +189,10 @@ class Board:
         if faults:
             raise SystemExit(f"a setting was refused: {faults[0]}")
 
-    def plan(self, lives, most=None, key="s", group="g", dead=(b"D",)):
-        return Plan(lives, seen_by(self.connection, key, group, dead), most)
+    def plan(self, lives, most=None, key="s", group="g", dead=(b"D",), idle=0):
+        plan = Plan(lives, seen_by(self.connection, key, group, dead, idle), most)
+        plan.idle = idle
+        return plan
 
     def conclude(self, what, plan, wanted, within=0, key="s", group="g"):
         """Runs the script: the answer has to be the wanted one, and the state what the answer says."""
@@ -171,10 +208,10 @@ class Board:
             self.check(f"{what}: nothing has changed", before.text, after.text)
         return took
 
-    def table(self, setting, lives, rows, most=None):
+    def table(self, setting, lives, rows, most=None, idle=0):
         for what, changes, wanted in rows:
             self.begin(setting)
-            plan = self.plan(lives, most)
+            plan = self.plan(lives, most, idle=idle)
             all_replies(self.connection, lines(changes))
             self.conclude(what, plan, wanted)
 
@@ -246,7 +283,7 @@ def stranded(number):
 def alone(seen, ids):
     """The plan that gives all to A, at a price of 0."""
     plan = Plan.__new__(Plan)
-    plan.lives, plan.seen, plan.last = [Live(b"A", len(ids), None, {b"x": 1})], seen, "+"
+    plan.lives, plan.seen, plan.last, plan.idle = [Live(b"A", len(ids), None, {b"x": 1})], seen, "+", 0
     plan.ids, plan.goes, plan.prices, plan.free_loads = ids, [0] * len(ids), [[0]], [len(ids)]
     return plan
 
@@ -275,10 +312,27 @@ def pages(board):
                 board.check(f"{number} entries: calls of XCLAIM and XPENDING", pages_of, calls)
 
 
+def gone(board):
+    """Entries that were gone when the group was looked up: they are listed, in pages, and none of them is read."""
+    for number in (1, 999, 1000, 1001, 2500):
+        for left in (1, number // 2 + 1, number):
+            board.begin(stranded(number))
+            ids = [f"{at}-1" for at in range(1, number + 1) if at != left]
+            all_replies(board.connection, [["XDEL", "s", *ids]] if ids else [])
+            plan = alone(seen_by(board.connection, "s", "g", [b"D"]), [b"%d-1" % left])
+            for acknowledged in ([], ids[::2], ids):
+                all_replies(board.connection, [["XACK", "s", "g", *acknowledged]] if acknowledged else [])
+                all_replies(board.connection, [["CONFIG", "RESETSTAT"]])
+                board.conclude(f"{number} entries, {len(ids)} gone, {len(acknowledged)} acknowledged", plan, done(1))
+                board.check("calls of XRANGE", 1, stat(board.connection, b"xrange", b"calls"))
+                all_replies(board.connection, [["XCLAIM", "s", "g", "D", 0, f"{left}-1", "JUSTID"]])
+
+
 def stat(connection, command, name):
     """What Redis counts of a command since CONFIG RESETSTAT."""
     stats = dict(line.split(b":") for line in connection.call("INFO", "commandstats").split() if b":" in line)
-    return int(dict(part.split(b"=") for part in stats[b"cmdstat_" + command].split(b","))[name])
+    told = stats.get(b"cmdstat_" + command)
+    return int(dict(part.split(b"=") for part in told.split(b","))[name]) if told else 0
 
 
 def planted(number, takers, more):
@@ -321,6 +375,8 @@ def compared(connection):
     board.table(SOFT, SOFT_LIVE, SOFT_ROWS)
     board.table(SOFT, FEE_LIVE, FEE_ROWS)
     board.table(TWO, TWO_LIVE, FIRST_ROWS, most=1)
-    for part in (gaps, errors, permissions, names, pages, large):
+    board.table(GONE, TWO_LIVE, GONE_ROWS)
+    board.table(IDLE_TWO, TWO_LIVE, IDLE_ROWS, idle=IDLE)
+    for part in (gaps, errors, permissions, names, pages, gone, large):
         part(board)
     return board.rows, board.wrong

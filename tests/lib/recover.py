@@ -170,7 +170,7 @@ class Printed:
     """What the program prints of a plan: who gets how many entries, at what cost, the prices, and what came of it."""
 
     def __init__(self, out):
-        self.shares, self.gone, self.short = {}, [], []
+        self.shares, self.gone, self.gone_in_all, self.short = {}, [], 0, []
         self.total = self.done = self.stale = None
         lines = out.split(b"\n")
         self.is_whole = lines.pop() == b""
@@ -184,6 +184,8 @@ class Printed:
             self.stale = [b"stale", found[1], name_of(found[2])]
         elif found := re.fullmatch(rb"total +(\d+) +(\d+)", line):
             self.total = int(found[2])
+        elif found := re.fullmatch(rb"gone: (\d+)", line):
+            self.gone_in_all = int(found[1])
         elif found := re.fullmatch(rb"gone (\d+-\d+) of (" + NAME + rb")", line):
             self.gone.append((found[1], name_of(found[2])))
         elif found := re.fullmatch(rb"(\d+-\d+)", line):
@@ -199,7 +201,7 @@ def plan_of(words, lives):
     """The plan that a call of the script carries, its group and `within`. Of an entry it has whether it is there."""
     left = iter(words[4:])
     plan = Plan.__new__(Plan)
-    plan.lives, group, within, plan.last = lives, next(left), int(next(left)), next(left)
+    plan.lives, group, within, plan.last, plan.idle = lives, next(left), int(next(left)), next(left), int(next(left))
     plan.last = "+" if plan.last == b"+" else plan.last
     rows = {}
     for _ in range(int(next(left))):
@@ -225,16 +227,18 @@ class Told:
     """What the replies of Redis told the program in its last round: what a plan has to be made of."""
 
     def __init__(self):
-        self.numbers, self.rows = {}, {}
+        self.numbers, self.rows, self.is_whole = {}, {}, False
 
     def add(self, words, reply):
-        """Takes the reply to a call."""
+        """Takes the reply to a call. The numbers come last."""
         if isinstance(reply, ErrorReply):
             return
         if words[0] == b"XINFO":
             self.numbers = {texts(one)[b"name"]: texts(one)[b"pending"] for one in reply}
-            self.rows = {}
+            self.is_whole = True
         elif words[0] == b"XPENDING":
+            self.rows = {} if self.is_whole else self.rows
+            self.is_whole = False
             self.rows.setdefault(words[-1], []).extend([row[0], None] for row in reply)
         elif words[0] == b"XRANGE" and reply:
             for row in (row for own in self.rows.values() for row in own if row[0] == words[2]):

@@ -13,13 +13,14 @@ import tempfile
 from .live import all_replies
 from .live_rows import TWO, TWO_LIVE
 from .recover import Proxy, Sent, passed_on, policy_text, run, words_of
+from .recover_rows import has_ipv6
 from .servers import HOST, Redis
 
 GROUP = ["s", "g", "D"]
 WORKERS = 4
 SILENCE = 400  # milliseconds, for answers that stop: long enough that no other one is late on a busy machine
 HANGS = 5  # of the cuts every this many hangs too
-CALLS = ["XINFO", "XPENDING", "XRANGE", "XRANGE", "EVALSHA", "EVAL"]
+CALLS = ["XPENDING", "XRANGE", "XRANGE", "XINFO", "EVALSHA", "EVAL"]
 FIRST_SENT = CALLS.index("EVALSHA")
 UNKNOWN = b"redis: the plan was sent, and what came of it is not known: "
 
@@ -170,18 +171,6 @@ def broken(tally, side):
     print(f"{len(cases)} answers were cut or replaced", flush=True)
 
 
-def errors(tally, side):
-    """An error in place of each answer is told as it is, and nothing of it is done."""
-    for number, name in enumerate(CALLS):
-        for text, advice in ((b"ERR broken", b""), (b"LOADING it reads", b" (it reads its data: try again later)")):
-            side.begin(refused(number, text))
-            found = side.run()
-            name = "EVALSHA" if name == "EVAL" else name
-            name = "XINFO CONSUMERS" if name == "XINFO" else name
-            wanted = b"redis: %s is answered with an error: %s%s\n" % (name.encode(), text, advice)
-            tally.check(f"{text} in place of call {number}", (1, b"", wanted, b"DD"), (*found[:3], side.owners()))
-
-
 def moved(tally, side):
     """MOVED is followed, at each call, to the node that it names, and not for ever."""
     with Redis() as other, other.connect() as connection, Proxy(other.port) as there:
@@ -194,6 +183,9 @@ def moved(tally, side):
             tally.check(f"MOVED at call {number}", (0, b"", b"DD", b"BA"), seen)
     side.begin(lambda call: Sent(b"-MOVED 1 %s:%d\r\n" % (HOST.encode(), side.proxy.port)))
     tally.check("MOVED for ever", (1, b"", b"redis: moved from node to node too often\n"), side.run()[:3])
+    side.begin(lambda call: Sent(b"-MOVED 1 nowhere\r\n"))
+    text = b"redis: the key is on another node, whose name is not a host and a port: nowhere. See CLUSTER NODES\n"
+    tally.check("MOVED to no host and port", (1, b"", text), side.run()[:3])
     for text in (b"MOVED", b"MOVED 1", b"MOVED 1 ", b"MOVED x y", b"MOVED 1 " + b"\xff" * 9 + b":1"):
         side.begin(lambda call, text=text: Sent(b"-%s\r\n" % text))
         found = side.run()
@@ -206,6 +198,21 @@ def without_host(tally, side):
         all_replies(connection, TWO)
         side.begin(lambda call: Sent(b"-MOVED 1 :%d\r\n" % other.port))
         tally.check("MOVED without a host", (0, b""), (side.run().status, side.run().errors))
+
+
+def by_ipv6(tally, side):
+    """MOVED that names an IPv6 address, which Redis writes without brackets."""
+    if not has_ipv6():
+        print("MOVED to an IPv6 address: skipped, since this machine has none")
+        return
+    with Redis("--bind", HOST, "::1") as other, other.connect() as connection:
+        all_replies(connection, TWO)
+        side.begin(lambda call: Sent(b"-MOVED 1 ::1:%d\r\n" % other.port))
+        found = side.run()
+        tally.check("MOVED to an IPv6 address", (0, b"", b"DD"), (found.status, found.errors, side.owners()))
+    found = side.run()
+    text = b"redis: cannot connect to [::1]:%d: Connection refused" % other.port
+    tally.check("MOVED to an IPv6 address where nobody listens", (1, text), (found.status, found.errors[: len(text)]))
 
 
 def killed(tally, side):
@@ -271,7 +278,7 @@ def compare(tally):
     """Compares all of it."""
     side = Side()
     try:
-        for part in (errors, moved, without_host, killed, writes, broken):
+        for part in (moved, without_host, by_ipv6, killed, writes, broken):
             part(tally, side)
         tally.check("the proxy's faults", [], side.proxy.faults)
     finally:

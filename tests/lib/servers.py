@@ -53,6 +53,11 @@ def raised_limit(number):
     return limit - OWN
 
 
+def clock_of(process):
+    """The clock of the processor time of a process, as Linux numbers it (clock_getcpuclockid)."""
+    return (~process << 3) | 2
+
+
 class Connection(Replies):
     """One connection. An error reply is raised by `call`, and returned by `reply`."""
 
@@ -126,10 +131,16 @@ class Process:
         return len(os.listdir(f"/proc/{self.process.pid}/fd"))
 
     def processor(self):
-        """The seconds of processor time that it took."""
-        with open(f"/proc/{self.process.pid}/stat") as stat:
-            user, system = stat.read().rpartition(")")[2].split()[11:13]
-        return (int(user) + int(system)) / os.sysconf("SC_CLK_TCK")
+        """The seconds of processor time that all its threads took: utime and stime of its `stat`, in nanoseconds."""
+        return time.clock_gettime(clock_of(self.process.pid))
+
+    def processors(self):
+        """The same of each of its threads."""
+        return {name: self.ran(name) for name in os.listdir(f"/proc/{self.process.pid}/task")}
+
+    def ran(self, thread):
+        with open(f"/proc/{self.process.pid}/task/{thread}/schedstat") as stat:
+            return int(stat.read().split()[0]) / 1e9
 
 
 def limited(descriptors):
