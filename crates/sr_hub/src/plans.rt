@@ -108,7 +108,7 @@ pub(crate) fn conclude_planned<S: Sockets, C: Clock>(
     go_on_planned(hub, sockets, keeper, token);
 }
 
-/// Goes on with a connection whose plan was made elsewhere, and with one that waits until its plan can be made there.
+/// Goes on with a connection whose plan was made elsewhere, and with those that can have theirs made there then.
 fn go_on_planned<S: Sockets, C: Clock>(
     hub: &mut Hub,
     sockets: &mut S,
@@ -120,7 +120,21 @@ fn go_on_planned<S: Sockets, C: Clock>(
     keeper.begins();
     keeper.hands(token);
     attend(hub, sockets, keeper, token);
-    if let Some(next) = keeper.wants_plan() {
+    give_places(hub, sockets, keeper);
+}
+
+/// Goes on with connections that wait until their plans can be made elsewhere, as long as there is a place: one that
+/// is gone takes none.
+fn give_places<S: Sockets, C: Clock>(hub: &mut Hub, sockets: &mut S, keeper: &mut Keeper<'_, C>)
+    ensures { Serves (state_of hub.old) (S.may_have sockets.old) (state_of hub.new) (S.may_have sockets.new) }
+{
+    for _place in 0..u64::MAX {
+        if sockets.is_busy() {
+            return;
+        }
+        let Some(next) = keeper.wants_plan() else {
+            return;
+        };
         attend(hub, sockets, keeper, next);
     }
 }
