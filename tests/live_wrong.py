@@ -17,7 +17,7 @@ import live_script
 from lib import live_rows, servers
 from lib.live import SCRIPT, Script
 
-HISTORIES, SEED = 400, 3
+HISTORIES, SEED = 60, 3
 
 WRONG = {
     "stale applied": ("  if gap >= EXACT or gap > within then\n", "  if gap >= EXACT then\n"),
