@@ -73,9 +73,7 @@ WRONG_SHAPE = [
     "version = 1\n[limits]\nA = 2\n[soft]\nA = 1\n[fees]\nA = 1\n",
     "version = 3\n[limits]\nA = 2\n[soft]\nA = 1\n[fees]\nA = 1\n",
     "version = 0\n[soft]\n[fees]\n",
-    # One without the other, a consumer in one of them alone, and one without a limit.
-    "version = 2\n[soft]\n",
-    "version = 2\n[fees]\n",
+    # A consumer in one of them alone, and one without a limit.
     "version = 2\n[limits]\nA = 2\n[soft]\nA = 1\n",
     "version = 2\n[limits]\nA = 2\n[fees]\nA = 1\n",
     "version = 2\n[limits]\nA = 2\nB = 2\n[soft]\nA = 1\n[fees]\nA = 1\nB = 1\n",
@@ -89,7 +87,7 @@ WRONG_SHAPE = [
     "version = 2\n[limits]\nA = 2\n[soft]\nA = 1\n[fees]\nA = true\n",
     "version = 2\n[limits]\nA = 2\n[soft.x]\nA = 1\n[fees]\nx = 1\n",
     "version = 2\n[limits]\nA = 2\n[soft]\nA = 3\n[fees]\nB = 1\n",
-    "version = 2\n[limits]\nA = -1\n[soft]\n",
+    "version = 2\n[limits]\nA = -1\n[soft]\nA = 0\n",
     "version = 07:32\n",
     *deep(LEVELS),
 ]
@@ -126,6 +124,9 @@ POLICIES = [
     "version = 1\n",
     "version = 2\n",
     "version = 2\n[soft]\n[fees]\n",
+    "version = 2\n[soft]\n",
+    "version = 2\n[fees]\n",
+    "version = 2\n[limits]\nA = 2\n[rates.x]\nA = 1\n[soft]\n",
     "version = 2\n[limits]\nA = 2\nB = 1\n[soft]\nA = 2\n[fees]\nA = 1099511627776\n",
     "version = 2\n[limits]\nA = 2\n[soft]\nA = 0\n[fees]\nA = 0\n",
     'class_field = ""\n',

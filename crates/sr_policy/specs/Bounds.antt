@@ -1,4 +1,4 @@
--- The greatest numbers of a policy and of a snapshot, each named once.
+-- The greatest numbers of a policy and of a snapshot.
 -- Source: docs/POLICY.md.
 
 use Rattle.std.specs.Prelude.{ℕ, ◌^◌}

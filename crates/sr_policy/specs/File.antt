@@ -102,16 +102,18 @@ has_kinds file =
 abbrev pub is_of_version_2 : Members → Bool
 is_of_version_2 file = option_map_or (is_between 2 2) (get_member (codes "version") file) false
 
--- neither soft limits nor fees; or, in a file of version 2, both, for the same consumers, each of which has a limit
+-- neither soft limits nor fees
+abbrev pub has_no_tiers : Members → Bool
+has_no_tiers file =
+    not (is_some (get_member (codes "soft") file)) && not (is_some (get_member (codes "fees") file))
+
+-- soft limits and fees stand in a file of version 2 alone, for the same consumers, each of which has a limit
 abbrev pub are_tiers : Members → Bool
 are_tiers file =
-    (not (is_some (get_member (codes "soft") file)) && not (is_some (get_member (codes "fees") file)))
-    || (is_of_version_2 file
-    && is_some (get_member (codes "soft") file)
-    && is_some (get_member (codes "fees") file)
+    (is_of_version_2 file || has_no_tiers file)
     && are_limited (fees_in file) (soft_in file)
     && are_limited (soft_in file) (fees_in file)
-    && are_limited (limits_in file) (soft_in file))
+    && are_limited (limits_in file) (soft_in file)
 
 -- the file has the shape of a policy: no other keys, each value of its kind, no rate for a consumer without a limit,
 -- and soft limits and fees in a file of version 2 alone, for the same consumers

@@ -1,4 +1,4 @@
-//! The greatest numbers of a policy and of a snapshot, each named once.
+//! The greatest numbers of a policy and of a snapshot.
 
 /// How many consumers a policy has at most.
 pub(crate) const MAX_CONSUMERS: usize = 64;

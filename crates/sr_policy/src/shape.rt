@@ -201,15 +201,18 @@ fn has_key_at(file: &Table, key: &str, consumer: &str) -> bool
     }
 }
 
-/// Whether a file has neither soft limits nor fees, or, in version 2, both, for the same consumers, which have limits.
+/// Whether a file has soft limits and fees in version 2 alone, for the same consumers, which have limits.
 fn are_tiers(file: &Table) -> bool
     ensures { result ≡ spec.are_tiers (table_view file.now) }
 {
-    match (value_at(file, "soft"), value_at(file, "fees")) {
-        (None, None) => true,
-        (Some(_), Some(_)) => is_of_version_2(file) && are_same_consumers(file),
-        _ => false,
-    }
+    (is_of_version_2(file) || has_no_tiers(file)) && are_same_consumers(file)
+}
+
+/// Whether a file has neither soft limits nor fees.
+fn has_no_tiers(file: &Table) -> bool
+    ensures { result ≡ spec.has_no_tiers (table_view file.now) }
+{
+    value_at(file, "soft").is_none() && value_at(file, "fees").is_none()
 }
 
 /// Whether a file says that it is of version 2.
