@@ -1,4 +1,4 @@
-// What no reply shows: that no byte is looked at twice.
+// What no reply shows: that no byte is looked at twice, and none behind a fault.
 use sr_resp::{ReadFault, Reader};
 use std::alloc::{AllocError, Global};
 
@@ -36,5 +36,24 @@ fn looks_at_each_byte_once(rt: HostRuntime) -> Result<(), ReadFault> {
     let bytes = longest_add(rt.alloc())?;
     let once = looks_once(rt.alloc(), bytes.as_slice())?;
     assert!(rt; once);
+    Ok(())
+}
+
+/// How many bytes a reader has looked at once it refused this piece; none if it took it.
+fn looked_until_fault(alloc: Global, piece: &[u8]) -> u64 {
+    let mut reader = Reader::new(alloc);
+    match reader.feed(alloc, piece) {
+        Err(ReadFault::Protocol) => reader.looked(),
+        _ => 0,
+    }
+}
+
+// A request has at most 4,096 words.
+#[test]
+fn looks_at_no_byte_behind_a_fault(rt: HostRuntime) -> Result<(), ReadFault> {
+    let mut bytes = Vec::from_slice(rt.alloc(), b"*4097")?;
+    bytes.extend_from_slice(Vec::from_elem(rt.alloc(), b'x', 100)?.as_slice())?;
+    let looked = looked_until_fault(rt.alloc(), bytes.as_slice());
+    assert!(rt; looked == 5);
     Ok(())
 }
