@@ -269,7 +269,7 @@ bench-net:
 	@cd crates/sr_server && rt run -- --stdio < /dev/null
 	@python3 bench/net.py $(SERVER)
 
-# Times the solver on the families of problems of docs/BENCH.md, without and with tiers. It goes by turns with LEMON's network simplex if its
+# Times the solver on the families of problems of bench/families.py, without and with tiers. It goes by turns with LEMON's network simplex if its
 # headers are installed (Debian: liblemon-dev), and alone if not.
 bench-solver:
 	@cd crates/bench_solver && rt run -- < stdin > /dev/null

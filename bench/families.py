@@ -2,7 +2,7 @@
 
 usage: families.py [costly | small | small-tiers | tiers BITS]
 
-With no argument these are the families of docs/BENCH.md, of 4,096 entries and 64 consumers, and with `tiers` the same, where each
+With no argument these are the 27 families on the page of sr_solver, of 4,096 entries and 64 consumers, and with `tiers` the same, where each
 consumer has half of its room at a fee below 2^BITS, or at none for 0. With `costly` they are others of this size, made to take long:
 few allowed pairs, from 2 to 12 for each entry, with a dear outlet that all are allowed and without, one great room beside small
 ones, and both; the rooms are exact or have some to spare, and the entries are shuffled. With `small` they are 10,000 random problems of all
