@@ -36,7 +36,7 @@ abbrev pub count_calls : List (List Call) → ℕ
 count_calls scripts = sum_by length scripts
 
 -- a run of scripts: the receipts of each are those of its calls, each worker made two events besides, and it is closed
--- with all of them
+-- with them, but for so many that are skipped
 pub record HasRun (scripts : List (List Call)) (receipts : List (List Receipt)) (book : BookState) (acts skipped : ℕ) :
     Type 0 where
   pub worked : AreWorked 0 scripts receipts
