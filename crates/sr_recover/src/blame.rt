@@ -286,30 +286,30 @@ fn rate_without_limit(file: &Table) -> Option<Culprit<'_>> {
 
 /// A soft limit or a fee that may not stand there.
 fn wrong_tier(file: &Table) -> Option<Culprit<'_>> {
-    let (soft, fees) = match (table_in(file, "soft"), table_in(file, "fees")) {
-        (None, None) => return None,
-        (Some(_), None) => return Some(Culprit::at("soft", "there are no fees")),
-        (None, Some(_)) => return Some(Culprit::at("fees", "there are no soft limits")),
-        (Some(soft), Some(fees)) => (soft, fees),
-    };
     if file.get("version").and_then(|version| version.as_integer()) != Some(2) {
-        return Some(Culprit::at("soft", "it has to stand in a file of version 2"));
+        let name = if file.get("soft").is_some() {
+            "soft"
+        } else {
+            "fees"
+        };
+        file.get(name)?;
+        return Some(Culprit::at(name, "it has to stand in a file of version 2"));
     }
-    for (consumer, _value) in soft.iter() {
-        if fees.get(consumer.as_str()).is_none() {
-            return Some(Culprit::within("soft", consumer.as_str(), "the consumer has no fee"));
-        }
-        if number_in(file, "limits", consumer.as_str()).is_none() {
-            return Some(Culprit::within("soft", consumer.as_str(), NO_LIMIT));
-        }
-    }
-    for (consumer, _value) in fees.iter() {
-        if soft.get(consumer.as_str()).is_none() {
-            return Some(Culprit::within(
-                "fees",
-                consumer.as_str(),
-                "the consumer has no soft limit",
-            ));
+    lacking(file, "soft", "fees", "the consumer has no fee")
+        .or_else(|| lacking(file, "soft", "limits", NO_LIMIT))
+        .or_else(|| lacking(file, "fees", "soft", "the consumer has no soft limit"))
+}
+
+/// A consumer in one table and not in another.
+fn lacking<'a>(
+    file: &'a Table,
+    name: &'static str,
+    other: &str,
+    why: &'static str,
+) -> Option<Culprit<'a>> {
+    for (consumer, _value) in table_in(file, name)?.iter() {
+        if number_in(file, other, consumer.as_str()).is_none() {
+            return Some(Culprit::within(name, consumer.as_str(), why));
         }
     }
     None
