@@ -34,9 +34,18 @@ pub record UsesRoom (owner : List ℕ) (old new : List Room) : Type 0 where
 abbrev pub KeepsRooms : List Room → List Room → Type 0
 KeepsRooms old new = (owner : List ℕ) → room_left owner old ≤ room_left owner new
 
+-- each owner has the room that it had
+abbrev pub HaveSameRooms : List Room → List Room → Type 0
+HaveSameRooms old new = (owner : List ℕ) → room_left owner new ≡ room_left owner old
+
 -- this owner has room for n more, or what it had if that was more, and no other owner's room changes
 pub record Reserves (owner : List ℕ) (n : ℕ) (old new : List Room) : Type 0 where
   pub owners : room_left owner new ≡ max n (room_left owner old)
+  pub others : (other : List ℕ) → other ≢ owner → room_left other new ≡ room_left other old
+
+-- this owner gives up n places of its room, and no other owner's room changes
+pub record Releases (owner : List ℕ) (n : ℕ) (old new : List Room) : Type 0 where
+  pub owners : room_left owner new + n ≡ room_left owner old
   pub others : (other : List ℕ) → other ≢ owner → room_left other new ≡ room_left other old
 
 -- the id lies below all entries

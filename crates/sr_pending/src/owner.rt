@@ -36,8 +36,8 @@ impl Owner {
         &self.name
     }
 
-    /// The same consumer once more. It takes no memory; an `Err` comes only if there are as many copies as can be
-    /// counted.
+    /// The same consumer once more. It takes no memory. No clause says when an `Err` comes: the code gives one if there
+    /// are as many copies as can be counted.
     pub fn copy(&self) -> Result<Owner, AllocError>
         ensures { IfOk result (λ owner. owner ≡ self.now) }
     {

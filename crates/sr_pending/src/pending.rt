@@ -2,7 +2,7 @@ use crate::blocks::Blocks;
 use crate::held::{OwnedSlots, add_spare, clear, held_for, put_slot, take_slot};
 use crate::nacks::Nacks;
 use crate::owned::remove_owned;
-use crate::room::{Room, add_room, in_all, room_for, use_room};
+use crate::room::{Room, add_room, in_all, room_for, take_room, use_room};
 use crate::search::{above, from, insert_slot, pending_slot, place_of, range_of, slot_of};
 use crate::slots::{entry, free_all, give_in, id_in, touch_in};
 use crate::{Nack, Owner};
@@ -61,7 +61,7 @@ impl Pending {
     ghost use Rattle.std.specs.Prelude.{IfOk, IfSome, IfNone};
     ghost use Rattle.std.specs.Option.{option_copied};
     ghost use Rattle.std.specs.List.{All};
-    ghost use Rattle.sr_pending.specs.Pending.{AreRising, IsCountable, KeepsRooms, Reserves, UsesRoom};
+    ghost use Rattle.sr_pending.specs.Pending.{AreRising, IsCountable, KeepsRooms, Releases, Reserves, UsesRoom};
     ghost use Rattle.sr_ids.specs.{is_below};
     ghost use Rattle.sr_pending.specs.Pending.{greatest_pending, has_id, least_pending, moved, nack_with};
     ghost use Rattle.sr_pending.specs.Pending.{owned_by, owned_by_named, pending_above, pending_between, first_of};
@@ -116,6 +116,16 @@ impl Pending {
         add_spare(&mut self.held, alloc, owner, n)?;
         add_room(&mut self.rooms, alloc, owner, more)?;
         Ok(())
+    }
+
+    /// Gives up `n` places of this owner's room, as a call does that reserved them and is then refused. It takes no
+    /// memory, and gives none back.
+    pub fn release(&mut self, owner: &Name, n: usize)
+        requires { n ≤ room_left owner.now self.old.rooms }
+        ensures nacks { self.new.nacks ≡ self.old.nacks }
+        ensures room { Releases owner.now n self.old.rooms self.new.rooms }
+    {
+        take_room(&mut self.rooms, owner, n);
     }
 
     /// Adds an entry that was not pending, in the room that its owner has. It takes no memory.

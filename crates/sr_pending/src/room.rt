@@ -1,6 +1,6 @@
-ghost use Rattle.std.specs.Prelude.{◌≡◌, ◌+◌, ◌^◌, ◌<◌, OnOk, OnErr, IfSome, IfNone};
+ghost use Rattle.std.specs.Prelude.{◌≡◌, ◌+◌, ◌^◌, ◌<◌, ◌≤◌, OnOk, OnErr, IfSome, IfNone};
 ghost use Rattle.std.specs.Vec.{vec_len};
-ghost use Rattle.sr_pending.specs.Pending.{UsesRoom, room_left};
+ghost use Rattle.sr_pending.specs.Pending.{Releases, UsesRoom, room_left};
 ghost use Rattle.sr_pending.specs.steps.Room.{AddsRoom, IsRoomAt, rooms_in_all};
 
 use sr_bytes::Name;
@@ -64,6 +64,19 @@ pub(crate) fn use_room(rooms: &mut Vec<Room>, owner: &Name)
         } else {
             rooms[place].left -= 1;
         }
+    }
+}
+
+/// Takes `n` places from this owner's room.
+pub(crate) fn take_room(rooms: &mut Vec<Room>, owner: &Name, n: usize)
+    requires { n ≤ room_left owner.now rooms.old.items }
+    ensures taken { Releases owner.now n rooms.old.items rooms.new.items }
+    ensures in_all { rooms_in_all rooms.new.items ≤ rooms_in_all rooms.old.items }
+{
+    let mut left = n;
+    while left > 0 {
+        use_room(rooms, owner);
+        left -= 1;
     }
 }
 
