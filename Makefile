@@ -133,6 +133,7 @@ given-room:
 given-refused:
 	@tests/refused_memory.py $(SERVER)
 	@tests/refused_tick.py $(SERVER)
+	@tests/refused_runs.py $(SERVER)
 
 given-tests:
 	@scripts/memory $(TESTS) 600 run::records

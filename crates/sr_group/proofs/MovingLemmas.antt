@@ -1,8 +1,7 @@
 -- The room that moves need and use, and what a move leaves of a group.
-use Rattle.std.proofs.Common.{◌≡◌, ◌≢◌, ℕ, ◌+◌, ◌^◌, ◌<◌, ◌≤◌, Bool, true, false, cond, not, nat_lt, List, [], ◌∷◌, ◌++◌, Option, Some, None, length, get_or, map, take, refl, ap, sym, ◌∙◌, arith}
+use Rattle.std.proofs.Common.{◌≡◌, ◌≢◌, ℕ, ◌+◌, ◌^◌, ◌<◌, ◌≤◌, Bool, true, false, cond, not, nat_lt, List, [], ◌∷◌, ◌++◌, Option, Some, None, length, map, refl, ap, sym, ◌∙◌, arith}
 use Rattle.std.specs.List.{All}
 use Rattle.std.specs.Cmp.Lexicographic.{bytes_decides}
-use Rattle.std.proofs.lemmas.List.{take_more}
 use Rattle.std.proofs.lemmas.List.Elements.{All-filter, All-weaker}
 use Rattle.sr_ids.specs.declared.id.Id.{Id}
 use Rattle.sr_entries.specs.declared.entry.Entry.{Entry}
@@ -11,14 +10,14 @@ use Rattle.sr_pending.specs.declared.nack.Nack.{Nack}
 use Rattle.sr_pending.specs.declared.room.Room.{Room}
 use Rattle.sr_ids.specs.{is_same_id}
 use Rattle.sr_pending.specs.{AreRising, IsCountable, is_same_name, redelivered, room_left}
-use Rattle.sr_pending.specs.Pending.{KeepsRooms, Reserves}
+use Rattle.sr_pending.specs.Pending.{HaveSameRooms, KeepsRooms, Releases, Reserves}
 use Rattle.sr_pending.proofs.ChangeLemmas.{All-with_nack}
 use Rattle.sr_group.specs.declared.claim.Claim.{Claim}
 use Rattle.sr_group.specs.declared.consumer.Consumer.{Consumer}
 use Rattle.sr_group.specs.declared.moving.Wanted.{Wanted}
 use Rattle.sr_group.specs.Claim.{Fate, Skipped, Dropped, GivenOver, MoveState, after_claim, after_fate, after_move, after_moves, count_given, fate_of, fate_of_any, fate_with, time_given}
 use Rattle.sr_group.specs.Group.{GroupState, IsGroup, IsOwned, IsSeen, has_consumer, idle_at, seen_at}
-use Rattle.sr_group.specs.steps.Moving.{HaveRooms, Spends, needed}
+use Rattle.sr_group.specs.steps.Moving.{AddsRooms, HaveRooms, Spends, needed}
 use Rattle.sr_group.proofs.ConsumerLemmas.{AreInOrder-seen_at, All-seen_at, has_consumer-seen, has_consumer-seen_at}
 
 -- ---- room
@@ -27,42 +26,50 @@ use Rattle.sr_group.proofs.ConsumerLemmas.{AreInOrder-seen_at, All-seen_at, has_
 abbrev part : List ℕ → MoveState → ℕ
 part owner move = cond (is_same_name move.claimer owner) (length move.ids) 0
 
-needed-push : (owner : List ℕ) (moves : List MoveState) (move : MoveState) → needed owner (moves ++ move ∷ []) ≡ needed owner moves + part owner move
-needed-push owner [] move = omega arith
-needed-push owner (first ∷ moves) move = let rest = needed-push owner moves move in omega (arith, rest)
-
 -- no moves need no room
-pub HaveRooms-none : (rooms : List Room) → HaveRooms [] rooms rooms
-HaveRooms-none rooms owner = omega arith
-
 pub HaveRooms-kept : (old new : List Room) → HaveRooms [] old new → KeepsRooms old new
 HaveRooms-kept old new have owner = let all = have owner in omega (arith, all)
 
 -- room for one move was added
-pub HaveRooms-reserved : (move : MoveState) (n : ℕ) (old new : List Room) → n ≡ room_left move.claimer old + length move.ids → n ≤ room_left move.claimer new → Reserves move.claimer n old new → HaveRooms (move ∷ []) old new
-HaveRooms-reserved move n old new is enough reserves owner = by (is_same_name move.claimer owner) refl
+pub AddsRooms-reserved : (move : MoveState) (n : ℕ) (old new : List Room) → n ≡ room_left move.claimer old + length move.ids → Reserves move.claimer n old new → AddsRooms (move ∷ []) old new
+AddsRooms-reserved move n old new is reserves owner = by (is_same_name move.claimer owner) refl
   where
-    by : (test : Bool) → is_same_name move.claimer owner ≡ test → room_left owner old + (cond test (length move.ids) 0 + 0) ≤ room_left owner new
+    by : (test : Bool) → is_same_name move.claimer owner ≡ test → room_left owner new ≡ room_left owner old + (cond test (length move.ids) 0 + 0)
     by true e =
         let same : move.claimer ≡ owner = (bytes_decides move.claimer owner).0 e in
-        let all : room_left move.claimer old + length move.ids ≤ room_left move.claimer new = omega (arith, is, enough) in
-        let own : room_left owner old + length move.ids ≤ room_left owner new = rw same at all in
+        let all : room_left move.claimer new ≡ room_left move.claimer old + length move.ids = omega (arith, is, reserves.owners) in
+        let own : room_left owner new ≡ room_left owner old + length move.ids = rw same at all in
         omega (arith, own)
     by false e =
         let apart : owner ≢ move.claimer = λ same. let yes : is_same_name move.claimer owner ≡ true = (bytes_decides move.claimer owner).1 (sym same) in let both = sym e ∙ yes in cc in
         let other = reserves.others owner apart in
         omega (arith, other)
 
--- and then for one more
-pub HaveRooms-more : (moves : List MoveState) (i : ℕ) (move : MoveState) (base old new : List Room) → i < length moves → move ≡ get_or moves i move
-    → HaveRooms (take i moves) base old → HaveRooms (move ∷ []) old new → HaveRooms (take (i + 1) moves) base new
-HaveRooms-more moves i move base old new within read first second owner =
-    let front = take i moves in
-    let more : take (i + 1) moves ≡ front ++ move ∷ [] = take_more moves i move within ∙ ap (λ (m : MoveState). front ++ m ∷ []) (sym read) in
-    let all : needed owner (take (i + 1) moves) ≡ needed owner front + part owner move = ap (needed owner) more ∙ needed-push owner front move in
-    let before : room_left owner base + needed owner front ≤ room_left owner old = first owner in
-    let here : room_left owner old + (part owner move + 0) ≤ room_left owner new = second owner in
-    omega (arith, all, before, here)
+-- it may be released then
+pub AddsRooms-own : (move : MoveState) (base old now : List Room) → AddsRooms (move ∷ []) base old → HaveSameRooms old now → length move.ids ≤ room_left move.claimer now
+AddsRooms-own move base old now added same =
+    let all : room_left move.claimer old ≡ room_left move.claimer base + (part move.claimer move + 0) = added move.claimer in
+    let own : part move.claimer move ≡ length move.ids = rw ((bytes_decides move.claimer move.claimer).1 refl) refl in
+    omega (arith, all, own, same move.claimer)
+
+-- and then there is the room that there was
+pub HaveSameRooms-released : (move : MoveState) (base old now new : List Room) → AddsRooms (move ∷ []) base old → HaveSameRooms old now → Releases move.claimer (length move.ids) now new → HaveSameRooms base new
+HaveSameRooms-released move base old now new added same released owner = by (is_same_name move.claimer owner) refl (added owner)
+  where
+    by : (test : Bool) → is_same_name move.claimer owner ≡ test → room_left owner old ≡ room_left owner base + (cond test (length move.ids) 0 + 0) → room_left owner new ≡ room_left owner base
+    by true e all =
+        let is : move.claimer ≡ owner = (bytes_decides move.claimer owner).0 e in
+        let less : room_left move.claimer new + length move.ids ≡ room_left move.claimer now = released.owners in
+        let own : room_left owner new + length move.ids ≡ room_left owner now = rw is at less in
+        omega (arith, all, own, same owner)
+    by false e all =
+        let apart : owner ≢ move.claimer = λ is. let yes : is_same_name move.claimer owner ≡ true = (bytes_decides move.claimer owner).1 (sym is) in let both = sym e ∙ yes in cc in
+        let other = released.others owner apart in
+        omega (arith, all, other, same owner)
+
+-- what is added to the room is room
+pub HaveRooms-added : (moves : List MoveState) (old new : List Room) → AddsRooms moves old new → HaveRooms moves old new
+HaveRooms-added moves old new added owner = omega (arith, added owner)
 
 -- the first move has its room
 pub HaveRooms-first : (move : MoveState) (moves : List MoveState) (base old : List Room) → HaveRooms (move ∷ moves) base old → length move.ids ≤ room_left move.claimer old

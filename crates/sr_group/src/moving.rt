@@ -1,8 +1,9 @@
-ghost use Rattle.std.specs.Prelude.{◌≡◌, ◌^◌, ◌<◌, ◌≤◌, [], ◌∷◌, IfOk, IfSome, OnOk, length, map};
+ghost use Rattle.std.specs.Prelude.{◌≡◌, ◌^◌, ◌<◌, ◌≤◌, [], ◌∷◌, IfOk, IfSome, OnErr, OnOk, length, map};
 ghost use Rattle.std.specs.List.{All};
 ghost use Rattle.sr_pending.specs.{AreRising, IsCountable, room_left};
+ghost use Rattle.sr_pending.specs.Pending.{HaveSameRooms};
 ghost use Rattle.sr_group.specs.Claim.{after_claim, after_fate, fate_with};
-ghost use Rattle.sr_group.specs.steps.Moving.{HaveRooms, Spends};
+ghost use Rattle.sr_group.specs.steps.Moving.{AddsRooms, Spends};
 
 use crate::Group;
 use crate::claim::{Call, Claim, Delivery, Weighed, first_delivery, weigh};
@@ -77,12 +78,12 @@ impl Group {
     ghost use Rattle.std.specs.Prelude.{◌≡◌, ◌+◌, ◌^◌, ◌<◌, ◌≤◌, OnOk, OnErr, length};
     ghost use Rattle.std.specs.List.{All};
     ghost use Rattle.sr_pending.specs.{room_left};
-    ghost use Rattle.sr_pending.specs.Pending.{KeepsRooms};
+    ghost use Rattle.sr_pending.specs.Pending.{HaveSameRooms, KeepsRooms};
     ghost use Rattle.sr_group.specs.Claim.{HasCount, after_move, after_moves};
     ghost use Rattle.sr_group.specs.steps.Moving.{Spends};
 
     /// Carries out moves at one moment, in milliseconds since 1970, one after the other. All memory is taken before the
-    /// first change: an `Err` leaves all as it was.
+    /// first change; after an `Err` the next call finds what was taken.
     ///
     /// Source: Redis documentation, command XCLAIM.
     pub fn move_all(
@@ -96,11 +97,12 @@ impl Group {
         requires counts { All HasCount moves.now }
         ensures ok { OnOk result (self.new.shown ≡ after_moves moment entries.now.entries moves.now self.old.shown) }
         ensures err { OnErr result (self.new.shown ≡ self.old.shown) }
+        ensures rooms { OnErr result (HaveSameRooms self.old.rooms self.new.rooms) }
         ensures kept { OnOk result (KeepsRooms self.old.rooms self.new.rooms) }
     {
         let readies = make_ready(alloc, &self.pending, moves)?;
-        make_rooms(&mut self.pending, alloc, readies.as_slice())?;
         self.consumers.reserve(readies.len())?;
+        make_rooms(&mut self.pending, alloc, readies.as_slice())?;
         for ready in readies {
             self.carry_out(ready, moment, entries);
         }
@@ -225,22 +227,32 @@ fn wanted_by(alloc: Global, claimer: &Owner, ids: &[Id]) -> Result<Vec<Wanted>, 
     Ok(wanted)
 }
 
-/// Makes room for all entries of these moves, beside the room that there is.
+/// Makes room for all entries of these moves, beside the room that there is, or for none of them. There are as many
+/// moves as a plan has consumers, and so as many frames.
 fn make_rooms(pending: &mut Pending, alloc: Global, readies: &[Ready]) -> Result<(), AllocError>
     ensures nacks { pending.new.nacks ≡ pending.old.nacks }
-    ensures rooms { OnOk result (HaveRooms readies.now pending.old.rooms pending.new.rooms) }
+    ensures rooms { OnOk result (AddsRooms readies.now pending.old.rooms pending.new.rooms) }
+    ensures err { OnErr result (HaveSameRooms pending.old.rooms pending.new.rooms) }
 {
-    for ready in readies {
-        make_room(pending, alloc, ready)?;
+    let Some((first, rest)) = readies.split_first() else {
+        return Ok(());
+    };
+    make_room(pending, alloc, first)?;
+    match make_rooms(pending, alloc, rest) {
+        Ok(()) => Ok(()),
+        Err(fault) => {
+            pending.release(&first.claimer, first.wanted.len());
+            Err(fault)
+        }
     }
-    Ok(())
 }
 
 /// Makes room for the entries of a move, beside the room that there is. More entries than a number holds need more
 /// memory than there is.
 fn make_room(pending: &mut Pending, alloc: Global, ready: &Ready) -> Result<(), AllocError>
     ensures nacks { pending.new.nacks ≡ pending.old.nacks }
-    ensures rooms { OnOk result (HaveRooms (ready.now ∷ []) pending.old.rooms pending.new.rooms) }
+    ensures rooms { OnOk result (AddsRooms (ready.now ∷ []) pending.old.rooms pending.new.rooms) }
+    ensures err { OnErr result (pending.new ≡ pending.old) }
 {
     let room = pending.room(&ready.claimer);
     match room.checked_add(ready.wanted.len()) {

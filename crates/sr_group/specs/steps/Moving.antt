@@ -14,6 +14,10 @@ needed owner (move ∷ moves) = (if is_same_name move.claimer owner then length 
 abbrev pub HaveRooms : List MoveState → List Room → List Room → Type 0
 HaveRooms moves old new = (owner : List ℕ) → room_left owner old + needed owner moves ≤ room_left owner new
 
+-- each owner has room for all these moves, just beside the room that it had
+abbrev pub AddsRooms : List MoveState → List Room → List Room → Type 0
+AddsRooms moves old new = (owner : List ℕ) → room_left owner new ≡ room_left owner old + needed owner moves
+
 -- room for n entries of this owner, at most, is used up, and none of another owner's
 pub record Spends (owner : List ℕ) (n : ℕ) (old new : List Room) : Type 0 where
   pub own : room_left owner old ≤ room_left owner new + n

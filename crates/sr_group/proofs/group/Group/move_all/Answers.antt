@@ -4,10 +4,12 @@ use Rattle.std.specs.Result.{OnErr}
 use Rattle.std.proofs.lemmas.List.{nil_from_length}
 use Rattle.std.proofs.lemmas.List.Elements.{All-head, All-same, All-tail}
 use Rattle.std.specs.Vec.Iter.{into_iter_items}
+use Rattle.sr_pending.specs.{room_left}
+use Rattle.sr_pending.specs.Pending.{HaveSameRooms}
 use Rattle.sr_group.specs.Claim.{HasCount, MoveState}
 use Rattle.sr_group.specs.Group.{KeptGroup}
 use Rattle.sr_group.specs.steps.Moving.{HaveRooms}
-use Rattle.sr_group.proofs.MovingLemmas.{HaveRooms-first, HaveRooms-kept, HaveRooms-same, HaveRooms-spent, IsGroup-same, moved-all, moved-first, shown-same}
+use Rattle.sr_group.proofs.MovingLemmas.{HaveRooms-added, HaveRooms-first, HaveRooms-kept, HaveRooms-same, HaveRooms-spent, IsGroup-same, moved-all, moved-first, shown-same}
 use Rattle.sr_group.proofs.group.Group.move_all.Goals as goal
 
 pub carry_out-requires-clause-room : goal.carry_out-requires-clause-room
@@ -40,21 +42,31 @@ holds (Ok value) P is = tt
 holds (Err error) P is = is
 
 pub invariant_of-self : goal.invariant_of-self
-invariant_of-self c = IsGroup-same _ _ _ _ _ refl c.in_err-make_rooms.ensures.nacks c.self.invariant
+invariant_of-self c = IsGroup-same _ _ _ _ _ c.in_err-reserve.ensures.items refl c.self.invariant
 
-pub invariant_of-self-in_err-reserve : goal.invariant_of-self-in_err-reserve
-invariant_of-self-in_err-reserve c = IsGroup-same _ _ _ _ _ c.in_err-reserve.ensures.items c.in_ok-make_rooms.ensures.nacks c.self.invariant
+pub invariant_of-self-in_err-make_rooms : goal.invariant_of-self-in_err-make_rooms
+invariant_of-self-in_err-make_rooms c = IsGroup-same _ _ _ _ _ c.in_ok-reserve.ensures.items c.in_err-make_rooms.ensures.nacks c.self.invariant
 
 pub invariant_of-self-2 : goal.invariant_of-self-2
 invariant_of-self-2 c = IsGroup-same _ _ _ _ _ c.in_ok-reserve.ensures.items c.in_ok-make_rooms.ensures.nacks c.self.invariant
 
-pub returns-in_err-make_rooms-clause-err : goal.returns-in_err-make_rooms-clause-err
-returns-in_err-make_rooms-clause-err c =
-    holds _ _ (shown-same _ _ _ _ _ _ refl c.in_err-make_rooms.ensures.nacks (ap (λ (g : KeptGroup). g.shown) c.self.view_is))
-
 pub returns-in_err-reserve-clause-err : goal.returns-in_err-reserve-clause-err
 returns-in_err-reserve-clause-err c =
-    holds _ _ (shown-same _ _ _ _ _ _ c.in_err-reserve.ensures.items c.in_ok-make_rooms.ensures.nacks (ap (λ (g : KeptGroup). g.shown) c.self.view_is))
+    holds _ _ (shown-same _ _ _ _ _ _ c.in_err-reserve.ensures.items refl (ap (λ (g : KeptGroup). g.shown) c.self.view_is))
+
+pub returns-in_err-make_rooms-clause-err : goal.returns-in_err-make_rooms-clause-err
+returns-in_err-make_rooms-clause-err c =
+    holds _ _ (shown-same _ _ _ _ _ _ c.in_ok-reserve.ensures.items c.in_err-make_rooms.ensures.nacks (ap (λ (g : KeptGroup). g.shown) c.self.view_is))
+
+pub returns-in_err-reserve-clause-rooms : goal.returns-in_err-reserve-clause-rooms
+returns-in_err-reserve-clause-rooms c =
+    let same : HaveSameRooms c.args.self.now.rooms c.self.inside.pending.rooms = λ owner. ap (λ (g : KeptGroup). room_left owner g.rooms) c.self.view_is in
+    holds _ _ same
+
+pub returns-in_err-make_rooms-clause-rooms : goal.returns-in_err-make_rooms-clause-rooms
+returns-in_err-make_rooms-clause-rooms c =
+    let same : HaveSameRooms c.args.self.now.rooms c.make_rooms.new.pending.rooms = λ owner. c.in_err-make_rooms.ensures.err owner ∙ ap (λ (g : KeptGroup). room_left owner g.rooms) c.self.view_is in
+    holds _ _ same
 
 pub loop-ready-init : goal.loop-ready-init
 loop-ready-init c =
@@ -62,7 +74,7 @@ loop-ready-init c =
     let readies = c.in_ok-readies.readies in
     let len : length (into_iter_items c.into_iter-ready-iterator.result) ≡ length readies.items = ap (λ (l : List MoveState). length l) gives.0 in (
       refl,
-      HaveRooms-same c.as_slice.result.now (into_iter_items c.into_iter-ready-iterator.result) c.args.self.now.rooms c.self.inside.pending.rooms c.make_rooms.new.pending.rooms (gives.0 ∙ sym c.as_slice.ensures.value) (ap (λ (g : KeptGroup). g.rooms) c.self.view_is) c.in_ok-make_rooms.ensures.rooms,
+      HaveRooms-same c.as_slice.result.now (into_iter_items c.into_iter-ready-iterator.result) c.args.self.now.rooms c.self.inside.pending.rooms c.make_rooms.new.pending.rooms (gives.0 ∙ sym c.as_slice.ensures.value) (ap (λ (g : KeptGroup). g.rooms) c.self.view_is) (HaveRooms-added c.as_slice.result.now c.self.inside.pending.rooms c.make_rooms.new.pending.rooms c.in_ok-make_rooms.ensures.rooms),
       omega (arith, len, readies.ok.0, c.len.ensures, c.in_ok-reserve.ensures.ok),
       All-same HasCount _ _ (gives.0 ∙ c.in_ok-readies.ensures) c.requires.counts,
       omega (arith, len, readies.ok.0, gives.1),
