@@ -95,6 +95,9 @@ impl<T> Queue<T> {
     pub(crate) fn get(&self, session: u64) -> Option<&T>
         ensures { option_copied result ≡ lookup (nat_eq session) self.now.entries }
     {
+        if self.is_empty() {
+            return None;
+        }
         match self.places.get(&session) {
             None => None,
             Some(place) => value_in(&self.slots[*place]),

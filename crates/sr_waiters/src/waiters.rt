@@ -190,6 +190,9 @@ impl Waiters {
         ensures { (test : calls.Call → Bool) → ComputesTest F.Fn test passes
             → result ≡ session_of (first_that (λ call. asks key.now call && test call) self.now.list) }
     {
+        if self.reads.is_empty() {
+            return None;
+        }
         if self.indexed {
             return first_by_index(&self.reads, &self.index, key, passes);
         }

@@ -1,9 +1,14 @@
-use Rattle.std.proofs.Common.{None, nat_eq, ap, sym, ◌∙◌, arith}
+use Rattle.std.proofs.Common.{◌≡◌, [], None, nat_eq, ap, sym, refl, ◌∙◌, arith}
 use Rattle.std.specs.Map.{lookup}
 use Rattle.std.specs.Option.{option_map}
 use Rattle.sr_waiters.specs.Queue.{QueueState}
 use Rattle.sr_waiters.proofs.QueueLemmas.{queued-missing, queued-value}
 use Rattle.sr_waiters.proofs.queue.Queue.get.Goals as goal
+
+pub returns-then-is_empty : goal.returns-then-is_empty
+returns-then-is_empty g c =
+    let empty : c.args.self.now.entries ≡ [] = c.is_empty.ensures.0 c.if-is_empty.true in
+    rw empty refl
 
 pub returns-in-None : goal.returns-in-None
 returns-in-None g c =
