@@ -40,21 +40,27 @@ pub(crate) fn write_lines(
         ≡ out.old.items ++ lines_of view.now.group.now.shown view.now.moment view.now.policy.now names.now) }
 {
     for name in names {
-        write_line(out, view, name)?;
+        write_line(out, view, name, view.group.seen(name))?;
     }
     Ok(())
 }
 
-/// Writes the line of the consumer with this name.
-pub(crate) fn write_line(out: &mut Vec<u8>, view: &View<'_>, name: &Name) -> Result<(), AllocError>
+/// Writes the line of the consumer with this name, with this time at which it was seen last, or with none.
+pub(crate) fn write_line(
+    out: &mut Vec<u8>,
+    view: &View<'_>,
+    name: &Name,
+    seen: Option<u64>,
+) -> Result<(), AllocError>
     requires { view.now.wide ≡ has_tiers view.now.policy.now }
     ensures { OnOk result (out.new.items ≡ out.old.items ++ boards.line view.now.wide
-        (boards.row_of view.now.group.now.shown view.now.moment view.now.policy.now name.now)) }
+        (record (boards.row_of view.now.group.now.shown view.now.moment view.now.policy.now name.now)
+        { idle = option_map (boards.since view.now.moment) seen })) }
 {
     let pending = view.group.pending().count_of(name) as u64;
     let limit = view.policy.limit(name);
     let oldest = since(view.moment, view.group.oldest(name));
-    let idle = since(view.moment, view.group.seen(name));
+    let idle = since(view.moment, seen);
     write_name(out, name.as_slice())?;
     write_number(out, COUNT_WIDTH, Some(pending))?;
     write_number(out, COUNT_WIDTH, limit)?;

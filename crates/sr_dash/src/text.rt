@@ -66,7 +66,7 @@ fn write_rows(out: &mut Vec<u8>, view: &View<'_>) -> Result<(), AllocError>
     for consumer in view.group.consumers() {
         let before = names_before(named, &consumer.name);
         write_lines(out, view, before)?;
-        write_line(out, view, &consumer.name)?;
+        write_line(out, view, &consumer.name, Some(consumer.seen))?;
         named = names_after(named, &consumer.name);
     }
     write_lines(out, view, named)

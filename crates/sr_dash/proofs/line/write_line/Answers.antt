@@ -1,16 +1,15 @@
 use Rattle.std.proofs.Common.{rules, ◌≡◌, ◌++◌, ◌∷◌, [], List, ℕ, decimal, length, option_map, sym, ap, append-nil, append_assoc, ◌∙◌}
 use Rattle.sr_pending.specs.declared.nack.Nack.{Nack}
 use Rattle.sr_pending.specs.{owned_by}
-use Rattle.sr_group.specs.Group.{consumer_with}
 use Rattle.sr_dash.specs.Board as boards
 use Rattle.sr_dash.specs.Board.{Row, on_the_left, on_the_right, cell, cells, columns, escaped, fee_in, room_in, since, soft_in, tier_cells}
-use Rattle.sr_dash.proofs.LineLemmas.{and_column, and_columns, and_then, since-seen}
+use Rattle.sr_dash.proofs.LineLemmas.{and_column, and_columns, and_then}
 use Rattle.sr_dash.proofs.line.write_line.Goals as goal
 
 pub returns : goal.returns
 returns c =
     let view = c.args.view.now in
-    let row : Row = boards.row_of view.group.now.shown view.moment view.policy.now c.args.name.now in
+    let row : Row = record (boards.row_of view.group.now.shown view.moment view.policy.now c.args.name.now) { idle = option_map (since view.moment) c.args.seen } in
     let start = c.args.out.now.items in
     let name : List ℕ = on_the_left 20 (escaped row.name) in
     let pending : List ℕ = decimal row.pending in
@@ -20,8 +19,7 @@ returns c =
     let idle : List ℕ = cell row.idle in
     let tier : List (ℕ × List ℕ) = tier_cells view.wide (cell (soft_in row)) (cell (fee_in row)) in
     let line_end : List ℕ = 0x0a ∷ [] in
-    let found = consumer_with c.args.name.now view.group.now.shown.consumers in
-    let seen : c.since-idle.result ≡ row.idle = c.since-idle.ensures ∙ ap (option_map (since view.moment)) c.seen.ensures ∙ since-seen view.moment found in
+    let seen : c.since-idle.result ≡ row.idle = c.since-idle.ensures in
     let counted = c.count_of-pending.ensures.value ∙ ap (λ (nacks : List Nack). length (owned_by c.args.name.now nacks)) c.pending.ensures.nacks in
     let is_name : c.write_name.new.out.items ≡ start ++ name = search rules in
     let is_pending : c.write_number.new.out.items ≡ c.write_name.new.out.items ++ 0x20 ∷ on_the_right 8 pending = search rules in

@@ -1,10 +1,15 @@
-use Rattle.std.proofs.Common.{rules, ◌≡◌, ◌++◌, ◌+◌, ◌<◌, ◌≤◌, List, ℕ, length, get_or, drop, ap, ◌∙◌, refl}
+use Rattle.std.proofs.Common.{rules, ◌≡◌, ◌++◌, ◌+◌, ◌<◌, ◌≤◌, List, ℕ, Option, Some, option_map, length, get_or, drop, ap, ◌∙◌, refl}
 use Rattle.std.proofs.lemmas.List.{drop_all}
+use Rattle.std.proofs.lemmas.Option.{slice_get_read}
 use Rattle.std.proofs.lemmas.Result.{on_ok_weaker}
+use Rattle.sr_group.specs.declared.consumer.Consumer.{Consumer}
+use Rattle.sr_group.specs.Group.{consumer_with}
+use Rattle.sr_group.proofs.ConsumerLemmas.{consumer_with-place}
 use Rattle.sr_policy.specs.{Text, consumers_of}
 use Rattle.sr_policy.specs.Rules.{has_tiers}
 use Rattle.sr_dash.specs.Board as boards
 use Rattle.sr_dash.specs.steps.Names.{AreRising, lines_of, merged}
+use Rattle.sr_dash.proofs.LineLemmas.{since-seen}
 use Rattle.sr_dash.proofs.NameLemmas.{AreRising-filter, AreRising-in_order, consumers-at, lines-next, merged-all}
 use Rattle.sr_bytes.specs.{comes_before}
 use Rattle.sr_dash.proofs.text.write_rows.Goals as goal
@@ -26,7 +31,13 @@ loop-consumer-preserved c =
     let is : consumer ≡ get_or consumers i consumer = search rules in
     let here = consumers-at consumers i consumer within is in
     let wrote = rw c.names_before-before.ensures at c.in_ok-write_lines.ensures in
-    let wrote_own : c.write_line.new.out.items ≡ c.write_lines.new.out.items ++ line_at consumer.name = rw c.requires at c.in_ok-write_line.ensures in
+    let since_it = option_map (boards.since c.args.view.now.moment) in
+    let with_idle : Option ℕ → List ℕ = λ idle. c.write_lines.new.out.items ++ boards.line (has_tiers c.args.view.now.policy.now) (record (boards.row_of c.args.view.now.group.now.shown c.args.view.now.moment c.args.view.now.policy.now consumer.name) { idle = idle }) in
+    let at = slice_get_read consumers (length consumers) i consumer refl within is in
+    let place = consumer_with-place consumer.name consumers i consumer consumer c.sound.ensures.consumers at refl in
+    let seen : Some consumer.seen ≡ option_map (λ (found : Consumer). found.seen) (consumer_with consumer.name consumers) = ap (λ (found : Consumer). Some found.seen) is ∙ place in
+    let as_seen : c.write_line.new.out.items ≡ with_idle (since_it (Some consumer.seen)) = rw c.requires at c.in_ok-write_line.ensures in
+    let wrote_own : c.write_line.new.out.items ≡ c.write_lines.new.out.items ++ line_at consumer.name = as_seen ∙ ap with_idle (ap since_it seen ∙ since-seen c.args.view.now.moment (consumer_with consumer.name consumers)) in
     let next = lines-next line_at consumer (drop (i + 1) consumers) named c.loop-consumer.out.items c.write_lines.new.out.items c.write_line.new.out.items wrote wrote_own in
     record {
       lines = rw c.names_after-named.ensures (next ∙ (rw here at c.loop-consumer.invariant.lines));
