@@ -46,10 +46,8 @@ fn write_right(out: &mut Vec<u8>, width: usize, text: &[u8]) -> Result<(), Alloc
 fn write_spaces(out: &mut Vec<u8>, count: usize) -> Result<(), AllocError>
     ensures { OnOk result (out.new.items ≡ out.old.items ++ replicate count 0x20) }
 {
-    for _space in 0..count {
-        out.push(b' ')?;
-    }
-    Ok(())
+    out.reserve(count)?;
+    out.resize(out.len() + count, b' ')
 }
 
 /// Writes the bytes of a name, escaped.
