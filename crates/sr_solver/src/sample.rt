@@ -89,11 +89,11 @@ fn by_price(
     requires below { All (λ entry. entry < problem.now.columns.entries) order.old.items }
     ensures { IsPermutation order.old.items order.new.items }
 {
-    let wishes = wishes_at(alloc, &problem.columns, prices)?;
+    let mut wishes = wishes_at(alloc, &problem.columns, prices)?;
     let mut keys = vec![in alloc; 0u64; problem.columns.entries()]?;
     let mut loads = vec![in alloc; 0u64; problem.columns.consumers()]?;
     for entry in order.iter() {
-        keys[*entry] = u64::MAX - claim(problem, prices, &wishes, *entry, &mut loads);
+        keys[*entry] = u64::MAX - claim(problem, prices, &mut wishes, *entry, &mut loads);
     }
     order.sort_by_key(|entry| keys.get(*entry).copied())
 }
@@ -102,16 +102,17 @@ fn by_price(
 fn claim(
     problem: &Stepped<'_>,
     prices: &[u64],
-    wishes: &Wishes,
+    wishes: &mut Wishes,
     entry: usize,
     loads: &mut [u64],
 ) -> u64
     requires entry { entry < problem.now.columns.entries }
     requires steps_each { length problem.now.steps.now ≡ consumers problem.now.columns }
     requires prices_each { length prices.now ≡ consumers problem.now.columns }
-    requires crowds_each { length wishes.now.crowds.items ≡ consumers problem.now.columns }
+    requires crowds_each { length wishes.old.crowds.items ≡ consumers problem.now.columns }
     requires loads_each { length loads.old ≡ consumers problem.now.columns }
-    ensures { length loads.new ≡ length loads.old }
+    ensures crowds { length wishes.new.crowds.items ≡ length wishes.old.crowds.items }
+    ensures loads { length loads.new ≡ length loads.old }
 {
     let Some(consumer) = wanted(&problem.columns, prices, wishes, entry) else {
         return 0;

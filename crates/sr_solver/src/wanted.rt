@@ -10,13 +10,13 @@ use std::alloc::{AllocError, Global};
 /// What entries want at some prices.
 #[derive(Drop)]
 pub struct Wishes {
-    /// How many entries want each consumer: cost and price are least for them there.
+    /// How many entries want each consumer: those that want it alone, and those of the others that were given it.
     pub crowds: Vec<u64>,
-    /// The consumer that an entry wants, if it is one alone.
+    /// The consumer that an entry wants, if it is one alone: cost and price are least for it there.
     pub only: Vec<Option<usize>>,
 }
 
-/// What the entries want.
+/// What the entries want, where none that wants several consumers is given one yet.
 pub fn wishes_at(alloc: Global, problem: &Costs<'_>, prices: &[u64]) -> Result<Wishes, AllocError>
     requires one_each { length prices.now ≡ consumers problem.now }
     ensures { IfOk result (λ wishes. length wishes.crowds.items ≡ consumers problem.now) }
@@ -24,68 +24,43 @@ pub fn wishes_at(alloc: Global, problem: &Costs<'_>, prices: &[u64]) -> Result<W
     let mut crowds = vec![in alloc; 0u64; problem.consumers()]?;
     let mut only = Vec::with_capacity(alloc, problem.entries())?;
     for entry in 0..problem.entries() {
-        only.push(join_crowds(problem, prices, entry, &mut crowds))?;
+        let wanted = least_of(problem, prices, entry).only;
+        if let Some(consumer) = wanted {
+            crowds[consumer] = crowds[consumer].saturating_add(1);
+        }
+        only.push(wanted)?;
     }
     Ok(Wishes { crowds, only })
 }
 
-/// Counts an entry at each consumer that it wants, and gives the one, if it is one alone.
-fn join_crowds(
+/// The consumer that an entry wants, at the prices for which the wishes are. Of several it is given the one with the
+/// highest price that fewer entries want than it has room for, or else the one with the lowest.
+pub fn wanted(
     problem: &Costs<'_>,
     prices: &[u64],
+    wishes: &mut Wishes,
     entry: usize,
-    crowds: &mut [u64],
 ) -> Option<usize>
     requires entry { entry < problem.now.entries }
     requires prices_each { length prices.now ≡ consumers problem.now }
-    requires crowds_each { length crowds.old ≡ consumers problem.now }
-    ensures { length crowds.new ≡ length crowds.old }
-{
-    let least = least_of(problem, prices, entry);
-    if let Some(consumer) = least.only {
-        crowds[consumer] = crowds[consumer].saturating_add(1);
-        return Some(consumer);
-    }
-    if let Some(row) = problem.row(entry) {
-        join_crowds_in_row(row, prices, least.sum, crowds);
-        return None;
-    }
-    for (consumer, cost) in problem.costs(entry).iter().enumerate() {
-        if sum(*cost, prices[consumer]) == least.sum {
-            crowds[consumer] = crowds[consumer].saturating_add(1);
-        }
-    }
-    None
-}
-
-/// Counts an entry at each consumer of its row for which cost and price have this sum.
-fn join_crowds_in_row(row: Row<'_>, prices: &[u64], least: u64, crowds: &mut [u64])
-    requires row { AreBelow (length prices.now) row.pairs.now }
-    requires crowds_each { length crowds.old ≡ length prices.now }
-    ensures { length crowds.new ≡ length crowds.old }
-{
-    for pair in row.pairs {
-        if pair.cost.saturating_add(prices[pair.consumer]) == least {
-            crowds[pair.consumer] = crowds[pair.consumer].saturating_add(1);
-        }
-    }
-}
-
-/// The consumer that an entry wants, at the prices for which the wishes are.
-pub fn wanted(problem: &Costs<'_>, prices: &[u64], wishes: &Wishes, entry: usize) -> Option<usize>
-    requires entry { entry < problem.now.entries }
-    requires prices_each { length prices.now ≡ consumers problem.now }
-    requires crowds_each { length wishes.now.crowds.items ≡ consumers problem.now }
+    requires crowds_each { length wishes.old.crowds.items ≡ consumers problem.now }
+    ensures { length wishes.new.crowds.items ≡ length wishes.old.crowds.items }
 {
     let only = wishes.only.get(entry).copied().unwrap_or(None);
     if only.is_some() {
         return only;
     }
-    wanted_of_several(problem, prices, &wishes.crowds, entry)
+    let given = wanted_of_several(problem, prices, &wishes.crowds, entry);
+    if let Some(consumer) = given
+        && let Some(crowd) = wishes.crowds.get_mut(consumer)
+    {
+        *crowd = crowd.saturating_add(1);
+    }
+    given
 }
 
-/// The consumer that an entry wants. Of several it is the one with the highest price that fewer entries want than it
-/// has room for, or else the one with the lowest.
+/// The one with the highest price of the consumers that an entry wants and fewer entries want than it has room for, or
+/// else the one with the lowest.
 fn wanted_of_several(
     problem: &Costs<'_>,
     prices: &[u64],
