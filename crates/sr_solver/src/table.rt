@@ -1,7 +1,8 @@
-ghost use Rattle.std.specs.Prelude.{◌≡◌, ℕ, ◌+◌, ◌*◌, ◌<◌, ◌≤◌, length, slice_set, IfSome, List, IfOk};
+ghost use Rattle.std.specs.Prelude.{◌≡◌, ℕ, ◌+◌, ◌*◌, ◌<◌, ◌≤◌, length, slice_set, IfSome, List, IfOk, false};
 ghost use Rattle.sr_transport.specs.{greatest_charge, consumers};
 ghost use Rattle.sr_transport.specs.plain.Problem.{IsWithinLimits, room_of, cost_at, cost_of, IsAllowed};
 ghost use Rattle.sr_transport.specs.plain.Assignment.{load};
+ghost use Rattle.sr_solver.specs.Limits.{narrow_room};
 ghost use Rattle.sr_solver.specs.Members.{AreWide, AreMembersOf, AreMembers};
 ghost use Rattle.sr_solver.specs.Groups.{IsAt};
 ghost use Rattle.sr_solver.specs.Pairs.{IsRowOf};
@@ -19,7 +20,7 @@ use std::alloc::{AllocError, Global};
 /// What is added to a difference of two costs, so that it is not below 0.
 pub const ABOVE: u64 = MAX_CHARGE;
 
-/// A consumer with more room than this has bounds for each group of its entries.
+/// A consumer with more room than this has bounds for each group of its entries. They are used while more stand there.
 pub const NARROW: u64 = 128;
 
 /// A bound that holds for any entries, and is less than that of any that were looked at.
@@ -106,9 +107,22 @@ pub fn look_over(problem: &Costs<'_>, from: usize, placement: &Placement, table:
     ensures { IsTable problem.now placement.now.assign.items table.new }
 {
     let itself = from * problem.consumers() + from;
-    if problem.room(from) <= NARROW && table.pairs[itself].low == LEAST_BOUND {
+    if is_narrow(problem, from, placement) && table.pairs[itself].low == LEAST_BOUND {
         look_through(problem, from, placement, &mut table.pairs);
     }
+}
+
+/// Whether few entries have room at a consumer, or stand there.
+fn is_narrow(problem: &Costs<'_>, consumer: usize, placement: &Placement) -> bool
+    requires limits { IsWithinLimits problem.now.rooms problem.now.entries problem.now.costs }
+    requires consumer { consumer < consumers problem.now }
+    requires members { AreMembers problem.now placement.now.width placement.now.assign.items
+        placement.now.members.items }
+    ensures { result ≡ false → narrow_room < room_of problem.now consumer }
+{
+    let members = placement.members.as_slice();
+    let row = consumer * placement.width;
+    problem.room(consumer) <= NARROW || members[row] as u64 <= NARROW
 }
 
 /// Looks through the entries at a consumer for those that cost least more at each other one.
@@ -177,7 +191,7 @@ pub fn least_mover(
     None
 }
 
-/// Looks for the entry at `from` that costs least more at `to`: by groups, if `from` is wide.
+/// Looks for the entry at `from` that costs least more at `to`: by groups, if many stand at `from`.
 fn look_up(
     problem: &Costs<'_>,
     from: usize,
@@ -198,7 +212,7 @@ fn look_up(
     ensures found { IsFound problem.now result }
     ensures table { IsTable problem.now placement.now.assign.items table.new }
 {
-    if problem.room(from) <= NARROW {
+    if is_narrow(problem, from, placement) {
         return find(problem, from, to, placement);
     }
     find_in_groups(problem, from, to, placement, table.groups, &mut table.lows)
