@@ -1,14 +1,15 @@
 """Prints transportation problems, each made from a fixed seed.
 
-usage: families.py [costly | small | small-tiers | tiers BITS]
+usage: families.py [costly | ties | small | small-tiers | tiers BITS | generous BITS]
 
 With no argument these are the 27 families on the page of sr_solver, of 4,096 entries and 64 consumers, and with `tiers` the same, where each
-consumer has half of its room at a fee below 2^BITS, or at none for 0. With `costly` they are others of this size, made to take long:
-few allowed pairs, from 2 to 12 for each entry, with a dear outlet that all are allowed and without, one great room beside small
-ones, and both; the rooms are exact or have some to spare, and the entries are shuffled. With `small` they are 10,000 random problems of all
-shapes, of at most 16 entries, and with `small-tiers` others where a consumer may have two tiers. A problem is a line: its name and a
-colon, how often it is to be timed, how many entries and consumers it has, the room of each consumer, `FIRST+NEXT@FEE` if it has two
-tiers, and for each entry its cost at each consumer, `-` where it is not allowed.
+consumer has half of its room at a fee below 2^BITS, or at none for 0; with `generous` it has far more places at such a fee than there
+are entries. With `ties` each entry costs the same at two consumers but for a constant, and the consumers come in both orders. With
+`costly` they are others of this size, made to take long: few allowed pairs, from 2 to 12 for each entry, with a dear outlet that all are
+allowed and without, one great room beside small ones, and both; the rooms are exact or have some to spare, and the entries are shuffled.
+With `small` they are 10,000 random problems of all shapes, of at most 16 entries, and with `small-tiers` others where a consumer may have
+two tiers. A problem is a line: its name and a colon, how often it is to be timed, how many entries and consumers it has, the room of each
+consumer, `FIRST+NEXT@FEE` if it has two tiers, and for each entry its cost at each consumer, `-` where it is not allowed.
 """
 
 import functools
@@ -31,6 +32,10 @@ FACTORS = 1 << 20
 
 # One entry out of this many is different.
 PERIOD = 8
+
+# What a tied consumer costs more than the other, and a room that is never full.
+MORE = 1 << 38
+GENEROUS = 1_000_000
 
 SMALL_PROBLEMS = 10_000
 
@@ -379,6 +384,38 @@ def with_tiers(bits):
         yield name, [tiered(room, fee) for room, fee in zip(rooms, fees)], rows
 
 
+def generous(bits):
+    """The families, where each consumer has half of its room, and far more than there are entries at a fee of its own below 2^bits."""
+    for name, rooms, rows in with_tiers(bits):
+        yield name, [(first, GENEROUS, fee) for first, _, fee in rooms], rows
+
+
+# The families of ties.
+
+
+def tied_families():
+    """Each problem: its name, its rooms and its rows of costs. Half of the consumers cost a constant more than others of the same rate, or
+    the same, and a fee."""
+    half = CONSUMERS // 2
+    rows = [row[:half] for row in classes(1)]
+    twins = [row + [min(cost + MORE, MAX_COST) for cost in row] for row in rows]
+    few_rates = [[*row[:8] * 4, *[min(cost + MORE, MAX_COST) for cost in row[:8]] * 4] for row in rows]
+    pool = [row + [min(row[0] + MORE, MAX_COST)] * half for row in rows]
+    at_a_fee = TIGHT[:half] + [(0, room, MORE) for room in TIGHT[half:]]
+    problems = [
+        ("twins", TIGHT, twins),
+        ("twins, slack", SLACK, twins),
+        ("twins of eight rates", TIGHT, few_rates),
+        ("twins at a fee", at_a_fee, [row + row for row in rows]),
+        ("a pool of one rate", TIGHT, pool),
+        ("a pool of one rate at a fee", at_a_fee, [row + [row[0]] * half for row in rows]),
+        ("one rate, half at a fee", at_a_fee, [[row[0]] * CONSUMERS for row in rows]),
+    ]
+    for name, rooms, costs in problems:
+        yield name, rooms, costs
+        yield f"{name}, turned", rooms[::-1], [row[::-1] for row in costs]
+
+
 # Random small problems of all shapes.
 
 
@@ -455,6 +492,10 @@ def main():
             problems, times = families(), TIMES
         case ["costly"]:
             problems, times = costly_families(), TIMES
+        case ["ties"]:
+            problems, times = tied_families(), TIMES
+        case ["generous", bits] if bits.isdecimal():
+            problems, times = generous(int(bits)), TIMES
         case ["tiers", bits] if bits.isdecimal():
             problems, times = with_tiers(int(bits)), TIMES
         case ["small"]:
@@ -462,7 +503,7 @@ def main():
         case ["small-tiers"]:
             problems, times = small_tiered_problems(), 0
         case _:
-            sys.exit("usage: families.py [costly | small | small-tiers | tiers BITS]")
+            sys.exit("usage: families.py [costly | ties | small | small-tiers | tiers BITS | generous BITS]")
     sys.stdout.writelines(text(*problem, times) for problem in problems)
 
 
