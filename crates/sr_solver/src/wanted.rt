@@ -7,34 +7,91 @@ use crate::costs::Costs;
 use crate::pairs::Row;
 use std::alloc::{AllocError, Global};
 
+/// How many entries want a consumer: cost and price are least for them there.
+#[derive(Clone, Copy)]
+pub struct Crowd {
+    /// Alone or among others.
+    pub all: u64,
+    /// Alone, or among others and were given it.
+    pub given: u64,
+}
+
 /// What entries want at some prices.
 #[derive(Drop)]
 pub struct Wishes {
-    /// How many entries want each consumer: those that want it alone, and those of the others that were given it.
-    pub crowds: Vec<u64>,
-    /// The consumer that an entry wants, if it is one alone: cost and price are least for it there.
+    /// How many entries want each consumer.
+    pub crowds: Vec<Crowd>,
+    /// The consumer that an entry wants, if it is one alone.
     pub only: Vec<Option<usize>>,
 }
+
+/// It is better to give an entry a consumer that is not full than one that is full, whatever their prices.
+const FREE: u64 = 1 << 61;
+
+/// It is better still if all who want the consumer have room there.
+const ROOMY: u64 = 1 << 62;
 
 /// What the entries want, where none that wants several consumers is given one yet.
 pub fn wishes_at(alloc: Global, problem: &Costs<'_>, prices: &[u64]) -> Result<Wishes, AllocError>
     requires one_each { length prices.now ≡ consumers problem.now }
     ensures { IfOk result (λ wishes. length wishes.crowds.items ≡ consumers problem.now) }
 {
-    let mut crowds = vec![in alloc; 0u64; problem.consumers()]?;
+    let nobody = Crowd { all: 0, given: 0 };
+    let mut crowds = vec![in alloc; nobody; problem.consumers()]?;
     let mut only = Vec::with_capacity(alloc, problem.entries())?;
     for entry in 0..problem.entries() {
-        let wanted = least_of(problem, prices, entry).only;
-        if let Some(consumer) = wanted {
-            crowds[consumer] = crowds[consumer].saturating_add(1);
-        }
-        only.push(wanted)?;
+        only.push(join_crowds(problem, prices, entry, &mut crowds))?;
     }
     Ok(Wishes { crowds, only })
 }
 
-/// The consumer that an entry wants, at the prices for which the wishes are. Of several it is given the one with the
-/// highest price that fewer entries want than it has room for, or else the one with the lowest.
+/// Counts an entry at each consumer that it wants, and gives the one, if it is one alone.
+fn join_crowds(
+    problem: &Costs<'_>,
+    prices: &[u64],
+    entry: usize,
+    crowds: &mut [Crowd],
+) -> Option<usize>
+    requires entry { entry < problem.now.entries }
+    requires prices_each { length prices.now ≡ consumers problem.now }
+    requires crowds_each { length crowds.old ≡ consumers problem.now }
+    ensures { length crowds.new ≡ length crowds.old }
+{
+    let least = least_of(problem, prices, entry);
+    if let Some(consumer) = least.only {
+        let crowd = crowds[consumer];
+        crowds[consumer] = Crowd {
+            all: crowd.all.saturating_add(1),
+            given: crowd.given.saturating_add(1),
+        };
+        return Some(consumer);
+    }
+    if let Some(row) = problem.row(entry) {
+        join_crowds_in_row(row, prices, least.sum, crowds);
+        return None;
+    }
+    for (consumer, cost) in problem.costs(entry).iter().enumerate() {
+        if sum(*cost, prices[consumer]) == least.sum {
+            crowds[consumer].all = crowds[consumer].all.saturating_add(1);
+        }
+    }
+    None
+}
+
+/// Counts an entry at each consumer of its row for which cost and price have this sum.
+fn join_crowds_in_row(row: Row<'_>, prices: &[u64], least: u64, crowds: &mut [Crowd])
+    requires row { AreBelow (length prices.now) row.pairs.now }
+    requires crowds_each { length crowds.old ≡ length prices.now }
+    ensures { length crowds.new ≡ length crowds.old }
+{
+    for pair in row.pairs {
+        if pair.cost.saturating_add(prices[pair.consumer]) == least {
+            crowds[pair.consumer].all = crowds[pair.consumer].all.saturating_add(1);
+        }
+    }
+}
+
+/// The consumer that an entry wants, at the prices for which the wishes are. One of several is given to it.
 pub fn wanted(
     problem: &Costs<'_>,
     prices: &[u64],
@@ -50,21 +107,20 @@ pub fn wanted(
     if only.is_some() {
         return only;
     }
-    let given = wanted_of_several(problem, prices, &wishes.crowds, entry);
-    if let Some(consumer) = given
+    let best = best_of_several(problem, prices, &wishes.crowds, entry);
+    if let Some(consumer) = best
         && let Some(crowd) = wishes.crowds.get_mut(consumer)
     {
-        *crowd = crowd.saturating_add(1);
+        crowd.given = crowd.given.saturating_add(1);
     }
-    given
+    best
 }
 
-/// The one with the highest price of the consumers that an entry wants and fewer entries want than it has room for, or
-/// else the one with the lowest.
-fn wanted_of_several(
+/// Of the consumers that an entry wants, the one that it is best to give to it.
+fn best_of_several(
     problem: &Costs<'_>,
     prices: &[u64],
-    crowds: &[u64],
+    crowds: &[Crowd],
     entry: usize,
 ) -> Option<usize>
     requires entry { entry < problem.now.entries }
@@ -72,55 +128,55 @@ fn wanted_of_several(
     requires crowds_each { length crowds.now ≡ consumers problem.now }
 {
     if let Some(row) = problem.row(entry) {
-        return wanted_in_row(problem, row, prices, crowds);
+        return best_in_row(problem, row, prices, crowds);
     }
     let least = least_of(problem, prices, entry).sum;
-    let mut lowest: Option<usize> = None;
-    let mut free: Option<usize> = None;
+    let mut best = None;
+    let mut most = 0;
     for (consumer, cost) in problem.costs(entry).iter().enumerate() {
         if cost.is_some() && sum(*cost, prices[consumer]) == least {
-            if price_at(prices, lowest).is_none_or(|price| prices[consumer] < price) {
-                lowest = Some(consumer);
-            }
-            if crowds[consumer] < problem.room(consumer)
-                && price_at(prices, free).is_none_or(|price| price < prices[consumer])
-            {
-                free = Some(consumer);
+            let worth = worth(crowds[consumer], problem.room(consumer), prices[consumer]);
+            if most < worth {
+                best = Some(consumer);
+                most = worth;
             }
         }
     }
-    free.or(lowest)
+    best
 }
 
 /// The same, from the row of the entry.
-fn wanted_in_row(problem: &Costs<'_>, row: Row<'_>, prices: &[u64], crowds: &[u64]) -> Option<usize>
+fn best_in_row(problem: &Costs<'_>, row: Row<'_>, prices: &[u64], crowds: &[Crowd]) -> Option<usize>
     requires row { AreBelow (consumers problem.now) row.pairs.now }
     requires prices_each { length prices.now ≡ consumers problem.now }
     requires crowds_each { length crowds.now ≡ consumers problem.now }
 {
     let least = least_in_row(row, prices).sum;
-    let mut lowest: Option<usize> = None;
-    let mut free: Option<usize> = None;
+    let mut best = None;
+    let mut most = 0;
     for pair in row.pairs {
         let consumer = pair.consumer;
-        let price = prices[consumer];
-        if pair.cost.saturating_add(price) == least {
-            if price_at(prices, lowest).is_none_or(|lowest| price < lowest) {
-                lowest = Some(consumer);
-            }
-            if crowds[consumer] < problem.room(consumer)
-                && price_at(prices, free).is_none_or(|highest| highest < price)
-            {
-                free = Some(consumer);
+        if pair.cost.saturating_add(prices[consumer]) == least {
+            let worth = worth(crowds[consumer], problem.room(consumer), prices[consumer]);
+            if most < worth {
+                best = Some(consumer);
+                most = worth;
             }
         }
     }
-    free.or(lowest)
+    best
 }
 
-/// The price of a consumer, if there is one.
-fn price_at(prices: &[u64], consumer: Option<usize>) -> Option<u64> {
-    prices.get(consumer?).copied()
+/// How good it is to give a consumer to an entry that wants it: the better the higher the price, or if it is full, the
+/// lower.
+fn worth(crowd: Crowd, room: u64, price: u64) -> u64 {
+    if room <= crowd.given {
+        FREE.saturating_sub(price)
+    } else if crowd.all <= room {
+        price.saturating_add(ROOMY)
+    } else {
+        price.saturating_add(FREE)
+    }
 }
 
 /// The least sum of cost and price of an entry.
