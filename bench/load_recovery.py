@@ -5,14 +5,15 @@ import random
 import statistics
 import time
 
-from lib import crowd, heavy
+from lib import heavy
 from lib.crowd import Crowd
+from lib.heavy import Loop
 from lib.resp import ErrorReply, Fault, Replies, spelled
 from lib.stranded import Stranded
 
 ENTRIES, AT_ONCE, TIMES = 4_096, 100, 5  # stranded entries, recoveries at once, and how often there is one alone
 LIMIT, DEAREST = 1_000, 1_000  # entries that a consumer may have, and the most that one costs
-PROBES, RESTS = 2_000, 3  # PINGs by which the loop's thread is found, and seconds after which memory is looked at
+RESTS = 3  # seconds after which memory is looked at
 CONSUMERS = 100_000  # of the group on the board
 MIB = 1 << 20
 
@@ -24,20 +25,6 @@ def policy(consumers, classes):
     for kind in [f"k{number}" for number in range(classes - 1)] + ['"*"']:
         lines += [f"[rates.{kind}]"] + [f"{name} = {choice.randint(1, DEAREST)}" for name in names]
     return "\n".join(lines) + "\n"
-
-
-class Loop:
-    """The thread of a server that answers PINGs: the processor time that it takes."""
-
-    def __init__(self, server, connection):
-        before = server.processors()
-        for _ in range(PROBES):
-            crowd.pinged(connection.socket)
-        self.server, after = server, server.processors()
-        self.thread = max(after, key=lambda thread: after[thread] - before.get(thread, 0))
-
-    def ran(self):
-        return self.server.ran(self.thread)
 
 
 def concluded(reply, word):

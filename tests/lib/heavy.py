@@ -17,6 +17,7 @@ PIECE = 1 << 18  # bytes that are sent or read at a time
 PART = 2_000  # requests that are sent before their replies are read
 LOOKS = 200  # milliseconds after which a client looks whether it is to stop
 EVERY, PATIENCE = 0.001, 120  # seconds from one PING to the next of a client that measures how long they wait, and that one may
+PROBES = 2_000  # PINGs by which the thread of a loop is found
 SETTLED = 0.005, 20  # a PING is answered within these seconds, so many times in a row, once a server does nothing else
 
 
@@ -133,6 +134,20 @@ class Waits(Client):
         while self.count() == before and not self.ended():
             time.sleep(EVERY)
         return self.longest_.value
+
+
+class Loop:
+    """The thread of a server that answers PINGs: the processor time that it takes."""
+
+    def __init__(self, server, connection):
+        before = server.processors()
+        for _ in range(PROBES):
+            crowd.pinged(connection.socket)
+        self.server, after = server, server.processors()
+        self.thread = max(after, key=lambda thread: after[thread] - before.get(thread, 0))
+
+    def ran(self):
+        return self.server.ran(self.thread)
 
 
 def exchange(connection, text, wanted, seconds=servers.SECONDS):
