@@ -33,7 +33,8 @@ REFUSED = examples/histories/*.history tests/histories/runs.history tests/histor
 
 # The parts of tests/connections.py that measure no time.
 STEADY = readers_of_a_group readers_that_leave beyond_limit come_again few_descriptors half_closed long_pipelines cut unread \
-    kept_pings kept_bytes kept_by_default kept_put_off kept_later given_back waiting_reads share adds_first letters_between
+    kept_pings kept_bytes kept_by_default kept_put_off kept_later given_back waiting_reads share adds_first letters_between \
+    left_before_planned
 
 # Proves and builds the server, and sends it the commands of examples/first.session as a client spells them.
 run:

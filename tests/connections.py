@@ -40,6 +40,8 @@ name of one in the table; all if none is named.
 | `letters_between` | hands on entries to readers that wait until no more come, before it looks at other clients |
 | `busy_recoveries` | solves a small recovery beside the loop, so that it is stale |
 | `half_closed_plan` | leaves a client that says no more while its plan is made |
+| `in_turn` | begins or concludes all recoveries that are asked for before it looks at other clients |
+| `left_before_planned` | gives a place for a plan to a client that has gone, and not to the next |
 
 Prints each answer that differs, and how many there are; the status is 1 if one differs, or if a server ended or all took too long.
 """
@@ -101,6 +103,8 @@ PARTS = [
     (shares.letters_between, MANY, {}, False),
     (recovery.busy_recoveries, MANY, {}, False),
     (recovery.half_closed_plan, MANY, {}, False),
+    (recovery.in_turn, MANY, {}, False),
+    (recovery.left_before_planned, MANY, {}, False),
 ]
 
 

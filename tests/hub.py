@@ -85,8 +85,8 @@ class Schedule:
     # ---- steps
 
     def step(self):
-        steps = {self.connect: 12, self.take: 50, self.go: 12, self.go_with_letter: 8, self.sent: 10, self.tick: 4, self.close: 2, self.judge: 6,
-                 self.compact: 1, self.tell: 1}
+        steps = {self.connect: 12, self.take: 50, self.go: 12, self.go_with_letter: 8, self.sent: 10, self.tick: 4, self.close: 2, self.begin: 6,
+                 self.judge: 6, self.compact: 1, self.tell: 1}
         [step] = self.random.choices(list(steps), list(steps.values()))
         before = len(self.lines)
         step()
@@ -129,6 +129,11 @@ class Schedule:
         self.coming.pop(token, None)
         self.play(f"close {token} {self.moment()}")
 
+    def begin(self):
+        tokens = [token for token, it in self.model.connections.items() if it.stage == "asks"]
+        if tokens:
+            self.play(f"go {self.random.choice(tokens)} {self.moment()}")
+
     def judge(self):
         tokens = [token for token, it in self.model.connections.items() if it.stage == "judges"]
         if tokens or self.likely(0.05):
@@ -144,7 +149,7 @@ class Schedule:
     def end(self):
         """Lets all come to an end, as an event loop does that has time enough."""
         for _ in range(200):
-            tokens = [token for token, it in self.model.connections.items() if it.unsent or it.stage == "judges"]
+            tokens = [token for token, it in self.model.connections.items() if it.unsent or it.stage in ("asks", "judges")]
             given = self.model.with_letters()
             tokens = {token: None for token, it in self.model.connections.items() if it in given} | dict.fromkeys(tokens)
             if not tokens:

@@ -8,14 +8,20 @@ import select
 import socket
 import time
 
-from . import crowd, servers
+from . import crowd, heavy, servers
+from .crowd import Crowd
+from .heavy import Loop
 from .resp import ErrorReply, Fault, Replies, spelled, spelled_all
+from .stranded import Stranded
 
 TAKERS, CLIENTS = 64, 20  # consumers of the policy, and how many of them are busy
 RUNS, ENTRIES = 10, 250  # recoveries, and the entries of each: 16,000 pairs, which are solved in the loop
 LARGE = 4_096  # entries of one more, which is solved beside it
 LIMIT = 1_000  # entries that a taker may have
 CLASSES = 4
+AT_ONCE, EACH = 20, 1_024  # recoveries that are asked for at once, and the entries of each: too many for the loop to solve
+MOST = 2.5  # times what one takes of the loop, while a PING of another client waits
+PLACES, GONE = 4, 8  # plans that are wanted beside the loop at a time, and clients that go away while they wait for a place
 WORKED = 2 * CLIENTS  # entries that the busy clients do from one recovery to the next
 READ = re.compile(rb"\*1\r\n\*2\r\n\$1\r\ns\r\n\*1\r\n\*2\r\n\$\d+\r\n(\d+-\d+)\r\n\*2\r\n\$1\r\nc\r\n\$2\r\nk0\r\n")
 
@@ -130,3 +136,51 @@ def half_closed_plan(tally, server):
         tally.holds(f"the replies around the plan, of {len(text):,} bytes", text.startswith(crowd.PONG) and text.endswith(crowd.PONG))
         plan = Replies(io.BytesIO(text[len(crowd.PONG):])).reply()
         tally.compare("the plan", (b"plan", LARGE), (plan[0], len(plan[2])) if isinstance(plan, list) else plan)
+
+
+def asked_at_once(clients, keys):
+    for each, key in zip(clients, keys):
+        each.sendall(spelled("RECOVER.RUN", key, "g", "DEAD", "dead"))
+
+
+def concluded(client, entries):
+    """Whether a recovery of so many entries is done."""
+    with client.makefile("rb") as file:
+        reply = Replies(file).reply()
+    return isinstance(reply, list) and (reply[0], len(reply[2])) == (b"done", entries)
+
+
+def in_turn(tally, server):
+    """Recoveries that are asked for at once: another client does not wait for more than one of them. What the loop does meanwhile is counted in
+    its processor time."""
+    with server.connect() as maker, server.connect() as other:
+        stranded, loop = Stranded(maker, EACH, CLASSES), Loop(server, maker)
+        first, *keys = [stranded.more() for _ in range(1 + AT_ONCE)]
+        heavy.settled(server)
+        before = loop.ran()
+        maker.call("RECOVER.RUN", first, "g", "DEAD", "dead")
+        alone, longest = loop.ran() - before, 0
+        with Crowd(server, AT_ONCE) as clients:
+            asked_at_once(clients, keys)
+            until = time.monotonic() + servers.SECONDS
+            while len(crowd.answered(clients.sockets, 0)) < AT_ONCE and time.monotonic() < until:
+                before = loop.ran()
+                crowd.pinged(other.socket)
+                longest = max(longest, loop.ran() - before)
+            tally.compare("recoveries that are done", AT_ONCE, sum(concluded(each, EACH) for each in clients))
+        text = f"{1000 * longest:.1f} ms of the loop while a PING waits, where one recovery takes {1000 * alone:.1f}"
+        tally.holds(text, longest <= MOST * alone)
+
+
+def left_before_planned(tally, server):
+    """Clients go away while they wait for a place for their plans. The places are given to who waits behind them."""
+    with server.connect() as maker:
+        stranded = Stranded(maker, LARGE, CLASSES)
+        keys = [stranded.more() for _ in range(PLACES + GONE + 1)]
+        heavy.settled(server)
+        with Crowd(server, len(keys)) as clients:
+            asked_at_once(clients, keys)
+            for each in clients.sockets[PLACES:-1]:
+                crowd.leave(each, killed=True)
+            for place in (*range(PLACES), len(keys) - 1):
+                tally.holds(f"recovery {place} is done", concluded(clients.sockets[place], LARGE))

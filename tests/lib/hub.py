@@ -150,6 +150,8 @@ class Model:
         connection = self.connections.get(int(token))
         if not connection:
             return "gone"
+        if connection.stage == "asks":
+            self.begin(connection, moment)
         self.answer_waiting(connection, moment)
         return "ok"
 
@@ -229,8 +231,21 @@ class Model:
         if self.lacks("event"):
             return self.tell(connection, MEMORY)
         answer = self.event(f"call {moment} {connection.session} {spelled(words)}")
-        if answer == "bad":
-            answer = self.event(asked(connection, moment, words))
+        if answer != "bad":
+            self.comes(connection, words, answer)
+        elif is_board(words):
+            self.comes(connection, words, self.event(asked(connection, moment, words)))
+        else:
+            connection.stage, connection.asked = "asks", words
+
+    def begin(self, connection, moment):
+        """Begins the recovery that a connection asks for."""
+        if self.lacks("event"):
+            return self.tell(connection, MEMORY)
+        self.comes(connection, connection.asked, self.event(asked(connection, moment, connection.asked)))
+
+    def comes(self, connection, words, answer):
+        """What the book answers to a request."""
         if replied := REPLIED.fullmatch(answer):
             self.tell(connection, bytes.fromhex(replied[1]))
         elif answer.startswith("refused "):
@@ -254,11 +269,15 @@ class Model:
             raise ValueError(f"a verdict was answered by {answer}")
 
 
+def is_board(words):
+    return len(words) == 3
+
+
 def asked(connection, moment, words):
     """The line for the event that a request of RECOVER.BOARD, RECOVER.PLAN or RECOVER.RUN is. What the recovery is, the connection keeps."""
     name, key, group, *rest = words
     place = f"{moment} {connection.session} {spelled([key, group])}"
-    if not rest:
+    if is_board(words):
         return f"board {place}"
     rounds, dead = (int(rest[1]), rest[3:]) if rest[0].upper() == b"TRIES" else (ROUNDS, rest[1:])
     connection.is_applied, connection.later = name.upper() == b"RECOVER.RUN", rounds - 1
@@ -364,6 +383,15 @@ class Forgets(Model):
         super().tell(connection, text)
 
 
+class Rushes(Model):
+    """Begins a recovery as soon as it is asked for."""
+
+    def answer(self, connection, moment, words):
+        super().answer(connection, moment, words)
+        if connection.stage == "asks":
+            self.begin(connection, moment)
+
+
 class Hastens(Model):
     """Concludes each round of a recovery as its last one."""
 
@@ -372,4 +400,4 @@ class Hastens(Model):
         super().conclude(connection, moment)
 
 
-WRONG = {it.__name__.lower(): it for it in (Swaps, Strays, Drops, Loses, Dawdles, Lingers, Sleeps, Repeats, Overflows, Forgets, Hastens)}
+WRONG = {it.__name__.lower(): it for it in (Swaps, Strays, Drops, Loses, Dawdles, Lingers, Sleeps, Repeats, Overflows, Forgets, Rushes, Hastens)}

@@ -13,10 +13,11 @@ use Rattle.sr_book.specs.declared.event.Act.TheVariants as acts
 use Rattle.sr_book.specs.declared.event.Event.{Event}
 use Rattle.sr_book.proofs.BaseLemmas.{all-legal, all_records}
 use Rattle.sr_hub.specs.declared.stage.Judging.{Judging}
+use Rattle.sr_hub.specs.declared.stage.Recovery.{Recovery}
 use Rattle.sr_hub.specs.declared.stage.Stage.{Stage}
 use Rattle.sr_hub.specs.declared.stage.Stage.TheVariants as stages
 use Rattle.sr_hub.specs.OneRequest.{is_by, said_in, spoken}
-use Rattle.sr_hub.specs.Line.{ConnectionState, IsFree, IsJudging, IsLine, IsResting, IsWaitingFor, Stays}
+use Rattle.sr_hub.specs.Line.{ConnectionState, IsAskingFor, IsFree, IsJudging, IsLine, IsResting, IsWaitingFor, Stays}
 use Rattle.sr_hub.specs.Lines.{AreAll}
 use Rattle.sr_hub.specs.Said.{IsOwn}
 use Rattle.sr_hub.proofs.PassLemmas.{Passes, led-passes}
@@ -112,6 +113,21 @@ module _ (session : ℕ) (old new : Server) (records more : List Recorded) (says
         free = both.0;
       }
 
+  asking-passes : (held : List Words) (asked : Recovery) → Passes session old (addressed session more) new → IsAskingFor session old records held asked
+      → IsAskingFor session new (records ++ more) held asked
+  asking-passes held asked passes asks =
+      let both = free-passes asks.free passes in
+      record {
+        words = asks.words;
+        one = asks.one;
+        is = asks.is;
+        silent = record {
+          says_nothing = spoken-same session records more says ∙ asks.silent.says_nothing;
+          gets_nothing = addressed-same session records more both.1 ∙ asks.silent.gets_nothing;
+        };
+        free = both.0;
+      }
+
   judging-passes : (held : List Words) (judging : Judging) → Passes session old (addressed session more) new → IsJudging session old records held judging
       → IsJudging session new (records ++ more) held judging
   judging-passes held judging passes judges =
@@ -178,6 +194,7 @@ module _ (session : ℕ) (old new : Server) (records more : List Recorded) (says
       → Stays session old records held requests stage → Stays session new (records ++ more) held requests stage
   stays-passes held requests stages.Idle passes stays = resting-passes held passes stays
   stays-passes held requests stages.Waiting passes stays = waiting-passes held passes stays
+  stays-passes held requests (stages.Asks asked) passes stays = asking-passes held asked.value passes stays
   stays-passes held requests (stages.Judges judging) passes stays = judging-passes held judging passes stays
   stays-passes held requests stages.Broken passes stays = (resting-passes held passes stays.0, stays.1, stays.2)
   stays-passes held requests stages.CutOff passes stays = tt

@@ -11,10 +11,10 @@ use Rattle.sr_hub.specs.declared.hub.TakeFault.{TakeFault}
 use Rattle.sr_hub.specs.declared.hub.TakeFault.TheVariants as take_faults
 use Rattle.sr_hub.specs.declared.stage.Stage.TheVariants as stages
 use Rattle.sr_hub.specs.OneRequest.{spoken}
-use Rattle.sr_hub.specs.Line.{ConnectionState, IsAtRest, IsLine, is_ended}
+use Rattle.sr_hub.specs.Line.{Begins, ConnectionState, IsAtRest, IsLine, is_ended}
 use Rattle.sr_hub.specs.Lines.{AreAll, AreApart, AreLines, GoOn, HubState, with_more}
 use Rattle.sr_hub.specs.Said.{Says, SaysOf}
-use Rattle.sr_hub.specs.steps.Calls.{Changes, IsRefusedAt, MovesAt, SendsAt, TakesAt, hub_of, is_gone, is_there}
+use Rattle.sr_hub.specs.steps.Calls.{BeginsAt, Changes, IsRefusedAt, MovesAt, SendsAt, TakesAt, hub_of, is_gone, is_there}
 use Rattle.sr_hub.specs.steps.Moves.{Adds, KeepsOpen, Moves, Takes}
 use Rattle.sr_hub.specs.steps.Telling.{Feeds, FeedsNot, IsUntaken, ended, unfed}
 use Rattle.sr_hub.proofs.FrameLemmas.{all-grows, all-rebased, line-passes, others-say}
@@ -414,6 +414,16 @@ go_on-clauses token false old new apart moves none = record {
   apart = subst AreApart (sym (none refl)) apart;
 }
 
+-- a recovery that was asked for was begun
+pub begins-clause : (token : ℕ) (result : Bool) (old new : HubState) → (IsTrue result → BeginsAt token old new) → (result ≡ false → old.at token ≡ None)
+    → IfSome (old.at token) (λ before. IfSome (new.at token) (Begins before))
+begins-clause token true old new begins none =
+    let b : BeginsAt token old new = begins refl in
+    subst (λ (o : Option ConnectionState). IfSome o (λ before. IfSome (new.at token) (Begins before))) (sym b.was)
+    (subst (λ (o : Option ConnectionState). IfSome o (Begins b.before)) (sym b.is) b.begins)
+begins-clause token false old new begins none =
+    subst (λ (o : Option ConnectionState). IfSome o (λ before. IfSome (new.at token) (Begins before))) (sym (none refl)) tt
+
 -- a slab and a book make a hub
 pub hub-same : (old_book book : BookState) (before slab : Slab ConnectionState) → book ≡ old_book → slab ≡ before → hub_of book slab ≡ hub_of old_book before
 hub-same old_book book before slab one two = ap (λ (b : BookState). hub_of b slab) one ∙ ap (λ (s : Slab ConnectionState). hub_of old_book s) two
@@ -421,6 +431,12 @@ hub-same old_book book before slab one two = ap (λ (b : BookState). hub_of b sl
 -- ---- a connection changes in its slot
 
 module _ (before : Slab ConnectionState) (old_book book : BookState) (token : ℕ) (first last : ConnectionState) (there : Some first ≡ get before token) where
+  pub begins-at : Begins first last → BeginsAt token (hub_of old_book before) (hub_of book (with_value before token last))
+  begins-at begins =
+      let present : ContainsKey before token = subst (λ (o : Option ConnectionState). IsSome o) there refl in
+      let updates : Updates before (with_value before token last) token (Some last) = Updates-with_value before token last present in
+      record { before = first; after = last; was = sym there; is = updates.changed; begins = begins }
+
   pub moves-at : Moves old_book first book last → IsAtRest 65536 book.server last last.stage → MovesAt token (hub_of old_book before) (hub_of book (with_value before token last))
   moves-at moves rests = record {
     before = first;

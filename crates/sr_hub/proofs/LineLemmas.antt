@@ -1,10 +1,12 @@
 -- One connection as a line: its request is answered or held, a letter is taken, bytes are taken and sent.
 use Rattle.std.proofs.Common.{◌≡◌, ◌⊎◌, inl, inr, ℕ, true, false, List, [], ◌∷◌, ◌++◌, take, drop, take-append-drop, append_assoc, Some, None, refl, ap, sym, subst, ◌∙◌, true≢false}
 use Rattle.std.proofs.lemmas.List.{append-nil}
+use Rattle.std.specs.Global.{Box}
 use Rattle.sr_resp.specs.{Words, Progress}
 use Rattle.sr_resp.specs.Stream.{Stands}
 use Rattle.sr_resp.specs.Reply.{ReplyParts, reply_text}
 use Rattle.sr_args.specs.declared.call.Command.TheVariants as commands
+use Rattle.sr_args.specs.{IsCommand}
 use Rattle.sr_waiters.specs.{has_session}
 use Rattle.sr_book.specs.{Given, letter_of, Recorded}
 use Rattle.sr_book.specs.Server.{Server}
@@ -14,7 +16,8 @@ use Rattle.sr_session.proofs.AnsweredLemmas.{AreAnswered-push}
 use Rattle.sr_session.proofs.LetterLemmas.{HasNone}
 use Rattle.sr_book.specs.declared.event.Event.{Event}
 use Rattle.sr_hub.specs.OneRequest.{IsSilent, IsAnsweredInRecords, replied, spoken}
-use Rattle.sr_hub.specs.Line.{ConnectionState, IsFree, IsJoined, IsLine, IsResting, IsWaitingFor, Stays, is_ended, last_text}
+use Rattle.sr_hub.specs.Line.{ConnectionState, IsAskingFor, IsFree, IsJoined, IsLine, IsResting, IsWaitingFor, Stays, is_ended, last_text}
+use Rattle.sr_hub.specs.declared.stage.Recovery.{Recovery}
 use Rattle.sr_hub.specs.declared.stage.Stage.{Stage}
 use Rattle.sr_hub.specs.declared.stage.Stage.TheVariants as stages
 use Rattle.sr_hub.specs.steps.Moves.{IsHolding}
@@ -162,6 +165,30 @@ module _ (records : List Recorded) (server : Server) (taken given : List ℕ) (l
         free = rests.free;
       }
 
+  -- the recovery that it asks for is begun
+  pub asked-held : (asked : Box Recovery) → line.stage ≡ stages.Asks asked
+      → (words : Words) × IsCommand words (commands.Recover asked.value.apply asked.value.tries asked.value.key asked.value.group asked.value.dead)
+      × IsHolding words records server taken given (record line { stage = stages.Idle })
+  asked-held asked is =
+      let asks : IsAskingFor line.session server l.more l.held asked.value = stays-at (stages.Asks asked) is in
+      let begun : IsBegun asks.words records taken given line =
+      IsBegun-line asks.words records server taken given line l asks.one (ap is_ended is) (ap last_text is) in (
+        asks.words,
+        asks.is,
+        record {
+          found = begun.found;
+          told = begun.told;
+          more = begun.more;
+          answered = begun.answered;
+          joined = begun.joined;
+          stands = begun.stands;
+          tells = begun.tells;
+          whole = begun.whole;
+          silent = asks.silent;
+          free = asks.free;
+        },
+      )
+
   -- it is cut off
   pub cut_off-line : last_text line.stage ≡ [] → IsLine records server taken given (record line { stage = stages.CutOff })
   cut_off-line none = record {
@@ -233,6 +260,7 @@ module _ (records : List Recorded) (server : Server) (taken given : List ℕ) (l
       → Stays session server more held old stage → Stays session server more held next stage
   fed-stays session more held old next stages.Idle goes stays = stays
   fed-stays session more held old next stages.Waiting goes stays = stays
+  fed-stays session more held old next (stages.Asks asked) goes stays = stays
   fed-stays session more held old next (stages.Judges judging) goes stays = stays
   fed-stays session more held old next stages.Broken goes stays = absurd (true≢false goes)
   fed-stays session more held old next stages.CutOff goes stays = absurd (true≢false goes)
@@ -309,6 +337,7 @@ module _ (records : List Recorded) (server : Server) (taken given : List ℕ) (l
       no_last : (stage : Stage) → is_ended stage ≡ false → last_text stage ≡ []
       no_last stages.Idle goes = refl
       no_last stages.Waiting goes = refl
+      no_last (stages.Asks asked) goes = refl
       no_last (stages.Judges judging) goes = refl
       no_last stages.Broken goes = absurd (true≢false goes)
       no_last stages.CutOff goes = refl

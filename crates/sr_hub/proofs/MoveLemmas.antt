@@ -1,6 +1,7 @@
 -- One connection and the book: what comes of an event of its session, and one step after another.
-use Rattle.std.proofs.Common.{◌≡◌, ◌==◌, ◌⊎◌, inl, inr, ℕ, zero, suc, max, ◌+◌, ◌≤◌, ◌^◌, Bool, true, false, List, [], ◌∷◌, ◌++◌, length, length-append, append_assoc, Option, Some, None, IsSome, IsSomeAnd, refl, ap, sym, subst, ◌∙◌, arith, true≢false}
+use Rattle.std.proofs.Common.{◌≡◌, ◌==◌, ◌⊎◌, inl, inr, ℕ, zero, suc, max, ◌+◌, ◌*◌, ◌<◌, ◌≤◌, ◌^◌, Bool, true, false, List, [], ◌∷◌, ◌++◌, length, length-append, append_assoc, Option, Some, None, IsSome, IsSomeAnd, refl, ap, sym, subst, ◌∙◌, arith, true≢false}
 use Rattle.std.proofs.lemmas.List.{append-nil}
+use Rattle.std.specs.Global.{Box}
 use Rattle.std.specs.List.{AllByRecursion}
 use Rattle.sr_resp.specs.{Words}
 use Rattle.sr_resp.specs.Reply.{ReplyParts, error_reply, reply_text}
@@ -38,20 +39,21 @@ use Rattle.sr_book.proofs.SessionLaws.{servings-open}
 use Rattle.sr_session.specs.{code_of}
 use Rattle.sr_session.proofs.LetterLemmas.{HasNone, history-none}
 use Rattle.sr_hub.specs.OneRequest.{AreOf, AreRounds, IsBroken, IsSilent, IsAnsweredInRecords, IsVerdictOn, broke_off, is_full, lacks_index, lacks_memory, refused, replied, spoken}
-use Rattle.sr_hub.specs.Line.{ConnectionState, IsAtRest, IsFree, IsJudging, IsLine, IsWaitingFor, Stays, is_ended, last_text}
+use Rattle.sr_hub.specs.Line.{Begins, ConnectionState, IsAskingFor, IsAtRest, IsFree, IsJudging, IsLine, IsWaitingFor, Stays, is_asking, is_ended, last_text}
 use Rattle.sr_hub.specs.declared.stage.Judging.{Judging}
+use Rattle.sr_hub.specs.declared.stage.Recovery.{Recovery}
 use Rattle.sr_hub.specs.declared.stage.Stage.{Stage}
 use Rattle.sr_hub.specs.declared.stage.Stage.TheVariants as stages
-use Rattle.sr_hub.specs.steps.Left.{Concludes, judging_of}
+use Rattle.sr_hub.specs.steps.Left.{Concludes, judging_of, left, letters}
 use Rattle.sr_hub.specs.Said.{IsOwn}
-use Rattle.sr_hub.specs.steps.Moves.{Adds, Answers, IsHolding, KeepsOpen, Moves, Takes}
+use Rattle.sr_hub.specs.steps.Moves.{Adds, Answers, AnswersAs, IsHolding, KeepsOpen, Moves, Takes}
 use Rattle.sr_hub.specs.steps.Telling.{Comes, IsRefusedBy, Tells, TellsFault, cut_off, is_sound, lacks, refusal_code, told, went_wrong}
 use Rattle.sr_hub.proofs.FrameLemmas.{addressed-append, all-grows, spoken-append}
 use Rattle.sr_hub.proofs.OwnLemmas.{IsHeardOut, board-replied, call-blocked, call-replied, conclude-replied, conclude-stale, snapshot-replied, snapshot-taken, step-adds, step-refused}
 use Rattle.sr_hub.proofs.SoundLemmas.{IsSound, reached-sound}
 use Rattle.sr_hub.proofs.ShownLemmas.{in_order-twice, snapshot-of, stale-of}
 use Rattle.sr_hub.proofs.StrayLemmas.{letter-given}
-use Rattle.sr_hub.proofs.LineLemmas.{IsBegun, IsBegun-held, IsBegun-line, addressed-after, cut_off-line, fault-line, held-line, lettered-line, spoken-after, told-line, whole-more}
+use Rattle.sr_hub.proofs.LineLemmas.{IsBegun, IsBegun-held, IsBegun-line, addressed-after, asked-held, cut_off-line, fault-line, held-line, lettered-line, spoken-after, told-line, whole-more}
 
 -- ---- records that an event adds
 
@@ -172,6 +174,86 @@ moves-answers words old line next new after same holds answers = record {
   goes_on = λ records taken given all l. answers.goes_on records taken given all (holds records taken given l);
 }
 
+-- a recovery is asked for, and begun later
+pub answers-asked : (words : Words) (book : BookState) (line after : ConnectionState) (asked : Box Recovery)
+    → IsCommand words (commands.Recover asked.value.apply asked.value.tries asked.value.key asked.value.group asked.value.dead)
+    → after ≡ record line { stage = stages.Asks asked } → Answers words book line book after
+answers-asked words book line after asked is_command is = record {
+  more = [];
+  adds = Adds-none line.session book;
+  opened = λ other opened. opened;
+  same = ap (λ (c : ConnectionState). c.session) is;
+  goes_on = λ records taken given all h.
+      let begun = IsBegun-held words records book.server taken given line h in
+      let silent : IsSilent line.session (h.more ++ []) = subst (IsSilent line.session) (sym (append-nil h.more)) h.silent in
+      let waits : IsAskingFor line.session book.server (h.more ++ []) (words ∷ []) asked.value = record {
+        words = words;
+        one = refl;
+        is = is_command;
+        silent = silent;
+        free = h.free;
+      } in
+      subst (IsLine (records ++ []) book.server taken given) (sym is) (held-line words records taken given line begun [] book.server (stages.Asks asked) refl waits);
+}
+
+-- a command is answered alike, whatever its words are
+answers-as : (asked : Command) (old : BookState) (line : ConnectionState) (more : List Recorded) (new : BookState) (after : ConnectionState) → Adds line.session old more new
+    → KeepsOpen old.server new.server → after.session ≡ line.session → (answers : (words : Words) → IsCommand words asked → Answers words old line new after)
+    → ((words : Words) (is : IsCommand words asked) → (answers words is).more ≡ more) → AnswersAs asked old line new after
+answers-as asked old line more new after adds opened same answers alike = record {
+  more = more;
+  adds = adds;
+  opened = opened;
+  same = same;
+  goes_on = λ words is records taken given all h.
+      subst (λ (m : List Recorded). IsLine (records ++ m) new.server taken given after) (alike words is) ((answers words is).goes_on records taken given all h);
+}
+
+-- one step after another leaves less to do
+pub goes-then : (first line next : ConnectionState) → (line ≡ first) ⊎ (left line < left first) → left next < left line → (next ≡ first) ⊎ (left next < left first)
+goes-then first line next (inl same) fewer = inr (subst (λ (l : ConnectionState). left next < left l) same fewer)
+goes-then first line next (inr goes) fewer = inr (omega (arith, goes, fewer))
+
+-- at the end of them a recovery is asked for only if it was at first, or by a request that is looked at now
+pub asks-later : (first line last : ConnectionState) → (line ≡ first) ⊎ (left line < left first) → last ≡ line → is_asking last.stage ≡ true
+    → (is_asking first.stage ≡ true) ⊎ (left last < left first)
+asks-later first line last (inl same) is asking = inl (ap (λ (l : ConnectionState). is_asking l.stage) (sym (is ∙ same)) ∙ asking)
+asks-later first line last (inr goes) is asking = inr (subst (λ (l : ConnectionState). left l < left first) (sym is) goes)
+
+-- so one that asked, and was begun, and asks then, has fewer requests that wait
+asking-left : (line : ConnectionState) (stage : Stage) → is_asking stage ≡ true → 2 * length line.requests.waiting + letters stage ≡ 2 * length line.requests.waiting
+asking-left line stages.Idle asking = absurd (true≢false (sym asking))
+asking-left line stages.Waiting asking = absurd (true≢false (sym asking))
+asking-left line (stages.Asks asked) asking = omega arith
+asking-left line (stages.Judges judging) asking = absurd (true≢false (sym asking))
+asking-left line stages.Broken asking = absurd (true≢false (sym asking))
+asking-left line stages.CutOff asking = absurd (true≢false (sym asking))
+
+pub begun-begins : (before line after : ConnectionState) → is_asking line.stage ≡ false → left line ≡ left before
+    → (is_asking after.stage ≡ true → (is_asking line.stage ≡ true) ⊎ (left after < left line)) → Begins before after
+begun-begins before line after begun same later was asking = by (later asking)
+  where
+    by : (is_asking line.stage ≡ true) ⊎ (left after < left line) → length after.requests.waiting < length before.requests.waiting
+    by (inl still) = absurd (true≢false (sym still ∙ begun))
+    by (inr fewer) = omega (arith, fewer, same, asking-left before before.stage was, asking-left after after.stage asking)
+
+-- it is begun then, whatever its words are
+pub moves-asked : (old : BookState) (line out : ConnectionState) (asked : Box Recovery) (new : BookState) (after : ConnectionState) → stages.Asks asked ≡ line.stage
+    → out ≡ record line { stage = stages.Idle }
+    → AnswersAs (commands.Recover asked.value.apply asked.value.tries asked.value.key asked.value.group asked.value.dead) old out new after → Moves old line new after
+moves-asked old line out asked new after was is answers =
+    let As : ConnectionState → Type 0 = λ l. AnswersAs (commands.Recover asked.value.apply asked.value.tries asked.value.key asked.value.group asked.value.dead) old l new after in
+    let idle : As (record line { stage = stages.Idle }) = subst As is answers in
+    record {
+      more = idle.more;
+      adds = idle.adds;
+      opened = idle.opened;
+      same = idle.same;
+      goes_on = λ records taken given all l.
+          let held = asked-held records old.server taken given line l asked (sym was) in
+          idle.goes_on held.0 held.1 records taken given all held.2;
+    }
+
 -- a piece is taken, and then it goes on
 pub takes-then : (piece : List ℕ) (old : BookState) (line fed : ConnectionState) (new : BookState) (after : ConnectionState)
     → fed.session ≡ line.session
@@ -280,7 +362,7 @@ answers-board words key group old line at new after reply is_command comes tells
     answers-replied words (commands.Board key group) old line at (events.Board line.session key group) new after is_command reply comes (asks refl) refl
     (board-replied old at line.session key group comes.answer new reply comes.stepped comes.is) tells
 
-pub answers-snapshot : (words : Words) (apply : Bool) (tries : ℕ) (key group : List ℕ) (dead : List (List ℕ)) (old : BookState) (line : ConnectionState) (at : ℕ) (new : BookState)
+answers-snapshot : (words : Words) (apply : Bool) (tries : ℕ) (key group : List ℕ) (dead : List (List ℕ)) (old : BookState) (line : ConnectionState) (at : ℕ) (new : BookState)
     (after : ConnectionState) (reply : ReplyParts)
     → IsCommand words (commands.Recover apply tries key group dead) → Comes old at (events.Snapshot line.session key group dead) (outs.Reply reply) new → Tells (reply_text reply) line after
     → Answers words old line new after
@@ -289,7 +371,7 @@ answers-snapshot words apply tries key group dead old line at new after reply is
     (snapshot-replied old at line.session key group dead comes.answer new reply comes.stepped comes.is) tells
 
 -- a recovery that has its first snapshot
-pub answers-snapped : (words : Words) (apply : Bool) (tries : ℕ) (key group : List ℕ) (dead : List (List ℕ)) (old : BookState) (line : ConnectionState) (at : ℕ) (new : BookState)
+answers-snapped : (words : Words) (apply : Bool) (tries : ℕ) (key group : List ℕ) (dead : List (List ℕ)) (old : BookState) (line : ConnectionState) (at : ℕ) (new : BookState)
     (after : ConnectionState) (judging : Judging)
     → IsCommand words (commands.Recover apply tries key group dead) → Comes old at (events.Snapshot line.session key group dead) (outs.Snap judging.snapshot) new
     → judging.apply ≡ apply → suc judging.later ≡ max tries 1 → after ≡ record line { stage = stages.Judges judging } → Answers words old line new after
@@ -389,6 +471,44 @@ answers-refused words asked event old line at code new after is_command asking b
           subst (λ (b : BookState). IsLine (records ++ []) b.server taken given after) (sym same)
           (tells-line words records taken given line begun [] old.server text after tells is_told h.free);
     }
+
+-- ---- a recovery that is begun, whatever its words are
+
+module _ (apply : Bool) (tries : ℕ) (key group : List ℕ) (dead : List (List ℕ)) (old : BookState) (line : ConnectionState) (at : ℕ) (new : BookState) (after : ConnectionState) where
+  abbrev Recovers : Command
+  Recovers = commands.Recover apply tries key group dead
+
+  abbrev Snaps : Event
+  Snaps = events.Snapshot line.session key group dead
+
+  pub recovers-replied : (reply : ReplyParts) → Comes old at Snaps (outs.Reply reply) new → Tells (reply_text reply) line after → AnswersAs Recovers old line new after
+  unfolding answers-snapshot answers-replied
+  recovers-replied reply comes tells =
+      answers-as Recovers old line (added old at Snaps (outs.Reply reply) new comes) new after (comes-adds line.session old at Snaps (outs.Reply reply) new comes (asks refl))
+      (comes-opened line.session old at Snaps (outs.Reply reply) new comes (asks refl)) (told-same (reply_text reply) line after tells)
+      (λ words is. answers-snapshot words apply tries key group dead old line at new after reply is comes tells) (λ words is. refl)
+
+  pub recovers-snapped : (judging : Judging) → Comes old at Snaps (outs.Snap judging.snapshot) new → judging.apply ≡ apply → suc judging.later ≡ max tries 1
+      → after ≡ record line { stage = stages.Judges judging } → AnswersAs Recovers old line new after
+  unfolding answers-snapped
+  recovers-snapped judging comes applied later is =
+      answers-as Recovers old line (added old at Snaps (outs.Snap judging.snapshot) new comes) new after (comes-adds line.session old at Snaps (outs.Snap judging.snapshot) new comes (asks refl))
+      (comes-opened line.session old at Snaps (outs.Snap judging.snapshot) new comes (asks refl)) (ap (λ (c : ConnectionState). c.session) is)
+      (λ words command. answers-snapped words apply tries key group dead old line at new after judging command comes applied later is) (λ words command. refl)
+
+  pub recovers-refused : (code : ErrCode) → IsRefusedBy old at Snaps code new → Tells (reply_text (error_reply code)) line after → AnswersAs Recovers old line new after
+  unfolding answers-refused
+  recovers-refused code by_fault tells =
+      answers-as Recovers old line [] new after (subst (Adds line.session old []) (sym by_fault.refused.1) (Adds-none line.session old))
+      (subst (λ (b : BookState). KeepsOpen old.server b.server) (sym by_fault.refused.1) (λ other opened. opened)) (told-same (reply_text (error_reply code)) line after tells)
+      (λ words is. answers-refused words Recovers Snaps old line at code new after is (asks refl) by_fault tells) (λ words is. refl)
+
+-- memory is lacking for it
+pub recovers-lacking : (asked : Command) (book : BookState) (line after : ConnectionState) → Tells (reply_text (error_reply errors.Memory)) line after → AnswersAs asked book line book after
+unfolding answers-fault
+recovers-lacking asked book line after tells =
+    answers-as asked book line [] book after (Adds-none line.session book) (λ other opened. opened) (told-same (reply_text (error_reply errors.Memory)) line after tells)
+    (λ words is. answers-fault words call_faults.Memory book line after (asked, is) tells) (λ words is. refl)
 
 -- ---- the rounds of a recovery
 
@@ -598,6 +718,7 @@ record IsJudgedIn (stage : Stage) (P : Judging → Type 0) : Type 0 where
 judged-in : (stage : Stage) (P : Judging → Type 0) → IsSomeAnd (judging_of stage) P → IsJudgedIn stage P
 judged-in stages.Idle P some = absurd some
 judged-in stages.Waiting P some = absurd some
+judged-in (stages.Asks asked) P some = absurd some
 judged-in (stages.Judges judging) P some = record { judging = judging; is = refl; has = some }
 judged-in stages.Broken P some = absurd some
 judged-in stages.CutOff P some = absurd some

@@ -1,7 +1,7 @@
 -- One connection: the texts of its requests so far, by the records of the server, and what it is doing.
 -- Source: RESP2 protocol specification, "Sending commands to a Redis server" and "Multiple commands and pipelining".
 
-use Rattle.std.specs.Prelude.{⊤, ◌≡◌, ◌⊎◌, ◌+◌, ◌≤◌, ℕ, suc, max, Bool, true, false, List, [], ◌∷◌, ◌++◌, length}
+use Rattle.std.specs.Prelude.{⊤, ◌≡◌, ◌⊎◌, ◌+◌, ◌<◌, ◌≤◌, ℕ, suc, max, Bool, true, false, List, [], ◌∷◌, ◌++◌, length}
 use Rattle.std.specs.Prelude.{Option, Some, None}
 use Rattle.sr_resp.specs.{Words, Progress}
 use Rattle.sr_resp.specs.Stream.{Stands}
@@ -19,6 +19,7 @@ use Rattle.sr_book.specs.declared.event.Event.{Event}
 use Rattle.sr_book.specs.declared.event.Event.TheVariants as events
 use Rattle.sr_session.specs.{AreAnswered, protocol_text}
 use Rattle.sr_hub.specs.declared.stage.Judging.{Judging}
+use Rattle.sr_hub.specs.declared.stage.Recovery.{Recovery}
 use Rattle.sr_hub.specs.declared.stage.Stage.{Stage}
 use Rattle.sr_hub.specs.declared.stage.Stage.TheVariants as stages
 use Rattle.sr_hub.specs.OneRequest.{IsSilent, IsAnsweredInRecords, AreRounds, spoken}
@@ -61,6 +62,15 @@ pub record IsWaitingFor (session : ℕ) (server : Server) (more : List Recorded)
       ⊎ ((given : Given) × (has_session session server.waiting ≡ false)
       × (letter_of session server.sessions ≡ Some given) × (addressed session more ≡ given.reply ∷ []))
 
+-- the one request that is held is a recovery, and nothing of the session is recorded since the request before it
+pub record IsAskingFor (session : ℕ) (server : Server) (more : List Recorded) (held : List Words)
+    (asked : Recovery) : Type 0 where
+  pub words : Words
+  pub one : held ≡ words ∷ []
+  pub is : IsCommand words (commands.Recover asked.apply asked.tries asked.key asked.group asked.dead)
+  pub silent : IsSilent session more
+  pub free : IsFree session server
+
 -- the one request that is held is a recovery, of which a snapshot and some rounds are recorded, without a reply
 pub record IsJudging (session : ℕ) (server : Server) (more : List Recorded) (held : List Words)
     (judging : Judging) : Type 0 where
@@ -91,6 +101,7 @@ pub record IsResting (session : ℕ) (server : Server) (more : List Recorded) (h
 abbrev pub Stays : ℕ → Server → List Recorded → List Words → Progress → Stage → Type 0
 Stays session server more held requests stages.Idle = IsResting session server more held
 Stays session server more held requests stages.Waiting = IsWaitingFor session server more held
+Stays session server more held requests (stages.Asks asked) = IsAskingFor session server more held asked.value
 Stays session server more held requests (stages.Judges judging) = IsJudging session server more held judging
 Stays session server more held requests stages.Broken =
     IsResting session server more held × (requests.failed ≡ true) × (requests.waiting ≡ [])
@@ -100,6 +111,7 @@ Stays session server more held requests stages.CutOff = ⊤
 abbrev pub last_text : Stage → List ℕ
 last_text stages.Idle = []
 last_text stages.Waiting = []
+last_text (stages.Asks asked) = []
 last_text (stages.Judges judging) = []
 last_text stages.Broken = protocol_text
 last_text stages.CutOff = []
@@ -108,6 +120,7 @@ last_text stages.CutOff = []
 abbrev pub is_ended : Stage → Bool
 is_ended stages.Idle = false
 is_ended stages.Waiting = false
+is_ended (stages.Asks asked) = false
 is_ended (stages.Judges judging) = false
 is_ended stages.Broken = true
 is_ended stages.CutOff = true
@@ -136,15 +149,30 @@ pub record IsLine (records : List Recorded) (server : Server) (taken given : Lis
   pub whole : records ≡ told ++ more
   pub stays : Stays line.session server more held line.requests line.stage
 
+-- it asks for a recovery that is not begun yet
+abbrev pub is_asking : Stage → Bool
+is_asking stages.Idle = false
+is_asking stages.Waiting = false
+is_asking (stages.Asks asked) = true
+is_asking (stages.Judges judging) = false
+is_asking stages.Broken = false
+is_asking stages.CutOff = false
+
+-- a recovery that it asked for was begun: if it asks for one then, that is one of its later requests
+abbrev pub Begins : ConnectionState → ConnectionState → Type 0
+Begins before after = is_asking before.stage ≡ true → is_asking after.stage ≡ true
+    → length after.requests.waiting < length before.requests.waiting
+
 -- ---- how far it has come
 
 -- a connection goes no further until something comes for it: it can take a request, and none waits to be looked at and
--- its bytes are sound, or it has this many bytes to send already; its call waits, and its session has no letter; a
--- verdict is wanted; or it is at its end
+-- its bytes are sound, or it has this many bytes to send already; its call waits, and its session has no letter; it
+-- asks for a recovery; a verdict is wanted; or it is at its end
 abbrev pub IsAtRest : ℕ → Server → ConnectionState → Stage → Type 0
 IsAtRest most server line stages.Idle =
     ((line.requests.waiting ≡ []) × (line.requests.failed ≡ false)) ⊎ (most ≤ length line.unsent)
 IsAtRest most server line stages.Waiting = letter_of line.session server.sessions ≡ None
+IsAtRest most server line (stages.Asks asked) = ⊤
 IsAtRest most server line (stages.Judges judging) = ⊤
 IsAtRest most server line stages.Broken = ⊤
 IsAtRest most server line stages.CutOff = ⊤
@@ -153,6 +181,7 @@ IsAtRest most server line stages.CutOff = ⊤
 abbrev pub wanted_of : Stage → Option SnapshotState
 wanted_of stages.Idle = None
 wanted_of stages.Waiting = None
+wanted_of (stages.Asks asked) = None
 wanted_of (stages.Judges judging) = Some judging.snapshot
 wanted_of stages.Broken = None
 wanted_of stages.CutOff = None

@@ -1,19 +1,19 @@
 //! The requests of one connection, each answered in turn at the book.
-ghost use Rattle.std.specs.Prelude.{◌≡◌, ◌<◌, IsTrue, IfOk, IfErr, false, is_some};
+ghost use Rattle.std.specs.Prelude.{◌≡◌, ◌<◌, ◌⊎◌, IsTrue, IfOk, IfErr, false, true, is_some};
 ghost use Rattle.sr_resp.specs.Request.{Words as RequestWords};
 ghost use Rattle.sr_args.specs.declared.call.Command.TheVariants as commands;
 ghost use Rattle.sr_args.specs.{IsCommand};
 ghost use Rattle.sr_book.specs.Records.{IsCertain};
 ghost use Rattle.sr_book.specs.{letter_of};
 ghost use Rattle.sr_session.specs.steps.Asked.{IsAsked};
-ghost use Rattle.sr_hub.specs.Line.{IsAtRest};
+ghost use Rattle.sr_hub.specs.Line.{IsAtRest, is_asking};
 ghost use Rattle.sr_hub.specs.Said.{IsTimed};
 ghost use Rattle.sr_hub.specs.steps.Moves.{Answers, Moves};
 ghost use Rattle.sr_hub.specs.steps.Left.{left};
 ghost use Rattle.sr_hub.specs.steps.Telling.{Comes, IsRefusedBy, refusal_code};
 
-use crate::rounds::{Recovery, begin_recovery};
-use crate::{Connection, Stage};
+use crate::rounds::ask_recovery;
+use crate::{Connection, Recovery, Stage};
 use sr_args::{Call, CallFault, Command, read_call};
 use sr_book::{Book, BookFault, Event, Out, Status};
 use sr_bytes::Name;
@@ -33,6 +33,8 @@ pub(crate) fn answer_waiting(
 )
     ensures moves { Moves book.old connection.old book.new connection.new }
     ensures rest { IsAtRest 65536 book.new.server connection.new connection.new.stage }
+    ensures asks { is_asking connection.new.stage ≡ true
+        → (is_asking connection.old.stage ≡ true) ⊎ (left connection.new < left connection.old) }
     ensures timed { IsTimed moment book.old book.new }
 {
     while answer_more(alloc, book, connection, moment) {}
@@ -45,12 +47,13 @@ fn answer_more(alloc: Global, book: &mut Book, connection: &mut Connection, mome
     ensures moves { Moves book.old connection.old book.new connection.new }
     ensures fewer { IsTrue result → left connection.new < left connection.old }
     ensures rest { result ≡ false → IsAtRest 65536 book.new.server connection.new connection.new.stage }
+    ensures stays { result ≡ false → is_asking connection.new.stage ≡ true → connection.new ≡ connection.old }
     ensures timed { IsTimed moment book.old book.new }
 {
     match &connection.stage {
         Stage::Idle => answer_next(alloc, book, connection, moment),
         Stage::Waiting => take_letter(alloc, book, connection),
-        Stage::Judges(_) | Stage::Broken | Stage::CutOff => false,
+        Stage::Asks(_) | Stage::Judges(_) | Stage::Broken | Stage::CutOff => false,
     }
 }
 
@@ -62,6 +65,7 @@ fn answer_next(alloc: Global, book: &mut Book, connection: &mut Connection, mome
     ensures moves { Moves book.old connection.old book.new connection.new }
     ensures fewer { IsTrue result → left connection.new < left connection.old }
     ensures rest { result ≡ false → IsAtRest 65536 book.new.server connection.new connection.new.stage }
+    ensures ends { result ≡ false → is_asking connection.new.stage ≡ false }
     ensures timed { IsTimed moment book.old book.new }
 {
     if connection.unsent.len() >= FULL {
@@ -85,6 +89,7 @@ fn take_letter(alloc: Global, book: &Book, connection: &mut Connection) -> bool
     ensures moves { Moves book.now connection.old book.now connection.new }
     ensures fewer { IsTrue result → left connection.new < left connection.old }
     ensures rest { result ≡ false → IsAtRest 65536 book.now.server connection.new connection.new.stage }
+    ensures stays { result ≡ false → connection.new ≡ connection.old }
 {
     book.legal();
     if !has_letter(book, connection.session) {
@@ -162,7 +167,7 @@ fn answer_command(
                 group,
                 dead,
             };
-            begin_recovery(alloc, book, connection, moment, recovery)
+            ask_recovery(alloc, connection, recovery)
         }
     }
 }

@@ -14,11 +14,18 @@ const TICK: u64 = 10;
 /// How often all connections are looked at, in milliseconds.
 const SWEEP: u64 = 1_000;
 
+/// After how long all connections are looked at again if some have been idle for too long, in milliseconds: what they
+/// sent while the loop did something else is read by then.
+const AGAIN: u64 = 100;
+
 /// After how long others have their turn while a connection has more to be answered, in milliseconds.
 const LONG: u64 = 5;
 
 /// A connection that was put off goes on once others had this many times as long as the last long turn took.
 const SHARE: u64 = 2;
+
+/// How many records are let go between two looks at the clock: one with a verdict takes long.
+const FEW: usize = 8;
 
 /// If others came meanwhile it goes on before only if nothing comes for this long, in milliseconds: who was answered
 /// needs a moment to ask again.
@@ -59,6 +66,8 @@ pub(crate) struct Keeper<'a, C> {
     /// When deadlines were looked at last, and when all connections were.
     ticked: u64,
     swept: u64,
+    /// Whether some connections were idle for too long then, and are looked at again soon.
+    idles: bool,
     /// Whether nothing came since then, and no read with a deadline waits.
     quiet: bool,
     /// Whether something came since the last long turn.
@@ -74,7 +83,7 @@ pub(crate) struct Keeper<'a, C> {
     took: u64,
     /// Connections that had a long turn and have more to be answered.
     later: VecDeque<usize>,
-    /// Connections that wait until their plans can be made elsewhere.
+    /// Connections that wait until their recoveries can be begun, or their plans be made elsewhere.
     wanting: VecDeque<usize>,
     /// Whether plans may be there that were made elsewhere.
     planned: bool,
@@ -94,6 +103,7 @@ impl<'a, C: Clock> Keeper<'a, C> {
             moment: 0,
             ticked: 0,
             swept: 0,
+            idles: false,
             quiet: false,
             others: false,
             paused: false,
@@ -126,13 +136,13 @@ impl<'a, C: Clock> Keeper<'a, C> {
     }
 
     /// How long the loop may wait for what comes next, in milliseconds: not at all while something is left to be done,
-    /// and not long while a connection was put off.
-    pub(crate) fn patience(&mut self, hub: &Hub) -> Option<u64> {
+    /// and not long while a connection was put off. `place` says whether a further plan may be made elsewhere.
+    pub(crate) fn patience(&mut self, hub: &Hub, place: bool) -> Option<u64> {
         let wait = if self.has_more(hub) {
             0
-        } else if !self.later.is_empty() {
+        } else if self.has_put_off(place) {
             if self.others { PAUSE } else { 0 }
-        } else if self.quiet {
+        } else if self.quiet && !self.idles {
             SWEEP
         } else {
             TICK
@@ -141,9 +151,15 @@ impl<'a, C: Clock> Keeper<'a, C> {
         Some(wait)
     }
 
-    /// Whether something is left to be done: plans, letters, or records to let go of.
+    /// Whether something is left to be done at once: letters, or records to let go of.
     fn has_more(&self, hub: &Hub) -> bool {
-        self.planned || self.watch.is_behind(hub.book()) || self.past.has_dropped()
+        self.watch.is_behind(hub.book()) || self.past.has_dropped()
+    }
+
+    /// Whether something is left to be done once others had their share: of a connection that was put off, or of a
+    /// recovery.
+    fn has_put_off(&self, place: bool) -> bool {
+        !self.later.is_empty() || self.planned || (place && !self.wanting.is_empty())
     }
 
     /// This came just now.
@@ -152,7 +168,7 @@ impl<'a, C: Clock> Keeper<'a, C> {
         self.still = heard == Heard::Nothing && self.paused;
         if heard != Heard::Nothing {
             self.quiet = false;
-            self.others = true;
+            self.others |= heard != Heard::Planned;
         }
     }
 
@@ -181,13 +197,30 @@ impl<'a, C: Clock> Keeper<'a, C> {
             return false;
         }
         self.watch.note_later(token, true);
-        self.ended = now;
-        self.took = took;
-        self.others = false;
+        self.pauses(now, took);
         true
     }
 
-    /// Whether a connection that was put off may go on: nobody else comes, or others had their share of the time.
+    /// Something of a recovery was done since this moment. If it took a while others have their share of the time now.
+    pub(crate) fn tires(&mut self, since: u64) {
+        let now = self.clock.now();
+        let took = now.saturating_sub(since);
+        if took > 0 {
+            self.pauses(now, took);
+        }
+    }
+
+    /// What took so long ended now: others have their share of the time.
+    fn pauses(&mut self, now: u64, took: u64)
+        ensures { self.new.later ≡ self.old.later }
+    {
+        self.ended = now;
+        self.took = took;
+        self.others = false;
+        self.still = false;
+    }
+
+    /// Whether what takes long may go on: nobody else comes, or others had their share of the time.
     pub(crate) fn may_resume(&self) -> bool {
         self.still || self.moment.saturating_sub(self.ended) >= self.took.saturating_mul(SHARE)
     }
@@ -203,7 +236,14 @@ impl<'a, C: Clock> Keeper<'a, C> {
         Some(token)
     }
 
-    /// Has a connection wait until its plan can be made elsewhere. Answers whether it does: not if memory is refused.
+    /// Whether a connection may begin a recovery that asks for one now: none waits for that, and others had their share
+    /// of the time.
+    pub(crate) fn may_begin(&self) -> bool {
+        self.wanting.is_empty() && self.may_resume()
+    }
+
+    /// Has a connection wait until its recovery can be begun, or its plan be made elsewhere. Answers whether it does:
+    /// not if memory is refused.
     pub(crate) fn waits_for_plan(&mut self, token: usize) -> bool {
         if self.watch.is_wanting(token) {
             return true;
@@ -215,7 +255,7 @@ impl<'a, C: Clock> Keeper<'a, C> {
         true
     }
 
-    /// The connection that has waited longest until its plan can be made elsewhere. It waits no longer.
+    /// The connection that has waited longest for that. It waits no longer.
     pub(crate) fn wants_plan(&mut self) -> Option<usize> {
         let token = self.wanting.pop_front()?;
         self.begins();
@@ -233,12 +273,17 @@ impl<'a, C: Clock> Keeper<'a, C> {
         self.planned
     }
 
-    /// Whether a connection is not to be read now: it was put off, its plan is being made, or it does not read its
-    /// replies while requests that are not answered yet hold much.
+    /// Whether a connection is not to be read now: something is left to be done of what it asked for, or it does not
+    /// read its replies while requests that are not answered yet hold much.
     pub(crate) fn holds_back(&self, hub: &Hub, token: usize) -> bool {
-        self.watch.is_later(token)
-            || hub.wants_verdict(token).is_some()
+        self.is_underway(hub, token)
             || (self.watch.total() > self.habits.unfinished / 2 && has_unsent(hub, token))
+    }
+
+    /// Whether something is left to be done of what a connection asked for: it was put off, or its recovery is not
+    /// concluded.
+    fn is_underway(&self, hub: &Hub, token: usize) -> bool {
+        self.watch.is_later(token) || hub.asks_recovery(token) || hub.wants_verdict(token).is_some()
     }
 
     /// Whether deadlines are to be looked at: not since a while.
@@ -257,11 +302,20 @@ impl<'a, C: Clock> Keeper<'a, C> {
 
     /// Whether all connections are to be looked at: not since a while.
     pub(crate) fn is_sweep(&mut self) -> bool {
-        let due = self.moment.saturating_sub(self.swept) >= SWEEP;
+        let often = if self.idles { AGAIN } else { SWEEP };
+        let due = self.moment.saturating_sub(self.swept) >= often;
         if due {
             self.swept = self.moment;
+            self.idles = false;
         }
         due
+    }
+
+    /// Whether a connection is to be closed: it has been idle for too long, and was at the last look.
+    pub(crate) fn gives_up(&mut self, hub: &Hub, token: usize) -> bool {
+        let idle = self.is_idle(hub, token);
+        self.idles |= idle;
+        self.watch.note_idle(token, idle)
     }
 
     /// A connection is handed a reply for which it waited.
@@ -269,9 +323,10 @@ impl<'a, C: Clock> Keeper<'a, C> {
         self.watch.hears(token, self.moment);
     }
 
-    /// Whether a connection has been idle for too long. One whose plan is made is not idle.
-    pub(crate) fn is_idle(&self, hub: &Hub, token: usize) -> bool {
-        if hub.session(token).is_none() || hub.wants_verdict(token).is_some() {
+    /// Whether a connection has been idle for too long. One is not while something is left to be done of what it asked
+    /// for.
+    fn is_idle(&self, hub: &Hub, token: usize) -> bool {
+        if hub.session(token).is_none() || self.is_underway(hub, token) {
             return false;
         }
         let (most, since) = match hub.quiet_since(token) {
@@ -304,6 +359,23 @@ impl<'a, C: Clock> Keeper<'a, C> {
             return;
         }
         let bytes = self.habits.keep_bytes;
-        self.past.forget(hub, Bounds { records, bytes });
+        let bounds = Bounds { records, bytes };
+        let part = self.past.part(hub, bounds);
+        self.lets_go(part);
+        self.past.cut(hub, bounds);
+    }
+
+    /// Lets go of so many of the records that are kept no longer, unless that takes long.
+    fn lets_go(&mut self, part: usize) {
+        if !self.past.has_dropped() {
+            return;
+        }
+        let since = self.clock.now();
+        for _ in 0..part / FEW {
+            self.past.lets_go(FEW);
+            if self.clock.now().saturating_sub(since) >= LONG {
+                return;
+            }
+        }
     }
 }

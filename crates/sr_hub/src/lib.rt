@@ -29,4 +29,4 @@ pub use keeper::Habits;
 pub use laws::lines_pass;
 pub use serve::serve_sockets;
 pub use sockets::{Heard, Job, Planned, Sockets};
-pub use stage::{Judging, Stage};
+pub use stage::{Judging, Recovery, Stage};

@@ -5,14 +5,14 @@ ghost use Rattle.slab.specs.Slab.{get};
 ghost use Rattle.sr_book.specs.{BookState};
 ghost use Rattle.sr_hub.specs.Said.{IsTimed};
 ghost use Rattle.sr_hub.specs.Line.{IsAtRest, is_ended, wanted_of};
-ghost use Rattle.sr_hub.specs.steps.Calls.{ComesAt, ComesNot, GoesAt, GoesNot, IsRefusedAt, MovesAt, SendsAt, TakesAt};
-ghost use Rattle.sr_hub.specs.steps.Calls.{hub_of};
+ghost use Rattle.sr_hub.specs.steps.Calls.{BeginsAt, ComesAt, ComesNot, GoesAt, GoesNot, IsRefusedAt, MovesAt, SendsAt};
+ghost use Rattle.sr_hub.specs.steps.Calls.{TakesAt, hub_of};
 ghost use Rattle.sr_hub.specs.steps.Moves.{Takes};
 ghost use Rattle.sr_hub.specs.steps.Telling.{IsUntaken};
 
 use crate::answering::answer_waiting;
 use crate::bookkeeping::{join, lacking, leave};
-use crate::rounds::{conclude_round, judge_round};
+use crate::rounds::{begin_asked, conclude_round, judge_round};
 use crate::{Connection, Stage, TakeFault};
 use slab::Slab;
 use sr_book::{Book, BookFault};
@@ -65,7 +65,7 @@ pub(crate) fn close_at(
     }
 }
 
-/// Goes on with the connection at a token, if there is one.
+/// Begins the recovery that the connection at a token asks for, if it asks for one, and goes on with the connection.
 #[tactic(auto, using(crate::proofs::TimeLemmas::timed))]
 pub(crate) fn go_on_at(
     alloc: Global,
@@ -76,12 +76,15 @@ pub(crate) fn go_on_at(
 ) -> bool
     ensures there { result ≡ false ↔ (get connections.old token ≡ None) }
     ensures moves { IsTrue result → MovesAt token (hub_of book.old connections.old) (hub_of book.new connections.new) }
+    ensures begins { IsTrue result
+        → BeginsAt token (hub_of book.old connections.old) (hub_of book.new connections.new) }
     ensures none { result ≡ false → (book.new ≡ book.old) × (connections.new ≡ connections.old) }
     ensures timed { IsTimed moment book.old book.new }
 {
     let Some(connection) = connections.get_mut(token) else {
         return false;
     };
+    begin_asked(alloc, book, connection, moment);
     answer_waiting(alloc, book, connection, moment);
     true
 }
@@ -222,7 +225,7 @@ pub(crate) fn has_ended(stage: &Stage) -> bool
     ensures { result ≡ is_ended stage.now }
 {
     match stage {
-        Stage::Idle | Stage::Waiting | Stage::Judges(_) => false,
+        Stage::Idle | Stage::Waiting | Stage::Asks(_) | Stage::Judges(_) => false,
         Stage::Broken | Stage::CutOff => true,
     }
 }

@@ -6,7 +6,7 @@ ghost use Rattle.sr_hub.specs.steps.Serving.{Keeps, Serves};
 use crate::copy::copy_of;
 use crate::keeper::Keeper;
 use crate::past::weight_of;
-use crate::serve::{added, attend};
+use crate::serve::{added, attend, further};
 use crate::watch::unsent_len;
 use crate::{Hub, Job, Planned, Sockets};
 use sr_plan::Verdict;
@@ -39,7 +39,7 @@ pub(crate) fn judge<S: Sockets, C: Clock>(
 }
 
 /// Makes the plan that a connection wants, if it wants one, and concludes it. Answers whether it did.
-pub(crate) fn make_plan<C: Clock>(hub: &mut Hub, keeper: &mut Keeper<'_, C>, token: usize) -> bool
+fn make_plan<C: Clock>(hub: &mut Hub, keeper: &mut Keeper<'_, C>, token: usize) -> bool
     ensures { Keeps (state_of hub.old) (state_of hub.new) }
 {
     let Some(wanted) = hub.wants_verdict(token) else {
@@ -87,29 +87,26 @@ fn hand_over<S: Sockets, C: Clock>(
     }
 }
 
-/// Concludes one plan that was made elsewhere, if there is one, and goes on with its connection. Then there is a place
-/// for another plan.
-pub(crate) fn conclude_planned<S: Sockets, C: Clock>(
+/// Begins the recovery that a connection asks for, if none waits for that and others had their share of the time. Else
+/// it waits. Answers whether the connection goes on now.
+pub(crate) fn begin<S: Sockets, C: Clock>(
     hub: &mut Hub,
     sockets: &mut S,
     keeper: &mut Keeper<'_, C>,
-)
+    token: usize,
+) -> bool
     ensures { Serves (state_of hub.old) (S.may_have sockets.old) (state_of hub.new) (S.may_have sockets.new) }
 {
-    if !keeper.expects_plans() {
-        return;
+    if (sockets.is_busy() || !keeper.may_begin()) && keeper.waits_for_plan(token) {
+        return false;
     }
-    let Some(planned) = sockets.planned() else {
-        keeper.note_planned(false);
-        return;
-    };
-    let token = planned.token;
-    conclude(hub, keeper, planned);
-    go_on_planned(hub, sockets, keeper, token);
+    begin_now(hub, sockets, keeper, token);
+    hub.wants_verdict(token).is_none()
 }
 
-/// Goes on with a connection whose plan was made elsewhere, and with those that can have theirs made there then.
-fn go_on_planned<S: Sockets, C: Clock>(
+/// Begins the recovery that a connection asks for, if it asks for one, and makes the plan that it wants then, or has it
+/// made elsewhere.
+fn begin_now<S: Sockets, C: Clock>(
     hub: &mut Hub,
     sockets: &mut S,
     keeper: &mut Keeper<'_, C>,
@@ -117,26 +114,66 @@ fn go_on_planned<S: Sockets, C: Clock>(
 )
     ensures { Serves (state_of hub.old) (S.may_have sockets.old) (state_of hub.new) (S.may_have sockets.new) }
 {
-    keeper.begins();
-    keeper.hands(token);
-    attend(hub, sockets, keeper, token);
-    give_places(hub, sockets, keeper);
+    if !hub.asks_recovery(token) {
+        return;
+    }
+    keeper.looks_up();
+    let since = keeper.now();
+    further(hub, keeper, token);
+    judge(hub, sockets, keeper, token);
+    keeper.tires(since);
 }
 
-/// Goes on with connections that wait until their plans can be made elsewhere, as long as there is a place: one that
-/// is gone takes none.
-fn give_places<S: Sockets, C: Clock>(hub: &mut Hub, sockets: &mut S, keeper: &mut Keeper<'_, C>)
+/// Goes on with one recovery whose plan was made elsewhere, and with one that waits for a place.
+pub(crate) fn go_on_with_recoveries<S: Sockets, C: Clock>(
+    hub: &mut Hub,
+    sockets: &mut S,
+    keeper: &mut Keeper<'_, C>,
+)
     ensures { Serves (state_of hub.old) (S.may_have sockets.old) (state_of hub.new) (S.may_have sockets.new) }
 {
-    for _place in 0..u64::MAX {
-        if sockets.is_busy() {
-            return;
-        }
-        let Some(next) = keeper.wants_plan() else {
-            return;
-        };
-        attend(hub, sockets, keeper, next);
+    conclude_planned(hub, sockets, keeper);
+    give_place(hub, sockets, keeper);
+}
+
+/// Concludes one plan that was made elsewhere, if there is one and others had their share of the time, and goes on with
+/// its connection.
+fn conclude_planned<S: Sockets, C: Clock>(
+    hub: &mut Hub,
+    sockets: &mut S,
+    keeper: &mut Keeper<'_, C>,
+)
+    ensures { Serves (state_of hub.old) (S.may_have sockets.old) (state_of hub.new) (S.may_have sockets.new) }
+{
+    if !keeper.expects_plans() || !keeper.may_resume() {
+        return;
     }
+    let Some(planned) = sockets.planned() else {
+        keeper.note_planned(false);
+        return;
+    };
+    let token = planned.token;
+    keeper.begins();
+    let since = keeper.now();
+    conclude(hub, keeper, planned);
+    keeper.tires(since);
+    keeper.hands(token);
+    attend(hub, sockets, keeper, token);
+}
+
+/// Goes on with the connection that has waited longest until its recovery can be begun, or its plan be made elsewhere,
+/// if there is a place for that and others had their share of the time.
+fn give_place<S: Sockets, C: Clock>(hub: &mut Hub, sockets: &mut S, keeper: &mut Keeper<'_, C>)
+    ensures { Serves (state_of hub.old) (S.may_have sockets.old) (state_of hub.new) (S.may_have sockets.new) }
+{
+    if sockets.is_busy() || !keeper.may_resume() {
+        return;
+    }
+    let Some(token) = keeper.wants_plan() else {
+        return;
+    };
+    begin_now(hub, sockets, keeper, token);
+    attend(hub, sockets, keeper, token);
 }
 
 /// Concludes a plan that was made elsewhere, if its connection is still there.

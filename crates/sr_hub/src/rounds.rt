@@ -1,34 +1,23 @@
 //! Recoveries: a snapshot, and then rounds, in each of which a verdict on the last snapshot is concluded.
-ghost use Rattle.std.specs.Prelude.{◌≡◌, IfSome, IsSome, IsSomeAnd};
+ghost use Rattle.std.specs.Prelude.{◌≡◌, IfSome, IsSome, IsSomeAnd, false};
 ghost use Rattle.sr_resp.specs.Request.{Words as RequestWords};
 ghost use Rattle.sr_args.specs.declared.call.Command.TheVariants as commands;
 ghost use Rattle.sr_args.specs.{IsCommand};
-ghost use Rattle.sr_hub.specs.Line.{wanted_of};
+ghost use Rattle.sr_book.specs.{BookState};
+ghost use Rattle.sr_hub.specs.Line.{is_asking, wanted_of};
 ghost use Rattle.sr_hub.specs.Said.{IsTimed};
-ghost use Rattle.sr_hub.specs.steps.Moves.{Answers, Moves};
-ghost use Rattle.sr_hub.specs.steps.Left.{Concludes};
+ghost use Rattle.sr_hub.specs.steps.Moves.{Answers, AnswersAs, Moves};
+ghost use Rattle.sr_hub.specs.steps.Left.{Concludes, left};
 ghost use Rattle.sr_hub.specs.declared.stage.Stage.{Stage as ConnectionStage};
 
 use crate::answering::said;
 use crate::shelf::Shelf;
-use crate::{Connection, Judging, Stage};
-use sr_args::Names;
+use crate::{Connection, Judging, Recovery, Stage};
 use sr_book::{Book, Event, Out};
-use sr_bytes::Name;
 use sr_plan::Verdict;
 use sr_policy::Snapshot;
 use sr_resp::ErrCode;
 use std::alloc::{AllocError, Global};
-
-/// What RECOVER.PLAN or RECOVER.RUN asks for.
-#[derive(Drop)]
-pub(crate) struct Recovery {
-    pub(crate) apply: bool,
-    pub(crate) tries: u64,
-    pub(crate) key: Name,
-    pub(crate) group: Name,
-    pub(crate) dead: Names,
-}
 
 /// A recovery in one of its rounds.
 #[derive(Drop)]
@@ -40,9 +29,51 @@ struct Round {
     shelf: Shelf,
 }
 
+/// Has a connection ask for a recovery, if there is memory to keep what it asks for.
+pub(crate) fn ask_recovery(alloc: Global, connection: &mut Connection, recovery: Recovery)
+    requires { connection.old.stage ≡ Stage.Idle }
+    ensures answers { (book : BookState) (words : RequestWords) → IsCommand words (commands.Recover recovery.apply
+        recovery.tries recovery.key recovery.group recovery.dead)
+        → Answers words book connection.old book connection.new }
+    ensures requests { connection.new.requests ≡ connection.old.requests }
+{
+    match Box::new(alloc, recovery) {
+        Ok(asked) => connection.pass_to(Stage::Asks(asked)),
+        Err(_) => connection.tell_error(alloc, ErrCode::Memory),
+    }
+}
+
+/// Begins the recovery that a connection asks for, if it asks for one.
+#[tactic(auto, using(crate::proofs::TimeLemmas::timed))]
+pub(crate) fn begin_asked(alloc: Global, book: &mut Book, connection: &mut Connection, moment: u64)
+    ensures moves { Moves book.old connection.old book.new connection.new }
+    ensures begun { is_asking connection.new.stage ≡ false }
+    ensures left { left connection.new ≡ left connection.old }
+    ensures timed { IsTimed moment book.old book.new }
+{
+    if !asks(&connection.stage) {
+        return;
+    }
+    let Stage::Asks(asked) = connection.take_stage() else {
+        unreachable!()
+    };
+    connection.pass_to(Stage::Idle);
+    begin_recovery(alloc, book, connection, moment, Box::into_inner(asked));
+}
+
+/// Whether a connection asks for a recovery that is not begun yet.
+pub(crate) fn asks(stage: &Stage) -> bool
+    ensures { result ≡ is_asking stage.now }
+{
+    match stage {
+        Stage::Asks(_) => true,
+        Stage::Idle | Stage::Waiting | Stage::Judges(_) | Stage::Broken | Stage::CutOff => false,
+    }
+}
+
 /// Begins a recovery, if there is memory to keep its snapshots.
 #[tactic(auto, using(crate::proofs::TimeLemmas::timed))]
-pub(crate) fn begin_recovery(
+fn begin_recovery(
     alloc: Global,
     book: &mut Book,
     connection: &mut Connection,
@@ -50,10 +81,10 @@ pub(crate) fn begin_recovery(
     recovery: Recovery,
 )
     requires { connection.old.stage ≡ Stage.Idle }
-    ensures answers { (words : RequestWords) → IsCommand words (commands.Recover recovery.apply recovery.tries
-        recovery.key recovery.group recovery.dead)
-        → Answers words book.old connection.old book.new connection.new }
-    ensures requests { connection.new.requests ≡ connection.old.requests }
+    ensures answers { AnswersAs (commands.Recover recovery.apply recovery.tries recovery.key recovery.group
+        recovery.dead) book.old connection.old book.new connection.new }
+    ensures begun { is_asking connection.new.stage ≡ false }
+    ensures left { left connection.new ≡ left connection.old }
     ensures timed { IsTimed moment book.old book.new }
 {
     match Shelf::new(alloc) {
@@ -73,10 +104,10 @@ fn take_snapshot(
     shelf: Shelf,
 )
     requires { connection.old.stage ≡ Stage.Idle }
-    ensures answers { (words : RequestWords) → IsCommand words (commands.Recover recovery.apply recovery.tries
-        recovery.key recovery.group recovery.dead)
-        → Answers words book.old connection.old book.new connection.new }
-    ensures requests { connection.new.requests ≡ connection.old.requests }
+    ensures answers { AnswersAs (commands.Recover recovery.apply recovery.tries recovery.key recovery.group
+        recovery.dead) book.old connection.old book.new connection.new }
+    ensures begun { is_asking connection.new.stage ≡ false }
+    ensures left { left connection.new ≡ left connection.old }
     ensures timed { IsTimed moment book.old book.new }
 {
     let Recovery {

@@ -6,7 +6,7 @@ ghost use Rattle.sr_hub.specs.Lines.{AreLines, GoOn, state_of, with_more};
 ghost use Rattle.sr_hub.specs.steps.Serving.{Keeps, Serves};
 
 use crate::keeper::{Habits, Keeper};
-use crate::plans::{conclude_planned, judge, make_plan};
+use crate::plans::{begin, go_on_with_recoveries, judge};
 use crate::watch::unsent_len;
 use crate::{Heard, Hub, Sockets};
 use sr_session::Clock;
@@ -52,7 +52,8 @@ fn hear<S: Sockets, C: Clock>(
 ) -> bool
     ensures { Serves (state_of hub.old) (S.may_have sockets.old) (state_of hub.new) (S.may_have sockets.new) }
 {
-    let heard = sockets.next(buffer, keeper.patience(hub));
+    let wait = keeper.patience(hub, !sockets.is_busy());
+    let heard = sockets.next(buffer, wait);
     keeper.hears(heard);
     match heard {
         Heard::Came => admit(hub, sockets, keeper),
@@ -61,7 +62,7 @@ fn hear<S: Sockets, C: Clock>(
             attend(hub, sockets, keeper, token);
         }
         Heard::Room { token } => attend(hub, sockets, keeper, token),
-        Heard::Over { token } => leave(hub, sockets, keeper, token),
+        Heard::Over { token } => dismiss(hub, sockets, keeper, token),
         Heard::Planned => keeper.note_planned(true),
         Heard::Nothing => {}
         Heard::End => return false,
@@ -115,35 +116,7 @@ pub(crate) fn added(before: usize, after: usize) -> u64 {
     after.saturating_sub(before) as u64
 }
 
-/// A connection will send no more: makes the plan that it wants, if it wants one, and closes it.
-fn leave<S: Sockets, C: Clock>(
-    hub: &mut Hub,
-    sockets: &mut S,
-    keeper: &mut Keeper<'_, C>,
-    token: usize,
-)
-    ensures { Serves (state_of hub.old) (S.may_have sockets.old) (state_of hub.new) (S.may_have sockets.new) }
-{
-    finish(hub, sockets, keeper, token);
-    dismiss(hub, sockets, keeper, token);
-}
-
-/// Makes the plan that a connection wants, if it wants one, and writes what there is for it then.
-fn finish<S: Sockets, C: Clock>(
-    hub: &mut Hub,
-    sockets: &mut S,
-    keeper: &mut Keeper<'_, C>,
-    token: usize,
-)
-    ensures { Serves (state_of hub.old) (S.may_have sockets.old) (state_of hub.new) (S.may_have sockets.new) }
-{
-    if !make_plan(hub, keeper, token) {
-        return;
-    }
-    advance(hub, sockets, keeper, token);
-}
-
-/// A connection is over.
+/// A connection is over: a recovery of it that is not concluded is given up.
 fn dismiss<S: Sockets, C: Clock>(
     hub: &mut Hub,
     sockets: &mut S,
@@ -225,8 +198,8 @@ fn advance<S: Sockets, C: Clock>(
     }
 }
 
-/// Makes the plan that a connection wants, or writes what there is for it and goes on with it if all of it was written
-/// and requests are left. Answers whether it did.
+/// Makes the plan that a connection wants, or writes what there is for it. Then begins the recovery that it asks for,
+/// or goes on with it if all was written and requests are left. Answers whether it did one of these.
 fn go_on<S: Sockets, C: Clock>(
     hub: &mut Hub,
     sockets: &mut S,
@@ -238,14 +211,18 @@ fn go_on<S: Sockets, C: Clock>(
     if judge(hub, sockets, keeper, token) {
         return true;
     }
-    if !write_some(hub, sockets, keeper, token) || !hub.has_stopped(token) {
+    let written = write_some(hub, sockets, keeper, token);
+    if hub.asks_recovery(token) {
+        return begin(hub, sockets, keeper, token);
+    }
+    if !written || !hub.has_stopped(token) {
         return false;
     }
     further(hub, keeper, token)
 }
 
 /// Goes on with a connection at the book, and counts what it is to be sent. Answers whether there is such a connection.
-fn further<C: Clock>(hub: &mut Hub, keeper: &mut Keeper<'_, C>, token: usize) -> bool
+pub(crate) fn further<C: Clock>(hub: &mut Hub, keeper: &mut Keeper<'_, C>, token: usize) -> bool
     ensures { Keeps (state_of hub.old) (state_of hub.new) }
 {
     let before = unsent_len(hub, token);
@@ -279,13 +256,13 @@ fn write_some<S: Sockets, C: Clock>(
     count == length
 }
 
-/// Answers the reads whose deadline is reached, concludes a plan that was made elsewhere, serves connections that have
-/// a letter, goes on with one that was put off, and drops old records.
+/// Answers the reads whose deadline is reached, goes on with recoveries, serves connections that have a letter, goes on
+/// with one that was put off, and drops old records.
 fn settle<S: Sockets, C: Clock>(hub: &mut Hub, sockets: &mut S, keeper: &mut Keeper<'_, C>)
     ensures { Serves (state_of hub.old) (S.may_have sockets.old) (state_of hub.new) (S.may_have sockets.new) }
 {
     tick(hub, keeper);
-    conclude_planned(hub, sockets, keeper);
+    go_on_with_recoveries(hub, sockets, keeper);
     hand_letters(hub, sockets, keeper);
     // Before others go on, who have the book make records that are not looked at yet.
     keeper.forget(hub);
@@ -378,7 +355,7 @@ fn look_at<S: Sockets, C: Clock>(
         release(hub, keeper, token);
     } else if hub.has_letter(token) {
         hand(hub, sockets, keeper, token);
-    } else if keeper.is_idle(hub, token) {
+    } else if keeper.gives_up(hub, token) {
         dismiss(hub, sockets, keeper, token);
     }
 }

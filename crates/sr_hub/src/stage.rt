@@ -1,4 +1,21 @@
 use crate::shelf::KeptSnapshot;
+use sr_args::Names;
+use sr_bytes::Name;
+
+/// What RECOVER.PLAN or RECOVER.RUN asks for.
+#[derive(Drop)]
+pub struct Recovery {
+    /// Whether its plan is carried out.
+    pub apply: bool,
+    /// How many rounds it may make. One it may always.
+    pub tries: u64,
+    /// The key of the stream.
+    pub key: Name,
+    /// The name of the group.
+    pub group: Name,
+    /// The consumers that are dead, as they were named.
+    pub dead: Names,
+}
 
 /// A recovery between two of its rounds.
 #[derive(Drop)]
@@ -18,6 +35,8 @@ pub enum Stage {
     Idle,
     /// Its call waits, or was given its reply while it waited.
     Waiting,
+    /// It asks for a recovery, which is not begun yet.
+    Asks(Box<Recovery>),
     /// A verdict is wanted for its recovery.
     Judges(Judging),
     /// Its bytes are not requests, and it was told so.

@@ -25,11 +25,13 @@ struct Note {
     over: bool,
     /// The moment at which bytes of it were last read or written, or it was given a reply for which it waited.
     heard: u64,
+    /// Whether it had been idle for too long when all were looked at last.
+    idle: bool,
     /// Whether it was put off, and goes on later.
     later: bool,
     /// Whether the sockets were told not to read it.
     held: bool,
-    /// Whether it waits until its plan can be made elsewhere.
+    /// Whether it waits until its recovery can be begun, or its plan be made elsewhere.
     wanting: bool,
 }
 
@@ -40,6 +42,7 @@ impl Note {
             bytes: 0,
             over: false,
             heard: 0,
+            idle: false,
             later: false,
             held: false,
             wanting: false,
@@ -149,6 +152,19 @@ impl Watch {
         self.notes.get(token).map_or(0, |note| note.heard)
     }
 
+    /// Notes whether the connection at a token has been idle for too long. Answers whether it had been at the last look
+    /// as well.
+    pub(crate) fn note_idle(&mut self, token: usize, idle: bool) -> bool {
+        match self.notes.get_mut(token) {
+            Some(note) => {
+                let again = note.idle && idle;
+                note.idle = idle;
+                again
+            }
+            None => false,
+        }
+    }
+
     /// Notes whether the connection at a token was put off, and goes on later.
     pub(crate) fn note_later(&mut self, token: usize, later: bool) {
         if let Some(note) = self.notes.get_mut(token) {
@@ -161,14 +177,14 @@ impl Watch {
         self.notes.get(token).map_or(false, |note| note.later)
     }
 
-    /// Notes whether the connection at a token waits until its plan can be made elsewhere.
+    /// Notes whether the connection at a token waits until its recovery can be begun, or its plan be made elsewhere.
     pub(crate) fn note_wanting(&mut self, token: usize, wanting: bool) {
         if let Some(note) = self.notes.get_mut(token) {
             note.wanting = wanting;
         }
     }
 
-    /// Whether the connection at a token waits until its plan can be made elsewhere.
+    /// Whether the connection at a token waits for that.
     pub(crate) fn is_wanting(&self, token: usize) -> bool {
         self.notes.get(token).map_or(false, |note| note.wanting)
     }
@@ -205,7 +221,7 @@ impl Watch {
 
     /// Counts the unanswered requests of a connection again.
     pub(crate) fn look_at(&mut self, hub: &Hub, token: usize) {
-        self.count(token, counted(held_by(hub, token)));
+        self.count(token, counted_of(hub, token, 0));
     }
 
     /// That many bytes are counted of a connection from now on.
@@ -218,9 +234,12 @@ impl Watch {
 
     /// Whether a connection that takes that many more bytes has all together hold more than `most`, itself among them.
     pub(crate) fn exceeds(&self, hub: &Hub, token: usize, more: usize, most: u64) -> bool {
-        let bytes = counted(held_by(hub, token).saturating_add(more));
+        let bytes = counted_of(hub, token, more);
+        if bytes == 0 {
+            return false;
+        }
         let before = self.notes.get(token).map_or(0, |note| note.bytes);
-        bytes > 0 && self.total.saturating_sub(before).saturating_add(bytes) > most
+        self.total.saturating_sub(before).saturating_add(bytes) > most
     }
 
     /// How many bytes are counted of all connections.
@@ -273,14 +292,24 @@ impl Watch {
     }
 }
 
-/// At most how many bytes the requests of a connection hold that are not answered yet.
-fn held_by(hub: &Hub, token: usize) -> usize {
+/// What is counted of a connection that takes that many more bytes.
+fn counted_of(hub: &Hub, token: usize, more: usize) -> u64 {
     let bytes = hub.unanswered(token);
+    // Nothing is, whatever it waits for.
+    if bytes.saturating_add(more) <= FREE / WAITING {
+        return 0;
+    }
+    let held = bytes.saturating_mul(times_held(hub, token));
+    held.saturating_add(more).saturating_sub(FREE) as u64
+}
+
+/// At most how many times their bytes the requests of a connection hold that are not answered yet.
+fn times_held(hub: &Hub, token: usize) -> usize {
     // Of one whose call waits there is no moment since which it is quiet.
     if hub.quiet_since(token).is_none() || has_unsent(hub, token) {
-        bytes.saturating_mul(WAITING)
+        WAITING
     } else {
-        bytes
+        1
     }
 }
 
@@ -292,11 +321,6 @@ pub(crate) fn has_unsent(hub: &Hub, token: usize) -> bool {
 /// How many bytes are to be sent to a connection.
 pub(crate) fn unsent_len(hub: &Hub, token: usize) -> usize {
     hub.unsent(token).map_or(0, |bytes| bytes.len())
-}
-
-/// What is counted of a connection that holds so many bytes.
-fn counted(unanswered: usize) -> u64 {
-    unanswered.saturating_sub(FREE) as u64
 }
 
 /// Whether a record of this gives replies to sessions that wait.

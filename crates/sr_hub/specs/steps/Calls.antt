@@ -8,7 +8,7 @@ use Rattle.sr_book.specs.{BookState, next_index}
 use Rattle.sr_book.specs.Records.{IsRefusal}
 use Rattle.sr_book.specs.declared.event.BookFault.{BookFault}
 use Rattle.sr_book.specs.declared.event.Event.TheVariants as events
-use Rattle.sr_hub.specs.Line.{ConnectionState, IsAtRest, is_ended}
+use Rattle.sr_hub.specs.Line.{Begins, ConnectionState, IsAtRest, is_ended}
 use Rattle.sr_hub.specs.Lines.{HubState}
 use Rattle.sr_hub.specs.declared.hub.TakeFault.{TakeFault}
 use Rattle.sr_hub.specs.declared.hub.TakeFault.TheVariants as take_faults
@@ -34,6 +34,14 @@ pub record MovesAt (token : ℕ) (old new : HubState) : Type 0 where
   pub changes : Changes token old new before after
   pub moves : Moves old.book before new.book after
   pub rests : IsAtRest 65536 new.book.server after after.stage
+
+-- a recovery that it asked for was begun
+pub record BeginsAt (token : ℕ) (old new : HubState) : Type 0 where
+  pub before : ConnectionState
+  pub after : ConnectionState
+  pub was : old.at token ≡ Some before
+  pub is : new.at token ≡ Some after
+  pub begins : Begins before after
 
 -- it takes a piece, and goes on as far as it can
 pub record TakesAt (token : ℕ) (piece : List ℕ) (old new : HubState) : Type 0 where

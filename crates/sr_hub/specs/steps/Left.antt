@@ -11,6 +11,7 @@ use Rattle.sr_hub.specs.declared.stage.Stage.TheVariants as stages
 abbrev pub letters : Stage → ℕ
 letters stages.Idle = 0
 letters stages.Waiting = 1
+letters (stages.Asks asked) = 0
 letters (stages.Judges judging) = 0
 letters stages.Broken = 0
 letters stages.CutOff = 0
@@ -23,6 +24,7 @@ left line = 2 * length line.requests.waiting + letters line.stage
 abbrev pub judging_of : Stage → Option Judging
 judging_of stages.Idle = None
 judging_of stages.Waiting = None
+judging_of (stages.Asks asked) = None
 judging_of (stages.Judges judging) = Some judging
 judging_of stages.Broken = None
 judging_of stages.CutOff = None

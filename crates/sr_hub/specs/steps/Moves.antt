@@ -4,6 +4,8 @@ use Rattle.std.specs.Prelude.{◌≡◌, ℕ, true, List, [], ◌∷◌, ◌++�
 use Rattle.std.specs.List.{AllByRecursion}
 use Rattle.sr_resp.specs.{Words}
 use Rattle.sr_resp.specs.Stream.{Stands}
+use Rattle.sr_args.specs.declared.call.Command.{Command}
+use Rattle.sr_args.specs.{IsCommand}
 use Rattle.sr_book.specs.{is_open, BookState, Recorded, next_index}
 use Rattle.sr_book.specs.Server.{Server}
 use Rattle.sr_book.specs.Records.{Legal}
@@ -55,6 +57,17 @@ pub record Answers (words : Words) (old : BookState) (line : ConnectionState) (n
   pub opened : KeepsOpen old.server new.server
   pub same : after.session ≡ line.session
   pub goes_on : (records : List Recorded) (taken given : List ℕ) → AreAll records old
+      → IsHolding words records old.server taken given line → IsLine (records ++ more) new.server taken given after
+
+-- the same of whatever words are this command
+pub record AnswersAs (asked : Command) (old : BookState) (line : ConnectionState) (new : BookState)
+    (after : ConnectionState) : Type 0 where
+  pub more : List Recorded
+  pub adds : Adds line.session old more new
+  pub opened : KeepsOpen old.server new.server
+  pub same : after.session ≡ line.session
+  pub goes_on : (words : Words) → IsCommand words asked
+      → (records : List Recorded) (taken given : List ℕ) → AreAll records old
       → IsHolding words records old.server taken given line → IsLine (records ++ more) new.server taken given after
 
 -- the same while a piece of its bytes is taken first

@@ -10,6 +10,6 @@ returns-in_default g c = serves-same (state_of c.args.hub.now) (g.S.Sockets.may_
 
 pub returns : goal.returns
 returns g c =
-    serves-then (state_of c.args.hub.now) (state_of c.conclude.new.hub) (state_of c.go_on_planned.new.hub) (g.S.Sockets.may_have c.args.sockets.now) (g.S.Sockets.may_have c.planned.new.self) (g.S.Sockets.may_have c.go_on_planned.new.sockets)
+    serves-then (state_of c.args.hub.now) (state_of c.conclude.new.hub) (state_of c.attend.new.hub) (g.S.Sockets.may_have c.args.sockets.now) (g.S.Sockets.may_have c.planned.new.self) (g.S.Sockets.may_have c.attend.new.sockets)
     (serves-both (state_of c.args.hub.now) (state_of c.conclude.new.hub) (g.S.Sockets.may_have c.args.sockets.now) (g.S.Sockets.may_have c.planned.new.self) c.planned.ensures c.conclude.ensures)
-    c.go_on_planned.ensures
+    c.attend.ensures

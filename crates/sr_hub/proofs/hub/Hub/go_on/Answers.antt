@@ -1,8 +1,9 @@
-use Rattle.std.proofs.Common.{subst}
+use Rattle.std.proofs.Common.{IfSome, subst}
+use Rattle.sr_hub.specs.Line.{Begins}
 use Rattle.sr_hub.specs.Lines.{HubParts, HubState, state_of}
 use Rattle.sr_hub.specs.steps.Calls.{hub_of}
 use Rattle.sr_hub.specs.Said.{IsTimed}
-use Rattle.sr_hub.proofs.HubLemmas.{GoOnClauses, go_on-clauses, hub-same}
+use Rattle.sr_hub.proofs.HubLemmas.{GoOnClauses, begins-clause, go_on-clauses, hub-same}
 use Rattle.sr_hub.proofs.hub.Hub.go_on.Goals as goal
 
 pub invariant_of-self : goal.invariant_of-self
@@ -48,3 +49,10 @@ returns-clause-said c =
 
 pub returns-clause-timed : goal.returns-clause-timed
 returns-clause-timed c = subst (λ (p : HubParts). IsTimed c.args.moment p.book c.go_on_at.new.book) c.self.view_is c.go_on_at.ensures.timed
+
+pub returns-clause-begins : goal.returns-clause-begins
+returns-clause-begins c =
+    let old : HubState = hub_of c.self.inside.book c.self.inside.connections in
+    let new : HubState = hub_of c.go_on_at.new.book c.go_on_at.new.connections in
+    subst (λ (p : HubParts). IfSome ((state_of p).at c.args.token) (λ before. IfSome (new.at c.args.token) (Begins before))) c.self.view_is
+    (begins-clause c.args.token c.go_on_at.result old new c.go_on_at.ensures.begins c.go_on_at.ensures.there.0)
