@@ -28,7 +28,7 @@ import time
 import live_script
 from lib import recover, recover_busy, recover_closed, recover_cluster, recover_cuts, recover_errors, recover_rows, servers
 from lib.live import Dump, Plan, all_replies, number_of, problem_of, seen_by, up_to
-from lib.resp import ErrorReply, value_of
+from lib.resp import ErrorReply, encoded, value_of
 
 HISTORIES, SEED = 300, 1
 
@@ -45,6 +45,7 @@ class History(live_script.History):
         self.right_before = choice.choice([0, 0.5, 0.8])
         self.check = choice.random() < 0.4
         self.within = choice.choice([0, 0, 1, 5, 30, 2**64 - 1])
+        self.seen_within = choice.choice([None, None, None, 0, 20, 10**12])
 
     def acts(self, call):
         """What another client does right before a call. It may be only that the live acknowledge, as they always do."""
@@ -54,9 +55,18 @@ class History(live_script.History):
             return [["XACK", self.key, self.group, *self.choice.choices(self.given, k=self.choice.randint(1, 3))]]
         return [command for _ in range(self.choice.randint(1, 2)) for command in self.act()]
 
+    def told_idle(self, call, text):
+        """The reply to a call. In that of XINFO CONSUMERS idle times are any, and a newer Redis tells one field more."""
+        if call.words[0] != b"XINFO" or text.startswith(b"-"):
+            return text
+        more = self.choice.choice([[], [b"inactive", -1]])
+        told = [[*one[:-1], self.choice.choice([0, 1, 20, 21, 10**12, 2**62]), *more] for one in value_of(text)]
+        return encoded(told)
+
     def options(self):
         yield from ("--tries", self.tries, "--within", self.within)
         yield from [] if self.most is None else ("--at-most", self.most)
+        yield from [] if self.seen_within is None else ("--seen-within", self.seen_within)
         yield from ["--check"] if self.check else []
 
 
@@ -73,7 +83,7 @@ class Watch:
         self.log += [*acts, call.words[:1] + call.words[-1:]]
         all_replies(self.connection, acts)
         before = Dump(self.connection, self.history.key)
-        text = call.forward()
+        text = self.history.told_idle(call, call.forward())
         after, reply = Dump(self.connection, self.history.key), value_of(text)
         if call.words[0] in (b"XINFO", b"XPENDING", b"XRANGE"):
             self.error = text[1:-2] if isinstance(reply, ErrorReply) else None
@@ -87,7 +97,7 @@ class Watch:
     def judge(self, words, reply, before, after):
         """What is wrong with a plan that was sent, by what the program was told, and with what came of it."""
         self.scripts.append(reply)
-        self.plan, group, within = recover.plan_of(words, self.history.lives)
+        self.plan, group, within = recover.plan_of(words, self.told.live(self.history.lives, self.history.seen_within))
         if (words[3], group, within) != (self.history.key, self.history.group, self.history.within):
             self.faults.append(f"the script is called for {words[3:6]}")
         self.faults += faults_of_plan(self.plan, self.told.seen(), self.history.most)
@@ -171,7 +181,8 @@ def faults_of_end(watch, ended):
         stale = stale or (last and recover.Printed(ended.out).stale == last)
         yield from [] if stale else [f"stale, and the script answered {last}"]
     elif status == 3:
-        _, problem = problem_of(history.lives, seen, first_of(seen, history.most))
+        lives = watch.told.live(history.lives, history.seen_within)
+        _, problem = problem_of(lives, seen, first_of(seen, history.most))
         yield from [] if not is_twice and problem.least() is None else [f"there is a plan for {seen}"]
     elif status != 1 or not watch.error or re.sub(rb"[^ -~]", b"?", watch.error) not in ended.errors:
         yield f"Redis told {watch.error!r}, and the script answered {last}"

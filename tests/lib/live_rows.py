@@ -8,6 +8,7 @@ from .live import PAGE, Dump, Live, Plan, Script, all_replies, carried_out, seen
 GREATEST = 2**64 - 1
 EXACT = 2**53
 RUNS = 3  # of a large plan, of which the least time counts
+LEFTOVERS = 20_000
 
 
 def done(claimed, gap=0):
@@ -158,10 +159,9 @@ GAP_ROWS = [
 # What docs/LIVE.md gives a user of Redis, and how the answer begins without one part of it. Whoever runs a script needs
 # what the script calls.
 USER = ["on", ">secret", "resetkeys", "~s", "resetchannels", "-@all"]
-COMMANDS = ["+xinfo|consumers", "+xpending", "+xrange", "+xclaim", "+evalsha"]
+COMMANDS = ["+xpending", "+xrange", "+xclaim", "+evalsha"]
 IN_SCRIPT = "ERR The user executing the script can't run this command"
 MISSING = [
-    ("+xinfo|consumers", IN_SCRIPT),
     ("+xpending", IN_SCRIPT),
     ("+xrange", IN_SCRIPT),
     ("+xclaim", IN_SCRIPT),
@@ -259,6 +259,19 @@ def permissions(board):
     board.connection.call("ACL", "DELUSER", "recover")
 
 
+def leftovers(board):
+    """Many consumers that once were: the time that the script takes beside them. Another group has other numbers."""
+    many = [["XGROUP", "CREATECONSUMER", "s", "g", f"old{at}"] for at in range(LEFTOVERS)]
+    other = lines("XGROUP CREATE s other 0\nXREADGROUP GROUP other A COUNT 2 STREAMS s >")
+    board.begin([*TWO, *many, *other])
+    plan = board.plan(TWO_LIVE)
+    board.connection.call("CONFIG", "RESETSTAT")
+    board.conclude("beside leftovers", plan, done(2))
+    board.check("calls of XINFO", 0, stat(board.connection, b"xinfo|consumers", b"calls"))
+    took = stat(board.connection, b"evalsha", b"usec") / 1000
+    print(f"2 entries beside {LEFTOVERS:,} consumers that are left over: {took:.1f} ms in Redis", flush=True)
+
+
 def names(board):
     """Names with blanks, quotes, line ends and bytes of 0."""
     for odd in (b"a b", b"\"'\\", b"one\r\ntwo\n", b"\0", b"a\0b", b"-", b"+", b"", b"\xff"):
@@ -307,7 +320,7 @@ def pages(board):
             all_replies(board.connection, [*lines(change), ["CONFIG", "RESETSTAT"]])
             board.conclude(f"{number} entries, {change!r} up to {last!r}", plan, wanted)
             if wanted[0] == b"done":
-                pages_of = [-(-number // PAGE), -(-(number + 1) // PAGE)]
+                pages_of = [-(-number // PAGE), 1 + -(-(number + 1) // PAGE)]  # and one for the numbers
                 calls = [stat(board.connection, name, b"calls") for name in (b"xclaim", b"xpending")]
                 board.check(f"{number} entries: calls of XCLAIM and XPENDING", pages_of, calls)
 
@@ -377,6 +390,6 @@ def compared(connection):
     board.table(TWO, TWO_LIVE, FIRST_ROWS, most=1)
     board.table(GONE, TWO_LIVE, GONE_ROWS)
     board.table(IDLE_TWO, TWO_LIVE, IDLE_ROWS, idle=IDLE)
-    for part in (gaps, errors, permissions, names, pages, gone, large):
+    for part in (gaps, errors, permissions, leftovers, names, pages, gone, large):
         part(board)
     return board.rows, board.wrong

@@ -227,14 +227,16 @@ class Told:
     """What the replies of Redis told the program in its last round: what a plan has to be made of."""
 
     def __init__(self):
-        self.numbers, self.rows, self.is_whole = {}, {}, False
+        self.numbers, self.idles, self.rows, self.is_whole = {}, {}, {}, False
 
     def add(self, words, reply):
         """Takes the reply to a call. The numbers come last."""
         if isinstance(reply, ErrorReply):
             return
         if words[0] == b"XINFO":
-            self.numbers = {texts(one)[b"name"]: texts(one)[b"pending"] for one in reply}
+            self.idles = {texts(one)[b"name"]: texts(one)[b"idle"] for one in reply}
+        elif words[0] == b"XPENDING" and len(words) == 3:
+            self.numbers = {name: int(number) for name, number in reply[3] or []}
             self.is_whole = True
         elif words[0] == b"XPENDING":
             self.rows = {} if self.is_whole else self.rows
@@ -246,3 +248,7 @@ class Told:
 
     def seen(self):
         return Seen({name: [tuple(row) for row in own] for name, own in self.rows.items()}, self.numbers)
+
+    def live(self, lives, within):
+        """Those of the consumers that may be given entries: that have been idle for at most so long, if that is asked for."""
+        return [live for live in lives if within is None or self.idles.get(live.name, within + 1) <= within]

@@ -18,7 +18,7 @@ import random
 from .flow import least_total
 from .live import Live, Script, all_replies, texts, tiers
 from .recover import Printed, Proxy, Sent, passed_on, plan_of, policy_text, run
-from .resp import ErrorReply, array, bulk
+from .resp import encoded
 from .servers import Connection, Redis
 
 ENTRIES = int(os.environ.get("BUSY_ENTRIES", "4096"))  # fewer for a slow build of the program
@@ -29,15 +29,6 @@ CLASSES = [b"k%d" % number for number in range(4)]
 MOST_READ = 2  # entries that a client reads at once
 PART = 100  # of the total: what `--within` allows
 PATIENCE = 60_000  # milliseconds: Redis has much to do
-
-
-def encoded(value):
-    """A reply as Redis spells it."""
-    if isinstance(value, list):
-        return array([encoded(item) for item in value])
-    if isinstance(value, ErrorReply):
-        return b"-%s\r\n" % str(value).encode()
-    return b":%d\r\n" % value if isinstance(value, int) else bulk(value)
 
 
 class Group:

@@ -10,7 +10,7 @@ import threading
 from .live import Live, all_replies
 from .live_rows import TWO, TWO_LIVE, lines
 from .recover import Run, policy_text, words_of
-from .recover_rows import GROUP, PLAN
+from .recover_rows import GROUP, PLAN, without_idle
 from .servers import HOST
 
 SECONDS = 60
@@ -19,7 +19,7 @@ FAILED = b"output: a write failed"
 DONE = b"done, claimed 2, gap 0\n"
 NOTE = b"note: the group has no consumer E\n"
 BOARD = (
-    b"consumer  pending  limit  soft  room\n"
+    b"consumer  pending  limit  soft  room  idle\n"
     b"A               1      2     -     1\n"
     b"B               1      3     -     2\n"
     b"D               2      -     -     -\n"
@@ -102,7 +102,8 @@ def run(closed, port, lives, action, names):
         file.flush()
         words = ["sh", "-c", f'exec "$0" "$@" {closing}', *words_of(port, file.name, action, names, [])]
         done = subprocess.run(words, stdin=subprocess.DEVNULL, capture_output=True, timeout=SECONDS, check=False)
-    return Run(done.returncode, done.stdout, done.stderr, None)
+    out = without_idle(done.stdout) if action == "board" else done.stdout
+    return Run(done.returncode, out, done.stderr, None)
 
 
 def rows(tally, connection, relay):

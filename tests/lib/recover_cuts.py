@@ -20,7 +20,7 @@ GROUP = ["s", "g", "D"]
 WORKERS = 4
 SILENCE = 400  # milliseconds, for answers that stop: long enough that no other one is late on a busy machine
 HANGS = 5  # of the cuts every this many hangs too
-CALLS = ["XPENDING", "XRANGE", "XRANGE", "XINFO", "EVALSHA", "EVAL"]
+CALLS = ["XPENDING", "XPENDING", "XRANGE", "XRANGE", "XPENDING", "EVALSHA", "EVAL"]
 FIRST_SENT = CALLS.index("EVALSHA")
 UNKNOWN = b"redis: the plan was sent, and what came of it is not known: "
 

@@ -74,7 +74,7 @@ A_STRING = [["DEL", "s"], ["SET", "s", "x"]]
 
 def name_of(number):
     """A call as the program names it."""
-    return {"XINFO": b"XINFO CONSUMERS"}.get(CALLS[number], CALLS[number].encode())
+    return CALLS[number].encode()
 
 
 def told(number, text, advice=b""):

@@ -1,6 +1,7 @@
 """What sr_recover does, row by row, with what it should print and its status: each row worked out by hand."""
 
 import os
+import re
 import socket
 import subprocess
 import tempfile
@@ -10,6 +11,7 @@ from . import live_rows as script_rows
 from .live import Dump, Live, all_replies
 from .live_rows import FEE_LIVE, FIRST_ROWS, IDLE_ROWS, SOFT, SOFT_LIVE, TWO, TWO_LIVE, lines
 from .recover import PROGRAM, ROOT, Printed, Proxy, Sent, ended, passed_on, policy_text, run, words_of
+from .resp import encoded, value_of
 from .servers import HOST, Redis
 
 GROUP = ["s", "g", "D"]
@@ -136,6 +138,11 @@ def board(bench, *options):
     return run(bench.port, policy_text(SOFT_LIVE), "board", GROUP[:2], *options)
 
 
+def without_idle(out):
+    """What the board prints, without the idle times, which end its lines."""
+    return re.sub(rb" +\d+\n", b"\n", out)
+
+
 def other_names(bench, _):
     """A name that no consumer has, one that is named twice, other databases, and the board."""
     bench.begin()
@@ -145,13 +152,17 @@ def other_names(bench, _):
     bench.check("a name is given twice", bench.plan().out, bench.plan(names=["s", "g", "D", "D"]).out)
     short = b"none: too few places for\n0-1\n0-2\n1-1\n2-1\n"
     bench.expect("all are dead", (3, short, b""), bench.plan(names=["s", "g", "A", "B", "D"]))
+    all_replies(bench.connection, lines("XGROUP CREATECONSUMER s g E\nXGROUP DELCONSUMER s g B"))
     wanted = (
-        b"consumer  pending  limit  soft  room\n"
+        b"consumer  pending  limit  soft  room  idle\n"
         b"A               1      4     2     3\n"
-        b"B               1      4     -     3\n"
         b"D               2      -     -     -\n"
+        b"E               0      -     -     -\n"
+        b"B               0      4     -     4     -\n"
     )
-    bench.check("the board", (0, wanted, b""), board(bench)[:3])
+    found = board(bench)
+    bench.check("the board", (0, wanted, b""), (found.status, without_idle(found.out), found.errors))
+    bench.begin()
     bench.expect("another database", (1, b"", b"NOGROUP No such key 's'"), bench.plan("--db", 3))
     all_replies(bench.connection, lines("MOVE s 3"))
     bench.check("the key's database", (0, PLAN), bench.plan("--db", 3)[:2])
@@ -196,6 +207,9 @@ def policies(bench, _):
 
 
 OPTIONS = [
+    "--seen-within -1",
+    "--seen-within 1000000000001",
+    "--seen-within x",
     "--idle-over -1",
     "--idle-over 1000000000001",
     "--idle-over x",
@@ -343,7 +357,6 @@ def users():
 
 
 RIGHTS = [
-    ("+xinfo|consumers", "NOPERM this user has no permissions to run the 'xinfo|consumers' command"),
     ("+xpending", "NOPERM this user has no permissions to run the 'xpending' command"),
     ("+xrange", "NOPERM this user has no permissions to run the 'xrange' command"),
     ("+xclaim", "ERR The user executing the script can't run this command or subcommand"),
@@ -352,12 +365,14 @@ RIGHTS = [
     ("~s", "NOPERM this user has no permissions to access one of the keys used as arguments"),
 ]
 ADVICE = b"(the user lacks a right: docs/LIVE.md has the line for ACL SETUSER)\n"
+ASKING = "+xinfo|consumers"  # for the board, --seen-within and notes alone
+HIDDEN = b"note: whether the group has all these consumers is not known: the user lacks +xinfo|consumers\n"
 
 
 def rights(bench, _):
     """The users of docs/LIVE.md, and the first one with each right missing in turn."""
     (recover, granted), (planner, reading) = users()
-    tried = sorted(right for right, _ in RIGHTS)
+    tried = sorted([ASKING, *(right for right, _ in RIGHTS)])
     bench.check("the rights that are tried", tried, sorted(word for word in granted if word[0] in "+~"))
     for missing, wanted in [*RIGHTS, (None, None)]:
         left = [word for word in granted if word != missing]
@@ -370,6 +385,7 @@ def rights(bench, _):
             bench.check(f"without {missing}: nothing has changed", before, bench.dump())
         else:
             bench.expect("with all rights", (0, b"done, claimed 2, gap 0\n", b""), found)
+    without_asking(bench, recover)
     bench.begin([*TWO, ["ACL", "SETUSER", recover, "-eval"]])
     found = bench.plan("--user", recover, action="run", env={"REDISCLI_AUTH": SECRET})
     bench.expect("the script is known", (0, b"done, claimed 2", b""), found)
@@ -378,6 +394,22 @@ def rights(bench, _):
         found = bench.plan("--user", planner, action=action, names=names, env={"REDISCLI_AUTH": SECRET})
         bench.check(f"{action} of a user that only reads", wanted, found.status)
     bench.connection.call("ACL", "DELUSER", recover, planner)
+
+
+def without_asking(bench, user):
+    """A user that may not ask for the consumers of a group: a note tells it where a name has no pending entries."""
+    env = {"REDISCLI_AUTH": SECRET}
+    bench.begin([*TWO, ["ACL", "SETUSER", user, "-xinfo"]])
+    for setting, note in ((["PING"], b""), (["XACK", "s", "g", "0-2"], HIDDEN)):
+        all_replies(bench.connection, [setting])
+        found = bench.plan("--user", user, env=env)
+        bench.check(f"without {ASKING} after {setting}", (0, note), (found.status, found.errors))
+    told = b"redis: XINFO CONSUMERS is answered with an error: NOPERM"
+    for action, names, options in (("plan", GROUP, ["--seen-within", 9]), ("board", GROUP[:2], [])):
+        found = bench.plan("--user", user, *options, action=action, names=names, env=env)
+        bench.expect(f"{action} {options} without {ASKING}", (1, b"", told), found)
+    found = bench.plan("--user", user, action="run", env=env)
+    bench.check(f"run without {ASKING}", (0, (2, 0), HIDDEN), (found.status, Printed(found.out).done, found.errors))
 
 
 def firsts(bench, _):
@@ -434,6 +466,62 @@ def newcomers(bench, _):
     bench.check("none is", b"", bench.plan().errors)
 
 
+SEEN_LIVES = [*TWO_LIVE, Live(b"C", 9, None, {b"x": 0, b"y": 0}), Live(b"E", 9, None, {b"x": 0, b"y": 0})]
+LEFT_OUT = b"note: %s is given nothing, since "
+LONG_IDLE = LEFT_OUT + b"it has been idle for %d ms\n"
+ABSENT = LEFT_OUT + b"the group has no such consumer\n"
+
+
+def has_idle(times):
+    """Has the reply to XINFO CONSUMERS tell these idle times, and one field more, as a newer Redis does."""
+    def act(call):
+        text = call.forward()
+        if call.words[0] != b"XINFO":
+            return Sent(text)
+        return Sent(encoded([[*one[:-1], times[one[1]], b"inactive", 10**6] for one in value_of(text)]))
+
+    return act
+
+
+def seen_within(bench, proxy):
+    """--seen-within: E has been idle for too long, and the group never had C. Each would take an entry at no cost."""
+    setting = [*TWO, *lines("XGROUP CREATECONSUMER s g E")]
+    times = {b"A": 0, b"B": 99, b"D": 10**6, b"E": 100}
+    absent, idle = ABSENT % b"C", LONG_IDLE % (b"E", 100)
+    zero = {b"C": (0, 0, [0]), b"E": (2, 0, [0])}
+    none = b"none: too few places for\n1-1\n2-1\n"
+    rows = [
+        ("E is live as well", 100, (0, absent), 0, zero[b"E"]),
+        ("E has been idle for too long", 99, (0, absent + idle), 6, None),
+        ("only A is live", 98, (3, LONG_IDLE % (b"B", 99) + absent + idle), None, None),
+    ]
+    for what, within, wanted, total, share in rows:
+        for action in ("plan", "run"):
+            bench.begin(setting)
+            proxy.begin(has_idle(times))
+            found = bench.plan("--seen-within", within, action=action, lives=SEEN_LIVES, port=proxy.port)
+            printed = Printed(found.out)
+            bench.check(f"{action}: {what}", wanted, (found.status, found.errors))
+            bench.check(f"{action}: {what}: the plan", (total, share), (printed.total, printed.shares.get(b"E")))
+            bench.check(f"{action}: {what}: C", None, printed.shares.get(b"C"))
+            bench.check(f"{action}: {what}: none", wanted[0] == 3, found.out == none)
+            asked = [words[:1] for words in proxy.calls].count([b"XINFO"])
+            bench.check(f"{action}: {what}: calls of XINFO", 1, asked)
+    found = bench.plan("--seen-within", 0, names=["s", "g", "A", "B", "C", "E", "X"], lives=SEEN_LIVES)
+    told = b"".join(b"note: the group has no consumer %s\n" % name for name in (b"C", b"X"))
+    bench.check("nobody is live, and no dead one is told to be left out", told, found.errors)
+
+
+def leftovers(bench, proxy):
+    """XINFO CONSUMERS is asked once if a consumer has no pending entries, and else not at all; never in the script."""
+    for changes, action, wanted in (("PING", "plan", 0), ("PING", "run", 0), ("XACK s g 0-2", "plan", 1), ("XACK s g 0-2", "run", 1)):
+        bench.begin([*TWO, *lines(changes), ["CONFIG", "RESETSTAT"]])
+        proxy.begin(passed_on)
+        found = bench.plan(action=action, port=proxy.port)
+        calls = script_rows.stat(bench.connection, b"xinfo|consumers", b"calls")
+        bench.check(f"{action} after {changes}: calls of XINFO", (0, b"", wanted), (found.status, found.errors, calls))
+
+
 def moved(bench, lives, most):
     """The ids that are pending for B after a run, and were not before."""
     ids = [{row[0] for row in bench.connection.call("XPENDING", "s", "g", "-", "+", 99, "B")}]
@@ -461,18 +549,19 @@ def rounds(bench, proxy):
         found = bench.plan(*options, action="run", lives=lives, port=proxy.port)
         calls = sum(words[0] == b"EVALSHA" for words in proxy.calls)
         bench.check(f"busy in {busy} rounds, {tries} tries", (wanted, min(busy + 1, tries or 3)), (found.status, calls))
-        bench.check("each round is a snapshot of its own", calls, sum(words[0] == b"XINFO" for words in proxy.calls))
+        numbers = sum(words[0] == b"XPENDING" and len(words) == 3 for words in proxy.calls)
+        bench.check("each round is a snapshot of its own", calls + 1, numbers)
 
 
 def within_snapshot(bench, proxy):
     """An entry is claimed by one dead consumer of the other while they are looked up: it is seen twice."""
     for tries, wanted in ((1, 4), (2, 0)):
-        bench.begin()
+        bench.begin([*TWO, *lines("XGROUP CREATECONSUMER s g E")])
         pages = []
 
         def act(call, pages=pages):
             text = call.forward()
-            if call.words[0] == b"XPENDING" and not pages:
+            if call.words[0] == b"XPENDING" and len(call.words) > 3 and not pages:
                 pages.append(all_replies(bench.connection, lines("XCLAIM s g E 0 1-1")))
             return Sent(text)
 
@@ -534,7 +623,7 @@ def compare(tally, connection):
     """Compares all rows."""
     bench = Bench(tally, connection)
     looks = between, statuses, other_names, policies, command_lines, places, passwords, echoing, rights
-    parts = *looks, firsts, gone, idle, newcomers, rounds, within_snapshot, checked, silence, large
+    parts = *looks, firsts, gone, idle, newcomers, seen_within, leftovers, rounds, within_snapshot, checked, silence, large
     with Proxy(bench.port) as proxy:
         for part in parts:
             part(bench, proxy)

@@ -29,6 +29,15 @@ def array(items):
     return b"*%d\r\n" % len(items) + b"".join(items)
 
 
+def encoded(value):
+    """A reply as Redis spells it."""
+    if isinstance(value, list):
+        return array([encoded(item) for item in value])
+    if isinstance(value, ErrorReply):
+        return b"-%s\r\n" % str(value).encode()
+    return b":%d\r\n" % value if isinstance(value, int) else bulk(value)
+
+
 def spelled(*words):
     """The request of these words, which is also the array of them as a reply. A word is bytes, a text or a number."""
     return array([bulk(word if isinstance(word, bytes) else str(word).encode()) for word in words])

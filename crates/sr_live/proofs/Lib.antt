@@ -8,6 +8,7 @@ pub mod WorkLemmas
 pub mod LookingLemmas
 pub mod TalkLemmas
 pub mod ReadingLemmas
+pub mod ConsumersLemmas
 pub mod ServerLemmas
 pub mod RoundsLemmas
 pub mod ConclusionLemmas

@@ -1,6 +1,6 @@
 -- Calls that only read: of a look-up that breaks off, what was sent before and what is sent then add up.
 use Rattle.std.proofs.Common.{◌≡◌, ℕ, List, [], ◌∷◌, ◌++◌, map, codes, Option, Result, Err, refl, sym, ap, ◌∙◌, subst}
-use Rattle.std.proofs.Common.{Bool, true, false, Ok, append-nil, append_assoc, arith, inl, inr}
+use Rattle.std.proofs.Common.{Bool, true, false, Some, None, Ok, append-nil, append_assoc, arith, inl, inr}
 use Rattle.std.proofs.KnownBytes.{Appends-nil, Appends-trans}
 use Rattle.std.proofs.lemmas.List.Concat.{flat_map-append}
 use Rattle.std.proofs.lemmas.Result.{err_from_is_err_and}
@@ -13,9 +13,10 @@ use Rattle.sr_peer.specs.{Part, Array, request_text}
 use Rattle.sr_peer.specs.Exchange.{SendsPart}
 use Rattle.sr_live.specs.declared.fault.LiveFault.{LiveFault}
 use Rattle.sr_live.specs.declared.fault.LiveFault.TheVariants.{Memory}
+use Rattle.sr_live.specs.declared.looked.Asked.{Asked}
 use Rattle.sr_live.specs.declared.looked.Row.{Row}
-use Rattle.sr_live.specs.Looking.{Exchange, IsLooked, ListsDead, ListsPages, LooksEntries, Talks, asked_of}
-use Rattle.sr_live.specs.Looking.{consumers_call, entry_call, pending_call, start_behind}
+use Rattle.sr_live.specs.Looking.{Exchange, IsLooked, ListsDead, ListsPages, LooksEntries, LooksIdle, LooksLive, Talks}
+use Rattle.sr_live.specs.Looking.{asked_of, entry_call, numbers_call, pending_call, start_behind}
 use Rattle.sr_live.specs.Reading.{BreaksOff, HasOnlyRead, IsOfLooking, Reads}
 use Rattle.sr_live.proofs.TalkLemmas.{FullPages, Pages}
 
@@ -135,9 +136,6 @@ reads-whole sent got sent_then got_then talk talks reading =
 pub pending-reads : (key group : Text) (idle : ℕ) (start name : Text) → Reads (pending_call key group idle start name)
 pending-reads key group idle start name = inr (inl refl)
 
-pub consumers-reads : (key group : Text) → Reads (consumers_call key group)
-consumers-reads key group = inl refl
-
 pub entry-reads : (key : Text) (id : Id) → Reads (entry_call key id)
 entry-reads key id = inr (inr refl)
 
@@ -183,15 +181,26 @@ LooksEntries-reads key [] talk looks = subst AreReading (sym looks) tt
 LooksEntries-reads key (row ∷ rows) talk (parts, others, says, looks, talk_is) =
     subst AreReading (sym talk_is) (entry-reads key row.id, LooksEntries-reads key rows others looks)
 
-pub IsLooked-reads : (key group : Text) (idle : ℕ) (dead : List Text) (talk : List Exchange) (numbers : List (Text × ℕ))
-    (rows : List Row) → IsLooked key group idle dead talk numbers rows → AreReading talk
-IsLooked-reads key group idle dead talk numbers rows looked =
-    let last : List Exchange = (consumers_call key group, looked.parts) ∷ [] in
+pub LooksIdle-reads : (key group : Text) (within : Option ℕ) (talk : List Exchange) (idles : List (Text × ℕ))
+    → LooksIdle key group within talk idles → AreReading talk
+LooksIdle-reads key group None talk idles (none, empty) = subst AreReading (sym none) tt
+LooksIdle-reads key group (Some within) talk idles (parts, says, one) = subst AreReading (sym one) (inl refl, tt)
+
+pub LooksLive-reads : (key group : Text) (within : Option ℕ) (talk : List Exchange) (idles numbers : List (Text × ℕ))
+    → LooksLive key group within talk idles numbers → AreReading talk
+LooksLive-reads key group within talk idles numbers live =
+    subst AreReading (sym live.spelled)
+    (reading-append live.first ((numbers_call key group, live.parts) ∷ [])
+    (LooksIdle-reads key group within live.first idles live.looks) (inr (inl refl), tt))
+
+pub IsLooked-reads : (asked : Asked) (talk : List Exchange) (idles numbers : List (Text × ℕ)) (rows : List Row)
+    → IsLooked asked talk idles numbers rows → AreReading talk
+IsLooked-reads asked talk idles numbers rows looked =
     subst AreReading (sym looked.spelled)
-    (reading-append looked.pending (looked.entries ++ last)
-    (ListsDead-reads key group idle dead looked.pending looked.listed looked.lists)
-    (reading-append looked.entries last (LooksEntries-reads key rows looked.entries looked.looks)
-    (consumers-reads key group, tt)))
+    (reading-append looked.pending (looked.entries ++ looked.last)
+    (ListsDead-reads asked.key asked.group asked.idle asked.dead.items looked.pending looked.listed looked.lists)
+    (reading-append looked.entries looked.last (LooksEntries-reads asked.key rows looked.entries looked.looks)
+    (LooksLive-reads asked.key asked.group asked.seen_within looked.last idles numbers looked.live)))
 
 -- ---- faults
 

@@ -1,6 +1,6 @@
 -- Replies read part by part: what one more consumer, entry or field adds to what was read.
 use Rattle.std.proofs.Common.{◌≡◌, ℕ, ◌+◌, ◌*◌, ℤ, Bool, true, false, cond, List, [], ◌∷◌, ◌++◌, length}
-use Rattle.std.proofs.Common.{Option, Some, None, refl, sym, ap, ◌∙◌, subst, nat_eq}
+use Rattle.std.proofs.Common.{Option, Some, None, refl, sym, ap, ◌∙◌, subst, nat_eq, inl, inr}
 use Rattle.std.proofs.Common.{append-nil, append_assoc, length-append}
 use Rattle.std.proofs.lemmas.List.{flat_map_more}
 use Rattle.std.specs.List.{flat_map}
@@ -11,8 +11,9 @@ use Rattle.sr_ids.specs.{SpellsId}
 use Rattle.sr_policy.specs.{Text}
 use Rattle.sr_policy.specs.Rules.{value_at}
 use Rattle.sr_peer.specs.{Part, Array, Bulk, Int}
-use Rattle.sr_live.specs.Said.{ArePendingRows, IsPendingRow, SayConsumers, SaysConsumer, SaysEntry}
-use Rattle.sr_live.specs.Said.{consumer_parts, pairs_parts}
+use Rattle.sr_peer.specs.Reply.{NullArray, NullBulk}
+use Rattle.sr_live.specs.Said.{ArePendingRows, IsFront, IsPendingRow, SayConsumers, SaysConsumer, SaysEntry, SaysNumbers}
+use Rattle.sr_live.specs.Said.{consumer_parts, number_parts, pairs_parts}
 
 -- ---- the first field with a name, after one more field
 
@@ -64,6 +65,50 @@ spelled-next f xs x all left rest before next =
 
 pub length-push : {X : Type 0} (xs : List X) (x : X) (n : ℕ) → length xs ≡ n → length (xs ++ x ∷ []) ≡ n + 1
 length-push xs x n is = length-append xs (x ∷ []) ∙ ap (λ k. k + 1) is
+
+-- ---- numbers
+
+-- the numbers so far, and one more
+pub numbers-next : (all left rest : List Part) (numbers now : List (Text × ℕ)) (number : Text × ℕ) (n : ℕ)
+    → now ≡ numbers ++ number ∷ [] → left ≡ number_parts number ++ rest
+    → (length numbers ≡ n) × (all ≡ flat_map number_parts numbers ++ left)
+    → (length now ≡ n + 1) × (all ≡ flat_map number_parts now ++ rest)
+numbers-next all left rest numbers now number n pushed next (so_many, spelled) = (
+  ap length pushed ∙ length-push numbers number n so_many,
+  spelled-next number_parts numbers number all left rest spelled next
+      ∙ ap (λ (l : List (Text × ℕ)). flat_map number_parts l ++ rest) (sym pushed),
+)
+
+-- all of them, and nothing is left
+pub numbers-whole : (parts all left : List Part) (numbers : List (Text × ℕ)) (n count : ℕ) → n ≡ count → left ≡ []
+    → (front : List Part) × IsFront front count × (parts ≡ front ++ all)
+    → (length numbers ≡ n) × (all ≡ flat_map number_parts numbers ++ left) → SaysNumbers parts numbers
+numbers-whole parts all left numbers n count whole none (front, first, begins) (so_many, spelled) = record {
+  front = front;
+  first = subst (IsFront front) (sym (so_many ∙ whole)) first;
+  spelled = begins ∙ ap (λ (l : List Part). front ++ l)
+      (spelled ∙ ap (λ (l : List Part). flat_map number_parts numbers ++ l) none
+      ∙ append-nil (flat_map number_parts numbers));
+}
+
+-- what comes before the consumers, read part by part
+pub front-some : (n count : ℕ) (all : ℤ) (least greatest : Text) (parts a b c d rest : List Part) → n ≡ 4
+    → parts ≡ Array n ∷ a → a ≡ Int all ∷ b → b ≡ Bulk least ∷ c → c ≡ Bulk greatest ∷ d → d ≡ Array count ∷ rest
+    → (front : List Part) × IsFront front count × (parts ≡ front ++ rest)
+front-some n count all least greatest parts a b c d rest four one two three next last = (
+  Array 4 ∷ Int all ∷ Bulk least ∷ Bulk greatest ∷ Array count ∷ [],
+  (all, inl (least, greatest, refl)),
+  (cc),
+)
+
+pub front-none : (n count : ℕ) (all : ℤ) (parts a b c rest : List Part) → n ≡ 4 → count ≡ 0
+    → parts ≡ Array n ∷ a → a ≡ Int all ∷ b → b ≡ NullBulk ∷ c → c ≡ NullBulk ∷ NullArray ∷ rest
+    → (front : List Part) × IsFront front count × (parts ≡ front ++ rest)
+front-none n count all parts a b c rest four none one two three last = (
+  Array 4 ∷ Int all ∷ NullBulk ∷ NullBulk ∷ NullArray ∷ [],
+  (all, inr (none, refl)),
+  (cc),
+)
 
 -- ---- consumers
 

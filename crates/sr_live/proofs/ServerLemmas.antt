@@ -17,7 +17,8 @@ use Rattle.sr_space.specs.Snap as server
 use Rattle.sr_space.specs.{listed, shown_with}
 use Rattle.sr_space.specs.Snap.{gone_in, live_in, of_dead, rates_in, stranded_in}
 use Rattle.sr_live.specs.declared.looked.Row.{Row}
-use Rattle.sr_live.specs.Looked.{gone_as, gone_of, live_by, live_named, number_of, shown_by, stranded_as, stranded_by}
+use Rattle.sr_live.specs.Looked.{gone_as, gone_of, is_seen, live_by, live_named, number_of, shown_by, stranded_as}
+use Rattle.sr_live.specs.Looked.{stranded_by}
 use Rattle.sr_live.specs.Server.{AreCounted, row_of}
 
 -- ---- the stranded entries
@@ -84,7 +85,7 @@ live_with rules nacks name = listed (live_of rules name (length (owned_by name n
 live-next : (rules : Rules) (nacks : List Nack) (numbers : List (Text × ℕ)) (name : Text) (names : List Text)
     (rest : List Live) (is_dead : Bool) → All (IsCounted nacks numbers) (cond (not is_dead) (name ∷ names) names)
     → (All (IsCounted nacks numbers) names → rest ≡ flat_map (live_with rules nacks) names)
-    → cond is_dead [] (listed (live_of rules name (number_of numbers name))) ++ rest
+    → cond (not is_dead) (listed (live_of rules name (number_of numbers name))) [] ++ rest
     ≡ flat_map (live_with rules nacks) (cond (not is_dead) (name ∷ names) names)
 live-next rules nacks numbers name names rest true counted same = same counted
 live-next rules nacks numbers name names rest false counted same =
@@ -92,15 +93,15 @@ live-next rules nacks numbers name names rest false counted same =
     ∙ ap (λ (live : List Live). live_with rules nacks name ++ live)
     (same (All-tail (IsCounted nacks numbers) name names counted))
 
-live-same : (rules : Rules) (dead : List Text) (nacks : List Nack) (numbers : List (Text × ℕ)) (names : List Text)
+live-same : (rules : Rules) (dead : List Text) (nacks : List Nack) (idles numbers : List (Text × ℕ)) (names : List Text)
     → All (IsCounted nacks numbers) (filter (λ (name : Text). not (is_among dead name)) names)
-    → flat_map (live_named rules dead numbers) names
+    → flat_map (live_named rules dead (is_seen None idles) numbers) names
     ≡ flat_map (live_with rules nacks) (filter (λ (name : Text). not (is_among dead name)) names)
-live-same rules dead nacks numbers [] counted = refl
-live-same rules dead nacks numbers (name ∷ names) counted =
+live-same rules dead nacks idles numbers [] counted = refl
+live-same rules dead nacks idles numbers (name ∷ names) counted =
     live-next rules nacks numbers name (filter (λ (other : Text). not (is_among dead other)) names)
-    (flat_map (live_named rules dead numbers) names) (is_among dead name) counted
-    (live-same rules dead nacks numbers names)
+    (flat_map (live_named rules dead (is_seen None idles) numbers) names) (is_among dead name) counted
+    (live-same rules dead nacks idles numbers names)
 
 -- ---- the whole
 
@@ -116,18 +117,18 @@ shown_from rules key group dead stranded gone live = record {
   rates = rates_in rules live stranded;
 }
 
-pub shown-same : (rules : Rules) (key group : Text) (dead : List Text) (numbers : List (Text × ℕ)) (rows : List Row)
+pub shown-same : (rules : Rules) (key group : Text) (dead : List Text) (idles numbers : List (Text × ℕ)) (rows : List Row)
     (entries : List Entry) (nacks : List Nack) → AreCounted rules dead nacks numbers
     → rows ≡ map (row_of entries) (of_dead dead nacks)
-    → shown_by rules key group dead numbers rows ≡ shown_with rules key group dead entries nacks
-shown-same rules key group dead numbers rows entries nacks counted looked =
+    → shown_by rules key group dead (is_seen None idles) numbers rows ≡ shown_with rules key group dead entries nacks
+shown-same rules key group dead idles numbers rows entries nacks counted looked =
     let left = of_dead dead nacks in
-    let live = live_by rules dead numbers in
+    let live = live_by rules dead (is_seen None idles) numbers in
     let gone = flat_map gone_of (map (row_of entries) left) in
-    ap (λ (looked : List Row). shown_by rules key group dead numbers looked) looked
+    ap (λ (looked : List Row). shown_by rules key group dead (is_seen None idles) numbers looked) looked
     ∙ ap (λ (stranded : List Stranded). shown_from rules key group dead stranded gone live)
     (stranded-same rules entries left)
     ∙ ap (λ (gone : List (Id × Text)). shown_from rules key group dead (stranded_in rules dead entries nacks) gone live)
     (gone-same entries left)
     ∙ ap (λ (live : List Live). shown_from rules key group dead (stranded_in rules dead entries nacks)
-    (gone_in dead entries nacks) live) (live-same rules dead nacks numbers (consumers_of rules) counted)
+    (gone_in dead entries nacks) live) (live-same rules dead nacks idles numbers (consumers_of rules) counted)

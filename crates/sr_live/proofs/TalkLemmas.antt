@@ -12,10 +12,11 @@ use Rattle.sr_ids.specs.declared.id.Id.{Id}
 use Rattle.sr_ids.specs.{is_below, spelling}
 use Rattle.sr_policy.specs.{Text}
 use Rattle.sr_peer.specs.{Part, part_text, request_text}
+use Rattle.sr_live.specs.declared.looked.Asked.{Asked}
 use Rattle.sr_live.specs.declared.looked.Row.{Row}
-use Rattle.sr_live.specs.Looking.{Exchange, IsLooked, ListsDead, ListsPages, LooksEntries, Talks, answered_of}
-use Rattle.sr_live.specs.Looking.{asked_of, consumers_call, page, pending_call, start_behind}
-use Rattle.sr_live.specs.Said.{SaysNumbers, SaysPending}
+use Rattle.sr_live.specs.Looking.{Exchange, IsLooked, ListsDead, ListsPages, LooksEntries, LooksLive, Talks}
+use Rattle.sr_live.specs.Looking.{answered_of, asked_of, page, pending_call, start_behind}
+use Rattle.sr_live.specs.Said.{SaysPending}
 
 -- ---- talks
 
@@ -220,33 +221,32 @@ dead-next sent got sent_then got_then sent_last got_last key group idle dead i n
 
 -- ---- the whole
 
--- the dead, their entries in the order of their ids, with their fields, and the numbers
-pub looked-from : (sent got sent_two got_two sent_three got_three sent_last got_last : Option (List ℕ))
-    (key group : Text) (idle : ℕ) (dead : List Text) (numbers : List (Text × ℕ)) (listed sorted : List (Id × Text))
-    (rows : List Row)
-    → (talk : List Exchange) × Talks sent got sent_two got_two talk × ListsDead key group idle dead talk listed
+-- the dead, their entries in the order of their ids, with their fields, and the consumers
+pub looked-from : (sent got sent_two got_two sent_three got_three sent_last got_last : Option (List ℕ)) (asked : Asked)
+    (idles numbers : List (Text × ℕ)) (listed sorted : List (Id × Text)) (rows : List Row)
+    → (talk : List Exchange) × Talks sent got sent_two got_two talk
+    × ListsDead asked.key asked.group asked.idle asked.dead.items talk listed
     → IsPermutation listed sorted → IsSortedBy (λ a b. is_below a.0 b.0) sorted
-    → (talk : List Exchange) × Talks sent_two got_two sent_three got_three talk × LooksEntries key rows talk
+    → (talk : List Exchange) × Talks sent_two got_two sent_three got_three talk × LooksEntries asked.key rows talk
     × (map (λ row. (row.id, row.owner)) rows ≡ sorted)
-    → (parts : List Part) × Talks sent_three got_three sent_last got_last ((consumers_call key group, parts) ∷ [])
-    × SaysNumbers parts numbers
-    → (talk : List Exchange) × Talks sent got sent_last got_last talk × IsLooked key group idle dead talk numbers rows
-looked-from sent got sent_two got_two sent_three got_three sent_last got_last key group idle dead numbers listed sorted
-    rows (pending, one, lists) same rising (entries, two, looks, pairs) (parts, three, says) =
-    let last : Exchange = (consumers_call key group, parts) in (
-      pending ++ (entries ++ last ∷ []),
-      Talks-trans sent got sent_two got_two sent_last got_last pending (entries ++ last ∷ []) one
-          (Talks-trans sent_two got_two sent_three got_three sent_last got_last entries (last ∷ []) two three),
+    → (talk : List Exchange) × Talks sent_three got_three sent_last got_last talk
+    × LooksLive asked.key asked.group asked.seen_within talk idles numbers
+    → (talk : List Exchange) × Talks sent got sent_last got_last talk × IsLooked asked talk idles numbers rows
+looked-from sent got sent_two got_two sent_three got_three sent_last got_last asked idles numbers listed sorted rows
+    (pending, one, lists) same rising (entries, two, looks, pairs) (last, three, live) = (
+      pending ++ (entries ++ last),
+      Talks-trans sent got sent_two got_two sent_last got_last pending (entries ++ last) one
+          (Talks-trans sent_two got_two sent_three got_three sent_last got_last entries last two three),
       record {
-        parts = parts;
         pending = pending;
         entries = entries;
+        last = last;
         listed = listed;
-        says = says;
         lists = lists;
         same = subst (λ (pairs : List (Id × Text)). IsPermutation listed pairs) (sym pairs) same;
         rising = subst (IsSortedBy (λ a b. is_below a.0 b.0)) (sym pairs) rising;
         looks = looks;
+        live = live;
         spelled = refl;
       },
     )

@@ -1,7 +1,7 @@
 -- How a group is looked up: which calls are made, and what their replies say.
 -- Source: Redis documentation, commands XINFO CONSUMERS, XPENDING and XRANGE.
 
-use Rattle.std.specs.Prelude.{◌≡◌, ℕ, ◌<◌, ◌≤◌, List, [], ◌∷◌, ◌++◌, length, map, codes, decimal, Option}
+use Rattle.std.specs.Prelude.{◌≡◌, ℕ, ◌<◌, ◌≤◌, List, [], ◌∷◌, ◌++◌, length, map, codes, decimal, Option, Some, None}
 use Rattle.std.specs.Io.KnownBytes.{Appends}
 use Rattle.std.specs.List.{flat_map}
 use Rattle.std.specs.List.Sorted.{IsPermutation, IsSortedBy}
@@ -9,8 +9,9 @@ use Rattle.sr_ids.specs.declared.id.Id.{Id}
 use Rattle.sr_ids.specs.{is_below, spelling}
 use Rattle.sr_policy.specs.{Text}
 use Rattle.sr_peer.specs.{Part, part_text, request_text}
+use Rattle.sr_live.specs.declared.looked.Asked.{Asked}
 use Rattle.sr_live.specs.declared.looked.Row.{Row}
-use Rattle.sr_live.specs.Said.{SaysEntry, SaysNumbers, SaysPending}
+use Rattle.sr_live.specs.Said.{SaysEntry, SaysIdle, SaysNumbers, SaysPending}
 
 -- a call in words, and the parts of its reply
 abbrev pub Exchange : Type 0
@@ -33,6 +34,9 @@ pub record Talks (sent got sent_then got_then : Option (List ℕ)) (talk : List 
 
 abbrev pub consumers_call : Text → Text → List Text
 consumers_call key group = codes "XINFO" ∷ codes "CONSUMERS" ∷ key ∷ group ∷ []
+
+abbrev pub numbers_call : Text → Text → List Text
+numbers_call key group = codes "XPENDING" ∷ key ∷ group ∷ []
 
 abbrev pub pending_words : Text → Text → Text → Text → Text → List Text
 pending_words key group idle start name =
@@ -86,18 +90,33 @@ LooksEntries key (row ∷ rows) talk =
 abbrev pub listed_as : Row → Id × Text
 listed_as row = (row.id, row.owner)
 
--- what was looked up of a group by these calls: which entries are pending for all of the dead, in the order of their
--- ids, with what the stream has there, and last how many are pending for each consumer. Entries of the dead that have
--- not been idle for so long are left out
-pub record IsLooked (key group : Text) (idle : ℕ) (dead : List Text) (talk : List Exchange) (numbers : List (Text × ℕ))
-    (rows : List Row) : Type 0 where
+-- for how long each consumer of the group has been idle, if that is asked for
+abbrev pub LooksIdle : Text → Text → Option ℕ → List Exchange → List (Text × ℕ) → Type 0
+LooksIdle key group None talk idles = (talk ≡ []) × (idles ≡ [])
+LooksIdle key group (Some within) talk idles =
+    (parts : List Part) × SaysIdle parts idles × (talk ≡ (consumers_call key group, parts) ∷ [])
+
+-- that, and then how many entries are pending for each consumer that has any
+pub record LooksLive (key group : Text) (within : Option ℕ) (talk : List Exchange) (idles numbers : List (Text × ℕ))
+    : Type 0 where
+  pub first : List Exchange
   pub parts : List Part
+  pub looks : LooksIdle key group within first idles
+  pub says : SaysNumbers parts numbers
+  pub spelled : talk ≡ first ++ (numbers_call key group, parts) ∷ []
+
+-- what was looked up of a group by these calls: which entries are pending for all of the dead, in the order of their
+-- ids, with what the stream has there, and last the consumers. Entries of the dead that have not been idle for so long
+-- are left out
+pub record IsLooked (asked : Asked) (talk : List Exchange) (idles numbers : List (Text × ℕ)) (rows : List Row)
+    : Type 0 where
   pub pending : List Exchange
   pub entries : List Exchange
+  pub last : List Exchange
   pub listed : List (Id × Text)
-  pub says : SaysNumbers parts numbers
-  pub lists : ListsDead key group idle dead pending listed
+  pub lists : ListsDead asked.key asked.group asked.idle asked.dead.items pending listed
   pub same : IsPermutation listed (map listed_as rows)
   pub rising : IsSortedBy (λ a b. is_below a.0 b.0) (map listed_as rows)
-  pub looks : LooksEntries key rows entries
-  pub spelled : talk ≡ pending ++ (entries ++ (consumers_call key group, parts) ∷ [])
+  pub looks : LooksEntries asked.key rows entries
+  pub live : LooksLive asked.key asked.group asked.seen_within last idles numbers
+  pub spelled : talk ≡ pending ++ (entries ++ last)

@@ -19,7 +19,7 @@ use Rattle.sr_live.specs.declared.rounds.Ran.TheVariants.{Done, Impossible, Stal
 use Rattle.sr_live.specs.declared.rounds.Terms.{Terms}
 use Rattle.sr_live.specs.Conclusion.{IsCalled, IsUnanswered, SaysConcluded}
 use Rattle.sr_live.specs.First.{kept_rows}
-use Rattle.sr_live.specs.Looked.{shown_by}
+use Rattle.sr_live.specs.Looked.{shown_of}
 use Rattle.sr_live.specs.Looking.{Exchange, IsLooked, Talks}
 use Rattle.sr_live.specs.Reading.{BreaksOff}
 use Rattle.sr_live.specs.Words.{last_word, words_for}
@@ -28,18 +28,19 @@ use Rattle.sr_live.specs.Words.{last_word, words_for}
 pub record IsPlanned (rules : Rules) (asked : Asked) (at_most : Option ℕ) (talk : List Exchange) (planned : Planned)
     : Type 0 where
   pub rows : List Row
-  pub looked : IsLooked asked.key asked.group asked.idle asked.dead.items talk planned.looked.numbers.items rows
+  pub looked : IsLooked asked talk planned.looked.idles.items planned.looked.numbers.items rows
   pub first : planned.looked.rows.items ≡ (kept_rows at_most rows).0
   pub last : planned.last ≡ (kept_rows at_most rows).1
   pub snapshot : planned.verdict.snapshot
-      ≡ shown_by rules asked.key asked.group asked.dead.items planned.looked.numbers.items planned.looked.rows.items
+      ≡ shown_of rules asked planned.looked.idles.items planned.looked.numbers.items planned.looked.rows.items
 
 -- what was looked up in this talk is of no one moment: it makes no snapshot
 pub record HasChanged (rules : Rules) (asked : Asked) (at_most : Option ℕ) (talk : List Exchange) : Type 0 where
+  pub idles : List (Text × ℕ)
   pub numbers : List (Text × ℕ)
   pub rows : List Row
-  pub looked : IsLooked asked.key asked.group asked.idle asked.dead.items talk numbers rows
-  pub none : IsSnapshot (shown_by rules asked.key asked.group asked.dead.items numbers (kept_rows at_most rows).0) → ⊥
+  pub looked : IsLooked asked talk idles numbers rows
+  pub none : IsSnapshot (shown_of rules asked idles numbers (kept_rows at_most rows).0) → ⊥
 
 abbrev pub IsJudged : Rules → Asked → Option ℕ → List Exchange → Option Planned → Type 0
 IsJudged rules asked at_most talk None = HasChanged rules asked at_most talk

@@ -1,14 +1,35 @@
 -- What the replies of Redis say of a group.
 -- Source: Redis documentation, commands XINFO CONSUMERS, XPENDING and XRANGE.
 
-use Rattle.std.specs.Prelude.{◌≡◌, ⊤, ℕ, ◌*◌, ℤ, pos, List, [], ◌∷◌, ◌++◌, length, codes, Option, Some, None}
+use Rattle.std.specs.Prelude.{◌≡◌, ⊤, ◌⊎◌, ℕ, ◌*◌, ℤ, pos, List, [], ◌∷◌, ◌++◌, length, codes, decimal}
+use Rattle.std.specs.Prelude.{Option, Some, None}
 use Rattle.std.specs.List.{flat_map}
 use Rattle.sr_ids.specs.declared.id.Id.{Id}
 use Rattle.sr_ids.specs.{SpellsId}
 use Rattle.sr_policy.specs.{Text}
 use Rattle.sr_policy.specs.Rules.{value_at}
 use Rattle.sr_peer.specs.{Part, Array, Bulk, Int}
+use Rattle.sr_peer.specs.Reply.{NullArray, NullBulk}
 use Rattle.sr_live.specs.declared.looked.Row.{Row}
+
+-- ---- XPENDING: how many entries are pending, the least and the greatest of their ids, and an array of consumers, each
+-- with how many entries are pending for it in decimal digits
+
+abbrev pub number_parts : Text × ℕ → List Part
+number_parts number = Array 2 ∷ Bulk number.0 ∷ Bulk (decimal number.1) ∷ []
+
+-- what comes before so many consumers; before none it has no ids
+abbrev pub IsFront : List Part → ℕ → Type 0
+IsFront parts count = (all : ℤ)
+    × (((least : Text) × (greatest : Text)
+    × (parts ≡ Array 4 ∷ Int all ∷ Bulk least ∷ Bulk greatest ∷ Array count ∷ []))
+    ⊎ ((count ≡ 0) × (parts ≡ Array 4 ∷ Int all ∷ NullBulk ∷ NullBulk ∷ NullArray ∷ [])))
+
+-- the reply says how many entries are pending for each consumer that has any
+pub record SaysNumbers (parts : List Part) (numbers : List (Text × ℕ)) : Type 0 where
+  pub front : List Part
+  pub first : IsFront front (length numbers)
+  pub spelled : parts ≡ front ++ flat_map number_parts numbers
 
 -- ---- XINFO CONSUMERS: an array of consumers, each an array of fields with their values
 
@@ -22,23 +43,23 @@ consumer_parts fields = Array (2 * length fields) ∷ fields_parts fields
 abbrev pub consumers_parts : List (List (Text × Part)) → List Part
 consumers_parts consumers = Array (length consumers) ∷ flat_map consumer_parts consumers
 
--- the fields say the name of a consumer, and how many entries are pending for it; the first of a name counts
-pub record SaysConsumer (fields : List (Text × Part)) (number : Text × ℕ) : Type 0 where
-  pub name : value_at (codes "name") fields ≡ Some (Bulk number.0)
-  pub pending : value_at (codes "pending") fields ≡ Some (Int (pos number.1))
+-- the fields say the name of a consumer, and for how many milliseconds it has been idle; the first of a name counts
+pub record SaysConsumer (fields : List (Text × Part)) (consumer : Text × ℕ) : Type 0 where
+  pub name : value_at (codes "name") fields ≡ Some (Bulk consumer.0)
+  pub idle : value_at (codes "idle") fields ≡ Some (Int (pos consumer.1))
 
 -- each of them says one
 abbrev pub SayConsumers : List (List (Text × Part)) → List (Text × ℕ) → Type 0
 SayConsumers [] [] = ⊤
-SayConsumers (fields ∷ others) (number ∷ numbers) = SaysConsumer fields number × SayConsumers others numbers
-SayConsumers [] (number ∷ numbers) = ⊥
+SayConsumers (fields ∷ others) (consumer ∷ consumers) = SaysConsumer fields consumer × SayConsumers others consumers
+SayConsumers [] (consumer ∷ consumers) = ⊥
 SayConsumers (fields ∷ others) [] = ⊥
 
--- the reply says how many entries are pending for each consumer of the group
-pub record SaysNumbers (parts : List Part) (numbers : List (Text × ℕ)) : Type 0 where
-  pub consumers : List (List (Text × Part))
-  pub spelled : parts ≡ consumers_parts consumers
-  pub says : SayConsumers consumers numbers
+-- the reply says for how long each consumer of the group has been idle
+pub record SaysIdle (parts : List Part) (consumers : List (Text × ℕ)) : Type 0 where
+  pub fields : List (List (Text × Part))
+  pub spelled : parts ≡ consumers_parts fields
+  pub says : SayConsumers fields consumers
 
 -- ---- XPENDING with a consumer: an array of entries, each with its id, owner, idle time and delivery count
 

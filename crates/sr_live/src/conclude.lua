@@ -74,20 +74,15 @@ local function read_live()
   return one
 end
 
--- How many entries are pending for each consumer, by name; or nil and the error. Fields are found by name, since newer
--- versions have more of them.
+-- How many entries are pending for each consumer that has any, by name; or nil and the error.
 local function pending_numbers(group)
-  local consumers = redis.pcall('XINFO', 'CONSUMERS', key, group)
-  if consumers.err then
-    return nil, consumers
+  local summary = redis.pcall('XPENDING', key, group)
+  if summary.err then
+    return nil, summary
   end
   local numbers = {}
-  for _, consumer in ipairs(consumers) do
-    local fields = {}
-    for at = 1, #consumer, 2 do
-      fields[consumer[at]] = consumer[at + 1]
-    end
-    numbers[fields.name] = fields.pending
+  for _, consumer in ipairs(summary[4] or {}) do
+    numbers[consumer[1]] = tonumber(consumer[2])
   end
   return numbers
 end
@@ -167,8 +162,7 @@ local function conclude()
   local dead, live = list(read_dead), list(read_live)
   local numbers, fault = pending_numbers(group)
   if fault then
-    local is_missing = fault.err == 'ERR no such key' or fault.err:find('^NOGROUP')
-    return is_missing and { 'stale', 'group', group } or fault
+    return fault.err:find('^NOGROUP') and { 'stale', 'group', group } or fault
   end
   for _, one in ipairs(dead) do
     local what, which = change_of(group, last, idle, one)

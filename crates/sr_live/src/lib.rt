@@ -4,6 +4,7 @@
 
 mod bounds;
 mod conclusion;
+mod consumers;
 mod fault;
 mod looked;
 mod looking;
@@ -16,10 +17,11 @@ mod words;
 
 pub use bounds::{at_most_worse, still_cheapest};
 pub use conclusion::{Concluded, conclude};
+pub use consumers::{look_idles, look_numbers};
 pub use fault::{LiveCall, LiveFault};
 pub use looked::{Asked, Looked, Row};
-pub use looking::{look, look_numbers};
+pub use looking::look;
 pub use rounds::{Planned, Ran, Terms, plan, run};
 pub use server::shows_as_the_server;
-pub use snapshot::{SnapshotFault, snapshot_of};
+pub use snapshot::{SnapshotFault, is_seen, number_in, snapshot_of};
 pub use words::{Limits, script_words};

@@ -12,6 +12,9 @@ pub struct Asked {
     pub dead: Vec<Name>,
     /// For how many milliseconds an entry has to have been idle, or it is left with the dead.
     pub idle: u64,
+    /// For how many milliseconds a consumer of the group may have been idle, or it is given nothing. `None`: any
+    /// consumer of the policy that is not dead is given entries.
+    pub seen_within: Option<u64>,
 }
 
 /// An entry that is pending for a dead consumer.
@@ -30,7 +33,9 @@ pub struct Row {
 /// Source: Redis documentation, commands XINFO CONSUMERS, XPENDING and XRANGE.
 #[derive(Drop)]
 pub struct Looked {
-    /// Each consumer of the group, with how many entries are pending for it.
+    /// Each consumer of the group, with for how many milliseconds it has been idle. Empty if that is not asked for.
+    pub idles: Vec<(Name, u64)>,
+    /// Each consumer of the group that has pending entries, with how many.
     pub numbers: Vec<(Name, u64)>,
     /// The entries that are pending for the dead, by id.
     pub rows: Vec<Row>,

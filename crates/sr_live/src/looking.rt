@@ -6,14 +6,15 @@ ghost use Rattle.sr_ids.specs.{is_below};
 ghost use Rattle.sr_peer.specs.Reply as wire;
 ghost use Rattle.sr_peer.specs.{request_text};
 ghost use Rattle.sr_live.specs.Looking.{Exchange, IsLooked, ListsDead, ListsPages, LooksEntries, Talks};
-ghost use Rattle.sr_live.specs.Looking.{consumers_call, entry_call, pending_call, pending_words};
+ghost use Rattle.sr_live.specs.Looking.{entry_call, pending_call, pending_words};
 ghost use Rattle.sr_live.specs.Looking.{start_behind};
 ghost use Rattle.sr_live.specs.Reading.{BreaksOff, IsOfLooking, IsReading};
-ghost use Rattle.sr_live.specs.Said.{SayEntries, SaysNumbers, SaysPending};
+ghost use Rattle.sr_live.specs.Said.{SayEntries, SaysPending};
 
+use crate::consumers::look_live;
 use crate::fault::{LiveCall, LiveFault};
 use crate::looked::{Asked, Looked, Row};
-use crate::said::{Misread, end, entry_said, numbers_said, pending_said};
+use crate::said::{Misread, end, entry_said, pending_said};
 use itoa::Buffer;
 use sr_bytes::Name;
 use sr_ids::{Id, write_id};
@@ -29,54 +30,25 @@ const MAX_ROWS: usize = 100_000;
 /// How many calls of XRANGE are sent together.
 const TOGETHER: usize = 32;
 
-/// Looks up how many entries are pending for each consumer of a group, and which are pending for the dead, with their
-/// fields. Between the calls the group may change.
+/// Looks up which entries of a group are pending for the dead, with their fields, and how many for each consumer; and
+/// for how long each consumer has been idle, if that is asked for. Between the calls the group may change.
 ///
 /// Source: Redis documentation, commands XINFO CONSUMERS, XPENDING and XRANGE.
 pub fn look<P: Peer>(peer: &mut P, alloc: Global, asked: &Asked) -> Result<Looked, LiveFault>
     ensures ok { IfOk result (λ looked. (talk : List Exchange)
         × Talks (P.sent peer.old) (P.got peer.old) (P.sent peer.new) (P.got peer.new) talk
-        × IsLooked asked.now.key asked.now.group asked.now.idle asked.now.dead.items talk looked.numbers.items
-        looked.rows.items) }
+        × IsLooked asked.now talk looked.idles.items looked.numbers.items looked.rows.items) }
     ensures err { IfErr result (BreaksOff (P.sent peer.old) (P.sent peer.new)) }
 {
     let listed = in_order(look_dead(peer, alloc, asked)?)?;
     let rows = look_entries(peer, alloc, &asked.key, listed.as_slice())?;
     // The numbers change most, so they are the youngest part when the script compares.
-    let numbers = look_numbers(peer, alloc, &asked.key, &asked.group)?;
-    Ok(Looked { numbers, rows })
-}
-
-/// Looks up how many entries are pending for each consumer of a group.
-///
-/// Source: Redis documentation, command XINFO CONSUMERS.
-pub fn look_numbers<P: Peer>(
-    peer: &mut P,
-    alloc: Global,
-    key: &Name,
-    group: &Name,
-) -> Result<Vec<(Name, u64)>, LiveFault>
-    ensures ok { IfOk result (λ numbers. (parts : List wire.Part)
-        × Talks (P.sent peer.old) (P.got peer.old) (P.sent peer.new) (P.got peer.new)
-        ((consumers_call key.now group.now, parts) ∷ [])
-        × SaysNumbers parts numbers.items) }
-    ensures err { IfErr result (BreaksOff (P.sent peer.old) (P.sent peer.new)) }
-{
-    let request = consumers_request(alloc, key, group)?;
-    match ask(peer, alloc, request.as_slice(), 1) {
-        Ok(answers) => understood(LiveCall::Consumers, numbers_said(alloc, answers.parts())),
-        Err(fault) => Err(LiveFault::Peer(fault)),
-    }
-}
-
-/// The request for the consumers of a group.
-fn consumers_request(alloc: Global, key: &Name, group: &Name) -> Result<Vec<u8>, AllocError>
-    ensures { IfOk result (λ request. request.items ≡ request_text (consumers_call key.now group.now)) }
-{
-    request_of(
-        alloc,
-        &[b"XINFO", b"CONSUMERS", key.as_slice(), group.as_slice()],
-    )
+    let (idles, numbers) = look_live(peer, alloc, asked)?;
+    Ok(Looked {
+        idles,
+        numbers,
+        rows,
+    })
 }
 
 /// Looks up the entries that are pending for the dead, each with its owner.
@@ -316,7 +288,7 @@ fn append_entry_call(out: &mut Vec<u8>, key: &Name, id: Id) -> Result<(), AllocE
 }
 
 /// A request of these words.
-fn request_of(alloc: Global, words: &[&[u8]]) -> Result<Vec<u8>, AllocError>
+pub(crate) fn request_of(alloc: Global, words: &[&[u8]]) -> Result<Vec<u8>, AllocError>
     ensures { IfOk result (λ request. request.items ≡ request_text (map (λ word. word.now) words.now)) }
 {
     let mut request = Vec::new(alloc);

@@ -1,6 +1,6 @@
 //! What the replies of Redis say of a group.
-ghost use Rattle.std.specs.Prelude.{◌≡◌, ◌++◌, ◌∷◌, ◌*◌, [], ℕ, List, pos, codes, length, option_map};
-ghost use Rattle.std.specs.Prelude.{IfErr, IfOk, OnOk};
+ghost use Rattle.std.specs.Prelude.{◌≡◌, ◌++◌, ◌∷◌, ◌*◌, [], ℕ, List, pos, codes, decimal, length, option_map};
+ghost use Rattle.std.specs.Prelude.{IfErr, IfOk, IfSome, OnOk};
 ghost use Rattle.sr_ids.specs.{SpellsId};
 ghost use Rattle.sr_policy.specs.Rules.{value_at};
 ghost use Rattle.sr_peer.specs.Reply as wire;
@@ -8,11 +8,12 @@ ghost use Rattle.sr_peer.specs.{Array, Bulk, Int, part_of};
 ghost use Rattle.sr_live.specs.Conclusion.{SaysConcluded};
 ghost use Rattle.sr_live.specs.declared.said.Misread.TheVariants.{Memory};
 ghost use Rattle.sr_live.specs.steps.Misread.{IsMisread, IsNoError};
-ghost use Rattle.sr_live.specs.Said.{IsPendingRow, SaysConsumer, SaysEntry, SaysNumbers, SaysPending};
-ghost use Rattle.sr_live.specs.Said.{consumer_parts, fields_parts, pairs_parts};
+ghost use Rattle.sr_live.specs.Said.{IsFront, IsPendingRow, SaysConsumer, SaysEntry, SaysIdle, SaysNumbers};
+ghost use Rattle.sr_live.specs.Said.{SaysPending, consumer_parts, fields_parts, number_parts, pairs_parts};
 
 use crate::conclusion::Concluded;
-use sr_bytes::{Fields, Name};
+use itoa::Buffer;
+use sr_bytes::{Fields, Name, read_decimal};
 use sr_ids::{Id, parse_strict};
 use sr_peer::{Part, Parts};
 use std::alloc::{AllocError, AllocFailed, Global};
@@ -44,24 +45,96 @@ impl<T: Drop> From<AllocFailed<T>> for Misread {
     }
 }
 
-/// How many entries are pending for each consumer, as XINFO CONSUMERS replies.
+/// How many entries are pending for each consumer that has any, as XPENDING replies of a whole group.
 ///
-/// Source: Redis documentation, command XINFO CONSUMERS.
+/// Source: Redis documentation, command XPENDING.
 pub(crate) fn numbers_said(alloc: Global, mut parts: Parts<'_>) -> Result<Vec<(Name, u64)>, Misread>
     ensures { IfOk result (λ numbers. SaysNumbers parts.entry numbers.items) }
 {
-    let count = header(alloc, &mut parts)?;
+    let count = front_said(alloc, &mut parts)?;
     let mut numbers = Vec::new(alloc);
     for _ in 0..count {
-        numbers.push(consumer_said(alloc, &mut parts)?)?;
+        numbers.push(number_said(alloc, &mut parts)?)?;
     }
     end(&mut parts)?;
     Ok(numbers)
 }
 
+/// How many consumers follow what is said of the whole group.
+fn front_said(alloc: Global, parts: &mut Parts<'_>) -> Result<usize, Misread>
+    ensures { IfOk result (λ count. (front : List wire.Part) × IsFront front count
+        × (parts.old ≡ front ++ parts.new)) }
+{
+    if header(alloc, parts)? != 4 {
+        return Err(Misread::Shape);
+    }
+    integer(parts)?;
+    match parts.next() {
+        Some(Part::Bulk(_least)) => {
+            string(parts)?;
+            header(alloc, parts)
+        }
+        Some(Part::NullBulk) => none_said(parts),
+        _ => Err(Misread::Shape),
+    }
+}
+
+/// No greatest id either, and no consumers.
+fn none_said(parts: &mut Parts<'_>) -> Result<usize, Misread>
+    ensures { IfOk result (λ count. (count ≡ 0) × (parts.old ≡ wire.NullBulk ∷ wire.NullArray ∷ parts.new)) }
+{
+    let greatest = parts.next();
+    match (greatest, parts.next()) {
+        (Some(Part::NullBulk), Some(Part::NullArray)) => Ok(0),
+        _ => Err(Misread::Shape),
+    }
+}
+
 /// The name of the next consumer, and how many entries are pending for it.
+fn number_said(alloc: Global, parts: &mut Parts<'_>) -> Result<(Name, u64), Misread>
+    ensures { IfOk result (λ number. parts.old ≡ number_parts number ++ parts.new) }
+{
+    if header(alloc, parts)? != 2 {
+        return Err(Misread::Shape);
+    }
+    let name = name_of(alloc, string(parts)?)?;
+    match written(string(parts)?) {
+        Some(number) => Ok((name, number)),
+        None => Err(Misread::Shape),
+    }
+}
+
+/// The number that these digits write, with no leading zero.
+fn written(digits: &[u8]) -> Option<u64>
+    ensures { IfSome result (λ n. decimal n ≡ digits.now) }
+{
+    let n = read_decimal(digits, 20)?;
+    let mut own = Buffer::new();
+    if own.format(n).as_bytes() == digits {
+        Some(n)
+    } else {
+        None
+    }
+}
+
+/// For how many milliseconds each consumer has been idle, as XINFO CONSUMERS replies.
+///
+/// Source: Redis documentation, command XINFO CONSUMERS.
+pub(crate) fn idles_said(alloc: Global, mut parts: Parts<'_>) -> Result<Vec<(Name, u64)>, Misread>
+    ensures { IfOk result (λ idles. SaysIdle parts.entry idles.items) }
+{
+    let count = header(alloc, &mut parts)?;
+    let mut idles = Vec::new(alloc);
+    for _ in 0..count {
+        idles.push(consumer_said(alloc, &mut parts)?)?;
+    }
+    end(&mut parts)?;
+    Ok(idles)
+}
+
+/// The name of the next consumer, and for how long it has been idle.
 fn consumer_said(alloc: Global, parts: &mut Parts<'_>) -> Result<(Name, u64), Misread>
-    ensures { IfOk result (λ number. (fields : List (List ℕ × wire.Part)) × SaysConsumer fields number
+    ensures { IfOk result (λ consumer. (fields : List (List ℕ × wire.Part)) × SaysConsumer fields consumer
         × (parts.old ≡ consumer_parts fields ++ parts.new)) }
 {
     let places = header(alloc, parts)?;
@@ -69,22 +142,20 @@ fn consumer_said(alloc: Global, parts: &mut Parts<'_>) -> Result<(Name, u64), Mi
         return Err(Misread::Shape);
     }
     let found = fields_found(parts, places / 2)?;
-    match (found.name, found.pending) {
-        (Some(Part::Bulk(name)), Some(Part::Int(pending))) => {
-            number_of(name_of(alloc, name)?, pending)
-        }
+    match (found.name, found.idle) {
+        (Some(Part::Bulk(name)), Some(Part::Int(idle))) => idle_of(name_of(alloc, name)?, idle),
         _ => Err(Misread::Shape),
     }
 }
 
-/// The consumer with this number of pending entries, if that is not below 0.
-fn number_of(name: Name, pending: i64) -> Result<(Name, u64), Misread>
-    ensures { IfOk result (λ number. (number.0 ≡ name) × (pos number.1 ≡ pending)) }
+/// The consumer with this idle time, if that is not below 0.
+fn idle_of(name: Name, idle: i64) -> Result<(Name, u64), Misread>
+    ensures { IfOk result (λ consumer. (consumer.0 ≡ name) × (pos consumer.1 ≡ idle)) }
 {
-    if pending < 0 {
+    if idle < 0 {
         return Err(Misread::Shape);
     }
-    Ok((name, pending as u64))
+    Ok((name, idle as u64))
 }
 
 /// What the fields of a consumer say, as far as they are asked for.
@@ -92,20 +163,20 @@ fn number_of(name: Name, pending: i64) -> Result<(Name, u64), Misread>
 struct Found<'a> {
     /// The value of `name`.
     name: Option<Part<'a>>,
-    /// The value of `pending`.
-    pending: Option<Part<'a>>,
+    /// The value of `idle`.
+    idle: Option<Part<'a>>,
 }
 
 /// What the next fields say, which are so many.
 fn fields_found<'a>(parts: &mut Parts<'a>, count: usize) -> Result<Found<'a>, Misread>
     ensures { IfOk result (λ found. (fields : List (List ℕ × wire.Part)) × (length fields ≡ count)
         × (option_map part_of found.name ≡ value_at (codes "name") fields)
-        × (option_map part_of found.pending ≡ value_at (codes "pending") fields)
+        × (option_map part_of found.idle ≡ value_at (codes "idle") fields)
         × (parts.old ≡ fields_parts fields ++ parts.new)) }
 {
     let mut found = Found {
         name: None,
-        pending: None,
+        idle: None,
     };
     for _ in 0..count {
         let (field, value) = field_said(parts)?;
@@ -120,14 +191,14 @@ fn with_field<'a>(found: Found<'a>, field: &[u8], value: Part<'a>) -> Found<'a>
         → option_map part_of found.entry.name ≡ value_at (codes "name") fields
         → option_map part_of result.name
         ≡ value_at (codes "name") (fields ++ (field.now, part_of value.entry) ∷ []) }
-    ensures pending { (fields : List (List ℕ × wire.Part))
-        → option_map part_of found.entry.pending ≡ value_at (codes "pending") fields
-        → option_map part_of result.pending
-        ≡ value_at (codes "pending") (fields ++ (field.now, part_of value.entry) ∷ []) }
+    ensures idle { (fields : List (List ℕ × wire.Part))
+        → option_map part_of found.entry.idle ≡ value_at (codes "idle") fields
+        → option_map part_of result.idle
+        ≡ value_at (codes "idle") (fields ++ (field.now, part_of value.entry) ∷ []) }
 {
     Found {
         name: first_of(found.name, b"name", field, value),
-        pending: first_of(found.pending, b"pending", field, value),
+        idle: first_of(found.idle, b"idle", field, value),
     }
 }
 
@@ -160,7 +231,7 @@ fn field_said<'a>(parts: &mut Parts<'a>) -> Result<(&'a [u8], Part<'a>), Misread
     }
 }
 
-/// The entries that are pending for the owner, as XPENDING replies.
+/// The entries that are pending for the owner, as XPENDING replies with a consumer.
 ///
 /// Source: Redis documentation, command XPENDING.
 pub(crate) fn pending_said(

@@ -1,10 +1,11 @@
 ghost use Rattle.std.specs.Prelude.{◌≡◌, ◌++◌, ◌<◌, ◌≤◌, IfOk, OnOk, IsErrOf, length};
 ghost use Rattle.std.specs.List.{flat_map};
 ghost use Rattle.sr_policy.specs.Bounds.{most_stranded};
-ghost use Rattle.sr_policy.specs.Rules.{class_of, live_of, weight_of as weight};
+ghost use Rattle.sr_policy.specs.Rules.{class_of, live_of, value_at, weight_of as weight};
 ghost use Rattle.sr_policy.specs.Snapshot.{IsSnapshot, is_among as among};
 ghost use Rattle.sr_space.specs.{listed};
-ghost use Rattle.sr_live.specs.Looked.{gone_of, live_by, number_of, shown_by, stranded_by};
+ghost use Rattle.sr_live.specs.Looked.{gone_of, is_seen as seen, live_by, may_receive as receives, number_of};
+ghost use Rattle.sr_live.specs.Looked.{shown_of, stranded_by};
 
 use crate::looked::{Asked, Looked, Row};
 use sr_bytes::{Fields, Name};
@@ -39,15 +40,14 @@ pub fn snapshot_of(
     looked: &Looked,
 ) -> Result<Snapshot, SnapshotFault>
     ensures ok { IfOk result (λ snapshot. snapshot
-        ≡ shown_by policy.now asked.now.key asked.now.group asked.now.dead.items looked.now.numbers.items
-        looked.now.rows.items) }
+        ≡ shown_of policy.now asked.now looked.now.idles.items looked.now.numbers.items looked.now.rows.items) }
     ensures many { IsErrOf result SnapshotFault.TooMany
         → most_stranded < length (flat_map (stranded_by policy.now) looked.now.rows.items) }
     ensures few { IsErrOf result SnapshotFault.Changed
         → length (flat_map (stranded_by policy.now) looked.now.rows.items) ≤ most_stranded }
     ensures changed { IsErrOf result SnapshotFault.Changed
-        → IsSnapshot (shown_by policy.now asked.now.key asked.now.group asked.now.dead.items
-        looked.now.numbers.items looked.now.rows.items) → ⊥ }
+        → IsSnapshot (shown_of policy.now asked.now looked.now.idles.items looked.now.numbers.items
+        looked.now.rows.items) → ⊥ }
 {
     let parts = match gather(alloc, policy, asked, looked) {
         Ok(parts) => parts,
@@ -106,17 +106,11 @@ fn gather(
     looked: &Looked,
 ) -> Result<Gathered, AllocError>
     ensures { IfOk result (λ parts. parts
-        ≡ shown_by policy.now asked.now.key asked.now.group asked.now.dead.items looked.now.numbers.items
-        looked.now.rows.items) }
+        ≡ shown_of policy.now asked.now looked.now.idles.items looked.now.numbers.items looked.now.rows.items) }
 {
     let stranded = stranded_rows(alloc, policy, looked.rows.as_slice())?;
     let gone = gone_rows(alloc, looked.rows.as_slice())?;
-    let live = live_consumers(
-        alloc,
-        policy,
-        asked.dead.as_slice(),
-        looked.numbers.as_slice(),
-    )?;
+    let live = live_consumers(alloc, policy, asked, looked)?;
     let rates = rates_by_class(alloc, policy, live.as_slice(), stranded.as_slice())?;
     let dead = copies(alloc, asked.dead.as_slice())?;
     Ok(Gathered {
@@ -210,22 +204,48 @@ fn push_gone(list: &mut Vec<(Id, Name)>, alloc: Global, row: &Row) -> Result<(),
     Ok(())
 }
 
-/// The consumers of the policy that are not dead, each with how many entries are pending for it.
+/// The consumers of the policy that are not dead and may be given entries, each with how many are pending for it.
 fn live_consumers(
     alloc: Global,
     policy: &Policy,
-    dead: &[Name],
-    numbers: &[(Name, u64)],
+    asked: &Asked,
+    looked: &Looked,
 ) -> Result<Vec<Live>, AllocError>
-    ensures { IfOk result (λ list. list.items ≡ live_by policy.now dead.now numbers.now) }
+    ensures { IfOk result (λ list. list.items ≡ live_by policy.now asked.now.dead.items
+        (seen asked.now.seen_within looked.now.idles.items) looked.now.numbers.items) }
 {
     let mut list = Vec::new(alloc);
     for name in policy.consumers() {
-        if !is_among(dead, name) {
-            push_live(&mut list, alloc, policy, name, number_for(numbers, name))?;
+        if may_receive(asked, looked, name) {
+            push_live(
+                &mut list,
+                alloc,
+                policy,
+                name,
+                number_for(looked.numbers.as_slice(), name),
+            )?;
         }
     }
     Ok(list)
+}
+
+/// Whether the consumer has been seen in the time that is asked for, and is not dead.
+fn may_receive(asked: &Asked, looked: &Looked, name: &Name) -> bool
+    ensures { result ≡ receives asked.now.dead.items (seen asked.now.seen_within looked.now.idles.items) name.now }
+{
+    is_seen(asked.seen_within, looked.idles.as_slice(), name)
+        && !is_among(asked.dead.as_slice(), name)
+}
+
+/// Whether the consumer is named, with an idle time of at most so many milliseconds; or no time is asked for.
+pub fn is_seen(within: Option<u64>, idles: &[(Name, u64)], name: &Name) -> bool
+    ensures { result ≡ seen within idles.now name.now }
+{
+    match (within, number_in(idles, name)) {
+        (None, _) => true,
+        (Some(most), Some(idle)) => idle <= most,
+        (Some(_), None) => false,
+    }
 }
 
 /// Adds the consumer with how many entries are pending for it, if the policy names it.
@@ -255,10 +275,17 @@ fn is_among(names: &[Name], name: &Name) -> bool
 fn number_for(numbers: &[(Name, u64)], name: &Name) -> u64
     ensures { result ≡ number_of numbers.now name.now }
 {
+    number_in(numbers, name).unwrap_or(0)
+}
+
+/// The number of the consumer, if it is named.
+pub fn number_in(numbers: &[(Name, u64)], name: &Name) -> Option<u64>
+    ensures { result ≡ value_at name.now numbers.now }
+{
     for (other, number) in numbers {
         if *name == *other {
-            return *number;
+            return Some(*number);
         }
     }
-    0
+    None
 }

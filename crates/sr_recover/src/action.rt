@@ -3,12 +3,13 @@ use crate::blame::policy_fault;
 use crate::board::print_board;
 use crate::check::print_check;
 use crate::fault::{Fault, live_fault, unreadable};
+use crate::notes::{Notes, look_members};
 use crate::options::{Action, Options};
 use crate::place::{place_named, read_place};
-use crate::print::{print_done, print_newcomers, print_plan, print_stale, print_unknown};
+use crate::print::{print_done, print_plan, print_stale};
 use crate::wire::{Wire, authenticate, connect, select};
 use sr_bytes::Name;
-use sr_live::{Asked, Planned, Ran, Terms, look_numbers, plan, run};
+use sr_live::{Asked, LiveFault, Planned, Ran, Terms, look_idles, look_numbers, plan, run};
 use sr_policy::Policy;
 use sr_space::names_in_order;
 use std::alloc::{AllocError, Global};
@@ -89,13 +90,31 @@ fn show_board(
     asked: &Asked,
     wire: &mut Wire,
 ) -> Result<Status, Fault> {
-    match look_numbers(wire, rt.alloc(), &asked.key, &asked.group) {
-        Ok(numbers) => {
-            print_board(&mut rt.stdout(), rt.alloc(), policy, numbers.as_slice())?;
+    match look_board(wire, rt.alloc(), asked) {
+        Ok((idles, numbers)) => {
+            let mut out = rt.stdout();
+            print_board(
+                &mut out,
+                rt.alloc(),
+                policy,
+                idles.as_slice(),
+                numbers.as_slice(),
+            )?;
             Ok(Status::Done)
         }
         Err(fault) => Err(live_fault(rt.alloc(), fault, wire.script())),
     }
+}
+
+/// The consumers of the group, each with its idle time, and how many entries are pending for each that has any.
+fn look_board(
+    wire: &mut Wire,
+    alloc: Global,
+    asked: &Asked,
+) -> Result<(Vec<(Name, u64)>, Vec<(Name, u64)>), LiveFault> {
+    let idles = look_idles(wire, alloc, &asked.key, &asked.group)?;
+    let numbers = look_numbers(wire, alloc, &asked.key, &asked.group)?;
+    Ok((idles, numbers))
 }
 
 /// Makes a plan, and prints it.
@@ -106,8 +125,17 @@ fn show_plan(
     asked: &Asked,
     wire: &mut Wire,
 ) -> Result<Status, Fault> {
+    let members = match look_members(wire, rt.alloc(), policy, asked) {
+        Ok(members) => members,
+        Err(fault) => return Err(live_fault(rt.alloc(), fault, wire.script())),
+    };
+    let notes = Notes {
+        policy,
+        asked,
+        members: &members,
+    };
     match plan(wire, rt.alloc(), policy, asked, options.at_most) {
-        Ok(planned) => print_planned(rt, options, asked, &planned, false),
+        Ok(planned) => print_planned(rt, options, notes, &planned, false),
         Err(fault) => Err(live_fault(rt.alloc(), fault, wire.script())),
     }
 }
@@ -116,22 +144,11 @@ fn show_plan(
 fn print_planned(
     rt: &HostRuntime,
     options: &Options<'_>,
-    asked: &Asked,
+    notes: Notes<'_>,
     planned: &Planned,
     done: bool,
 ) -> Result<Status, Fault> {
-    print_unknown(
-        &mut rt.stderr(),
-        rt.alloc(),
-        asked.dead.as_slice(),
-        planned.looked.numbers.as_slice(),
-    )?;
-    print_newcomers(
-        &mut rt.stderr(),
-        rt.alloc(),
-        &planned.verdict,
-        planned.looked.numbers.as_slice(),
-    )?;
+    notes.print(&mut rt.stderr(), rt.alloc(), planned)?;
     let mut out = rt.stdout();
     if options.check {
         print_check(&mut out, rt.alloc(), &planned.verdict, done)?;
@@ -145,7 +162,8 @@ fn print_planned(
     }
 }
 
-/// Makes a plan, and has Redis carry it out.
+/// Makes a plan, and has Redis carry it out. Who is in the group is looked up before: a plan that is carried out makes
+/// the consumers that it gives entries.
 fn carry_out(
     rt: &HostRuntime,
     options: &Options<'_>,
@@ -153,30 +171,47 @@ fn carry_out(
     asked: &Asked,
     wire: &mut Wire,
 ) -> Result<Status, Fault> {
+    let members = match look_members(wire, rt.alloc(), policy, asked) {
+        Ok(members) => members,
+        Err(fault) => return Err(live_fault(rt.alloc(), fault, wire.script())),
+    };
+    let notes = Notes {
+        policy,
+        asked,
+        members: &members,
+    };
     let terms = Terms {
         tries: options.tries,
         within: options.within,
         at_most: options.at_most,
     };
     match run(wire, rt.alloc(), policy, asked, terms) {
-        Ok(
-            Ran::Done {
-                planned,
-                claimed,
-                gap,
-            },
-        ) => {
-            match print_carried_out(rt, options, asked, &planned, (claimed, gap)) {
-                Err(Fault::Output | Fault::Memory) => Err(Fault::OutputOfDone),
-                printed => printed,
-            }
-        }
-        Ok(Ran::Impossible(planned)) => print_planned(rt, options, asked, &planned, false),
-        Ok(Ran::Stale { what, of }) => {
+        Ok(ran) => print_ran(rt, options, notes, ran),
+        Err(fault) => Err(live_fault(rt.alloc(), fault, wire.script())),
+    }
+}
+
+/// Prints what came of the rounds.
+fn print_ran(
+    rt: &HostRuntime,
+    options: &Options<'_>,
+    notes: Notes<'_>,
+    ran: Ran,
+) -> Result<Status, Fault> {
+    match ran {
+        Ran::Done {
+            planned,
+            claimed,
+            gap,
+        } => match print_carried_out(rt, options, notes, &planned, (claimed, gap)) {
+            Err(Fault::Output | Fault::Memory) => Err(Fault::OutputOfDone),
+            printed => printed,
+        },
+        Ran::Impossible(planned) => print_planned(rt, options, notes, &planned, false),
+        Ran::Stale { what, of } => {
             print_stale(&mut rt.stdout(), rt.alloc(), what.as_slice(), of.as_slice())?;
             Ok(Status::Stale)
         }
-        Err(fault) => Err(live_fault(rt.alloc(), fault, wire.script())),
     }
 }
 
@@ -184,12 +219,12 @@ fn carry_out(
 fn print_carried_out(
     rt: &HostRuntime,
     options: &Options<'_>,
-    asked: &Asked,
+    notes: Notes<'_>,
     planned: &Planned,
     done: (u64, u64),
 ) -> Result<Status, Fault> {
     let (claimed, gap) = done;
-    let status = print_planned(rt, options, asked, planned, true)?;
+    let status = print_planned(rt, options, notes, planned, true)?;
     if !options.check {
         print_done(&mut rt.stdout(), claimed, gap)?;
     }
@@ -238,6 +273,7 @@ fn asked(alloc: Global, options: &Options<'_>) -> Result<Asked, Fault> {
         group: name_of(alloc, options.group)?,
         dead: names_in_order(alloc, dead.as_slice())?,
         idle: options.idle_over,
+        seen_within: options.seen_within,
     })
 }
 

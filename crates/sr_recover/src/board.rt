@@ -2,6 +2,7 @@
 use crate::fault::Fault;
 use crate::table::{Row, print_table};
 use sr_bytes::Name;
+use sr_live::number_in;
 use sr_policy::Policy;
 use std::alloc::{AllocError, Global};
 use std::io::Write;
@@ -11,16 +12,17 @@ pub(crate) fn print_board<W: Write>(
     out: &mut W,
     alloc: Global,
     policy: &Policy,
+    idles: &[(Name, u64)],
     numbers: &[(Name, u64)],
 ) -> Result<(), Fault> {
     let mut rows = Vec::new(alloc);
     rows.push(head(alloc)?)?;
-    for (name, pending) in numbers {
-        rows.push(row_of(alloc, policy, name, *pending)?)?;
+    for (name, idle) in idles {
+        rows.push(row_of(alloc, policy, name, number_in(numbers, name), Some(*idle))?)?;
     }
     for name in policy.consumers() {
-        if !numbers.iter().any(|number| number.0 == *name) {
-            rows.push(row_of(alloc, policy, name, 0)?)?;
+        if number_in(idles, name).is_none() {
+            rows.push(row_of(alloc, policy, name, None, None)?)?;
         }
     }
     print_table(out, alloc, rows.as_slice())
@@ -34,17 +36,26 @@ fn head(alloc: Global) -> Result<Row, AllocError> {
     row.push_text(b"limit")?;
     row.push_text(b"soft")?;
     row.push_text(b"room")?;
+    row.push_text(b"idle")?;
     Ok(row)
 }
 
-/// What one consumer has: `-` where the policy sets no limit.
-fn row_of(alloc: Global, policy: &Policy, name: &Name, pending: u64) -> Result<Row, AllocError> {
+/// What one consumer has: `-` where the policy sets no limit, and for the idle time if the group does not have it.
+fn row_of(
+    alloc: Global,
+    policy: &Policy,
+    name: &Name,
+    pending: Option<u64>,
+    idle: Option<u64>,
+) -> Result<Row, AllocError> {
     let limit = policy.limit(name);
+    let pending = pending.unwrap_or(0);
     let mut row = Row::new(alloc);
     row.push_name(name.as_slice())?;
     row.push_number(pending)?;
     row.push_option(limit)?;
     row.push_option(policy.tier(name).map(|tier| tier.0))?;
     row.push_option(limit.map(|most| most.saturating_sub(pending)))?;
+    row.push_option(idle)?;
     Ok(row)
 }

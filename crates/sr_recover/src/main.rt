@@ -13,6 +13,7 @@ mod board;
 mod check;
 mod errors;
 mod fault;
+mod notes;
 mod options;
 mod place;
 mod print;

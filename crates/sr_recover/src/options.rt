@@ -44,6 +44,8 @@ pub(crate) struct Options<'a> {
     pub(crate) at_most: Option<u64>,
     /// For how many milliseconds an entry has to have been idle.
     pub(crate) idle_over: u64,
+    /// For how many milliseconds a consumer may have been idle, or it is given nothing.
+    pub(crate) seen_within: Option<u64>,
     /// The user's name.
     pub(crate) user: Option<&'a str>,
     /// The path of the file with the password.
@@ -126,6 +128,7 @@ fn options_of<'a>(
             1_000_000_000_000,
             "--idle-over: a number from 0 to 1000000000000",
         )?,
+        seen_within: seen_within(given.get_str("seen-within"))?,
         user: given.get_str("user"),
         password_file: given.get_str("password-file"),
         timeout: number(
@@ -171,6 +174,20 @@ fn at_most(text: Option<&str>) -> Result<Option<u64>, Fault> {
     match text {
         None => Ok(None),
         Some(_) => Ok(Some(number(text, 1, 1, 4096, "--at-most: a number from 1 to 4096")?)),
+    }
+}
+
+/// For how long a consumer may have been idle, if it is written.
+fn seen_within(text: Option<&str>) -> Result<Option<u64>, Fault> {
+    match text {
+        None => Ok(None),
+        Some(_) => Ok(Some(number(
+            text,
+            0,
+            0,
+            1_000_000_000_000,
+            "--seen-within: a number from 0 to 1000000000000",
+        )?)),
     }
 }
 
@@ -230,6 +247,12 @@ fn planner<'a>(alloc: Global, name: &'a str, about: &'a str) -> Result<Command<'
             "idle-over",
             "MS",
             "Move those entries alone that have been idle for MS milliseconds [default: 0]",
+        ))?
+        .arg(valued(
+            alloc,
+            "seen-within",
+            "MS",
+            "Give entries to those consumers alone that have been idle for at most MS milliseconds",
         ))?
         .arg(
             Arg::new(alloc, "check")

@@ -120,6 +120,11 @@ fn foot(alloc: Global, entries: u64, total: u64) -> Result<Row, AllocError> {
     Ok(row)
 }
 
+/// Whether the consumer with this number is given entries.
+pub(crate) fn receives(verdict: &Verdict, consumer: &Live, place: usize) -> bool {
+    share_of(verdict, consumer, place).entries > 0
+}
+
 /// What the consumer with this number gets, and what that costs.
 fn share_of(verdict: &Verdict, consumer: &Live, place: usize) -> Share {
     let mut share = Share {
@@ -197,45 +202,6 @@ pub(crate) fn print_stale<W: Write>(
     say(out, b" ")?;
     print_name(out, alloc, of)?;
     say(out, b", nothing was changed\n")
-}
-
-/// Notes each dead consumer that the group does not have: its name may be misspelt.
-pub(crate) fn print_unknown<W: Write>(
-    out: &mut W,
-    alloc: Global,
-    dead: &[Name],
-    numbers: &[(Name, u64)],
-) -> Result<(), Fault> {
-    for name in dead {
-        if !is_in(numbers, name) {
-            say(out, b"note: the group has no consumer ")?;
-            print_name(out, alloc, name.as_slice())?;
-            say(out, b"\n")?;
-        }
-    }
-    Ok(())
-}
-
-/// Notes each consumer that is given entries and that the group does not have: nobody may be there to read them.
-pub(crate) fn print_newcomers<W: Write>(
-    out: &mut W,
-    alloc: Global,
-    verdict: &Verdict,
-    numbers: &[(Name, u64)],
-) -> Result<(), Fault> {
-    for (place, consumer) in verdict.snapshot().live().iter().enumerate() {
-        if !is_in(numbers, &consumer.name) && share_of(verdict, consumer, place).entries > 0 {
-            say(out, b"note: the group has no consumer ")?;
-            print_name(out, alloc, consumer.name.as_slice())?;
-            say(out, b", and the plan gives it entries\n")?;
-        }
-    }
-    Ok(())
-}
-
-/// Whether the group has the consumer.
-fn is_in(numbers: &[(Name, u64)], name: &Name) -> bool {
-    numbers.iter().any(|number| number.0 == *name)
 }
 
 /// Prints a number behind a text.

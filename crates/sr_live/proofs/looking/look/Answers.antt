@@ -31,12 +31,12 @@ returns-in_err-rows-clause-err g c =
     dead.2)
     broken.read)
 
-pub returns-in_err-numbers-clause-err : goal.returns-in_err-numbers-clause-err
-returns-in_err-numbers-clause-err g c =
+pub returns-in_err-idles-clause-err : goal.returns-in_err-idles-clause-err
+returns-in_err-idles-clause-err g c =
     let dead = c.in_ok-look_dead.ensures.ok in
     let rows = c.in_ok-rows.ensures.ok in
-    let broken = c.in_err-numbers.ensures.err in
-    breaks-passed c.from_residual-in_err-numbers.result _ _ _ c.from_residual-in_err-numbers.ensures.1 broken.looking
+    let broken = c.in_err-idles.ensures.err in
+    breaks-passed c.from_residual-in_err-idles.result _ _ _ c.from_residual-in_err-idles.ensures.1 broken.looking
     (reads-later _ _ _ _ _ dead.0 dead.1
     (ListsDead-reads c.args.asked.now.key c.args.asked.now.group c.args.asked.now.idle c.args.asked.now.dead.items _ _
     dead.2)
@@ -49,9 +49,9 @@ returns-clause-ok g c =
     let same : sorted ≡ c.in_ok-listed.listed.items = search rules in
     looked-from (g.P.Peer.sent c.args.peer.now) (g.P.Peer.got c.args.peer.now) (g.P.Peer.sent c.look_dead.new.peer)
     (g.P.Peer.got c.look_dead.new.peer) (g.P.Peer.sent c.look_entries.new.peer) (g.P.Peer.got c.look_entries.new.peer)
-    (g.P.Peer.sent c.look_numbers.new.peer) (g.P.Peer.got c.look_numbers.new.peer) c.args.asked.now.key
-    c.args.asked.now.group c.args.asked.now.idle c.args.asked.now.dead.items c.in_ok-numbers.numbers.items listed sorted
+    (g.P.Peer.sent c.look_live.new.peer) (g.P.Peer.got c.look_live.new.peer) c.args.asked.now
+    _ _ listed sorted
     c.in_ok-rows.rows.items c.in_ok-look_dead.ensures.ok
     (subst (λ (pairs : List (Id × Text)). IsPermutation listed pairs) (sym same) c.in_ok-listed.ensures.same)
     (subst (IsSortedBy (λ a b. is_below a.0 b.0)) (sym same) c.in_ok-listed.ensures.rising)
-    c.in_ok-rows.ensures.ok c.in_ok-numbers.ensures.ok
+    c.in_ok-rows.ensures.ok c.in_ok-idles.ensures.ok

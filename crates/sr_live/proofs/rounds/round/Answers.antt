@@ -1,4 +1,4 @@
-use Rattle.std.proofs.Common.{rules, ◌≡◌, List, None, Some, subst}
+use Rattle.std.proofs.Common.{rules, ◌≡◌, None, Some, subst}
 use Rattle.sr_live.specs.declared.conclusion.Concluded.TheVariants as concluded
 use Rattle.sr_live.specs.Rounds.{IsJudged, IsPlanned}
 use Rattle.sr_live.specs.Conclusion.{SaysConcluded}
@@ -22,7 +22,7 @@ returns-in_err-words-clause-err g c =
     broken-memory c.args.policy.now c.args.asked.now c.args.terms _ _
     (g.P.Peer.sent c.args.peer.now) (g.P.Peer.got c.args.peer.now) _ _ c.from_residual-in_err-words.result
     c.from_residual-in_err-words.ensures.1
-    (reads-whole _ _ _ _ seen.0 seen.1 (IsLooked-reads _ _ c.args.asked.now.idle _ _ _ _ is.looked))
+    (reads-whole _ _ _ _ seen.0 seen.1 (IsLooked-reads c.args.asked.now _ _ _ _ is.looked))
 
 -- there is no plan
 pub returns-in_default-2-clause-ok : goal.returns-in_default-2-clause-ok

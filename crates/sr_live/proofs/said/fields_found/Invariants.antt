@@ -9,5 +9,5 @@ abbrev pub invariant-loop : goal.invariant-loop
 invariant-loop l =
     (fields : List (List ℕ × wire.Part)) × (length fields ≡ l.counter)
     × (option_map part_of l.found.name ≡ value_at (codes "name") fields)
-    × (option_map part_of l.found.pending ≡ value_at (codes "pending") fields)
+    × (option_map part_of l.found.idle ≡ value_at (codes "idle") fields)
     × (l.initial.parts ≡ fields_parts fields ++ l.parts)

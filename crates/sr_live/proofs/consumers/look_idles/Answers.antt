@@ -2,7 +2,7 @@ use Rattle.std.proofs.Common.{◌∙◌, List, inl, refl}
 use Rattle.sr_policy.specs.{Text}
 use Rattle.sr_live.specs.Looking.{consumers_call}
 use Rattle.sr_live.proofs.ReadingLemmas.{breaks-memory, breaks-understood, reads-none, reads-part, sends-whole}
-use Rattle.sr_live.proofs.looking.look_numbers.Goals as goal
+use Rattle.sr_live.proofs.consumers.look_idles.Goals as goal
 
 pub returns-in_err-request-clause-err : goal.returns-in_err-request-clause-err
 returns-in_err-request-clause-err g c =
