@@ -22,6 +22,8 @@ SILENCE = 400  # milliseconds, for answers that stop: long enough that no other 
 HANGS = 5  # of the cuts every this many hangs too
 CALLS = ["XPENDING", "XPENDING", "XRANGE", "XRANGE", "XPENDING", "EVALSHA", "EVAL"]
 FIRST_SENT = CALLS.index("EVALSHA")
+SEEN = ["--seen-within", 10**12]
+SEEN_CALL = 3  # with it: behind XPENDING and two of XRANGE
 UNKNOWN = b"redis: the plan was sent, and what came of it is not known: "
 
 # What comes in place of an answer: no reply of RESP2, another one, or one that only begins well.
@@ -123,7 +125,7 @@ def garbage(lengths):
             yield number, f"another reply behind {CALLS[number]}", lambda text: Sent(text + b"+OK\r\n", "close")
 
 
-def lengths_of(side):
+def lengths_of(side, *options):
     """How many bytes each answer has, of a run of which nothing is cut."""
     lengths = []
 
@@ -133,7 +135,7 @@ def lengths_of(side):
         return sent
 
     side.begin(act)
-    side.run()
+    side.run(*options)
     return lengths
 
 
@@ -169,6 +171,19 @@ def broken(tally, side):
     tally.rows += len(cases)
     tally.wrong += len(wrong)
     print(f"{len(cases)} answers were cut or replaced", flush=True)
+
+
+def idles(tally, side):
+    """The answer to XINFO CONSUMERS, which --seen-within asks for, is cut or another one."""
+    name, length = lengths_of(side, *SEEN)[SEEN_CALL]
+    tally.check("the call for idle times", "XINFO", name)
+    changes = [cut(at, "close") for at in range(length)]
+    changes += [lambda _, text=text: Sent(text, "close") for text in GARBAGE]
+    for change in changes:
+        side.begin(replaced(SEEN_CALL, change))
+        found = side.run(*SEEN)
+        seen = *found[:2], found.errors.startswith(b"redis: "), side.owners()
+        tally.check("an answer to XINFO that is cut or replaced", (1, b"", True, b"DD"), seen)
 
 
 def moved(tally, side):
@@ -278,7 +293,7 @@ def compare(tally):
     """Compares all of it."""
     side = Side()
     try:
-        for part in (moved, without_host, by_ipv6, killed, writes, broken):
+        for part in (moved, without_host, by_ipv6, killed, writes, idles, broken):
             part(tally, side)
         tally.check("the proxy's faults", [], side.proxy.faults)
     finally:
