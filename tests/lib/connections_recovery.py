@@ -21,7 +21,7 @@ LIMIT = 1_000  # entries that a taker may have
 CLASSES = 4
 AT_ONCE, EACH = 20, 1_024  # recoveries that are asked for at once, and the entries of each: too many for the loop to solve
 MOST = 2.5  # times what one takes of the loop, while a PING of another client waits
-PLACES, GONE = 4, 8  # plans that are wanted beside the loop at a time, and clients that go away while they wait for a place
+PLACES, GONE = 4, 20  # plans that are wanted beside the loop at a time, and clients that go away while they wait for a place
 WORKED = 2 * CLIENTS  # entries that the busy clients do from one recovery to the next
 READ = re.compile(rb"\*1\r\n\*2\r\n\$1\r\ns\r\n\*1\r\n\*2\r\n\$\d+\r\n(\d+-\d+)\r\n\*2\r\n\$1\r\nc\r\n\$2\r\nk0\r\n")
 
@@ -175,12 +175,13 @@ def in_turn(tally, server):
 def left_before_planned(tally, server):
     """Clients go away while they wait for a place for their plans. The places are given to who waits behind them."""
     with server.connect() as maker:
-        stranded = Stranded(maker, LARGE, CLASSES)
+        stranded = Stranded(maker, EACH, CLASSES)
         keys = [stranded.more() for _ in range(PLACES + GONE + 1)]
         heavy.settled(server)
         with Crowd(server, len(keys)) as clients:
             asked_at_once(clients, keys)
+            crowd.pinged(maker.socket)
             for each in clients.sockets[PLACES:-1]:
                 crowd.leave(each, killed=True)
             for place in (*range(PLACES), len(keys) - 1):
-                tally.holds(f"recovery {place} is done", concluded(clients.sockets[place], LARGE))
+                tally.holds(f"recovery {place} is done", concluded(clients.sockets[place], EACH))
