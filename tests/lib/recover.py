@@ -22,6 +22,7 @@ from .servers import HOST, Connection
 ROOT = os.path.join(os.path.dirname(os.path.realpath(__file__)), "..", "..")
 PROGRAM = os.environ.get("SR_RECOVER", os.path.join(ROOT, "crates", "sr_recover", "out", "sr_recover"))
 SECONDS = 120  # that the program has
+UNREAD = object()  # in place of the fields of an entry that was listed, and not asked for
 
 # What the program printed, how it ended, and after how long.
 Run = collections.namedtuple("Run", "status out errors seconds")
@@ -241,13 +242,15 @@ class Told:
         elif words[0] == b"XPENDING":
             self.rows = {} if self.is_whole else self.rows
             self.is_whole = False
-            self.rows.setdefault(words[-1], []).extend([row[0], None] for row in reply)
-        elif words[0] == b"XRANGE" and reply:
+            self.rows.setdefault(words[-1], []).extend([row[0], UNREAD] for row in reply)
+        elif words[0] == b"XRANGE":
             for row in (row for own in self.rows.values() for row in own if row[0] == words[2]):
-                row[1] = reply[0][1]
+                row[1] = reply[0][1] if reply else None
 
     def seen(self):
-        return Seen({name: [tuple(row) for row in own] for name, own in self.rows.items()}, self.numbers)
+        """With --at-most entries that come later are listed and not read: no plan has to do with them."""
+        rows = {name: [tuple(row) for row in own if row[1] is not UNREAD] for name, own in self.rows.items()}
+        return Seen(rows, self.numbers)
 
     def live(self, lives, within):
         """Those of the consumers that may be given entries: that have been idle for at most so long, if that is asked for."""

@@ -51,12 +51,12 @@ GARBAGE = [
     b"*3\r\n+done\r\n:2\r\n:0\r\n",
     b"*4\r\n$4\r\ndone\r\n:2\r\n:0\r\n:0\r\n",
     b"*3\r\n:2\r\n:0\r\n$4\r\ndone\r\n",
-    b"*99999999\r\n",
     b"%1\r\n+done\r\n:2\r\n",
     b"_\r\n",
     b"*3\n$4\ndone\n:2\n:0\n",
     b"*1\r\n" * 2000,
 ]
+ENDLESS = b"*99999999\r\n"  # too long: before the script fewer entries are asked for then, at another connection
 
 
 class Side:
@@ -119,7 +119,7 @@ def garbage(lengths):
     """Something else comes in place of each answer, or behind it."""
     noise = [random.Random(seed).randbytes(40) for seed in range(5)]
     for number in range(len(lengths)):
-        for text in [*GARBAGE, *noise]:
+        for text in [*GARBAGE, *noise, *([] if number < FIRST_SENT else [ENDLESS])]:
             yield number, f"{text[:40]!r} in place of {CALLS[number]}", lambda _, text=text: Sent(text, "close")
         if CALLS[number : number + 2] != ["XRANGE", "XRANGE"]:
             yield number, f"another reply behind {CALLS[number]}", lambda text: Sent(text + b"+OK\r\n", "close")

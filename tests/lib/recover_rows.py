@@ -64,13 +64,13 @@ class Bench:
         return Dump(self.connection, key).text
 
 
-def before_script(connection, changes):
-    """Has another client do this right before the program calls the script for the first time."""
-    left = [changes]
+def before_script(connection, changes, at=1):
+    """Has another client do this right before the program calls the script for the first time, or another one."""
+    left = [changes, *[None] * (at - 1)]
 
     def act(call):
         if call.words[0] == b"EVALSHA" and left:
-            all_replies(connection, lines(left.pop()))
+            all_replies(connection, lines(left.pop() or "PING"))
         return passed_on(call)
 
     return act
@@ -220,6 +220,7 @@ OPTIONS = [
     f"--within {2**64}",
     "--at-most 0",
     "--at-most 4097",
+    "--all",
     "--timeout 0",
     "--timeout 600001",
     "--db -1",
@@ -235,6 +236,8 @@ def command_lines(bench, _):
     for options in OPTIONS:
         found = bench.plan(*options.split())
         bench.check(options, (2, b"", True), (found.status, found.out, found.errors.startswith(b"error: ")))
+    found = bench.plan("--all", "--check", action="run")
+    bench.check("--all --check", (2, b"", b"error: --all: it prints a line for each step, and no --check\n"), found[:3])
     for line in LINES:
         found = ended([PROGRAM, *line.split()])
         bench.check(f"sr_recover {line}", (2, b"", True), (found.status, found.out, found.errors != b""))
@@ -362,6 +365,7 @@ RIGHTS = [
     ("+xclaim", "ERR The user executing the script can't run this command or subcommand"),
     ("+evalsha", "NOPERM this user has no permissions to run the 'evalsha' command"),
     ("+eval", "NOPERM this user has no permissions to run the 'eval' command"),
+    ("+select", "NOPERM this user has no permissions to run the 'select' command"),
     ("~s", "NOPERM this user has no permissions to access one of the keys used as arguments"),
 ]
 ADVICE = b"(the user lacks a right: docs/LIVE.md has the line for ACL SETUSER)\n"
@@ -376,9 +380,11 @@ def rights(bench, _):
     bench.check("the rights that are tried", tried, sorted(word for word in granted if word[0] in "+~"))
     for missing, wanted in [*RIGHTS, (None, None)]:
         left = [word for word in granted if word != missing]
-        bench.begin([*TWO, ["SCRIPT", "FLUSH"], ["ACL", "SETUSER", recover, "reset", *left]])
+        moving = [["MOVE", "s", 3]] if missing in (None, "+select") else []
+        bench.begin([*TWO, ["SCRIPT", "FLUSH"], ["ACL", "SETUSER", recover, "reset", *left], *moving])
         before = bench.dump()
-        found = bench.plan("--user", recover, action="run", env={"REDISCLI_AUTH": SECRET})
+        options = ["--user", recover, *(["--db", 3] if moving else [])]
+        found = bench.plan(*options, action="run", env={"REDISCLI_AUTH": SECRET})
         if missing:
             bench.expect(f"without {missing}", (1, b"", wanted.encode()), found)
             bench.check(f"without {missing}: advice", ADVICE, found.errors[-len(ADVICE) :])
@@ -419,6 +425,118 @@ def firsts(bench, _):
     bench.check("the first", [b"1-1"], moved(bench, lives, 1))
     bench.check("the next two", [b"3-1", b"4-1"], moved(bench, lives, 2))
     bench.check("none is left", [], moved(bench, lives, 4096))
+
+
+ONE_LIVE = [Live(b"B", 9999, None, {b"x": 1})]
+
+
+def pending_for(dead, number):
+    """Commands by which the entries from 1-1 on are pending for these consumers, each with the numbers of its own."""
+    yield ["XGROUP", "CREATE", "s", "g", "0", "MKSTREAM"]
+    yield from (["XADD", "s", f"{at}-1", "c", "x"] for at in range(1, number + 1))
+    for name, own in dead.items():
+        ids = [f"{at}-1" for at in own]
+        yield from (["XCLAIM", "s", "g", name, 0, *ids[at : at + 1000], "FORCE", "JUSTID"] for at in range(0, len(ids), 1000))
+
+
+# Who has which entries; up to which they are deleted; --at-most; how many pages and how many entries are looked up.
+REACHES = [
+    ("ten of many", {"D": range(1, 5001)}, 0, 10, 1, 10),
+    ("as many as there are", {"D": range(1, 1001)}, 0, 1000, 1, 1000),
+    ("one page and one entry", {"D": range(1, 5001)}, 0, 1001, 2, 1001),
+    ("behind gone ones", {"D": range(1, 5001)}, 1500, 10, 2, 1510),
+    ("fewer than asked for", {"D": range(1, 2002)}, 0, 4096, 3, 2001),
+    ("two take turns", {"D": range(1, 6001, 2), "E": range(2, 6001, 2)}, 0, 10, 2, 10),
+    ("two take turns, two pages each", {"D": range(1, 6001, 2), "E": range(2, 6001, 2)}, 0, 2500, 4, 2500),
+    ("one after the other", {"D": range(1, 3001), "E": range(3001, 6001)}, 0, 2500, 4, 2500),
+    ("the later one first", {"D": range(3001, 6001), "E": range(1, 3001)}, 0, 2500, 4, 2500),
+    ("one has few", {"D": range(1, 3001), "E": range(1500, 1501)}, 0, 1600, 3, 1600),
+]
+
+
+def no_further(bench, proxy):
+    """--at-most: no more pages and no more entries are looked up than it needs. The plan is that of the first ones."""
+    for what, dead, deleted, most, pages, entries in REACHES:
+        bench.begin([*pending_for(dead, 6000), ["XTRIM", "s", "MINID", f"{deleted + 1}-1"]])
+        proxy.begin()
+        found = bench.plan("--at-most", most, "--check", lives=ONE_LIVE, names=["s", "g", *dead], port=proxy.port)
+        ids = [line.split()[1] for line in found.out.split(b"\n") if line.startswith(b"entry ")]
+        mine = sorted({at for own in dead.values() for at in own if at > deleted})[:most]
+        bench.check(f"{what}: the first ones", (0, [b"%d-1" % at for at in mine]), (found.status, ids))
+        calls = [sum(words[0] == name and len(words) > 3 for words in proxy.calls) for name in (b"XPENDING", b"XRANGE")]
+        bench.check(f"{what}: pages and entries", [pages, entries], calls)
+
+
+def many(bench, proxy):
+    """More pending than are looked at: with --at-most the first ones, whatever comes later; otherwise a fault, and soon."""
+    bench.begin(pending_for({"D": range(1, 120_001)}, 120_000))
+    proxy.begin()
+    found = bench.plan("--at-most", 4096, "--timeout", 60000, lives=ONE_LIVE, port=proxy.port)
+    bench.check("120,000 are pending", (0, LARGE), (found.status, Printed(found.out).shares[b"B"][0]))
+    bench.check("calls for 4,096 of them", True, len(proxy.calls) < LARGE + 10)
+    text = b"group: too many entries: 100,000 are looked at at most, and without --at-most 4,096 may be stranded\n"
+    proxy.begin()
+    bench.expect("too many are stranded", (1, b"", text), bench.plan("--timeout", 60000, lives=ONE_LIVE, port=proxy.port))
+    bench.check("that is known after 4,097", True, len(proxy.calls) < LARGE + 10)
+    bench.connection.call("XTRIM", "s", "MINID", "110001-1")
+    bench.expect("too many are gone", (1, b"", text), bench.plan("--timeout", 60000, "--at-most", 99, lives=ONE_LIVE))
+
+
+def calls_of(connection, command):
+    """How often Redis was called so since CONFIG RESETSTAT."""
+    stats = connection.call("INFO", "commandstats").decode()
+    return sum(int(line.split("calls=")[1].split(",")[0]) for line in stats.split() if line.startswith(f"cmdstat_{command}:"))
+
+
+SUM = b"note: all is moved in steps, and together they may cost more than one plan would\n"
+
+
+def everything(bench, proxy):
+    """--all: one line a step, and how it ends. The two entries of TWO cost 6 together, and 202 one after the other."""
+    bench.begin()
+    first, second = (b"done, claimed 1, gap 0, cost %d\n" % cost for cost in (2, 200))
+    found = bench.plan("--all", "--at-most", 1, action="run")
+    bench.check("one by one", (0, first + second, SUM), found[:3])
+    found = bench.plan("--all", action="run")
+    bench.check("none is left", (0, b"done, claimed 0, gap 0, cost 0\n", b""), found[:3])
+    bench.begin()
+    found = bench.plan("--all", action="run")
+    bench.check("one step", (0, b"done, claimed 2, gap 0, cost 6\n", b""), found[:3])
+    bench.begin([*TWO, ["XDEL", "s", "2-1"]])
+    found = bench.plan("--all", action="run")
+    bench.check("one is gone", (0, first + b"gone: 1\ngone 2-1 of D\n", b""), found[:3])
+    bench.begin()
+    lives = [Live(b"A", 2, None, {b"x": 1, b"y": 1})]
+    found = bench.plan("--all", "--at-most", 1, action="run", lives=lives)
+    bench.check("too few places", (3, first + b"none: too few places for\n2-1\n", SUM), found[:3])
+    bench.begin()
+    proxy.begin(before_script(bench.connection, "XDEL s 2-1", 2))
+    found = bench.plan("--all", "--at-most", 1, "--tries", 1, action="run", port=proxy.port)
+    bench.check("the second is stale", (4, first + b"stale: entry 2-1, nothing was changed\n", SUM), found[:3])
+    bench.begin(pending_for({"D": range(1, 5001)}, 5000))
+    found = bench.plan("--all", action="run", lives=ONE_LIVE)
+    counts = [int(line.split(b",")[1].split()[1]) for line in found.out.split(b"\n")[:-1]]
+    bench.check("5,000 entries", (0, [4096, 904]), (found.status, counts))
+
+
+def too_long(bench, _):
+    """Entries that have more than 64 MiB together are read fewer at a time; one that has that alone cannot be read."""
+    bench.begin(pending_for({}, 0))
+    value = "v" * (2200 << 10)
+    all_replies(bench.connection, [["XADD", "s", f"{at}-1", "c", "x", "v", value] for at in range(1, 34)])
+    bench.connection.call("XCLAIM", "s", "g", "D", 0, *[f"{at}-1" for at in range(1, 34)], "FORCE", "JUSTID")
+    for options, entries, calls in ([], 33, 32 + 33), (["--at-most", 1], 1, 1), (["--at-most", 20], 20, 20):
+        bench.connection.call("CONFIG", "RESETSTAT")
+        found = bench.plan("--timeout", 60000, *options, lives=ONE_LIVE)
+        bench.check(f"{entries} long entries", (0, entries), (found.status, Printed(found.out).shares.get(b"B", [0])[0]))
+        bench.check(f"{entries} long entries: calls", calls, calls_of(bench.connection, "xrange"))
+    bench.begin([*pending_for({}, 1), ["XADD", "s", "2-1", "c", "x", "v", "v" * (65 << 20)]])
+    bench.connection.call("XCLAIM", "s", "g", "D", 0, "1-1", "2-1", "FORCE", "JUSTID")
+    found = bench.plan("--timeout", 60000, lives=ONE_LIVE)
+    bench.expect("an entry of 65 MiB", (1, b"", b"redis: a reply is too long\n"), found)
+    found = bench.plan("--timeout", 60000, "--at-most", 1, lives=ONE_LIVE)
+    bench.check("the one before it", (0, 1), (found.status, Printed(found.out).shares[b"B"][0]))
+    bench.begin()
 
 
 def gone(bench, _):
@@ -613,7 +731,7 @@ def large(bench, _):
         bench.check(f"{action} of a large group", (0, notes, LARGE), told)
         bench.check(f"{action}: claimed", (LARGE, 0) if action == "run" else None, printed.done)
     bench.begin([*commands, *lines("XADD s 9999-1 c k0 v v\nXREADGROUP GROUP g D STREAMS s >")])
-    text = b"group: too many entries: 100,000 may be pending for the dead, and without --at-most 4,096 stranded\n"
+    text = b"group: too many entries: 100,000 are looked at at most, and without --at-most 4,096 may be stranded\n"
     bench.expect("one entry more", (1, b"", text), bench.plan("--timeout", 60000, lives=lives))
     found = bench.plan("--timeout", 60000, "--at-most", 100, action="run", lives=lives)
     bench.expect("the first hundred", (0, b"done, claimed 100, gap", b"and the plan gives it entries"), found)
@@ -623,7 +741,8 @@ def compare(tally, connection):
     """Compares all rows."""
     bench = Bench(tally, connection)
     looks = between, statuses, other_names, policies, command_lines, places, passwords, echoing, rights
-    parts = *looks, firsts, gone, idle, newcomers, seen_within, leftovers, rounds, within_snapshot, checked, silence, large
+    reads = firsts, no_further, many, everything, too_long, gone, idle, newcomers, seen_within, leftovers
+    parts = *looks, *reads, rounds, within_snapshot, checked, silence, large
     with Proxy(bench.port) as proxy:
         for part in parts:
             part(bench, proxy)

@@ -1,6 +1,6 @@
 -- What comes of a call of the script, and of the two by which it is called.
 use Rattle.std.proofs.Common.{◌≡◌, ℕ, List, [], ◌∷◌, ◌++◌, codes, IfErr, IfOk, Option, Result, Ok, Err, ap, inl, inr, refl}
-use Rattle.std.proofs.Common.{append-nil, subst, sym, ◌∙◌}
+use Rattle.std.proofs.Common.{append-nil, subst, sym}
 use Rattle.std.proofs.lemmas.Result.{IfErr-weaker, IfOk-at_ok, IfOk-weaker, err_from_is_err_and}
 use Rattle.std.specs.Io.KnownBytes.{Appends}
 use Rattle.std.specs.Result.{IsErrAnd}

@@ -13,3 +13,4 @@ pub mod ServerLemmas
 pub mod RoundsLemmas
 pub mod ConclusionLemmas
 pub mod FirstLemmas
+pub mod ListingLemmas

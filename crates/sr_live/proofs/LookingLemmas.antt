@@ -1,9 +1,9 @@
 -- How a group is looked up: what one more word, entry or reply adds to what was asked and answered.
-use Rattle.std.proofs.Common.{◌≡◌, ℕ, ◌+◌, ◌<◌, ◌≤◌, List, [], ◌∷◌, ◌++◌, length, get_or, map, take, drop, codes}
+use Rattle.std.proofs.Common.{◌≡◌, ℕ, ◌+◌, ◌-◌, ◌<◌, ◌≤◌, List, [], ◌∷◌, ◌++◌, length, get_or, map, take, drop, codes}
 use Rattle.std.proofs.Common.{Option, Result, Ok, refl, sym, ap, ◌∙◌, subst}
 use Rattle.std.proofs.Common.{Bool, true, false, cond, ◌&&◌, ◌||◌, ◌==◌, nat_lt}
 use Rattle.std.proofs.Common.{append-nil, append_assoc, take-append-drop}
-use Rattle.std.proofs.lemmas.List.{flat_map_more, map-append, take_all, take_more}
+use Rattle.std.proofs.lemmas.List.{flat_map_more, length-map, map-append, take_all, take_more}
 use Rattle.std.proofs.lemmas.List.Concat.{flat_map-append}
 use Rattle.std.proofs.lemmas.Result.{IfOk-at_ok, IfOk-weaker}
 use Rattle.std.specs.Io.KnownBytes.{Appends}
@@ -17,8 +17,10 @@ use Rattle.sr_ids.specs.{is_below, spelling}
 use Rattle.sr_policy.specs.{Text}
 use Rattle.sr_peer.specs.{Part, part_text, request_text}
 use Rattle.sr_live.specs.declared.looked.Row.{Row}
-use Rattle.sr_live.specs.Looking.{Exchange, LooksEntries, Talks, answered_of, asked_of, entry_call}
+use Rattle.sr_live.specs.Looking.{Exchange, LooksEntries, Talks, answered_of, asked_of, entry_call, listed_as}
 use Rattle.sr_live.specs.Said.{SayEntries, SaysEntry}
+use Rattle.sr_live.specs.steps.Listing.{Finds}
+use Rattle.sr_live.proofs.FirstLemmas.{Finds-more, Finds-none, finds-all, stranded_in}
 use Rattle.sr_live.proofs.TalkLemmas.{Talks-none, Talks-trans}
 
 -- ---- what a call says is understood
@@ -195,7 +197,7 @@ looks-together key sent got sent_then got_then requests answers parts listed old
 
 -- ---- one entry after another
 
-LooksEntries-append : (key : Text) (rows more : List Row) (front behind : List Exchange) → LooksEntries key rows front
+pub LooksEntries-append : (key : Text) (rows more : List Row) (front behind : List Exchange) → LooksEntries key rows front
     → LooksEntries key more behind → LooksEntries key (rows ++ more) (front ++ behind)
 LooksEntries-append key [] more front behind none looks =
     subst (LooksEntries key more) (ap (λ (l : List Exchange). l ++ behind) (sym none)) looks
@@ -208,17 +210,16 @@ LooksEntries-append key (row ∷ rows) more front behind (parts, others, says, r
 )
 
 -- some of the entries were looked up, and these are left
-abbrev pub AreLooked : Text → Option (List ℕ) → Option (List ℕ) → Option (List ℕ) → Option (List ℕ) → List Row
-    → List (Id × Text) → List (Id × Text) → Type 0
-AreLooked key sent got sent_then got_then rows left listed =
-    (talk : List Exchange) × Talks sent got sent_then got_then talk × LooksEntries key rows talk
-    × (map (λ row. (row.id, row.owner)) rows ++ left ≡ listed)
+abbrev pub AreFound : Text → Option (List ℕ) → Option (List ℕ) → Option (List ℕ) → Option (List ℕ) → List Row → List Row
+    → ℕ → ℕ → List (Id × Text) → List (Id × Text) → Type 0
+AreFound key sent got sent_then got_then old now wanted left_wanted left listed =
+    (talk : List Exchange) × (more : List Row) × Talks sent got sent_then got_then talk × LooksEntries key more talk
+    × (map listed_as more ++ left ≡ listed) × (now ≡ old ++ more) × Finds wanted more left_wanted
 
-pub AreLooked-none : (key : Text) (sent got : Option (List ℕ)) (rows : List Row) (listed : List (Id × Text))
-    → rows ≡ [] → AreLooked key sent got sent got rows listed listed
-AreLooked-none key sent got rows listed none =
-    subst (λ (l : List Row). AreLooked key sent got sent got l listed listed) (sym none)
-    ([], Talks-none sent got, refl, refl)
+pub AreFound-none : (key : Text) (sent got : Option (List ℕ)) (rows : List Row) (wanted : ℕ) (listed : List (Id × Text))
+    → 0 < wanted → AreFound key sent got sent got rows rows wanted wanted listed listed
+AreFound-none key sent got rows wanted listed some =
+    ([], [], Talks-none sent got, refl, refl, sym (append-nil rows), Finds-none wanted some)
 
 -- a list that is split in two
 pub parted-at : {X : Type 0} (n : ℕ) (left together rest : List X) → together ≡ take n left → rest ≡ drop n left
@@ -228,36 +229,51 @@ parted-at {X} n left together rest front back =
     ∙ ap (λ (l : List X). together ++ l) (sym back)
 
 -- some more of them were looked up
-pub AreLooked-next : (key : Text) (sent got sent_then got_then sent_last got_last : Option (List ℕ))
-    (before now : List Row) (left together rest listed : List (Id × Text)) → left ≡ together ++ rest
-    → AreLooked key sent got sent_then got_then before left listed
+pub AreFound-next : (key : Text) (sent got sent_then got_then sent_last got_last : Option (List ℕ))
+    (old before now : List Row) (wanted left_then left_last : ℕ) (left together rest listed : List (Id × Text))
+    → left ≡ together ++ rest → 0 < left_then
+    → AreFound key sent got sent_then got_then old before wanted left_then left listed
     → (talk : List Exchange) × (more : List Row) × Talks sent_then got_then sent_last got_last talk
-    × LooksEntries key more talk × (map (λ row. (row.id, row.owner)) more ≡ together) × (now ≡ before ++ more)
-    → AreLooked key sent got sent_last got_last now rest listed
-AreLooked-next key sent got sent_then got_then sent_last got_last before now left together rest listed parted
-    (front, talked, looked, are) (behind, more, talks, looks, new, is) = (
+    × LooksEntries key more talk × (map listed_as more ≡ together) × (now ≡ before ++ more)
+    × Finds left_then more left_last
+    → AreFound key sent got sent_last got_last old now wanted left_last rest listed
+AreFound-next key sent got sent_then got_then sent_last got_last old before now wanted left_then left_last left together
+    rest listed parted some (front, first, talked, looked, are, is, found)
+    (behind, more, talks, looks, new, pushed, finds) = (
       front ++ behind,
+      first ++ more,
       Talks-trans sent got sent_then got_then sent_last got_last front behind talked talks,
-      subst (λ (l : List Row). LooksEntries key l (front ++ behind)) (sym is)
-          (LooksEntries-append key before more front behind looked looks),
-      ap (λ (l : List Row). map listed_of l ++ rest) is
-          ∙ ap (λ (l : List (Id × Text)). l ++ rest) (map-append listed_of before more)
-          ∙ append_assoc (map listed_of before) (map listed_of more) rest
-          ∙ ap (λ (l : List (Id × Text)). map listed_of before ++ (l ++ rest)) new
-          ∙ ap (λ (l : List (Id × Text)). map listed_of before ++ l) (sym parted) ∙ are,
+      LooksEntries-append key first more front behind looked looks,
+      ap (λ (l : List (Id × Text)). l ++ rest) (map-append listed_as first more)
+          ∙ append_assoc (map listed_as first) (map listed_as more) rest
+          ∙ ap (λ (l : List (Id × Text)). map listed_as first ++ (l ++ rest)) new
+          ∙ ap (λ (l : List (Id × Text)). map listed_as first ++ l) (sym parted) ∙ are,
+      pushed ∙ ap (λ (l : List Row). l ++ more) is ∙ append_assoc old first more,
+      Finds-more wanted left_then left_last first more some found finds,
     )
 
-pub AreLooked-all : (key : Text) (sent got sent_then got_then : Option (List ℕ)) (rows : List Row)
-    (left listed : List (Id × Text)) → left ≡ [] → AreLooked key sent got sent_then got_then rows left listed
-    → (talk : List Exchange) × Talks sent got sent_then got_then talk × LooksEntries key rows talk
-    × (map (λ row. (row.id, row.owner)) rows ≡ listed)
-AreLooked-all key sent got sent_then got_then rows left listed none (talk, talks, looks, are) = (
-  talk,
-  talks,
-  looks,
-  sym (append-nil (map listed_of rows))
-      ∙ ap (λ (l : List (Id × Text)). map listed_of rows ++ l) (sym none) ∙ are,
-)
+-- the entries that were looked up together, no more than were wanted
+pub found-together : (key : Text) (sent got sent_then got_then : Option (List ℕ)) (none rows old now : List Row)
+    (wanted left : ℕ) (listed : List (Id × Text)) → none ≡ [] → 0 < wanted → length listed ≤ wanted
+    → left ≡ wanted - stranded_in rows → now ≡ old ++ rows
+    → (talk : List Exchange) × (more : List Row) × Talks sent got sent_then got_then talk × LooksEntries key more talk
+    × (map (λ row. (row.id, row.owner)) more ≡ listed) × (rows ≡ none ++ more)
+    → (talk : List Exchange) × (more : List Row) × Talks sent got sent_then got_then talk × LooksEntries key more talk
+    × (map listed_as more ≡ listed) × (now ≡ old ++ more) × Finds wanted more left
+found-together key sent got sent_then got_then none rows old now wanted left listed empty some few counted joined
+    (talk, more, talks, looks, are, is) =
+    let same : rows ≡ more = is ∙ ap (λ (l : List Row). l ++ more) empty in
+    let count : length more ≤ wanted =
+    subst (λ (n : ℕ). n ≤ wanted) (sym (ap length are) ∙ length-map more listed_as) few in (
+      talk,
+      more,
+      talks,
+      looks,
+      are,
+      joined ∙ ap (λ (l : List Row). old ++ l) same,
+      subst (Finds wanted more) (ap (λ (l : List Row). wanted - stranded_in l) (sym same) ∙ sym counted)
+          (finds-all more wanted some count),
+    )
 
 -- ---- the order of ids
 

@@ -1,24 +1,26 @@
 -- Calls that only read: of a look-up that breaks off, what was sent before and what is sent then add up.
-use Rattle.std.proofs.Common.{◌≡◌, ℕ, List, [], ◌∷◌, ◌++◌, map, codes, Option, Result, Err, refl, sym, ap, ◌∙◌, subst}
-use Rattle.std.proofs.Common.{Bool, true, false, Some, None, Ok, append-nil, append_assoc, arith, inl, inr}
+use Rattle.std.proofs.Common.{◌≡◌, ℕ, List, [], ◌∷◌, ◌++◌, map, Option, Some, None, Result, Err, refl, sym, ap, ◌∙◌, subst}
+use Rattle.std.proofs.Common.{Ok, append-nil, append_assoc, inl, inr}
 use Rattle.std.proofs.KnownBytes.{Appends-nil, Appends-trans}
 use Rattle.std.proofs.lemmas.List.Concat.{flat_map-append}
+use Rattle.std.proofs.lemmas.List.Elements.{All-from_recursion, recursion_from_All}
+use Rattle.std.proofs.lemmas.List.Sorted.{All-permutation, IsPermutation-map}
 use Rattle.std.proofs.lemmas.Result.{err_from_is_err_and}
 use Rattle.std.specs.Io.KnownBytes.{Appends}
 use Rattle.std.specs.List.{AllByRecursion, flat_map}
+use Rattle.std.specs.List.Sorted.{IsPermutation}
 use Rattle.std.specs.Result.{IfErr, IsErrAnd}
 use Rattle.sr_ids.specs.declared.id.Id.{Id}
 use Rattle.sr_policy.specs.{Text}
-use Rattle.sr_peer.specs.{Part, Array, request_text}
+use Rattle.sr_peer.specs.{request_text}
 use Rattle.sr_peer.specs.Exchange.{SendsPart}
 use Rattle.sr_live.specs.declared.fault.LiveFault.{LiveFault}
 use Rattle.sr_live.specs.declared.fault.LiveFault.TheVariants.{Memory}
 use Rattle.sr_live.specs.declared.looked.Asked.{Asked}
 use Rattle.sr_live.specs.declared.looked.Row.{Row}
-use Rattle.sr_live.specs.Looking.{Exchange, IsLooked, ListsDead, ListsPages, LooksEntries, LooksIdle, LooksLive, Talks}
-use Rattle.sr_live.specs.Looking.{asked_of, entry_call, numbers_call, pending_call, start_behind}
+use Rattle.sr_live.specs.Looking.{Exchange, IsLooked, ListsDead, ListsPages, LooksEntries, LooksIdle, LooksLive, LooksRows}
+use Rattle.sr_live.specs.Looking.{Talks, asked_of, entry_call, last_of, numbers_call, pending_call, start_after}
 use Rattle.sr_live.specs.Reading.{BreaksOff, HasOnlyRead, IsOfLooking, Reads}
-use Rattle.sr_live.proofs.TalkLemmas.{FullPages, Pages}
 
 -- ---- what was sent
 
@@ -47,7 +49,7 @@ pub reading-append : (xs ys : List Exchange) → AreReading xs → AreReading ys
 reading-append xs ys first then =
     subst (AllByRecursion Reads) (sym (calls_of-append xs ys)) (reads-append (calls_of xs) (calls_of ys) first then)
 
-reading-front : (xs ys : List Exchange) → AreReading (xs ++ ys) → AreReading xs
+pub reading-front : (xs ys : List Exchange) → AreReading (xs ++ ys) → AreReading xs
 reading-front xs ys all =
     reads-front (calls_of xs) (calls_of ys) (subst (AllByRecursion Reads) (calls_of-append xs ys) all)
 
@@ -142,44 +144,49 @@ entry-reads key id = inr (inr refl)
 reads-as : (call other : List Text) → call ≡ other → Reads other → Reads call
 reads-as call other is reads = subst Reads (sym is) reads
 
-pub ListsPages-reads : (key group : Text) (idle : ℕ) (name start : Text) (talk : List Exchange) (ids : List Id)
-    → ListsPages key group idle name start talk ids → AreReading talk
-ListsPages-reads key group idle name start [] ids lists = absurd lists
-ListsPages-reads key group idle name start (exchange ∷ []) ids (is, says, short) =
-    (reads-as exchange.0 (pending_call key group idle start name) is (pending-reads key group idle start name), tt)
-ListsPages-reads key group idle name start (exchange ∷ next ∷ talk) ids (front, behind, is, says, full, lists, joined) = (
-  reads-as exchange.0 (pending_call key group idle start name) is (pending-reads key group idle start name),
-  ListsPages-reads key group idle name (start_behind front) (next ∷ talk) behind lists,
+pub ListsPages-reads : (key group : Text) (idle : ℕ) (name : Text) (last after : Option Id) (talk : List Exchange)
+    (ids : List Id) → ListsPages key group idle name last after talk ids → AreReading talk
+ListsPages-reads key group idle name last after [] ids lists = tt
+ListsPages-reads key group idle name last after (exchange ∷ talk) ids (front, behind, is, says, inl short, joined) = (
+  reads-as exchange.0 (pending_call key group idle (start_after after) name) is
+      (pending-reads key group idle (start_after after) name),
+  subst AreReading (sym short.1) tt,
+)
+ListsPages-reads key group idle name last after (exchange ∷ talk) ids (front, behind, is, says, inr full, joined) = (
+  reads-as exchange.0 (pending_call key group idle (start_after after) name) is
+      (pending-reads key group idle (start_after after) name),
+  ListsPages-reads key group idle name last (last_of front after) talk behind full.1,
 )
 
--- pages that are all full: with an empty one after them they are pages
-FullPages-reads : (key group : Text) (idle : ℕ) (name start : Text) (talk : List Exchange) (ids : List Id)
-    → FullPages key group idle name start talk ids → AreReading talk
-FullPages-reads key group idle name start talk ids full =
-    let parts : List Part = Array 0 ∷ [] in
-    let last : Exchange = (pending_call key group idle (start_behind ids) name, parts) in
-    reading-front talk (last ∷ [])
-    (ListsPages-reads key group idle name start (talk ++ last ∷ []) (ids ++ [])
-    (full (last ∷ []) [] (refl, record { body = []; spelled = refl; rows = refl }, omega arith)))
-
-pub Pages-reads : (full : Bool) (key group : Text) (idle : ℕ) (name start : Text) (talk : List Exchange) (ids : List Id)
-    → Pages full key group idle name start talk ids → AreReading talk
-Pages-reads true key group idle name start talk ids pages = FullPages-reads key group idle name start talk ids pages
-Pages-reads false key group idle name start talk ids pages = ListsPages-reads key group idle name start talk ids pages
-
-pub ListsDead-reads : (key group : Text) (idle : ℕ) (dead : List Text) (talk : List Exchange) (listed : List (Id × Text))
-    → ListsDead key group idle dead talk listed → AreReading talk
-ListsDead-reads key group idle [] talk listed lists = subst AreReading (sym lists.0) tt
-ListsDead-reads key group idle (name ∷ dead) talk listed (own, others, ids, rest, pages, lists, talk_is, listed_is) =
+pub ListsDead-reads : (key group : Text) (idle : ℕ) (last : Option Id) (dead : List Text) (talk : List Exchange)
+    (listed : List (Id × Text)) → ListsDead key group idle last dead talk listed → AreReading talk
+ListsDead-reads key group idle last [] talk listed lists = subst AreReading (sym lists.0) tt
+ListsDead-reads key group idle last (name ∷ dead) talk listed (own, others, ids, rest, pages, lists, talk_is, listed_is) =
     subst AreReading (sym talk_is)
-    (reading-append own others (ListsPages-reads key group idle name (codes "-") own ids pages)
-    (ListsDead-reads key group idle dead others rest lists))
+    (reading-append own others (ListsPages-reads key group idle name last None own ids pages)
+    (ListsDead-reads key group idle last dead others rest lists))
 
 pub LooksEntries-reads : (key : Text) (rows : List Row) (talk : List Exchange) → LooksEntries key rows talk
     → AreReading talk
 LooksEntries-reads key [] talk looks = subst AreReading (sym looks) tt
 LooksEntries-reads key (row ∷ rows) talk (parts, others, says, looks, talk_is) =
     subst AreReading (sym talk_is) (entry-reads key row.id, LooksEntries-reads key rows others looks)
+
+-- in any order
+pub reading-permutation : (xs ys : List Exchange) → IsPermutation xs ys → AreReading xs → AreReading ys
+reading-permutation xs ys same reading =
+    recursion_from_All Reads (calls_of ys)
+    (All-permutation Reads (calls_of xs) (calls_of ys)
+    (IsPermutation-map (λ (exchange : Exchange). exchange.0) xs ys same)
+    (All-from_recursion Reads (calls_of xs) reading))
+
+pub LooksRows-reads : (key group : Text) (idle : ℕ) (dead : List Text) (at_most : Option ℕ) (talk : List Exchange)
+    (rows : List Row) (last : Option Id) → LooksRows key group idle dead at_most talk rows last → AreReading talk
+LooksRows-reads key group idle dead at_most talk rows last looks =
+    reading-permutation (looks.pending ++ looks.entries) talk looks.spelled
+    (reading-append looks.pending looks.entries
+    (ListsDead-reads key group idle last dead looks.pending looks.listed looks.lists)
+    (LooksEntries-reads key rows looks.entries looks.looks))
 
 pub LooksIdle-reads : (key group : Text) (within : Option ℕ) (talk : List Exchange) (idles : List (Text × ℕ))
     → LooksIdle key group within talk idles → AreReading talk
@@ -193,14 +200,13 @@ LooksLive-reads key group within talk idles numbers live =
     (reading-append live.first ((numbers_call key group, live.parts) ∷ [])
     (LooksIdle-reads key group within live.first idles live.looks) (inr (inl refl), tt))
 
-pub IsLooked-reads : (asked : Asked) (talk : List Exchange) (idles numbers : List (Text × ℕ)) (rows : List Row)
-    → IsLooked asked talk idles numbers rows → AreReading talk
-IsLooked-reads asked talk idles numbers rows looked =
+pub IsLooked-reads : (asked : Asked) (at_most : Option ℕ) (talk : List Exchange) (idles numbers : List (Text × ℕ))
+    (rows : List Row) (last : Option Id) → IsLooked asked at_most talk idles numbers rows last → AreReading talk
+IsLooked-reads asked at_most talk idles numbers rows last looked =
     subst AreReading (sym looked.spelled)
-    (reading-append looked.pending (looked.entries ++ looked.last)
-    (ListsDead-reads asked.key asked.group asked.idle asked.dead.items looked.pending looked.listed looked.lists)
-    (reading-append looked.entries looked.last (LooksEntries-reads asked.key rows looked.entries looked.looks)
-    (LooksLive-reads asked.key asked.group asked.seen_within looked.last idles numbers looked.live)))
+    (reading-append looked.looking looked.asking
+    (LooksRows-reads asked.key asked.group asked.idle asked.dead.items at_most looked.looking rows last looked.looks)
+    (LooksLive-reads asked.key asked.group asked.seen_within looked.asking idles numbers looked.live))
 
 -- ---- faults
 

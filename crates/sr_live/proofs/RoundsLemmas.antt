@@ -1,6 +1,6 @@
 -- What a round makes of its calls, and what the rounds come to.
-use Rattle.std.proofs.Common.{◌≡◌, ℕ, zero, suc, ◌+◌, ◌<◌, ◌≤◌, List, [], ◌∷◌, ◌++◌, IfErr, IfOk, Option, Some, None}
-use Rattle.std.proofs.Common.{Result, Ok, Err, add-one, append_assoc, ap, inl, inr, refl, subst, sym, arith, ◌∙◌}
+use Rattle.std.proofs.Common.{◌≡◌, ℕ, ◌+◌, ◌<◌, List, [], ◌∷◌, ◌++◌, IfErr, IfOk, Option, Some, None}
+use Rattle.std.proofs.Common.{Result, add-one, append_assoc, ap, inl, inr, refl, subst, sym, ◌∙◌}
 use Rattle.std.proofs.lemmas.Result.{IfErr-weaker, IfOk-weaker, err_from_is_err_and}
 use Rattle.std.specs.Result.{IsErrAnd}
 use Rattle.sr_check.specs.PlanAnswer.{PlanAnswer, best, short}
@@ -35,7 +35,7 @@ short-from-none group within last idle rows shown (short set) is = (set, refl)
 module _ (rules : Rules) (asked : Asked) (terms : Terms) where
   abbrev AreWords : Planned → List Text → Type 0
   AreWords planned words =
-      words_for planned.verdict.snapshot.group terms.within (last_word planned.last) asked.idle
+      words_for planned.verdict.snapshot.group terms.within (last_word planned.looked.last) asked.idle
       planned.looked.rows.items planned.verdict.snapshot planned.verdict.answer ≡ Some words
 
   ready-from : (planned : Planned) (look before : List Exchange) (words call : List Text)

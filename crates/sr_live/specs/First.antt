@@ -1,4 +1,4 @@
--- The first entries of those that were looked up, if not all are to be moved.
+-- The first entries of those that are pending for the dead, if not all are to be moved.
 -- Source: docs/LIVE.md.
 
 use Rattle.std.specs.Prelude.{ℕ, ◌-◌, List, [], ◌∷◌, Option, Some, None, is_some, ◌==◌, if◌then◌else◌}

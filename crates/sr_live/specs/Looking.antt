@@ -1,7 +1,8 @@
 -- How a group is looked up: which calls are made, and what their replies say.
 -- Source: Redis documentation, commands XINFO CONSUMERS, XPENDING and XRANGE.
 
-use Rattle.std.specs.Prelude.{◌≡◌, ℕ, ◌<◌, ◌≤◌, List, [], ◌∷◌, ◌++◌, length, map, codes, decimal, Option, Some, None}
+use Rattle.std.specs.Prelude.{◌≡◌, ◌⊎◌, ⊤, ℕ, ◌<◌, ◌≤◌, Bool, true, false, not, List, [], ◌∷◌, ◌++◌, length, map, codes}
+use Rattle.std.specs.Prelude.{decimal, Option, Some, None}
 use Rattle.std.specs.Io.KnownBytes.{Appends}
 use Rattle.std.specs.List.{flat_map}
 use Rattle.std.specs.List.Sorted.{IsPermutation, IsSortedBy}
@@ -11,6 +12,7 @@ use Rattle.sr_policy.specs.{Text}
 use Rattle.sr_peer.specs.{Part, part_text, request_text}
 use Rattle.sr_live.specs.declared.looked.Asked.{Asked}
 use Rattle.sr_live.specs.declared.looked.Row.{Row}
+use Rattle.sr_live.specs.First.{kept_rows}
 use Rattle.sr_live.specs.Said.{SaysEntry, SaysIdle, SaysNumbers, SaysPending}
 
 -- a call in words, and the parts of its reply
@@ -55,28 +57,39 @@ entry_call key id = codes "XRANGE" ∷ key ∷ spelling id ∷ spelling id ∷ [
 abbrev pub page : ℕ
 page = 1000
 
--- behind the last of these ids
-abbrev pub start_behind : List Id → Text
-start_behind [] = codes "-"
-start_behind (id ∷ []) = codes "(" ++ spelling id
-start_behind (id ∷ next ∷ ids) = start_behind (next ∷ ids)
+-- the last of these entries, or the one before them
+abbrev pub last_of : List Id → Option Id → Option Id
+last_of [] before = before
+last_of (id ∷ ids) before = last_of ids (Some id)
 
--- the entries that are pending for the consumer from this start on, page by page: the last page is not full
-abbrev pub ListsPages : Text → Text → ℕ → Text → Text → List Exchange → List Id → Type 0
-ListsPages key group idle name start [] ids = ⊥
-ListsPages key group idle name start (exchange ∷ []) ids =
-    (exchange.0 ≡ pending_call key group idle start name) × SaysPending exchange.1 name ids × (length ids < page)
-ListsPages key group idle name start (exchange ∷ next ∷ talk) ids =
-    (front : List Id) × (behind : List Id) × (exchange.0 ≡ pending_call key group idle start name)
-    × SaysPending exchange.1 name front × (page ≤ length front)
-    × ListsPages key group idle name (start_behind front) (next ∷ talk) behind × (ids ≡ front ++ behind)
+-- where a page starts: behind this entry
+abbrev pub start_after : Option Id → Text
+start_after None = codes "-"
+start_after (Some id) = codes "(" ++ spelling id
 
--- the same of several consumers, one after another, each entry with its owner
-abbrev pub ListsDead : Text → Text → ℕ → List Text → List Exchange → List (Id × Text) → Type 0
-ListsDead key group idle [] talk listed = (talk ≡ []) × (listed ≡ [])
-ListsDead key group idle (name ∷ dead) talk listed =
+-- whether all up to the last entry that is looked at lies before the next page; never, if all are looked at
+abbrev pub is_past : Option Id → Option Id → Bool
+is_past None last = false
+is_past (Some after) None = false
+is_past (Some after) (Some last) = not (is_below after last)
+
+-- the entries that are pending for the consumer behind this one, page by page: up to a page that is not full, or past
+-- the last entry that is looked at
+abbrev pub ListsPages : Text → Text → ℕ → Text → Option Id → Option Id → List Exchange → List Id → Type 0
+ListsPages key group idle name last after [] ids = (is_past after last ≡ true) × (ids ≡ [])
+ListsPages key group idle name last after (exchange ∷ talk) ids =
+    (front : List Id) × (behind : List Id)
+    × (exchange.0 ≡ pending_call key group idle (start_after after) name) × SaysPending exchange.1 name front
+    × (((length front < page) × (talk ≡ []) × (behind ≡ []))
+    ⊎ ((page ≤ length front) × ListsPages key group idle name last (last_of front after) talk behind))
+    × (ids ≡ front ++ behind)
+
+-- the same of several consumers from the first entry on, one after another, each entry with its owner
+abbrev pub ListsDead : Text → Text → ℕ → Option Id → List Text → List Exchange → List (Id × Text) → Type 0
+ListsDead key group idle last [] talk listed = (talk ≡ []) × (listed ≡ [])
+ListsDead key group idle last (name ∷ dead) talk listed =
     (own : List Exchange) × (others : List Exchange) × (ids : List Id) × (rest : List (Id × Text))
-    × ListsPages key group idle name (codes "-") own ids × ListsDead key group idle dead others rest
+    × ListsPages key group idle name last None own ids × ListsDead key group idle last dead others rest
     × (talk ≡ own ++ others) × (listed ≡ map (λ id. (id, name)) ids ++ rest)
 
 -- each of these entries as it is in the stream
@@ -89,6 +102,28 @@ LooksEntries key (row ∷ rows) talk =
 -- an entry with its owner, as it was listed
 abbrev pub listed_as : Row → Id × Text
 listed_as row = (row.id, row.owner)
+
+-- what is listed and not looked at: nothing, if all are looked at
+abbrev pub IsLeft : Option Id → List (Id × Text) → Type 0
+IsLeft None left = left ≡ []
+IsLeft (Some last) left = ⊤
+
+-- these calls, in some order, looked at those entries of the dead that come first by id: at all of them, or no further
+-- than the last one, with which as many are stranded as were asked for. Of each dead consumer they list all that is
+-- pending for it, up to that entry at least. Entries that have not been idle for so long are left out
+pub record LooksRows (key group : Text) (idle : ℕ) (dead : List Text) (at_most : Option ℕ) (talk : List Exchange)
+    (rows : List Row) (last : Option Id) : Type 0 where
+  pub pending : List Exchange
+  pub entries : List Exchange
+  pub listed : List (Id × Text)
+  pub left : List (Id × Text)
+  pub lists : ListsDead key group idle last dead pending listed
+  pub same : IsPermutation listed (map listed_as rows ++ left)
+  pub rising : IsSortedBy (λ a b. is_below a.0 b.0) (map listed_as rows ++ left)
+  pub looks : LooksEntries key rows entries
+  pub enough : kept_rows at_most rows ≡ (rows, last)
+  pub whole : IsLeft last left
+  pub spelled : IsPermutation (pending ++ entries) talk
 
 -- for how long each consumer of the group has been idle, if that is asked for
 abbrev pub LooksIdle : Text → Text → Option ℕ → List Exchange → List (Text × ℕ) → Type 0
@@ -105,18 +140,11 @@ pub record LooksLive (key group : Text) (within : Option ℕ) (talk : List Excha
   pub says : SaysNumbers parts numbers
   pub spelled : talk ≡ first ++ (numbers_call key group, parts) ∷ []
 
--- what was looked up of a group by these calls: which entries are pending for all of the dead, in the order of their
--- ids, with what the stream has there, and last the consumers. Entries of the dead that have not been idle for so long
--- are left out
-pub record IsLooked (asked : Asked) (talk : List Exchange) (idles numbers : List (Text × ℕ)) (rows : List Row)
-    : Type 0 where
-  pub pending : List Exchange
-  pub entries : List Exchange
-  pub last : List Exchange
-  pub listed : List (Id × Text)
-  pub lists : ListsDead asked.key asked.group asked.idle asked.dead.items pending listed
-  pub same : IsPermutation listed (map listed_as rows)
-  pub rising : IsSortedBy (λ a b. is_below a.0 b.0) (map listed_as rows)
-  pub looks : LooksEntries asked.key rows entries
-  pub live : LooksLive asked.key asked.group asked.seen_within last idles numbers
-  pub spelled : talk ≡ pending ++ (entries ++ last)
+-- what was looked up of a group by these calls: such entries, and last the consumers
+pub record IsLooked (asked : Asked) (at_most : Option ℕ) (talk : List Exchange) (idles numbers : List (Text × ℕ))
+    (rows : List Row) (last : Option Id) : Type 0 where
+  pub looking : List Exchange
+  pub asking : List Exchange
+  pub looks : LooksRows asked.key asked.group asked.idle asked.dead.items at_most looking rows last
+  pub live : LooksLive asked.key asked.group asked.seen_within asking idles numbers
+  pub spelled : talk ≡ looking ++ asking

@@ -2,6 +2,7 @@
 -- Source: docs/LIVE.md.
 
 use Rattle.std.specs.Prelude.{◌≡◌, ◌⊎◌, ℕ, zero, suc, ◌+◌, ◌<◌, ◌≤◌, List, [], ◌∷◌, ◌++◌, length, Option, Some, None}
+use Rattle.sr_ids.specs.declared.id.Id.{Id}
 use Rattle.sr_check.specs.PlanAnswer.{short}
 use Rattle.sr_policy.specs.{Text}
 use Rattle.sr_policy.specs.Rules.{Rules}
@@ -18,19 +19,16 @@ use Rattle.sr_live.specs.declared.rounds.Ran.{Ran}
 use Rattle.sr_live.specs.declared.rounds.Ran.TheVariants.{Done, Impossible, Stale}
 use Rattle.sr_live.specs.declared.rounds.Terms.{Terms}
 use Rattle.sr_live.specs.Conclusion.{IsCalled, IsUnanswered, SaysConcluded}
-use Rattle.sr_live.specs.First.{kept_rows}
 use Rattle.sr_live.specs.Looked.{shown_of}
 use Rattle.sr_live.specs.Looking.{Exchange, IsLooked, Talks}
 use Rattle.sr_live.specs.Reading.{BreaksOff}
 use Rattle.sr_live.specs.Words.{last_word, words_for}
 
--- the rows, or the first of them, were looked up in this talk, and the verdict is of the snapshot of them
+-- this was looked up in this talk, and the verdict is of the snapshot of it
 pub record IsPlanned (rules : Rules) (asked : Asked) (at_most : Option ℕ) (talk : List Exchange) (planned : Planned)
     : Type 0 where
-  pub rows : List Row
-  pub looked : IsLooked asked talk planned.looked.idles.items planned.looked.numbers.items rows
-  pub first : planned.looked.rows.items ≡ (kept_rows at_most rows).0
-  pub last : planned.last ≡ (kept_rows at_most rows).1
+  pub looked : IsLooked asked at_most talk planned.looked.idles.items planned.looked.numbers.items
+      planned.looked.rows.items planned.looked.last
   pub snapshot : planned.verdict.snapshot
       ≡ shown_of rules asked planned.looked.idles.items planned.looked.numbers.items planned.looked.rows.items
 
@@ -39,8 +37,9 @@ pub record HasChanged (rules : Rules) (asked : Asked) (at_most : Option ℕ) (ta
   pub idles : List (Text × ℕ)
   pub numbers : List (Text × ℕ)
   pub rows : List Row
-  pub looked : IsLooked asked talk idles numbers rows
-  pub none : IsSnapshot (shown_of rules asked idles numbers (kept_rows at_most rows).0) → ⊥
+  pub last : Option Id
+  pub looked : IsLooked asked at_most talk idles numbers rows last
+  pub none : IsSnapshot (shown_of rules asked idles numbers rows) → ⊥
 
 abbrev pub IsJudged : Rules → Asked → Option ℕ → List Exchange → Option Planned → Type 0
 IsJudged rules asked at_most talk None = HasChanged rules asked at_most talk
@@ -53,7 +52,7 @@ pub record IsReady (rules : Rules) (asked : Asked) (terms : Terms) (talk : List 
   pub before : List Exchange
   pub words : List Text
   pub planned_so : IsPlanned rules asked terms.at_most look planned
-  pub are_words : words_for planned.verdict.snapshot.group terms.within (last_word planned.last) asked.idle
+  pub are_words : words_for planned.verdict.snapshot.group terms.within (last_word planned.looked.last) asked.idle
       planned.looked.rows.items planned.verdict.snapshot planned.verdict.answer ≡ Some words
   pub called : IsCalled asked.key words before call
   pub spelled : talk ≡ look ++ before

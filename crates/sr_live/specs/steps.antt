@@ -1,3 +1,4 @@
 -- What only private clauses cite.
 
+pub mod Listing
 pub mod Misread

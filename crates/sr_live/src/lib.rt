@@ -5,7 +5,9 @@
 mod bounds;
 mod conclusion;
 mod consumers;
+mod entries;
 mod fault;
+mod listing;
 mod looked;
 mod looking;
 mod rounds;

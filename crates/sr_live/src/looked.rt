@@ -15,6 +15,8 @@ pub struct Asked {
     /// For how many milliseconds a consumer of the group may have been idle, or it is given nothing. `None`: any
     /// consumer of the policy that is not dead is given entries.
     pub seen_within: Option<u64>,
+    /// How many entries are read at a time at most, one or more.
+    pub together: u64,
 }
 
 /// An entry that is pending for a dead consumer.
@@ -39,4 +41,6 @@ pub struct Looked {
     pub numbers: Vec<(Name, u64)>,
     /// The entries that are pending for the dead, by id.
     pub rows: Vec<Row>,
+    /// The last of them, if those behind it were left out.
+    pub last: Option<Id>,
 }

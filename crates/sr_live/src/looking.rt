@@ -1,189 +1,166 @@
 //! A group is looked up by ordinary commands.
-ghost use Rattle.std.specs.Prelude.{◌≡◌, ◌++◌, ◌∷◌, [], ℕ, List, Ok, codes, length, map, IfErr, IfOk, OnOk};
-ghost use Rattle.std.specs.List.{flat_map};
+ghost use Rattle.std.specs.Prelude.{◌≡◌, ◌++◌, ◌∷◌, ◌<◌, [], List, None, Ok, is_some, map, true};
+ghost use Rattle.std.specs.Prelude.{IfErr, IfOk, IsTrue, OnOk};
 ghost use Rattle.std.specs.List.Sorted.{IsPermutation, IsSortedBy};
 ghost use Rattle.sr_ids.specs.{is_below};
-ghost use Rattle.sr_peer.specs.Reply as wire;
 ghost use Rattle.sr_peer.specs.{request_text};
-ghost use Rattle.sr_live.specs.Looking.{Exchange, IsLooked, ListsDead, ListsPages, LooksEntries, Talks};
-ghost use Rattle.sr_live.specs.Looking.{entry_call, pending_call, pending_words};
-ghost use Rattle.sr_live.specs.Looking.{start_behind};
+ghost use Rattle.sr_live.specs.declared.fault.LiveFault.TheVariants.{TooMany};
+ghost use Rattle.sr_live.specs.Looking.{Exchange, IsLooked, LooksRows, Talks, last_of};
 ghost use Rattle.sr_live.specs.Reading.{BreaksOff, IsOfLooking, IsReading};
-ghost use Rattle.sr_live.specs.Said.{SayEntries, SaysPending};
+ghost use Rattle.sr_live.specs.steps.Listing.{Follow, Passes};
 
 use crate::consumers::look_live;
+use crate::entries::{Found, MAX_ROWS, look_first};
 use crate::fault::{LiveCall, LiveFault};
+use crate::listing::{Listing, PAGE, are_listed, count_sure, is_before, list_on, unlisted};
 use crate::looked::{Asked, Looked, Row};
-use crate::said::{Misread, end, entry_said, pending_said};
-use itoa::Buffer;
+use crate::said::Misread;
 use sr_bytes::Name;
-use sr_ids::{Id, write_id};
-use sr_peer::{Parts, Peer, append_header, append_word, ask};
+use sr_ids::Id;
+use sr_peer::{Peer, append_header, append_word};
 use std::alloc::{AllocError, Global};
 
-/// How many entries one call of XPENDING lists.
-const PAGE: usize = 1000;
+/// How many entries may be stranded, if no number of them is asked for.
+const MAX_STRANDED: u64 = 4096;
 
-/// How many entries that are pending for the dead are looked up at most.
-const MAX_ROWS: usize = 100_000;
-
-/// How many calls of XRANGE are sent together.
-const TOGETHER: usize = 32;
-
-/// Looks up which entries of a group are pending for the dead, with their fields, and how many for each consumer; and
-/// for how long each consumer has been idle, if that is asked for. Between the calls the group may change.
+/// Looks up which entries are pending for the dead, with their fields, and how many are pending for each consumer of a
+/// group; and for how long each consumer has been idle, if that is asked for. With a number it looks no further than
+/// that many stranded entries. Between the calls the group may change.
 ///
 /// Source: Redis documentation, commands XINFO CONSUMERS, XPENDING and XRANGE.
-pub fn look<P: Peer>(peer: &mut P, alloc: Global, asked: &Asked) -> Result<Looked, LiveFault>
+pub fn look<P: Peer>(
+    peer: &mut P,
+    alloc: Global,
+    asked: &Asked,
+    at_most: Option<u64>,
+) -> Result<Looked, LiveFault>
     ensures ok { IfOk result (λ looked. (talk : List Exchange)
         × Talks (P.sent peer.old) (P.got peer.old) (P.sent peer.new) (P.got peer.new) talk
-        × IsLooked asked.now talk looked.idles.items looked.numbers.items looked.rows.items) }
+        × IsLooked asked.now at_most talk looked.idles.items looked.numbers.items looked.rows.items looked.last) }
     ensures err { IfErr result (BreaksOff (P.sent peer.old) (P.sent peer.new)) }
 {
-    let listed = in_order(look_dead(peer, alloc, asked)?)?;
-    let rows = look_entries(peer, alloc, &asked.key, listed.as_slice())?;
+    let (rows, last) = look_rows(peer, alloc, asked, at_most)?;
     // The numbers change most, so they are the youngest part when the script compares.
     let (idles, numbers) = look_live(peer, alloc, asked)?;
     Ok(Looked {
         idles,
         numbers,
         rows,
+        last,
     })
 }
 
-/// Looks up the entries that are pending for the dead, each with its owner.
-fn look_dead<P: Peer>(
+/// How far the look-up has come.
+#[derive(Drop)]
+struct Seen {
+    /// Of each dead consumer, how far it was listed.
+    listings: Vec<Listing>,
+    /// What was listed and not looked at yet, by id.
+    ahead: Vec<(Id, Name)>,
+    found: Found,
+}
+
+/// Looks up the entries that are pending for the dead, until as many as are asked for are stranded, and answers the
+/// last one if that is so.
+fn look_rows<P: Peer>(
     peer: &mut P,
     alloc: Global,
     asked: &Asked,
-) -> Result<Vec<(Id, Name)>, LiveFault>
-    ensures ok { IfOk result (λ listed. (talk : List Exchange)
+    at_most: Option<u64>,
+) -> Result<(Vec<Row>, Option<Id>), LiveFault>
+    ensures ok { IfOk result (λ seen. (talk : List Exchange)
         × Talks (P.sent peer.old) (P.got peer.old) (P.sent peer.new) (P.got peer.new) talk
-        × ListsDead asked.now.key asked.now.group asked.now.idle asked.now.dead.items talk listed.items) }
+        × LooksRows asked.now.key asked.now.group asked.now.idle asked.now.dead.items at_most talk seen.0.items
+        seen.1) }
     ensures err { IfErr result (BreaksOff (P.sent peer.old) (P.sent peer.new)) }
 {
-    let mut listed = Vec::new(alloc);
-    for name in &asked.dead {
-        let ids = look_pending(peer, alloc, asked, name)?;
-        if listed.len().saturating_add(ids.len()) > MAX_ROWS {
-            return Err(LiveFault::TooMany);
-        }
-        push_owned(&mut listed, alloc, ids.as_slice(), name)?;
-    }
-    Ok(listed)
-}
-
-/// Adds the entries, each with its owner.
-fn push_owned(
-    listed: &mut Vec<(Id, Name)>,
-    alloc: Global,
-    ids: &[Id],
-    owner: &Name,
-) -> Result<(), AllocError>
-    ensures { OnOk result (listed.new.items ≡ listed.old.items ++ map (λ id. (id, owner.now)) ids.now) }
-{
-    for id in ids {
-        listed.push((*id, owner.copy(alloc)?))?;
-    }
-    Ok(())
-}
-
-/// Looks up the entries that are pending for one consumer, page by page.
-fn look_pending<P: Peer>(
-    peer: &mut P,
-    alloc: Global,
-    asked: &Asked,
-    name: &Name,
-) -> Result<Vec<Id>, LiveFault>
-    ensures ok { IfOk result (λ ids. (talk : List Exchange)
-        × Talks (P.sent peer.old) (P.got peer.old) (P.sent peer.new) (P.got peer.new) talk
-        × ListsPages asked.now.key asked.now.group asked.now.idle name.now (codes "-") talk ids.items) }
-    ensures err { IfErr result (BreaksOff (P.sent peer.old) (P.sent peer.new)) }
-{
-    let mut ids = look_page(peer, alloc, asked, name, b"-")?;
-    let mut full = ids.len() >= PAGE;
+    let mut seen = Seen {
+        listings: unlisted(alloc, asked.dead.as_slice())?,
+        ahead: Vec::new(alloc),
+        found: Found {
+            rows: Vec::new(alloc),
+            wanted: at_most.unwrap_or(MAX_STRANDED + 1).max(1),
+        },
+    };
+    // Each pass but the last has looked at a page or more.
     for _ in 0..=MAX_ROWS / PAGE {
-        if !full {
-            return Ok(ids);
+        seen = look_pass(peer, alloc, asked, seen)?;
+        if seen.found.wanted == 0 {
+            return up_to_last(seen.found.rows, at_most);
         }
-        let start = start_text(alloc, ids.as_slice())?;
-        let next = look_page(peer, alloc, asked, name, start.as_slice())?;
-        full = next.len() >= PAGE;
-        ids.extend_from_slice(next.as_slice())?;
+        if seen.ahead.is_empty() && are_listed(seen.listings.as_slice(), None) {
+            return Ok((seen.found.rows, None));
+        }
     }
     Err(LiveFault::TooMany)
 }
 
-/// Looks up the entries that are pending for a consumer from this start on, as many as one call lists.
-fn look_page<P: Peer>(
-    peer: &mut P,
-    alloc: Global,
-    asked: &Asked,
-    name: &Name,
-    start: &[u8],
-) -> Result<Vec<Id>, LiveFault>
-    ensures ok { IfOk result (λ listed. (parts : List wire.Part)
-        × Talks (P.sent peer.old) (P.got peer.old) (P.sent peer.new) (P.got peer.new)
-        ((pending_call asked.now.key asked.now.group asked.now.idle start.now name.now, parts) ∷ [])
-        × SaysPending parts name.now listed.items) }
-    ensures err { IfErr result (BreaksOff (P.sent peer.old) (P.sent peer.new)) }
+/// These entries, of which the last one is the last that was asked for. Without a number so many are too many.
+fn up_to_last(rows: Vec<Row>, at_most: Option<u64>) -> Result<(Vec<Row>, Option<Id>), LiveFault>
+    ensures ok { IfOk result (λ seen. (seen.0.items ≡ rows.items) × (is_some at_most ≡ true)
+        × (seen.1 ≡ last_of (map (λ row. row.id) rows.items) None)) }
+    ensures err { IfErr result (λ fault. fault ≡ TooMany) }
 {
-    let mut idle = Buffer::new();
-    let request = page_request(
-        alloc,
-        asked,
-        name,
-        start,
-        idle.format(asked.idle).as_bytes(),
-    )?;
-    match ask(peer, alloc, request.as_slice(), 1) {
-        Ok(answers) => understood(
-            LiveCall::Pending,
-            pending_said(alloc, answers.parts(), name),
-        ),
-        Err(fault) => Err(LiveFault::Peer(fault)),
+    if at_most.is_none() {
+        return Err(LiveFault::TooMany);
+    }
+    let last = last_id(rows.as_slice());
+    Ok((rows, last))
+}
+
+/// The last of the entries.
+fn last_id(rows: &[Row]) -> Option<Id>
+    ensures { result ≡ last_of (map (λ row. row.id) rows.now) None }
+{
+    match rows.last() {
+        Some(row) => Some(row.id),
+        None => None,
     }
 }
 
-/// The request for the entries that are pending for a consumer from this start on, and have been idle for so long.
-fn page_request(
+/// Lists further where that is needed, and looks at those entries before which nothing can be missing.
+fn look_pass<P: Peer>(
+    peer: &mut P,
     alloc: Global,
     asked: &Asked,
-    name: &Name,
-    start: &[u8],
-    idle: &[u8],
-) -> Result<Vec<u8>, AllocError>
-    ensures { IfOk result (λ request. request.items
-        ≡ request_text (pending_words asked.now.key asked.now.group idle.now start.now name.now)) }
+    seen: Seen,
+) -> Result<Seen, LiveFault>
+    requires some { 0 < seen.found.wanted }
+    ensures ok { IfOk result (λ now. (talk : List Exchange)
+        × Talks (P.sent peer.old) (P.got peer.old) (P.sent peer.new) (P.got peer.new) talk
+        × Passes asked.now.key asked.now.group asked.now.idle talk seen now) }
+    ensures err { IfErr result (BreaksOff (P.sent peer.old) (P.sent peer.new)) }
 {
-    request_of(
-        alloc,
-        &[
-            b"XPENDING",
-            asked.key.as_slice(),
-            asked.group.as_slice(),
-            b"IDLE",
-            idle,
-            start,
-            b"+",
-            b"1000",
-            name.as_slice(),
-        ],
-    )
+    let Seen {
+        listings,
+        mut ahead,
+        mut found,
+    } = seen;
+    let listings = list_on(peer, alloc, asked, listings.as_slice(), &mut ahead)?;
+    let mut ahead = in_order(ahead)?;
+    if !follow(found.rows.as_slice(), ahead.as_slice()) {
+        return Err(LiveFault::Shape(LiveCall::Pending));
+    }
+    let before = found.rows.len();
+    let sure = count_sure(listings.as_slice(), ahead.as_slice());
+    let (front, _) = ahead.as_slice().split_at(sure);
+    look_first(peer, alloc, asked, front, &mut found)?;
+    let ahead = ahead.split_off(found.rows.len() - before)?;
+    Ok(Seen {
+        listings,
+        ahead,
+        found,
+    })
 }
 
-/// The start of a range behind the last of these ids.
-fn start_text(alloc: Global, ids: &[Id]) -> Result<Vec<u8>, AllocError>
-    ensures { IfOk result (λ start. start.items ≡ start_behind ids.now) }
+/// Whether none of the entries comes before the last of these rows.
+fn follow(rows: &[Row], ahead: &[(Id, Name)]) -> bool
+    ensures { IsTrue result → Follow rows.now ahead.now }
 {
-    let Some(id) = ids.last() else {
-        return Vec::from_slice(alloc, b"-");
-    };
-    let mut text = [0; 41];
-    let len = write_id(*id, &mut text);
-    let mut start = Vec::from_slice(alloc, b"(")?;
-    start.extend_from_slice(&text[..len])?;
-    Ok(start)
+    match (rows.last(), ahead.first()) {
+        (Some(row), Some(one)) => !is_before(one.0, row.id),
+        _ => true,
+    }
 }
 
 /// The entries in order of their ids.
@@ -193,98 +170,6 @@ fn in_order(mut listed: Vec<(Id, Name)>) -> Result<Vec<(Id, Name)>, AllocError>
 {
     listed.sort_by_key(|entry| entry.0)?;
     Ok(listed)
-}
-
-/// Looks up the fields of the entries, some of them at a time.
-fn look_entries<P: Peer>(
-    peer: &mut P,
-    alloc: Global,
-    key: &Name,
-    listed: &[(Id, Name)],
-) -> Result<Vec<Row>, LiveFault>
-    ensures ok { IfOk result (λ rows. (talk : List Exchange)
-        × Talks (P.sent peer.old) (P.got peer.old) (P.sent peer.new) (P.got peer.new) talk
-        × LooksEntries key.now rows.items talk × (map (λ row. (row.id, row.owner)) rows.items ≡ listed.now)) }
-    ensures err { IfErr result (BreaksOff (P.sent peer.old) (P.sent peer.new)) }
-{
-    let mut rows = Vec::with_capacity(alloc, listed.len())?;
-    let mut left = listed;
-    while !left.is_empty() {
-        let (together, rest) = left.split_at(left.len().min(TOGETHER));
-        look_together(peer, alloc, key, together, &mut rows)?;
-        left = rest;
-    }
-    Ok(rows)
-}
-
-/// Looks up the fields of these entries by requests that are sent together, and adds them.
-fn look_together<P: Peer>(
-    peer: &mut P,
-    alloc: Global,
-    key: &Name,
-    listed: &[(Id, Name)],
-    rows: &mut Vec<Row>,
-) -> Result<(), LiveFault>
-    ensures ok { OnOk result ((talk : List Exchange) × (more : List Row)
-        × Talks (P.sent peer.old) (P.got peer.old) (P.sent peer.new) (P.got peer.new) talk
-        × LooksEntries key.now more talk × (map (λ row. (row.id, row.owner)) more ≡ listed.now)
-        × (rows.new.items ≡ rows.old.items ++ more)) }
-    ensures err { IfErr result (BreaksOff (P.sent peer.old) (P.sent peer.new)) }
-{
-    let requests = entry_requests(alloc, key, listed)?;
-    match ask(peer, alloc, requests.as_slice(), listed.len()) {
-        Ok(answers) => understood(
-            LiveCall::Entry,
-            rows_said(alloc, answers.parts(), listed, rows),
-        ),
-        Err(fault) => Err(LiveFault::Peer(fault)),
-    }
-}
-
-/// Adds the entries as the replies to their requests have them.
-fn rows_said(
-    alloc: Global,
-    mut parts: Parts<'_>,
-    listed: &[(Id, Name)],
-    rows: &mut Vec<Row>,
-) -> Result<(), Misread>
-    ensures { OnOk result ((replies : List (List wire.Part)) × (more : List Row)
-        × SayEntries replies more × (parts.entry ≡ flat_map (λ reply. reply) replies)
-        × (map (λ row. (row.id, row.owner)) more ≡ listed.now) × (rows.new.items ≡ rows.old.items ++ more)) }
-{
-    for (id, owner) in listed {
-        let fields = entry_said(alloc, &mut parts, *id)?;
-        rows.push(Row {
-            id: *id,
-            owner: owner.copy(alloc)?,
-            fields,
-        })?;
-    }
-    end(&mut parts)
-}
-
-/// The requests for the entries with these ids.
-fn entry_requests(alloc: Global, key: &Name, listed: &[(Id, Name)]) -> Result<Vec<u8>, AllocError>
-    ensures { IfOk result (λ requests. requests.items
-        ≡ flat_map (λ entry. request_text (entry_call key.now entry.0)) listed.now) }
-{
-    let mut requests = Vec::new(alloc);
-    for (id, _owner) in listed {
-        append_entry_call(&mut requests, key, *id)?;
-    }
-    Ok(requests)
-}
-
-/// Adds the request for the entry with this id.
-fn append_entry_call(out: &mut Vec<u8>, key: &Name, id: Id) -> Result<(), AllocError>
-    ensures { OnOk result (out.new.items ≡ out.old.items ++ request_text (entry_call key.now id)) }
-{
-    let mut text = [0; 41];
-    let len = write_id(id, &mut text);
-    append_request(
-        out,
-        &[b"XRANGE", key.as_slice(), &text[..len], &text[..len]],
-    )
 }
 
 /// A request of these words.
@@ -297,7 +182,7 @@ pub(crate) fn request_of(alloc: Global, words: &[&[u8]]) -> Result<Vec<u8>, Allo
 }
 
 /// Adds a request of these words.
-fn append_request(out: &mut Vec<u8>, words: &[&[u8]]) -> Result<(), AllocError>
+pub(crate) fn append_request(out: &mut Vec<u8>, words: &[&[u8]]) -> Result<(), AllocError>
     ensures { OnOk result (out.new.items ≡ out.old.items ++ request_text (map (λ word. word.now) words.now)) }
 {
     append_header(out, words.len())?;

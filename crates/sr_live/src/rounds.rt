@@ -2,19 +2,17 @@
 ghost use Rattle.std.specs.Prelude.{◌≡◌, List, Some, IfErr, IfOk, OnErr};
 ghost use Rattle.sr_live.specs.declared.fault.LiveFault.TheVariants.{Unfit};
 ghost use Rattle.sr_live.specs.declared.rounds.Ran.TheVariants.{Done};
-ghost use Rattle.sr_live.specs.First.{kept_rows};
 ghost use Rattle.sr_live.specs.Looking.{Exchange, Talks};
 ghost use Rattle.sr_live.specs.Reading.{BreaksOff, HasOnlyRead};
 ghost use Rattle.sr_live.specs.Rounds.{FitsPlan, HasBroken, HasFailed, HasMade, HasRun, IsJudged, IsPlanned};
 
 use crate::conclusion::{Concluded, conclude};
 use crate::fault::LiveFault;
-use crate::looked::{Asked, Looked, Row};
+use crate::looked::{Asked, Looked};
 use crate::looking::look;
 use crate::snapshot::{SnapshotFault, snapshot_of};
 use crate::words::{Limits, script_words};
 use sr_bytes::Name;
-use sr_ids::Id;
 use sr_peer::Peer;
 use sr_plan::Verdict;
 use sr_policy::Policy;
@@ -34,10 +32,8 @@ pub struct Terms {
 /// A verdict on what was looked up of a group.
 #[derive(Drop)]
 pub struct Planned {
-    /// What was looked up, as far as the verdict speaks of it.
+    /// What was looked up.
     pub looked: Looked,
-    /// The last entry that was judged, if those behind it were left out.
-    pub last: Option<Id>,
     /// A cheapest plan, or a shortage.
     pub verdict: Verdict,
 }
@@ -74,7 +70,7 @@ pub fn plan<P: Peer>(
     asked: &Asked,
     at_most: Option<u64>,
 ) -> Result<Planned, LiveFault>
-    // the rows, or as many of them as `at_most` leaves, were looked up by these calls, and the verdict is of these
+    // the rows, as far as `at_most` asks for them, were looked up by these calls, and the verdict is of these
     ensures ok { IfOk result (λ planned. (talk : List Exchange)
         × Talks (P.sent peer.old) (P.got peer.old) (P.sent peer.new) (P.got peer.new) talk
         × IsPlanned policy.now asked.now at_most talk planned) }
@@ -96,8 +92,7 @@ fn judged<P: Peer>(
         × IsJudged policy.now asked.now at_most talk judged) }
     ensures err { IfErr result (BreaksOff (P.sent peer.old) (P.sent peer.new)) }
 {
-    let mut looked = look(peer, alloc, asked)?;
-    let last = keep_first(&mut looked.rows, at_most);
+    let looked = look(peer, alloc, asked, at_most)?;
     let snapshot = match snapshot_of(alloc, policy, asked, &looked) {
         Ok(snapshot) => snapshot,
         Err(SnapshotFault::Memory) => return Err(LiveFault::Memory),
@@ -105,11 +100,7 @@ fn judged<P: Peer>(
         Err(SnapshotFault::Changed) => return Ok(None),
     };
     let verdict = Verdict::make(alloc, snapshot)?;
-    Ok(Some(Planned {
-        looked,
-        last,
-        verdict,
-    }))
+    Ok(Some(Planned { looked, verdict }))
 }
 
 /// Makes plans and has Redis carry one out, in as many rounds as it takes, and at most `tries`.
@@ -171,7 +162,7 @@ fn round<P: Peer>(
     };
     let limits = Limits {
         within: terms.within,
-        last: planned.last,
+        last: planned.looked.last,
         idle: asked.idle,
     };
     let rows = planned.looked.rows.as_slice();
@@ -197,24 +188,4 @@ fn done(terms: Terms, planned: Planned, claimed: u64, gap: u64) -> Result<Option
         claimed,
         gap,
     }))
-}
-
-/// Keeps the entries up to that one with which so many are stranded, if so many are, and answers its id.
-fn keep_first(rows: &mut Vec<Row>, at_most: Option<u64>) -> Option<Id>
-    ensures rows { rows.new.items ≡ (kept_rows at_most rows.old.items).0 }
-    ensures last { result ≡ (kept_rows at_most rows.old.items).1 }
-{
-    let mut left = at_most?;
-    for at in 0..rows.len() {
-        let row = &rows[at];
-        if row.fields.is_some() {
-            left = left.saturating_sub(1);
-            if left == 0 {
-                let id = row.id;
-                rows.truncate(at + 1);
-                return Some(id);
-            }
-        }
-    }
-    None
 }

@@ -6,7 +6,7 @@ use crate::fault::{Fault, live_fault, unreadable};
 use crate::notes::{Notes, look_members};
 use crate::options::{Action, Options};
 use crate::place::{place_named, read_place};
-use crate::print::{print_done, print_plan, print_stale};
+use crate::print::{print_done, print_gone, print_plan, print_stale, print_step, print_sum};
 use crate::wire::{Wire, authenticate, connect, select};
 use sr_bytes::Name;
 use sr_live::{Asked, LiveFault, Planned, Ran, Terms, look_idles, look_numbers, plan, run};
@@ -15,8 +15,20 @@ use sr_space::names_in_order;
 use std::alloc::{AllocError, Global};
 use std::{env, fs};
 
+/// How many entries a plan may have.
+const MOST: u64 = 4096;
+
+/// How many steps are made at most.
+const MAX_STEPS: u64 = 1_000_000;
+
 /// How many times the key may have moved to another node.
 const MAX_MOVES: usize = 16;
+
+/// How many entries are read at a time at first.
+const TOGETHER: u64 = 32;
+
+/// How many times fewer are read at a time, until it is one.
+const MAX_SHORTER: usize = 5;
 
 /// How it ended.
 #[derive(Clone, Copy, PartialEq, Eq)]
@@ -50,8 +62,9 @@ pub(crate) fn act(rt: &HostRuntime, options: &Options<'_>) -> Result<Status, Fau
             "--user: it needs a password, from --password-file or REDISCLI_AUTH",
         ));
     }
-    let asked = asked(rt.alloc(), options)?;
-    for _ in 0..=MAX_MOVES {
+    let mut asked = asked(rt.alloc(), options)?;
+    let mut moves = 0;
+    for _ in 0..=MAX_MOVES + MAX_SHORTER {
         let mut wire = connect(rt, &place, options.timeout)?;
         authenticate(
             &mut wire,
@@ -61,7 +74,15 @@ pub(crate) fn act(rt: &HostRuntime, options: &Options<'_>) -> Result<Status, Fau
         )?;
         select(&mut wire, rt.alloc(), options.database)?;
         match act_at(rt, options, &policy, &asked, &mut wire) {
-            Err(Fault::Moved(to)) => place = place_named(rt.alloc(), &place, to.as_str())?,
+            Err(Fault::Moved(to)) => {
+                if moves == MAX_MOVES {
+                    return Err(Fault::Moves);
+                }
+                moves += 1;
+                place = place_named(rt.alloc(), &place, to.as_str())?;
+            }
+            // The rest of the reply may still come, so the next look-up has a connection of its own.
+            Err(Fault::TooLong) if asked.together > 1 => asked.together /= 2,
             ended => return ended,
         }
     }
@@ -162,8 +183,8 @@ fn print_planned(
     }
 }
 
-/// Makes a plan, and has Redis carry it out. Who is in the group is looked up before: a plan that is carried out makes
-/// the consumers that it gives entries.
+/// Makes a plan, and has Redis carry it out; with --all again and again, until nothing is left. Who is in the group is
+/// looked up before: a plan that is carried out makes the consumers that it gives entries.
 fn carry_out(
     rt: &HostRuntime,
     options: &Options<'_>,
@@ -183,36 +204,91 @@ fn carry_out(
     let terms = Terms {
         tries: options.tries,
         within: options.within,
-        at_most: options.at_most,
+        at_most: most_of(options),
     };
-    match run(wire, rt.alloc(), policy, asked, terms) {
-        Ok(ran) => print_ran(rt, options, notes, ran),
-        Err(fault) => Err(live_fault(rt.alloc(), fault, wire.script())),
+    for step in 0..MAX_STEPS {
+        let ran = match run(wire, rt.alloc(), policy, asked, terms) {
+            Ok(ran) => ran,
+            Err(fault) => return Err(live_fault(rt.alloc(), fault, wire.script())),
+        };
+        let is_last = is_last(options, &ran);
+        let status = print_ran(rt, options, notes, step, &ran)?;
+        if is_last {
+            return Ok(status);
+        }
+    }
+    Ok(Status::Done)
+}
+
+/// How many entries a plan has at most.
+fn most_of(options: &Options<'_>) -> Option<u64> {
+    match options.at_most {
+        None if options.all => Some(MOST),
+        at_most => at_most,
     }
 }
 
-/// Prints what came of the rounds.
+/// Whether nothing is left to do: without --all, if a step was not carried out, or if none came after its entries.
+fn is_last(options: &Options<'_>, ran: &Ran) -> bool {
+    match ran {
+        Ran::Done { planned, .. } => !options.all || planned.looked.last.is_none(),
+        _ => true,
+    }
+}
+
+/// Prints what came of a plan.
 fn print_ran(
     rt: &HostRuntime,
     options: &Options<'_>,
     notes: Notes<'_>,
-    ran: Ran,
+    step: u64,
+    ran: &Ran,
 ) -> Result<Status, Fault> {
     match ran {
         Ran::Done {
             planned,
             claimed,
             gap,
-        } => match print_carried_out(rt, options, notes, &planned, (claimed, gap)) {
-            Err(Fault::Output | Fault::Memory) => Err(Fault::OutputOfDone),
-            printed => printed,
-        },
-        Ran::Impossible(planned) => print_planned(rt, options, notes, &planned, false),
+        } => {
+            let done = (*claimed, *gap);
+            let printed = if options.all {
+                print_carried_on(rt, notes, planned, done, step)
+            } else {
+                print_carried_out(rt, options, notes, planned, done)
+            };
+            match printed {
+                Err(Fault::Output | Fault::Memory) => Err(Fault::OutputOfDone),
+                printed => printed,
+            }
+        }
+        Ran::Impossible(planned) => print_planned(rt, options, notes, planned, false),
         Ran::Stale { what, of } => {
             print_stale(&mut rt.stdout(), rt.alloc(), what.as_slice(), of.as_slice())?;
             Ok(Status::Stale)
         }
     }
+}
+
+/// Prints a step of --all that was carried out.
+fn print_carried_on(
+    rt: &HostRuntime,
+    notes: Notes<'_>,
+    planned: &Planned,
+    done: (u64, u64),
+    step: u64,
+) -> Result<Status, Fault> {
+    if step == 0 {
+        notes.print(&mut rt.stderr(), rt.alloc(), planned)?;
+    }
+    if step == 0 || done.0 > 0 {
+        print_step(&mut rt.stdout(), done, planned.verdict.total().unwrap_or(0))?;
+    }
+    if planned.looked.last.is_none() {
+        print_gone(&mut rt.stdout(), rt.alloc(), planned.verdict.gone())?;
+    } else if step == 0 {
+        print_sum(&mut rt.stderr())?;
+    }
+    Ok(Status::Done)
 }
 
 /// Prints a plan that was carried out: how many entries were claimed, and at which gap.
@@ -274,6 +350,7 @@ fn asked(alloc: Global, options: &Options<'_>) -> Result<Asked, Fault> {
         dead: names_in_order(alloc, dead.as_slice())?,
         idle: options.idle_over,
         seen_within: options.seen_within,
+        together: TOGETHER,
     })
 }
 

@@ -43,11 +43,13 @@ pub(crate) enum Fault {
     Shape(&'static str),
     #[error("redis: {0}")]
     Peer(&'static str),
+    #[error("redis: a reply is too long")]
+    TooLong,
     #[error("redis: the plan was sent, and what came of it is not known: {0}. Plan again to see what is left")]
     Unknown(&'static str),
     #[error("redis: the plan was sent, and what came of it is not known: {0}. Plan again to see what is left")]
     UnknownError(String),
-    #[error("group: too many entries: 100,000 may be pending for the dead, and without --at-most 4,096 stranded")]
+    #[error("group: too many entries: 100,000 are looked at at most, and without --at-most 4,096 may be stranded")]
     TooMany,
     #[error("group: it changed while it was looked at: try again")]
     Changed,
@@ -126,6 +128,7 @@ pub(crate) fn live_fault(alloc: Global, fault: LiveFault, script: &'static str) 
 pub(crate) fn peer_fault(fault: PeerFault) -> Fault {
     match fault {
         PeerFault::Memory => Fault::Memory,
+        PeerFault::TooLong => Fault::TooLong,
         _ => Fault::Peer(peer_text(fault)),
     }
 }

@@ -42,6 +42,8 @@ pub(crate) struct Options<'a> {
     pub(crate) within: u64,
     /// How many of the stranded entries are moved at most.
     pub(crate) at_most: Option<u64>,
+    /// Whether it goes on until no stranded entry is left.
+    pub(crate) all: bool,
     /// For how many milliseconds an entry has to have been idle.
     pub(crate) idle_over: u64,
     /// For how many milliseconds a consumer may have been idle, or it is given nothing.
@@ -102,6 +104,13 @@ fn options_of<'a>(
         Some(names) => Vec::from_slice(alloc, names)?,
         None => Vec::new(alloc),
     };
+    let check = action != Action::Board && given.get_flag("check");
+    let all = action == Action::Run && given.get_flag("all");
+    if all && check {
+        return Err(Fault::Asked(
+            "--all: it prints a line for each step, and no --check",
+        ));
+    }
     Ok(Options {
         action,
         redis: given.get_str("redis").unwrap_or("127.0.0.1:6379"),
@@ -121,6 +130,7 @@ fn options_of<'a>(
             "--within: a number from 0",
         )?,
         at_most: at_most(given.get_str("at-most"))?,
+        all,
         idle_over: number(
             given.get_str("idle-over"),
             0,
@@ -145,7 +155,7 @@ fn options_of<'a>(
             1_000_000_000,
             "--db: a number from 0",
         )?,
-        check: action != Action::Board && given.get_flag("check"),
+        check,
         key: given.get_str("KEY").unwrap_or(""),
         group: given.get_str("GROUP").unwrap_or(""),
         dead,
@@ -230,7 +240,13 @@ fn runner<'a>(alloc: Global, name: &'a str, about: &'a str) -> Result<Command<'a
             "within",
             "D",
             "Carry out a plan that costs at most D more than a cheapest one [default: 0]",
-        ))
+        ))?
+        .arg(
+            Arg::new(alloc, "all")
+                .long("all")
+                .help("Go on, N entries of --at-most at a time, until none is left [default: 4096]")
+                .action(ArgAction::SetTrue),
+        )
 }
 
 /// A subcommand that makes a plan.

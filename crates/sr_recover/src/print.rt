@@ -35,7 +35,11 @@ pub(crate) fn print_plan<W: Write>(
 }
 
 /// Prints how many entries are gone, and the first of them, which no plan moves.
-fn print_gone<W: Write>(out: &mut W, alloc: Global, gone: &[(Id, Name)]) -> Result<(), Fault> {
+pub(crate) fn print_gone<W: Write>(
+    out: &mut W,
+    alloc: Global,
+    gone: &[(Id, Name)],
+) -> Result<(), Fault> {
     if gone.is_empty() {
         return Ok(());
     }
@@ -188,6 +192,23 @@ pub(crate) fn print_done<W: Write>(out: &mut W, claimed: u64, gap: u64) -> Resul
     print_number(out, b"done, claimed ", claimed)?;
     print_number(out, b", gap ", gap)?;
     say(out, b"\n")
+}
+
+/// Prints that a step was carried out: how many entries were claimed, at which gap, and what they cost.
+pub(crate) fn print_step<W: Write>(out: &mut W, done: (u64, u64), cost: u64) -> Result<(), Fault> {
+    let (claimed, gap) = done;
+    print_number(out, b"done, claimed ", claimed)?;
+    print_number(out, b", gap ", gap)?;
+    print_number(out, b", cost ", cost)?;
+    say(out, b"\n")
+}
+
+/// Notes that one plan for all might be cheaper.
+pub(crate) fn print_sum<W: Write>(out: &mut W) -> Result<(), Fault> {
+    say(
+        out,
+        b"note: all is moved in steps, and together they may cost more than one plan would\n",
+    )
 }
 
 /// Prints what was not as it had been looked up.

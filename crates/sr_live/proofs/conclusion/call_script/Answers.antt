@@ -1,5 +1,4 @@
-use Rattle.std.proofs.Common.{rules, ◌≡◌, ◌∙◌, List, Result}
-use Rattle.std.proofs.lemmas.Result.{IfOk-weaker, err_from_is_err_and}
+use Rattle.std.proofs.Common.{◌∙◌, List}
 use Rattle.sr_policy.specs.{Text}
 use Rattle.sr_live.specs.Conclusion.{script_call}
 use Rattle.sr_live.proofs.ConclusionLemmas.{said-known, unanswered-memory, unanswered-part, unanswered-result}

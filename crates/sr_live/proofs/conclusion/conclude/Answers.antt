@@ -1,7 +1,7 @@
 use Rattle.std.proofs.Common.{rules, ◌≡◌, codes, ap, refl}
 use Rattle.std.proofs.lemmas.Result.{IfErr-at_err}
 use Rattle.sr_policy.specs.{Text}
-use Rattle.sr_live.specs.Conclusion.{IsUnanswered, digest_call, script_call, script_digest, script_text, text_call}
+use Rattle.sr_live.specs.Conclusion.{script_call, script_digest}
 use Rattle.sr_live.proofs.ConclusionLemmas.{failed-memory, first-failed, first-said, second-failed, second-said}
 use Rattle.sr_live.proofs.conclusion.conclude.Goals as goal
 

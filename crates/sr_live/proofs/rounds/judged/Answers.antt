@@ -1,6 +1,5 @@
 use Rattle.std.proofs.Common.{rules}
 use Rattle.sr_policy.specs.Snapshot.{IsSnapshot}
-use Rattle.sr_live.specs.First.{kept_rows}
 use Rattle.sr_live.specs.Looked.{shown_of}
 use Rattle.sr_live.proofs.ReadingLemmas.{IsLooked-reads, breaks-memory, breaks-passed, reads-whole}
 use Rattle.sr_live.proofs.rounds.judged.Goals as goal
@@ -15,7 +14,7 @@ returns-in-Err-Memory-clause-err g c =
     let seen = c.in_ok-looked.ensures.ok in
     record {
       looking = tt;
-      read = reads-whole _ _ _ _ seen.0 seen.1 (IsLooked-reads c.args.asked.now _ _ _ _ seen.2);
+      read = reads-whole _ _ _ _ seen.0 seen.1 (IsLooked-reads c.args.asked.now _ _ _ _ _ _ seen.2);
     }
 
 pub returns-in-Err-TooMany-clause-err : goal.returns-in-Err-TooMany-clause-err
@@ -23,7 +22,7 @@ returns-in-Err-TooMany-clause-err g c =
     let seen = c.in_ok-looked.ensures.ok in
     record {
       looking = tt;
-      read = reads-whole _ _ _ _ seen.0 seen.1 (IsLooked-reads c.args.asked.now _ _ _ _ seen.2);
+      read = reads-whole _ _ _ _ seen.0 seen.1 (IsLooked-reads c.args.asked.now _ _ _ _ _ _ seen.2);
     }
 
 pub returns-in-Err-Changed-clause-ok : goal.returns-in-Err-Changed-clause-ok
@@ -31,7 +30,7 @@ returns-in-Err-Changed-clause-ok g c =
     let seen = c.in_ok-looked.ensures.ok in
     let looked = c.in_ok-looked.looked in
     let none : IsSnapshot (shown_of c.args.policy.now c.args.asked.now looked.idles.items looked.numbers.items
-    (kept_rows c.args.at_most looked.rows.items).0) → ⊥ =
+    looked.rows.items) → ⊥ =
     search rules in (
       seen.0,
       seen.1,
@@ -39,6 +38,7 @@ returns-in-Err-Changed-clause-ok g c =
         idles = looked.idles.items;
         numbers = looked.numbers.items;
         rows = looked.rows.items;
+        last = looked.last;
         looked = seen.2;
         none = none;
       },
@@ -48,4 +48,4 @@ pub returns-in_err-verdict-clause-err : goal.returns-in_err-verdict-clause-err
 returns-in_err-verdict-clause-err g c =
     let seen = c.in_ok-looked.ensures.ok in
     breaks-memory c.from_residual-in_err-verdict.result _ _ c.from_residual-in_err-verdict.ensures.1
-    (reads-whole _ _ _ _ seen.0 seen.1 (IsLooked-reads c.args.asked.now _ _ _ _ seen.2))
+    (reads-whole _ _ _ _ seen.0 seen.1 (IsLooked-reads c.args.asked.now _ _ _ _ _ _ seen.2))

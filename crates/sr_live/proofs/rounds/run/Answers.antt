@@ -1,12 +1,9 @@
-use Rattle.std.proofs.Common.{rules, ◌≡◌, ◌+◌, ◌<◌, ◌≤◌, IfErr, IfOk, Result, Err, Ok, None, Some, inl, inr, refl, subst, sym}
+use Rattle.std.proofs.Common.{◌≡◌, inl, inr, refl, subst}
 use Rattle.std.proofs.Common.{arith}
 use Rattle.std.proofs.lemmas.Result.{IfErr-weaker, IfOk-weaker}
-use Rattle.sr_live.specs.declared.fault.LiveFault.{LiveFault}
-use Rattle.sr_live.specs.declared.fault.LiveFault.TheVariants.{Changed}
-use Rattle.sr_live.specs.declared.rounds.Ran.{Ran}
 use Rattle.sr_live.specs.declared.rounds.Ran.TheVariants.{Done, Impossible, Stale}
 use Rattle.sr_live.specs.Rounds.{HasMade}
-use Rattle.sr_live.proofs.RoundsLemmas.{IsStaleAt, made-at, run-changed, run-failed, run-made, run-stale, so-far-next}
+use Rattle.sr_live.proofs.RoundsLemmas.{made-at, run-changed, run-failed, run-made, run-stale, so-far-next}
 use Rattle.sr_live.proofs.RoundsLemmas.{so-far-none, stale-next}
 use Rattle.sr_live.proofs.rounds.run.Goals.{in-None, in-Some-Stale}
 use Rattle.sr_live.proofs.rounds.run.Goals as goal
