@@ -124,6 +124,8 @@ def faults_of_plan(plan, seen, most):
     """What is wrong with a plan, by what the program was told."""
     if plan.last != first_of(seen, most):
         yield f"compared up to {plan.last}, not {first_of(seen, most)}"
+    if plan.seen.removed != seen.removed:
+        yield f"{plan.seen.removed} are said to have been removed, and {seen.removed} had been"
     wanted = {name: are_there(up_to(own, plan.last)) for name, own in seen.rows.items()}
     sent = {name: are_there(own) for name, own in plan.seen.rows.items()}
     ids, problem = problem_of(plan.lives, seen, plan.last)

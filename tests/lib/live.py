@@ -18,8 +18,9 @@ CLASS = b"c"
 Live = collections.namedtuple("Live", "name limit tier rates")
 
 # What a plan depends on: for each dead consumer the ids that are pending for it, each with its fields, or None if it is
-# gone; and how many are pending for each consumer. `rows` is None if there is no such group.
-Seen = collections.namedtuple("Seen", "rows numbers")
+# gone; how many are pending for each consumer; and how many entries had been removed from the stream before. `rows` is None
+# if there is no such group.
+Seen = collections.namedtuple("Seen", "rows numbers removed", defaults=[0])
 
 
 def texts(pairs):
@@ -41,9 +42,15 @@ def all_replies(connection, commands):
 
 def seen_by(connection, key, group, dead, idle=0):
     """What ordinary commands tell, which are not of one moment."""
+    removed = removed_from(connection.call("XINFO", "STREAM", key))
     consumers = map(texts, connection.call("XINFO", "CONSUMERS", key, group))
     numbers = {consumer[b"name"]: consumer[b"pending"] for consumer in consumers}
-    return Seen({name: rows_of(connection, key, group, name, idle) for name in sorted(dead)}, numbers)
+    return Seen({name: rows_of(connection, key, group, name, idle) for name in sorted(dead)}, numbers, removed)
+
+
+def removed_from(stream):
+    """How many entries were removed from a stream, by what XINFO STREAM tells."""
+    return texts(stream)[b"entries-added"] - texts(stream)[b"length"]
 
 
 def rows_of(connection, key, group, name, idle):
@@ -144,7 +151,7 @@ class Plan:
 
     def words(self, group, within):
         """What the script gets after the key."""
-        yield from (group, within, self.last, self.idle, len(self.seen.rows))
+        yield from (group, within, self.last, self.idle, self.seen.removed, len(self.seen.rows))
         for name, rows in self.seen.rows.items():
             compared = up_to(rows, self.last)
             yield from (name, len(compared))
@@ -163,7 +170,10 @@ def carried_out(plan, group, before, after):
     expected = {entry_id: (owners.get(entry_id, owner), count) for entry_id, (owner, count, _) in old.items()}
     if {entry_id: (owner, count) for entry_id, (owner, count, _) in new.items()} != expected:
         yield f"pending afterwards: {new}\nexpected: {expected}"
-    if any(new[entry_id][2] != time for entry_id, (*_, time) in old.items() if entry_id not in owners):
+    if any(new[entry_id][2] < old[entry_id][2] for entry_id in owners if entry_id in new and entry_id in old):
+        yield f"delivered earlier than before: {old}\n{new}"
+    kept = [entry_id for entry_id in old if entry_id in new and entry_id not in owners]
+    if any(new[entry_id][2] != old[entry_id][2] for entry_id in kept):
         yield f"other delivery times: {old}\n{new}"
     if after.stream != before.stream or after.others(group) != before.others(group):
         yield f"the stream or another group has changed: {after.text}"

@@ -64,7 +64,14 @@ TWO_ROWS = [
     ("the dead gets one in place of another", "XACK s g 1-1\nXCLAIM s g D 0 0-2", stale(b"pending", b"D")),
     ("the dead leaves the group", "XGROUP DELCONSUMER s g D", stale(b"pending", b"D")),
     ("an entry of the dead is deleted", "XDEL s 2-1", stale(b"entry", b"2-1")),
+    ("one is deleted and one is added", "XDEL s 2-1\nXADD s 3-1 c x", stale(b"entry", b"2-1")),
+    ("an entry of A is deleted", "XDEL s 0-1", done(2)),
     ("the stream is trimmed", "XTRIM s MAXLEN 0", stale(b"entry", b"1-1")),
+    ("it is trimmed to what the dead has", "XTRIM s MAXLEN 2", done(2)),
+    ("it is trimmed by XADD", "XADD s MAXLEN 2 3-1 c x", stale(b"entry", b"1-1")),
+    ("more are said to have been added", "XSETID s 2-1 ENTRIESADDED 9", done(2)),
+    ("the same, and one is deleted", "XSETID s 2-1 ENTRIESADDED 9\nXDEL s 2-1", stale(b"entry", b"2-1")),
+    ("a number that is not exact, and one is deleted", f"XSETID s 2-1 ENTRIESADDED {2**53}\nXDEL s 2-1", stale(b"entry", b"2-1")),
     ("the group is gone", "XGROUP DESTROY s g", stale(b"group", b"g")),
     ("the group is made anew", "XGROUP DESTROY s g\nXGROUP CREATE s g 0", stale(b"pending", b"D")),
     ("the key is gone", "DEL s", stale(b"group", b"g")),
@@ -159,9 +166,10 @@ GAP_ROWS = [
 # What docs/LIVE.md gives a user of Redis, and how the answer begins without one part of it. Whoever runs a script needs
 # what the script calls.
 USER = ["on", ">secret", "resetkeys", "~s", "resetchannels", "-@all"]
-COMMANDS = ["+xpending", "+xrange", "+xclaim", "+evalsha"]
+COMMANDS = ["+xinfo|stream", "+xpending", "+xrange", "+xclaim", "+evalsha"]
 IN_SCRIPT = "ERR The user executing the script can't run this command"
 MISSING = [
+    ("+xinfo|stream", IN_SCRIPT),
     ("+xpending", IN_SCRIPT),
     ("+xrange", IN_SCRIPT),
     ("+xclaim", IN_SCRIPT),
@@ -326,7 +334,8 @@ def pages(board):
 
 
 def gone(board):
-    """Entries that were gone when the group was looked up: they are listed, in pages, and none of them is read."""
+    """Entries that were gone when the group was looked up: they are listed, in pages, and none of them is read; nor is one
+    that is there, if none was removed since."""
     for number in (1, 999, 1000, 1001, 2500):
         for left in (1, number // 2 + 1, number):
             board.begin(stranded(number))
@@ -337,8 +346,22 @@ def gone(board):
                 all_replies(board.connection, [["XACK", "s", "g", *acknowledged]] if acknowledged else [])
                 all_replies(board.connection, [["CONFIG", "RESETSTAT"]])
                 board.conclude(f"{number} entries, {len(ids)} gone, {len(acknowledged)} acknowledged", plan, done(1))
-                board.check("calls of XRANGE", 1, stat(board.connection, b"xrange", b"calls"))
+                board.check("calls of XRANGE", 0, stat(board.connection, b"xrange", b"calls"))
                 all_replies(board.connection, [["XCLAIM", "s", "g", "D", 0, f"{left}-1", "JUSTID"]])
+
+
+def removed(board):
+    """An entry that somebody removed, or that XSETID hides: then each entry of the dead is read, or none."""
+    for changes, calls in (("PING", 0), ("XADD s 9-1 c x", 0), ("XDEL s 0-1", 2), ("XADD s 9-1 c x\nXDEL s 9-1", 2)):
+        board.begin(TWO)
+        plan = board.plan(TWO_LIVE)
+        all_replies(board.connection, [*lines(changes), ["CONFIG", "RESETSTAT"]])
+        board.conclude(f"{changes}: nothing of the plan", plan, done(2))
+        board.check(f"{changes}: calls of XRANGE", calls, stat(board.connection, b"xrange", b"calls"))
+    board.begin(TWO)
+    plan = board.plan(TWO_LIVE)
+    all_replies(board.connection, lines("XDEL s 2-1\nXSETID s 2-1 ENTRIESADDED 3"))
+    board.check("hidden by XSETID", done(1), board.script.answer("s", "g", plan))
 
 
 def stat(connection, command, name):
@@ -381,8 +404,8 @@ def large(board):
         print(f"{sizes}: {min(takes):5.1f} ms in Redis, {min(waits):5.1f} ms to the answer", flush=True)
 
 
-def compared(connection):
-    """How many comparisons were made, and how many of them were wrong."""
+def compared(connection, last=large):
+    """How many comparisons were made, and how many of them were wrong. `last` comes after all others."""
     board = Board(connection)
     board.table(TWO, TWO_LIVE, TWO_ROWS)
     board.table(SOFT, SOFT_LIVE, SOFT_ROWS)
@@ -390,6 +413,6 @@ def compared(connection):
     board.table(TWO, TWO_LIVE, FIRST_ROWS, most=1)
     board.table(GONE, TWO_LIVE, GONE_ROWS)
     board.table(IDLE_TWO, TWO_LIVE, IDLE_ROWS, idle=IDLE)
-    for part in (gaps, errors, permissions, leftovers, names, pages, gone, large):
+    for part in (gaps, errors, permissions, leftovers, names, pages, gone, removed, last):
         part(board)
     return board.rows, board.wrong

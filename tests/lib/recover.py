@@ -15,7 +15,7 @@ import threading
 import time
 import traceback
 
-from .live import CLASS, Plan, Seen, number_of, texts
+from .live import CLASS, Plan, Seen, number_of, removed_from, texts
 from .resp import Ended, ErrorReply, Fault, Replies, text_of_reply
 from .servers import HOST, Connection
 
@@ -204,6 +204,7 @@ def plan_of(words, lives):
     plan = Plan.__new__(Plan)
     plan.lives, group, within, plan.last, plan.idle = lives, next(left), int(next(left)), next(left), int(next(left))
     plan.last = "+" if plan.last == b"+" else plan.last
+    removed = int(next(left))
     rows = {}
     for _ in range(int(next(left))):
         name = next(left)
@@ -218,7 +219,7 @@ def plan_of(words, lives):
     wanted = [(live.name, live.limit, b"-" if live.tier is None else b"%d" % live.tier[0]) for live in lives]
     if names != wanted or next(left, None) is not None:
         raise Fault(f"the script is sent {names}, not {wanted}")
-    plan.seen = Seen(rows, {})
+    plan.seen = Seen(rows, {}, removed)
     plan.ids = sorted(owners, key=number_of)
     plan.goes = [owners[entry_id] for entry_id in plan.ids]
     return plan, group, within
@@ -228,13 +229,15 @@ class Told:
     """What the replies of Redis told the program in its last round: what a plan has to be made of."""
 
     def __init__(self):
-        self.numbers, self.idles, self.rows, self.is_whole = {}, {}, {}, False
+        self.numbers, self.idles, self.rows, self.removed, self.is_whole = {}, {}, {}, None, False
 
     def add(self, words, reply):
         """Takes the reply to a call. The numbers come last."""
         if isinstance(reply, ErrorReply):
             return
-        if words[0] == b"XINFO":
+        if words[:2] == [b"XINFO", b"STREAM"]:
+            self.removed = removed_from(reply)
+        elif words[0] == b"XINFO":
             self.idles = {texts(one)[b"name"]: texts(one)[b"idle"] for one in reply}
         elif words[0] == b"XPENDING" and len(words) == 3:
             self.numbers = {name: int(number) for name, number in reply[3] or []}
@@ -250,7 +253,7 @@ class Told:
     def seen(self):
         """With --at-most entries that come later are listed and not read: no plan has to do with them."""
         rows = {name: [tuple(row) for row in own if row[1] is not UNREAD] for name, own in self.rows.items()}
-        return Seen(rows, self.numbers)
+        return Seen(rows, self.numbers, self.removed)
 
     def live(self, lives, within):
         """Those of the consumers that may be given entries: that have been idle for at most so long, if that is asked for."""

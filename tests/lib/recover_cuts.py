@@ -20,10 +20,10 @@ GROUP = ["s", "g", "D"]
 WORKERS = 4
 SILENCE = 400  # milliseconds, for answers that stop: long enough that no other one is late on a busy machine
 HANGS = 5  # of the cuts every this many hangs too
-CALLS = ["XPENDING", "XPENDING", "XRANGE", "XRANGE", "XPENDING", "EVALSHA", "EVAL"]
+CALLS = ["XPENDING", "XINFO", "XPENDING", "XRANGE", "XRANGE", "XPENDING", "EVALSHA", "EVAL"]
 FIRST_SENT = CALLS.index("EVALSHA")
 SEEN = ["--seen-within", 10**12]
-SEEN_CALL = 3  # with it: behind XPENDING and two of XRANGE
+SEEN_CALL = 4  # with it: behind XINFO, XPENDING and two of XRANGE
 UNKNOWN = b"redis: the plan was sent, and what came of it is not known: "
 
 # What comes in place of an answer: no reply of RESP2, another one, or one that only begins well.

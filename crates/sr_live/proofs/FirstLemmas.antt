@@ -64,6 +64,7 @@ finds-there wanted (suc left) row one there = λ later.
   where
     less : (n : ℕ) → suc left + 1 ≡ n → n - 1 ≡ suc left
     less n is = omega (arith, is)
+
     some : (k : ℕ) → suc k ≢ 0
     some k = λ is. omega (arith, is)
 
@@ -85,6 +86,7 @@ finds-all (row ∷ rows) wanted some few = by (finds-all rows) (is_some row.fiel
         (filter (λ (row : Row). is_some row.fields) rows))
     counted test is = ap (λ (t : Bool). length (cond t (row ∷ filter (λ (row : Row). is_some row.fields) rows)
         (filter (λ (row : Row). is_some row.fields) rows))) is
+
     last : ((n : ℕ) → 0 < n → length rows ≤ n → Finds n rows (n - stranded_in rows)) → (left : ℕ) → left + 1 ≡ wanted → is_some row.fields ≡ true
         → Finds wanted (row ∷ rows) (left - stranded_in rows)
     last rest zero one there =
@@ -95,6 +97,7 @@ finds-all (row ∷ rows) wanted some few = by (finds-all rows) (is_some row.fiel
         Finds-more wanted (suc left) (suc left - stranded_in rows) (row ∷ []) rows (omega arith)
         (finds-there wanted (suc left) row one there)
         (rest (suc left) (omega arith) (omega (arith, one, few)))
+
     by : ((n : ℕ) → 0 < n → length rows ≤ n → Finds n rows (n - stranded_in rows)) → (test : Bool) → is_some row.fields ≡ test
         → Finds wanted (row ∷ rows) (wanted - stranded_in (row ∷ rows))
     by rest false gone =

@@ -70,10 +70,18 @@ module _ (key group : Text) (idle : ℕ) where
             subst (λ (both : List Exchange). ListsPages key group idle name last None both ((ids ++ more) ++ rest))
             (sym (append_assoc own (call ∷ []) others))
             (subst (ListsPages key group idle name last None (own ++ call ∷ others)) (sym (append_assoc ids more rest))
-            (so_far.0 last (call ∷ others) (more ++ rest)
-            (more, rest, refl, says,
-            inr (long, subst (λ (at : Option Id). ListsPages key group idle name last at others rest)
-            (last_of-append ids more None) pages), refl)))),
+            (so_far.0 last (call ∷ others) (more ++ rest) (
+              more,
+              rest,
+              refl,
+              says,
+              inr (
+                long,
+                subst (λ (at : Option Id). ListsPages key group idle name last at others rest)
+                    (last_of-append ids more None) pages,
+              ),
+              refl,
+            )))),
         sym (last_of-append ids more None),
       ))
       (λ (short : length more < page) (last : Option Id).
@@ -115,8 +123,11 @@ module _ (key group : Text) (idle : ℕ) where
     [],
     [],
     [],
-    ((λ (last : Option Id) (others : List Exchange) (rest : List Id)
-        (pages : ListsPages key group idle name last None others rest). pages), refl),
+    (
+      (λ (last : Option Id) (others : List Exchange) (rest : List Id)
+          (pages : ListsPages key group idle name last None others rest). pages),
+      refl,
+    ),
     AreListed-none dead,
     refl,
     refl,
@@ -337,6 +348,7 @@ sorted-join {X} lt xs ys first then join k d low high = elim (cases_order (k + 1
   where
     none : (a b : ℕ) → a ≡ b → a - b ≡ 0
     none a b is = omega (arith, is)
+
     more : (a b : ℕ) → b < a + 1 → (a + 1) - b ≡ (a - b) + 1
     more a b is = omega (arith, is)
 
@@ -398,6 +410,7 @@ module _ (key group : Text) (idle : ℕ) (dead : List Text) (at_most : Option �
     where
       least : (n : ℕ) → 0 < max n 1
       least n = omega arith
+
       nothing : (seen : Seen) → seen.ahead.items ≡ [] → seen.found.rows.items ≡ []
           → map listed_as seen.found.rows.items ++ seen.ahead.items ≡ []
       nothing seen ahead rows =

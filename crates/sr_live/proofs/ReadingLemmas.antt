@@ -201,12 +201,15 @@ LooksLive-reads key group within talk idles numbers live =
     (LooksIdle-reads key group within live.first idles live.looks) (inr (inl refl), tt))
 
 pub IsLooked-reads : (asked : Asked) (at_most : Option ℕ) (talk : List Exchange) (idles numbers : List (Text × ℕ))
-    (rows : List Row) (last : Option Id) → IsLooked asked at_most talk idles numbers rows last → AreReading talk
-IsLooked-reads asked at_most talk idles numbers rows last looked =
-    subst AreReading (sym looked.spelled)
-    (reading-append looked.looking looked.asking
-    (LooksRows-reads asked.key asked.group asked.idle asked.dead.items at_most looked.looking rows last looked.looks)
-    (LooksLive-reads asked.key asked.group asked.seen_within looked.asking idles numbers looked.live))
+    (rows : List Row) (last : Option Id) (removed : ℕ) → IsLooked asked at_most talk idles numbers rows last removed
+    → AreReading talk
+IsLooked-reads asked at_most talk idles numbers rows last removed looked =
+    subst AreReading (sym looked.spelled) (
+      inl refl,
+      reading-append looked.looking looked.asking
+          (LooksRows-reads asked.key asked.group asked.idle asked.dead.items at_most looked.looking rows last looked.looks)
+          (LooksLive-reads asked.key asked.group asked.seen_within looked.asking idles numbers looked.live),
+    )
 
 -- ---- faults
 

@@ -26,17 +26,17 @@ use Rattle.sr_live.specs.Words.{last_word, words_for}
 use Rattle.sr_live.proofs.TalkLemmas.{Talks-none, Talks-trans}
 
 -- there are no words only for a shortage
-pub short-from-none : (group : Text) (within : ℕ) (last : Text) (idle : ℕ) (rows : List Row) (shown : SnapshotState)
-    (answer : PlanAnswer) → words_for group within last idle rows shown answer ≡ None
+pub short-from-none : (group : Text) (within : ℕ) (last : Text) (idle removed : ℕ) (rows : List Row)
+    (shown : SnapshotState) (answer : PlanAnswer) → words_for group within last idle removed rows shown answer ≡ None
     → (set : List ℕ) × (answer ≡ short set)
-short-from-none group within last idle rows shown (best assign prices total) is = absurd cc
-short-from-none group within last idle rows shown (short set) is = (set, refl)
+short-from-none group within last idle removed rows shown (best assign prices total) is = absurd cc
+short-from-none group within last idle removed rows shown (short set) is = (set, refl)
 
 module _ (rules : Rules) (asked : Asked) (terms : Terms) where
   abbrev AreWords : Planned → List Text → Type 0
   AreWords planned words =
       words_for planned.verdict.snapshot.group terms.within (last_word planned.looked.last) asked.idle
-      planned.looked.rows.items planned.verdict.snapshot planned.verdict.answer ≡ Some words
+      planned.looked.removed planned.looked.rows.items planned.verdict.snapshot planned.verdict.answer ≡ Some words
 
   ready-from : (planned : Planned) (look before : List Exchange) (words call : List Text)
       → IsPlanned rules asked terms.at_most look planned → AreWords planned words → IsCalled asked.key words before call

@@ -1,9 +1,9 @@
 -- Replies read part by part: what one more consumer, entry or field adds to what was read.
 use Rattle.std.proofs.Common.{◌≡◌, ℕ, ◌+◌, ◌*◌, ℤ, Bool, true, false, cond, List, [], ◌∷◌, ◌++◌, length}
 use Rattle.std.proofs.Common.{Option, Some, None, refl, sym, ap, ◌∙◌, subst, nat_eq, inl, inr}
-use Rattle.std.proofs.Common.{append-nil, append_assoc, length-append}
+use Rattle.std.proofs.Common.{append-nil, append_assoc, codes, length-append, pos}
 use Rattle.std.proofs.lemmas.List.{flat_map_more}
-use Rattle.std.specs.List.{flat_map}
+use Rattle.std.specs.List.{AllByRecursion, flat_map}
 use Rattle.std.specs.Option.{option_or}
 use Rattle.std.specs.Cmp.Lexicographic.{pointwise}
 use Rattle.sr_ids.specs.declared.id.Id.{Id}
@@ -11,9 +11,9 @@ use Rattle.sr_ids.specs.{SpellsId}
 use Rattle.sr_policy.specs.{Text}
 use Rattle.sr_policy.specs.Rules.{value_at}
 use Rattle.sr_peer.specs.{Part, Array, Bulk, Int}
-use Rattle.sr_peer.specs.Reply.{NullArray, NullBulk}
+use Rattle.sr_peer.specs.Reply.{NullArray, NullBulk, items_of}
 use Rattle.sr_live.specs.Said.{ArePendingRows, IsFront, IsPendingRow, SayConsumers, SaysConsumer, SaysEntry, SaysNumbers}
-use Rattle.sr_live.specs.Said.{consumer_parts, number_parts, pairs_parts}
+use Rattle.sr_live.specs.Said.{SaysRemoved, consumer_parts, fields_parts, number_parts, pairs_parts}
 
 -- ---- the first field with a name, after one more field
 
@@ -194,3 +194,55 @@ SaysEntry-one id fields n all left rest one header (text, spells, spelled) = (
   (text, spells, refl),
   (cc),
 )
+
+-- ---- XINFO STREAM
+
+-- no value has items
+abbrev ArePlain : List (Text × Part) → Type 0
+ArePlain fields = AllByRecursion (λ (field : Text × Part). items_of field.1 ≡ 0) fields
+
+plain-push : (fields : List (Text × Part)) (field : Text × Part) → ArePlain fields → items_of field.1 ≡ 0
+    → ArePlain (fields ++ field ∷ [])
+plain-push [] field all plain = (plain, tt)
+plain-push (first ∷ fields) field (here, others) plain = (here, plain-push fields field others plain)
+
+-- fields were read, with what the two that count say so far
+abbrev pub ReadsCounts : List Part → List Part → Option Part → Option Part → Type 0
+ReadsCounts all rest kept added =
+    (fields : List (Text × Part)) × AllByRecursion (λ (field : Text × Part). items_of field.1 ≡ 0) fields
+    × (kept ≡ value_at (codes "length") fields) × (added ≡ value_at (codes "entries-added") fields)
+    × (all ≡ fields_parts fields ++ rest)
+
+pub counts-next : (all left rest : List Part) (kept added kept_now added_now : Option Part) (name : Text) (value : Part)
+    → ReadsCounts all left kept added → left ≡ Bulk name ∷ value ∷ rest → items_of value ≡ 0
+    → ((fields : List (Text × Part)) → kept ≡ value_at (codes "length") fields
+    → kept_now ≡ value_at (codes "length") (fields ++ (name, value) ∷ []))
+    → ((fields : List (Text × Part)) → added ≡ value_at (codes "entries-added") fields
+    → added_now ≡ value_at (codes "entries-added") (fields ++ (name, value) ∷ []))
+    → ReadsCounts all rest kept_now added_now
+counts-next all left rest kept added kept_now added_now name value (fields, plain, so_kept, so_added, spelled) next is
+    keep add = (
+      fields ++ (name, value) ∷ [],
+      plain-push fields (name, value) plain is,
+      keep fields so_kept,
+      add fields so_added,
+      spelled-next (λ (field : Text × Part). Bulk field.0 ∷ field.1 ∷ []) fields (name, value) all left rest spelled next,
+    )
+
+pub SaysRemoved-read : (parts all rest : List Part) (places : ℕ) (kept added : Option Part) (there whole : ℤ) (removed : ℕ)
+    → parts ≡ Array places ∷ all → ReadsCounts all rest kept added → kept ≡ Some (Int there) → added ≡ Some (Int whole)
+    → (few : ℕ) × (many : ℕ) × (pos few ≡ there) × (pos many ≡ whole) × (few + removed ≡ many)
+    → SaysRemoved parts removed
+SaysRemoved-read parts all rest places kept added there whole removed first (fields, plain, so_kept, so_added, spelled)
+    is_kept is_added (few, many, same_kept, same_added, others) = record {
+      places = places;
+      fields = fields;
+      rest = rest;
+      kept = few;
+      added = many;
+      spelled = first ∙ ap (λ (l : List Part). Array places ∷ l) spelled;
+      plain = plain;
+      says_kept = sym so_kept ∙ is_kept ∙ ap (λ (n : ℤ). Some (Int n)) (sym same_kept);
+      says_added = sym so_added ∙ is_added ∙ ap (λ (n : ℤ). Some (Int n)) (sym same_added);
+      others = others;
+    }

@@ -9,7 +9,8 @@ use Rattle.sr_policy.specs.{Text}
 use Rattle.sr_peer.specs.{Part, part_text, request_text}
 use Rattle.sr_live.specs.declared.looked.Asked.{Asked}
 use Rattle.sr_live.specs.declared.looked.Row.{Row}
-use Rattle.sr_live.specs.Looking.{Exchange, IsLooked, LooksLive, LooksRows, Talks, answered_of, asked_of}
+use Rattle.sr_live.specs.Looking.{Exchange, IsLooked, LooksLive, LooksRows, Talks, answered_of, asked_of, stream_call}
+use Rattle.sr_live.specs.Said.{SaysRemoved}
 
 -- ---- talks
 
@@ -42,23 +43,29 @@ Talks-one sent got sent_then got_then call parts request text is spelled asked a
 
 -- ---- the whole
 
--- the entries of the dead, and the consumers
-pub looked-from : (sent got sent_then got_then sent_last got_last : Option (List ℕ)) (asked : Asked) (at_most : Option ℕ)
-    (idles numbers : List (Text × ℕ)) (rows : List Row) (last : Option Id)
-    → (talk : List Exchange) × Talks sent got sent_then got_then talk
+-- how many were removed, the entries of the dead, and the consumers
+pub looked-from : (sent got sent_two got_two sent_three got_three sent_last got_last : Option (List ℕ)) (asked : Asked)
+    (at_most : Option ℕ) (idles numbers : List (Text × ℕ)) (rows : List Row) (last : Option Id) (removed : ℕ)
+    → (parts : List Part) × Talks sent got sent_two got_two ((stream_call asked.key, parts) ∷ [])
+    × SaysRemoved parts removed
+    → (talk : List Exchange) × Talks sent_two got_two sent_three got_three talk
     × LooksRows asked.key asked.group asked.idle asked.dead.items at_most talk rows last
-    → (talk : List Exchange) × Talks sent_then got_then sent_last got_last talk
+    → (talk : List Exchange) × Talks sent_three got_three sent_last got_last talk
     × LooksLive asked.key asked.group asked.seen_within talk idles numbers
     → (talk : List Exchange) × Talks sent got sent_last got_last talk
-    × IsLooked asked at_most talk idles numbers rows last
-looked-from sent got sent_then got_then sent_last got_last asked at_most idles numbers rows last
-    (looking, one, looks) (asking, two, live) = (
-      looking ++ asking,
-      Talks-trans sent got sent_then got_then sent_last got_last looking asking one two,
+    × IsLooked asked at_most talk idles numbers rows last removed
+looked-from sent got sent_two got_two sent_three got_three sent_last got_last asked at_most idles numbers rows last removed
+    (counts, one, says_removed) (looking, two, looks) (asking, three, live) =
+    let first : Exchange = (stream_call asked.key, counts) in (
+      first ∷ (looking ++ asking),
+      Talks-trans sent got sent_two got_two sent_last got_last (first ∷ []) (looking ++ asking) one
+          (Talks-trans sent_two got_two sent_three got_three sent_last got_last looking asking two three),
       record {
+        counts = counts;
         looking = looking;
         asking = asking;
         looks = looks;
+        says_removed = says_removed;
         live = live;
         spelled = refl;
       },

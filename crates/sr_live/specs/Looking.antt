@@ -1,5 +1,5 @@
 -- How a group is looked up: which calls are made, and what their replies say.
--- Source: Redis documentation, commands XINFO CONSUMERS, XPENDING and XRANGE.
+-- Source: Redis documentation, commands XINFO STREAM, XINFO CONSUMERS, XPENDING and XRANGE.
 
 use Rattle.std.specs.Prelude.{◌≡◌, ◌⊎◌, ⊤, ℕ, ◌<◌, ◌≤◌, Bool, true, false, not, List, [], ◌∷◌, ◌++◌, length, map, codes}
 use Rattle.std.specs.Prelude.{decimal, Option, Some, None}
@@ -13,7 +13,7 @@ use Rattle.sr_peer.specs.{Part, part_text, request_text}
 use Rattle.sr_live.specs.declared.looked.Asked.{Asked}
 use Rattle.sr_live.specs.declared.looked.Row.{Row}
 use Rattle.sr_live.specs.First.{kept_rows}
-use Rattle.sr_live.specs.Said.{SaysEntry, SaysIdle, SaysNumbers, SaysPending}
+use Rattle.sr_live.specs.Said.{SaysEntry, SaysIdle, SaysNumbers, SaysPending, SaysRemoved}
 
 -- a call in words, and the parts of its reply
 abbrev pub Exchange : Type 0
@@ -33,6 +33,9 @@ pub record Talks (sent got sent_then got_then : Option (List ℕ)) (talk : List 
   pub answered : Appends got got_then (answered_of talk)
 
 -- ---- the calls
+
+abbrev pub stream_call : Text → List Text
+stream_call key = codes "XINFO" ∷ codes "STREAM" ∷ key ∷ []
 
 abbrev pub consumers_call : Text → Text → List Text
 consumers_call key group = codes "XINFO" ∷ codes "CONSUMERS" ∷ key ∷ group ∷ []
@@ -140,11 +143,14 @@ pub record LooksLive (key group : Text) (within : Option ℕ) (talk : List Excha
   pub says : SaysNumbers parts numbers
   pub spelled : talk ≡ first ++ (numbers_call key group, parts) ∷ []
 
--- what was looked up of a group by these calls: such entries, and last the consumers
+-- what was looked up of a group by these calls: how many entries had been removed from the stream before any was read,
+-- such entries, and last the consumers
 pub record IsLooked (asked : Asked) (at_most : Option ℕ) (talk : List Exchange) (idles numbers : List (Text × ℕ))
-    (rows : List Row) (last : Option Id) : Type 0 where
+    (rows : List Row) (last : Option Id) (removed : ℕ) : Type 0 where
+  pub counts : List Part
   pub looking : List Exchange
   pub asking : List Exchange
+  pub says_removed : SaysRemoved counts removed
   pub looks : LooksRows asked.key asked.group asked.idle asked.dead.items at_most looking rows last
   pub live : LooksLive asked.key asked.group asked.seen_within asking idles numbers
-  pub spelled : talk ≡ looking ++ asking
+  pub spelled : talk ≡ (stream_call asked.key, counts) ∷ looking ++ asking

@@ -1,5 +1,5 @@
 -- Calls that only read, and how looking a group up breaks off.
--- Source: Redis documentation, commands XINFO CONSUMERS, XPENDING and XRANGE.
+-- Source: Redis documentation, commands XINFO STREAM, XINFO CONSUMERS, XPENDING and XRANGE.
 
 use Rattle.std.specs.Prelude.{⊤, ◌≡◌, ◌⊎◌, ℕ, List, [], ◌∷◌, Option, codes}
 use Rattle.std.specs.List.{AllByRecursion, flat_map}
@@ -7,7 +7,7 @@ use Rattle.sr_policy.specs.{Text}
 use Rattle.sr_peer.specs.{request_text}
 use Rattle.sr_peer.specs.Exchange.{SendsPart}
 use Rattle.sr_live.specs.declared.fault.LiveCall.{LiveCall}
-use Rattle.sr_live.specs.declared.fault.LiveCall.TheVariants.{Consumers, Pending, Entry, Script}
+use Rattle.sr_live.specs.declared.fault.LiveCall.TheVariants.{Stream, Consumers, Pending, Entry, Script}
 use Rattle.sr_live.specs.declared.fault.LiveFault.{LiveFault}
 use Rattle.sr_live.specs.declared.fault.LiveFault.TheVariants.{Changed, ErrorReply, Memory, Peer, Shape, TooMany, Unfit}
 use Rattle.sr_live.specs.declared.fault.LiveFault.TheVariants.{Unknown}
@@ -24,6 +24,7 @@ pub record HasOnlyRead (sent sent_then : Option (List ℕ)) : Type 0 where
   pub sends : SendsPart sent sent_then (flat_map request_text calls)
 
 abbrev pub IsReading : LiveCall → Type 0
+IsReading Stream = ⊤
 IsReading Consumers = ⊤
 IsReading Pending = ⊤
 IsReading Entry = ⊤

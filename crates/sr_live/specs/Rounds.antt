@@ -28,7 +28,7 @@ use Rattle.sr_live.specs.Words.{last_word, words_for}
 pub record IsPlanned (rules : Rules) (asked : Asked) (at_most : Option ℕ) (talk : List Exchange) (planned : Planned)
     : Type 0 where
   pub looked : IsLooked asked at_most talk planned.looked.idles.items planned.looked.numbers.items
-      planned.looked.rows.items planned.looked.last
+      planned.looked.rows.items planned.looked.last planned.looked.removed
   pub snapshot : planned.verdict.snapshot
       ≡ shown_of rules asked planned.looked.idles.items planned.looked.numbers.items planned.looked.rows.items
 
@@ -38,7 +38,8 @@ pub record HasChanged (rules : Rules) (asked : Asked) (at_most : Option ℕ) (ta
   pub numbers : List (Text × ℕ)
   pub rows : List Row
   pub last : Option Id
-  pub looked : IsLooked asked at_most talk idles numbers rows last
+  pub removed : ℕ
+  pub looked : IsLooked asked at_most talk idles numbers rows last removed
   pub none : IsSnapshot (shown_of rules asked idles numbers rows) → ⊥
 
 abbrev pub IsJudged : Rules → Asked → Option ℕ → List Exchange → Option Planned → Type 0
@@ -53,7 +54,7 @@ pub record IsReady (rules : Rules) (asked : Asked) (terms : Terms) (talk : List 
   pub words : List Text
   pub planned_so : IsPlanned rules asked terms.at_most look planned
   pub are_words : words_for planned.verdict.snapshot.group terms.within (last_word planned.looked.last) asked.idle
-      planned.looked.rows.items planned.verdict.snapshot planned.verdict.answer ≡ Some words
+      planned.looked.removed planned.looked.rows.items planned.verdict.snapshot planned.verdict.answer ≡ Some words
   pub called : IsCalled asked.key words before call
   pub spelled : talk ≡ look ++ before
 

@@ -1,15 +1,15 @@
 -- What the replies of Redis say of a group.
--- Source: Redis documentation, commands XINFO CONSUMERS, XPENDING and XRANGE.
+-- Source: Redis documentation, commands XINFO STREAM, XINFO CONSUMERS, XPENDING and XRANGE.
 
-use Rattle.std.specs.Prelude.{◌≡◌, ⊤, ◌⊎◌, ℕ, ◌*◌, ℤ, pos, List, [], ◌∷◌, ◌++◌, length, codes, decimal}
+use Rattle.std.specs.Prelude.{◌≡◌, ⊤, ◌⊎◌, ℕ, ◌+◌, ◌*◌, ℤ, pos, List, [], ◌∷◌, ◌++◌, length, codes, decimal}
 use Rattle.std.specs.Prelude.{Option, Some, None}
-use Rattle.std.specs.List.{flat_map}
+use Rattle.std.specs.List.{AllByRecursion, flat_map}
 use Rattle.sr_ids.specs.declared.id.Id.{Id}
 use Rattle.sr_ids.specs.{SpellsId}
 use Rattle.sr_policy.specs.{Text}
 use Rattle.sr_policy.specs.Rules.{value_at}
 use Rattle.sr_peer.specs.{Part, Array, Bulk, Int}
-use Rattle.sr_peer.specs.Reply.{NullArray, NullBulk}
+use Rattle.sr_peer.specs.Reply.{NullArray, NullBulk, items_of}
 use Rattle.sr_live.specs.declared.looked.Row.{Row}
 
 -- ---- XPENDING: how many entries are pending, the least and the greatest of their ids, and an array of consumers, each
@@ -60,6 +60,21 @@ pub record SaysIdle (parts : List Part) (consumers : List (Text × ℕ)) : Type 
   pub fields : List (List (Text × Part))
   pub spelled : parts ≡ consumers_parts fields
   pub says : SayConsumers fields consumers
+
+-- ---- XINFO STREAM: an array of fields with their values, of which those up to the two that count are one part each
+
+-- the reply says how many entries the stream has and how many were added to it: the others were removed
+pub record SaysRemoved (parts : List Part) (removed : ℕ) : Type 0 where
+  pub places : ℕ
+  pub fields : List (Text × Part)
+  pub rest : List Part
+  pub kept : ℕ
+  pub added : ℕ
+  pub spelled : parts ≡ Array places ∷ fields_parts fields ++ rest
+  pub plain : AllByRecursion (λ (field : Text × Part). items_of field.1 ≡ 0) fields
+  pub says_kept : value_at (codes "length") fields ≡ Some (Int (pos kept))
+  pub says_added : value_at (codes "entries-added") fields ≡ Some (Int (pos added))
+  pub others : kept + removed ≡ added
 
 -- ---- XPENDING with a consumer: an array of entries, each with its id, owner, idle time and delivery count
 

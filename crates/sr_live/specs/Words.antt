@@ -56,18 +56,19 @@ last_word None = codes "+"
 last_word (Some id) = spelling id
 
 -- all words behind the key: the group, by how much the plan may cost more than a cheapest one, up to which id is
--- compared, for how many milliseconds each entry has to have been idle, the dead, and the live
-abbrev pub plan_words : Text → ℕ → Text → ℕ → List Text → List Row → List (Id × Text) → List Live
+-- compared, for how many milliseconds each entry has to have been idle, how many entries had been removed from the
+-- stream, the dead, and the live
+abbrev pub plan_words : Text → ℕ → Text → ℕ → ℕ → List Text → List Row → List (Id × Text) → List Live
     → List (Text × List ℕ) → List Text
-plan_words group within last idle dead rows moves live prices =
-    group ∷ decimal within ∷ last ∷ decimal idle ∷ decimal (length dead) ∷ []
+plan_words group within last idle removed dead rows moves live prices =
+    group ∷ decimal within ∷ last ∷ decimal idle ∷ decimal removed ∷ decimal (length dead) ∷ []
     ++ flat_map (dead_words rows) dead
     ++ decimal (length live) ∷ []
     ++ lives_words moves live prices
 
 -- the words for a plan; none for a shortage
-abbrev pub words_for : Text → ℕ → Text → ℕ → List Row → SnapshotState → PlanAnswer → Option (List Text)
-words_for group within last idle rows shown (best assign prices total) =
-    Some (plan_words group within last idle shown.dead rows (moves_of shown assign) shown.live
+abbrev pub words_for : Text → ℕ → Text → ℕ → ℕ → List Row → SnapshotState → PlanAnswer → Option (List Text)
+words_for group within last idle removed rows shown (best assign prices total) =
+    Some (plan_words group within last idle removed shown.dead rows (moves_of shown assign) shown.live
     (prices_by shown.live prices))
-words_for group within last idle rows shown (short set) = None
+words_for group within last idle removed rows shown (short set) = None

@@ -53,7 +53,10 @@ pub(crate) fn look_first<P: Peer>(
         if found.rows.len() >= MAX_ROWS {
             return Err(LiveFault::TooMany);
         }
-        let most = found.wanted.min(asked.together.max(1)).min(left.len() as u64);
+        let most = found
+            .wanted
+            .min(asked.together.max(1))
+            .min(left.len() as u64);
         let (together, rest) = left.split_at(most as usize);
         look_some(peer, alloc, asked, together, found)?;
         left = rest;

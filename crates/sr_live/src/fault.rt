@@ -8,6 +8,8 @@ use std::alloc::{AllocError, AllocFailed};
 /// A call that is made of Redis.
 #[derive(Clone, Copy, Debug, PartialEq, Eq)]
 pub enum LiveCall {
+    /// XINFO STREAM.
+    Stream,
     /// XINFO CONSUMERS.
     Consumers,
     /// XPENDING.

@@ -126,13 +126,21 @@ fn list_one<P: Peer>(
     let last = one.last;
     if !one.goes_on || !is_needed(one, ahead.as_slice()) {
         let goes_on = one.goes_on;
-        return Ok(Listing { name, last, goes_on });
+        return Ok(Listing {
+            name,
+            last,
+            goes_on,
+        });
     }
     let ids = look_page(peer, alloc, asked, &name, last)?;
     push_owned(ahead, alloc, ids.as_slice(), &name)?;
     let last = last_after(ids.as_slice(), last);
     let goes_on = ids.len() >= PAGE;
-    Ok(Listing { name, last, goes_on })
+    Ok(Listing {
+        name,
+        last,
+        goes_on,
+    })
 }
 
 /// Whether the first of the entries is not known to be the next one.

@@ -32,7 +32,7 @@ pub struct Row {
 
 /// What was looked up of a group.
 ///
-/// Source: Redis documentation, commands XINFO CONSUMERS, XPENDING and XRANGE.
+/// Source: Redis documentation, commands XINFO STREAM, XINFO CONSUMERS, XPENDING and XRANGE.
 #[derive(Drop)]
 pub struct Looked {
     /// Each consumer of the group, with for how many milliseconds it has been idle. Empty if that is not asked for.
@@ -43,4 +43,6 @@ pub struct Looked {
     pub rows: Vec<Row>,
     /// The last of them, if those behind it were left out.
     pub last: Option<Id>,
+    /// How many entries had been removed from the stream since it was made, before any entry was read.
+    pub removed: u64,
 }

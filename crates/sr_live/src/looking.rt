@@ -3,10 +3,12 @@ ghost use Rattle.std.specs.Prelude.{◌≡◌, ◌++◌, ◌∷◌, ◌<◌, [],
 ghost use Rattle.std.specs.Prelude.{IfErr, IfOk, IsTrue, OnOk};
 ghost use Rattle.std.specs.List.Sorted.{IsPermutation, IsSortedBy};
 ghost use Rattle.sr_ids.specs.{is_below};
+ghost use Rattle.sr_peer.specs.Reply as wire;
 ghost use Rattle.sr_peer.specs.{request_text};
 ghost use Rattle.sr_live.specs.declared.fault.LiveFault.TheVariants.{TooMany};
-ghost use Rattle.sr_live.specs.Looking.{Exchange, IsLooked, LooksRows, Talks, last_of};
+ghost use Rattle.sr_live.specs.Looking.{Exchange, IsLooked, LooksRows, Talks, last_of, stream_call};
 ghost use Rattle.sr_live.specs.Reading.{BreaksOff, IsOfLooking, IsReading};
+ghost use Rattle.sr_live.specs.Said.{SaysRemoved};
 ghost use Rattle.sr_live.specs.steps.Listing.{Follow, Passes};
 
 use crate::consumers::look_live;
@@ -14,10 +16,10 @@ use crate::entries::{Found, MAX_ROWS, look_first};
 use crate::fault::{LiveCall, LiveFault};
 use crate::listing::{Listing, PAGE, are_listed, count_sure, is_before, list_on, unlisted};
 use crate::looked::{Asked, Looked, Row};
-use crate::said::Misread;
+use crate::said::{Misread, removed_said};
 use sr_bytes::Name;
 use sr_ids::Id;
-use sr_peer::{Peer, append_header, append_word};
+use sr_peer::{Peer, append_header, append_word, ask};
 use std::alloc::{AllocError, Global};
 
 /// How many entries may be stranded, if no number of them is asked for.
@@ -27,7 +29,7 @@ const MAX_STRANDED: u64 = 4096;
 /// group; and for how long each consumer has been idle, if that is asked for. With a number it looks no further than
 /// that many stranded entries. Between the calls the group may change.
 ///
-/// Source: Redis documentation, commands XINFO CONSUMERS, XPENDING and XRANGE.
+/// Source: Redis documentation, commands XINFO STREAM, XINFO CONSUMERS, XPENDING and XRANGE.
 pub fn look<P: Peer>(
     peer: &mut P,
     alloc: Global,
@@ -36,9 +38,12 @@ pub fn look<P: Peer>(
 ) -> Result<Looked, LiveFault>
     ensures ok { IfOk result (λ looked. (talk : List Exchange)
         × Talks (P.sent peer.old) (P.got peer.old) (P.sent peer.new) (P.got peer.new) talk
-        × IsLooked asked.now at_most talk looked.idles.items looked.numbers.items looked.rows.items looked.last) }
+        × IsLooked asked.now at_most talk looked.idles.items looked.numbers.items looked.rows.items looked.last
+        looked.removed) }
     ensures err { IfErr result (BreaksOff (P.sent peer.old) (P.sent peer.new)) }
 {
+    // Before any entry is read: what was removed by then is read as gone, and what is removed later alters the number.
+    let removed = look_removed(peer, alloc, &asked.key)?;
     let (rows, last) = look_rows(peer, alloc, asked, at_most)?;
     // The numbers change most, so they are the youngest part when the script compares.
     let (idles, numbers) = look_live(peer, alloc, asked)?;
@@ -47,7 +52,31 @@ pub fn look<P: Peer>(
         numbers,
         rows,
         last,
+        removed,
     })
+}
+
+/// Looks up how many entries were removed from a stream since it was made.
+///
+/// Source: Redis documentation, command XINFO STREAM.
+fn look_removed<P: Peer>(peer: &mut P, alloc: Global, key: &Name) -> Result<u64, LiveFault>
+    ensures ok { IfOk result (λ removed. (parts : List wire.Part)
+        × Talks (P.sent peer.old) (P.got peer.old) (P.sent peer.new) (P.got peer.new)
+        ((stream_call key.now, parts) ∷ []) × SaysRemoved parts removed) }
+    ensures err { IfErr result (BreaksOff (P.sent peer.old) (P.sent peer.new)) }
+{
+    let request = stream_request(alloc, key)?;
+    match ask(peer, alloc, request.as_slice(), 1) {
+        Ok(answers) => understood(LiveCall::Stream, removed_said(alloc, answers.parts())),
+        Err(fault) => Err(LiveFault::Peer(fault)),
+    }
+}
+
+/// The request for what is known of a stream.
+fn stream_request(alloc: Global, key: &Name) -> Result<Vec<u8>, AllocError>
+    ensures { IfOk result (λ request. request.items ≡ request_text (stream_call key.now)) }
+{
+    request_of(alloc, &[b"XINFO", b"STREAM", key.as_slice()])
 }
 
 /// How far the look-up has come.

@@ -164,6 +164,7 @@ fn round<P: Peer>(
         within: terms.within,
         last: planned.looked.last,
         idle: asked.idle,
+        removed: planned.looked.removed,
     };
     let rows = planned.looked.rows.as_slice();
     let Some(words) = script_words(alloc, &planned.verdict, rows, limits)? else {

@@ -1,15 +1,16 @@
 //! What the replies of Redis say of a group.
-ghost use Rattle.std.specs.Prelude.{◌≡◌, ◌++◌, ◌∷◌, ◌*◌, [], ℕ, List, pos, codes, decimal, length, option_map};
+ghost use Rattle.std.specs.Prelude.{◌≡◌, ◌+◌, ◌++◌, ◌∷◌, ◌*◌, [], ℕ, List, pos, codes, decimal, length, option_map};
 ghost use Rattle.std.specs.Prelude.{IfErr, IfOk, IfSome, OnOk};
 ghost use Rattle.sr_ids.specs.{SpellsId};
 ghost use Rattle.sr_policy.specs.Rules.{value_at};
 ghost use Rattle.sr_peer.specs.Reply as wire;
 ghost use Rattle.sr_peer.specs.{Array, Bulk, Int, part_of};
+ghost use Rattle.sr_peer.specs.Reply.{items_of};
 ghost use Rattle.sr_live.specs.Conclusion.{SaysConcluded};
 ghost use Rattle.sr_live.specs.declared.said.Misread.TheVariants.{Memory};
 ghost use Rattle.sr_live.specs.steps.Misread.{IsMisread, IsNoError};
 ghost use Rattle.sr_live.specs.Said.{IsFront, IsPendingRow, SaysConsumer, SaysEntry, SaysIdle, SaysNumbers};
-ghost use Rattle.sr_live.specs.Said.{SaysPending, consumer_parts, fields_parts, number_parts, pairs_parts};
+ghost use Rattle.sr_live.specs.Said.{SaysPending, SaysRemoved, consumer_parts, fields_parts, number_parts, pairs_parts};
 
 use crate::conclusion::Concluded;
 use itoa::Buffer;
@@ -229,6 +230,76 @@ fn field_said<'a>(parts: &mut Parts<'a>) -> Result<(&'a [u8], Part<'a>), Misread
         Some(value) => Ok((field, value)),
         None => Err(Misread::Shape),
     }
+}
+
+/// What the fields of a stream say, as far as they are asked for.
+#[derive(Drop)]
+struct Counts<'a> {
+    /// The value of `length`.
+    kept: Option<Part<'a>>,
+    /// The value of `entries-added`.
+    added: Option<Part<'a>>,
+}
+
+/// How many entries were removed from a stream since it was made, as XINFO STREAM replies. What comes after the two
+/// fields that count is not read.
+///
+/// Source: Redis documentation, command XINFO STREAM.
+pub(crate) fn removed_said(alloc: Global, mut parts: Parts<'_>) -> Result<u64, Misread>
+    ensures { IfOk result (SaysRemoved parts.entry) }
+{
+    let places = header(alloc, &mut parts)?;
+    let mut counts = Counts {
+        kept: None,
+        added: None,
+    };
+    for _ in 0..places / 2 {
+        let (field, value) = plain_said(&mut parts)?;
+        counts = with_count(counts, field, value);
+        if let (Some(Part::Int(kept)), Some(Part::Int(added))) = (counts.kept, counts.added) {
+            return difference(kept, added);
+        }
+    }
+    Err(Misread::Shape)
+}
+
+/// The next field with its value, which has no items.
+fn plain_said<'a>(parts: &mut Parts<'a>) -> Result<(&'a [u8], Part<'a>), Misread>
+    ensures next { IfOk result (λ field. parts.old ≡ Bulk field.0.now ∷ part_of field.1 ∷ parts.new) }
+    ensures plain { IfOk result (λ field. items_of (part_of field.1) ≡ 0) }
+{
+    let (field, value) = field_said(parts)?;
+    match value {
+        Part::Array(_) => Err(Misread::Shape),
+        _ => Ok((field, value)),
+    }
+}
+
+/// What is found with one more field: the first of a name counts.
+fn with_count<'a>(counts: Counts<'a>, field: &[u8], value: Part<'a>) -> Counts<'a>
+    ensures kept { (fields : List (List ℕ × wire.Part))
+        → option_map part_of counts.entry.kept ≡ value_at (codes "length") fields
+        → option_map part_of result.kept ≡ value_at (codes "length") (fields ++ (field.now, part_of value.entry) ∷ []) }
+    ensures added { (fields : List (List ℕ × wire.Part))
+        → option_map part_of counts.entry.added ≡ value_at (codes "entries-added") fields
+        → option_map part_of result.added
+        ≡ value_at (codes "entries-added") (fields ++ (field.now, part_of value.entry) ∷ []) }
+{
+    Counts {
+        kept: first_of(counts.kept, b"length", field, value),
+        added: first_of(counts.added, b"entries-added", field, value),
+    }
+}
+
+/// How many more were added than there are.
+fn difference(kept: i64, added: i64) -> Result<u64, Misread>
+    ensures { IfOk result (λ removed. (there : ℕ) × (all : ℕ) × (pos there ≡ kept) × (pos all ≡ added)
+        × (there + removed ≡ all)) }
+{
+    if kept < 0 || added < kept {
+        return Err(Misread::Shape);
+    }
+    Ok((added - kept) as u64)
 }
 
 /// The entries that are pending for the owner, as XPENDING replies with a consumer.

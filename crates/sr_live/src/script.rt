@@ -7,15 +7,17 @@ pub const SCRIPT: &str =
 --   group, within (decimal)
 --   last    `+`, or an id: what is pending for the dead above it is not compared
 --   idle    for how many milliseconds an entry has to have been idle (decimal); any, if it is 0
+--   removed how many entries had been removed from the stream when it was looked up (decimal)
 --   dead    for each its name, and a list of rows: an id, and `1` if the entry is in the stream, `0` if it is gone
 --   live    for each its name, its limit, its soft limit or `-`, how many entries the plan gives it, how many of these
 --           without a fee, the price of its first tier, that of its second (0 if it has none), and their ids
 --
 -- Compared: these rows are pending for the dead, as idle as asked for, and no others (but those that have become as
--- idle since then, if any time is asked for), and none of their entries is deleted. What was gone does not matter,
--- since no plan moves it. Each live consumer has room for what it is given, and as many of its entries are
--- without a fee. Then the plan is still an assignment at the total that it had. No plan of this moment costs less than
--- it by more than the gap, which is price times free places, summed over all tiers; at a gap of 0 it is still cheapest.
+-- idle since then, if any time is asked for), and none of their entries is deleted: if as many entries were removed as
+-- had been, none was since, and none is read. What was gone does not matter, since no plan moves it. Each live
+-- consumer has room for what it is given, and as many of its entries are without a fee. Then the plan is still an
+-- assignment at the total that it had. No plan of this moment costs less than it by more than the gap, which is price
+-- times free places, summed over all tiers; at a gap of 0 it is still cheapest.
 --
 -- Answers:  done, how many entries were claimed, the gap
 --           stale, and then  group NAME    there is no such group, or no such key
@@ -120,12 +122,22 @@ local function are_pending(group, last, idle, dead)
   return behind_gone(rows, at) > #rows
 end
 
+-- Whether no entry was removed since this many had been: those that were added less those that are there.
+local function is_whole(removed)
+  local stream, fields = redis.call('XINFO', 'STREAM', key), {}
+  for at = 1, #stream, 2 do
+    fields[stream[at]] = stream[at + 1]
+  end
+  local added = fields['entries-added']
+  return added < EXACT and added - fields['length'] == removed
+end
+
 -- What is not as it was with a dead consumer, as two words, or nil.
-local function change_of(group, last, idle, dead)
+local function change_of(group, last, idle, whole, dead)
   if not are_pending(group, last, idle, dead) then
     return 'pending', dead.name
   end
-  for _, row in ipairs(dead.rows) do
+  for _, row in ipairs(whole and {} or dead.rows) do
     if row.is_there and #redis.call('XRANGE', key, row.id, row.id) == 0 then
       return 'entry', row.id
     end
@@ -161,14 +173,15 @@ local function carry_out(group, one)
 end
 
 local function conclude()
-  local group, within, last, idle = word(), number(), word(), word()
+  local group, within, last, idle, removed = word(), number(), word(), word(), number()
   local dead, live = list(read_dead), list(read_live)
   local numbers, fault = pending_numbers(group)
   if fault then
     return fault.err:find('^NOGROUP') and { 'stale', 'group', group } or fault
   end
+  local whole = is_whole(removed)
   for _, one in ipairs(dead) do
-    local what, which = change_of(group, last, idle, one)
+    local what, which = change_of(group, last, idle, whole, one)
     if what then
       return { 'stale', what, which }
     end

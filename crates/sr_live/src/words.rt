@@ -22,6 +22,8 @@ pub struct Limits {
     pub last: Option<Id>,
     /// For how many milliseconds each of its entries has to have been idle.
     pub idle: u64,
+    /// How many entries had been removed from the stream: if as many are then, none was meanwhile.
+    pub removed: u64,
 }
 
 /// The words behind the key with which Redis is asked to carry out the plan of a verdict. `None` for a shortage.
@@ -36,7 +38,7 @@ pub fn script_words(
     limits: Limits,
 ) -> Result<Option<Vec<Name>>, AllocError>
     ensures { IfOk result (λ words. option_map (λ list. list.items) words
-        ≡ words_for verdict.now.snapshot.group limits.within (last_word limits.last) limits.idle rows.now
+        ≡ words_for verdict.now.snapshot.group limits.within (last_word limits.last) limits.idle limits.removed rows.now
         verdict.now.snapshot verdict.now.answer) }
 {
     let Some(prices) = verdict.prices() else {
@@ -56,7 +58,8 @@ pub fn script_words(
     Ok(Some(words))
 }
 
-/// Adds the group, by how much the plan may cost more, up to which id is compared, and how idle entries have to be.
+/// Adds the group, by how much the plan may cost more, up to which id is compared, how idle entries have to be, and how
+/// many had been removed.
 fn push_asked(
     words: &mut Vec<Name>,
     alloc: Global,
@@ -64,12 +67,14 @@ fn push_asked(
     limits: Limits,
 ) -> Result<(), AllocError>
     ensures { OnOk result (words.new.items
-        ≡ words.old.items ++ group.now ∷ decimal limits.within ∷ last_word limits.last ∷ decimal limits.idle ∷ []) }
+        ≡ words.old.items ++ group.now ∷ decimal limits.within ∷ last_word limits.last ∷ decimal limits.idle
+        ∷ decimal limits.removed ∷ []) }
 {
     words.push(group.copy(alloc)?)?;
     push_number(words, alloc, limits.within)?;
     push_last(words, alloc, limits.last)?;
-    push_number(words, alloc, limits.idle)
+    push_number(words, alloc, limits.idle)?;
+    push_number(words, alloc, limits.removed)
 }
 
 /// Adds the id, or `+` if there is none.

@@ -75,10 +75,10 @@ pub(crate) fn act(rt: &HostRuntime, options: &Options<'_>) -> Result<Status, Fau
         select(&mut wire, rt.alloc(), options.database)?;
         match act_at(rt, options, &policy, &asked, &mut wire) {
             Err(Fault::Moved(to)) => {
-                if moves == MAX_MOVES {
+                if moves >= MAX_MOVES {
                     return Err(Fault::Moves);
                 }
-                moves += 1;
+                moves = moves.saturating_add(1);
                 place = place_named(rt.alloc(), &place, to.as_str())?;
             }
             // The rest of the reply may still come, so the next look-up has a connection of its own.

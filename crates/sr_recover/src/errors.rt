@@ -97,6 +97,7 @@ fn begins_with(text: &[u8], words: &[u8]) -> bool {
 /// The name of a call that is no script.
 pub(crate) fn call_text(call: LiveCall) -> &'static str {
     match call {
+        LiveCall::Stream => "XINFO STREAM",
         LiveCall::Consumers => "XINFO CONSUMERS",
         LiveCall::Pending => "XPENDING",
         LiveCall::Entry => "XRANGE",

@@ -6,7 +6,7 @@ use std::alloc::{AllocError, Global};
 use std::convert::AsStr;
 
 /// The version: its date in CHANGELOG.md.
-const VERSION: &str = "2026-11-30";
+const VERSION: &str = "2026-12-01";
 
 /// What the statuses mean.
 const STATUSES: &str = "Statuses:
@@ -107,9 +107,7 @@ fn options_of<'a>(
     let check = action != Action::Board && given.get_flag("check");
     let all = action == Action::Run && given.get_flag("all");
     if all && check {
-        return Err(Fault::Asked(
-            "--all: it prints a line for each step, and no --check",
-        ));
+        return Err(Fault::Asked("--all: it prints a line for each step, and no --check"));
     }
     Ok(Options {
         action,

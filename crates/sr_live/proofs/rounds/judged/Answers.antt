@@ -14,7 +14,7 @@ returns-in-Err-Memory-clause-err g c =
     let seen = c.in_ok-looked.ensures.ok in
     record {
       looking = tt;
-      read = reads-whole _ _ _ _ seen.0 seen.1 (IsLooked-reads c.args.asked.now _ _ _ _ _ _ seen.2);
+      read = reads-whole _ _ _ _ seen.0 seen.1 (IsLooked-reads c.args.asked.now _ _ _ _ _ _ _ seen.2);
     }
 
 pub returns-in-Err-TooMany-clause-err : goal.returns-in-Err-TooMany-clause-err
@@ -22,7 +22,7 @@ returns-in-Err-TooMany-clause-err g c =
     let seen = c.in_ok-looked.ensures.ok in
     record {
       looking = tt;
-      read = reads-whole _ _ _ _ seen.0 seen.1 (IsLooked-reads c.args.asked.now _ _ _ _ _ _ seen.2);
+      read = reads-whole _ _ _ _ seen.0 seen.1 (IsLooked-reads c.args.asked.now _ _ _ _ _ _ _ seen.2);
     }
 
 pub returns-in-Err-Changed-clause-ok : goal.returns-in-Err-Changed-clause-ok
@@ -39,6 +39,7 @@ returns-in-Err-Changed-clause-ok g c =
         numbers = looked.numbers.items;
         rows = looked.rows.items;
         last = looked.last;
+        removed = looked.removed;
         looked = seen.2;
         none = none;
       },
@@ -48,4 +49,4 @@ pub returns-in_err-verdict-clause-err : goal.returns-in_err-verdict-clause-err
 returns-in_err-verdict-clause-err g c =
     let seen = c.in_ok-looked.ensures.ok in
     breaks-memory c.from_residual-in_err-verdict.result _ _ c.from_residual-in_err-verdict.ensures.1
-    (reads-whole _ _ _ _ seen.0 seen.1 (IsLooked-reads c.args.asked.now _ _ _ _ _ _ seen.2))
+    (reads-whole _ _ _ _ seen.0 seen.1 (IsLooked-reads c.args.asked.now _ _ _ _ _ _ _ seen.2))

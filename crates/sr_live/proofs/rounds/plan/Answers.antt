@@ -11,10 +11,11 @@ use Rattle.sr_live.proofs.rounds.plan.Goals as goal
 judged-reads : (rules : Rules) (asked : Asked) (at_most : Option ℕ) (talk : List Exchange) (judged : Option Planned)
     → IsJudged rules asked at_most talk judged → AreReading talk
 judged-reads rules asked at_most talk None changed =
-    IsLooked-reads asked at_most talk changed.idles changed.numbers changed.rows changed.last changed.looked
+    IsLooked-reads asked at_most talk changed.idles changed.numbers changed.rows changed.last changed.removed
+    changed.looked
 judged-reads rules asked at_most talk (Some planned) is =
     IsLooked-reads asked at_most talk planned.looked.idles.items planned.looked.numbers.items planned.looked.rows.items
-    planned.looked.last is.looked
+    planned.looked.last planned.looked.removed is.looked
 
 on_err-any : {T E X : Type 0} (r : Result T E) → X → OnErr r X
 on_err-any (Ok value) x = tt
