@@ -108,7 +108,7 @@ def statuses(bench, proxy):
     bench.check("a plan is all that is printed", PLAN, bench.plan().out)
     for found in (bench.plan("--check"), bench.plan("--at-most", 1), board(bench)):
         bench.check("plan and board change nothing", (0, before), (found.status, bench.dump()))
-    told = b"redis: XINFO STREAM is answered with an error: ERR no such key"
+    told = b"redis: XPENDING is answered with an error: NOGROUP No such key 't' or consumer group 'g'"
     bench.expect("no such key", (1, b"", told), bench.plan(names=["t", "g", "D"]))
     told = b"redis: XPENDING is answered with an error: NOGROUP No such key 's' or consumer group 'h'"
     bench.expect("no such group", (1, b"", told), bench.plan(names=["s", "h", "D"]))
@@ -407,7 +407,7 @@ def rights(bench, _):
 def without_asking(bench, user):
     """A user that may not ask for the consumers of a group: a note tells it where a name has no pending entries."""
     env = {"REDISCLI_AUTH": SECRET}
-    bench.begin([*TWO, ["ACL", "SETUSER", user, "-xinfo"]])
+    bench.begin([*TWO, ["ACL", "SETUSER", user, "-xinfo|consumers"]])
     for setting, note in ((["PING"], b""), (["XACK", "s", "g", "0-2"], HIDDEN)):
         all_replies(bench.connection, [setting])
         found = bench.plan("--user", user, env=env)
@@ -540,7 +540,7 @@ def too_long(bench, _):
         found = bench.plan("--timeout", 60000, *options, lives=ONE_LIVE)
         bench.check(f"{entries} long entries", (0, entries), (found.status, Printed(found.out).shares.get(b"B", [0])[0]))
         bench.check(f"{entries} long entries: calls", calls, calls_of(bench.connection, "xrange"))
-    bench.begin([*pending_for({}, 1), ["XADD", "s", "2-1", "c", "x", "v", "v" * (65 << 20)]])
+    bench.begin([*pending_for({}, 1), ["XADD", "s", "2-1", "c", "x", "v", "v" * (65 << 20)], ["XADD", "s", "3-1", "c", "x"]])
     bench.connection.call("XCLAIM", "s", "g", "D", 0, "1-1", "2-1", "FORCE", "JUSTID")
     found = bench.plan("--timeout", 60000, lives=ONE_LIVE)
     bench.expect("an entry of 65 MiB", (1, b"", b"redis: a reply is too long\n"), found)
