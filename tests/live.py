@@ -57,7 +57,7 @@ class History(live_script.History):
 
     def told_idle(self, call, text):
         """The reply to a call. In that of XINFO CONSUMERS idle times are any, and a newer Redis tells one field more."""
-        if call.words[0] != b"XINFO" or text.startswith(b"-"):
+        if call.words[:2] != [b"XINFO", b"CONSUMERS"] or text.startswith(b"-"):
             return text
         more = self.choice.choice([[], [b"inactive", -1]])
         told = [[*one[:-1], self.choice.choice([0, 1, 20, 21, 10**12, 2**62]), *more] for one in value_of(text)]

@@ -130,7 +130,7 @@ def of_redis(tally, side):
     few = ["CONFIG", "SET", "min-replicas-to-write"]
     rows = [
         ("too few replicas", [[*few, 1]], passed_on, b"EVAL is answered with an error: NOREPLICAS"),
-        ("a string", A_STRING, passed_on, b"XINFO STREAM is answered with an error: WRONGTYPE"),
+        ("a string", A_STRING, passed_on, b"XPENDING is answered with an error: WRONGTYPE"),
         ("a string before the script", [], becomes_a_string(side), b"EVAL is answered with an error: WRONGTYPE"),
     ]
     for what, setting, act, text in rows:

@@ -604,7 +604,7 @@ def has_idle(times):
     """Has the reply to XINFO CONSUMERS tell these idle times, and one field more, as a newer Redis does."""
     def act(call):
         text = call.forward()
-        if call.words[0] != b"XINFO":
+        if call.words[:2] != [b"XINFO", b"CONSUMERS"]:
             return Sent(text)
         return Sent(encoded([[*one[:-1], times[one[1]], b"inactive", 10**6] for one in value_of(text)]))
 
@@ -633,7 +633,7 @@ def seen_within(bench, proxy):
             bench.check(f"{action}: {what}: the plan", (total, share), (printed.total, printed.shares.get(b"E")))
             bench.check(f"{action}: {what}: C", None, printed.shares.get(b"C"))
             bench.check(f"{action}: {what}: none", wanted[0] == 3, found.out == none)
-            asked = [words[:1] for words in proxy.calls].count([b"XINFO"])
+            asked = [words[:2] for words in proxy.calls].count([b"XINFO", b"CONSUMERS"])
             bench.check(f"{action}: {what}: calls of XINFO", 1, asked)
     found = bench.plan("--seen-within", 0, names=["s", "g", "A", "B", "C", "E", "X"], lives=SEEN_LIVES)
     told = b"".join(b"note: the group has no consumer %s\n" % name for name in (b"C", b"X"))
