@@ -250,10 +250,12 @@ def errors(board):
 
 
 def permissions(board):
-    """A user of Redis that may do just enough, and some that may do one thing less."""
+    """A user of Redis that may do just enough, and some that may do one thing less. Another entry is removed, so that each is read."""
     for missing, wanted in [*MISSING, (None, None)]:
         board.begin(TWO)
-        plan, before = board.plan(TWO_LIVE), Dump(board.connection, "s")
+        plan = board.plan(TWO_LIVE)
+        all_replies(board.connection, lines("XADD s 9-1 c x\nXDEL s 9-1"))
+        before = Dump(board.connection, "s")
         user = [word for word in USER + COMMANDS if word != missing]
         board.connection.call("ACL", "SETUSER", "recover", "reset", *user)
         board.connection.call("AUTH", "recover", "secret")
