@@ -364,6 +364,10 @@ def removed(board):
     plan = board.plan(TWO_LIVE)
     all_replies(board.connection, lines("XDEL s 2-1\nXSETID s 2-1 ENTRIESADDED 3"))
     board.check("hidden by XSETID", done(1), board.script.answer("s", "g", plan))
+    board.begin([*TWO, *lines(f"XSETID s 2-1 ENTRIESADDED {2**53 + 1}")])
+    plan = board.plan(TWO_LIVE)
+    all_replies(board.connection, lines("XDEL s 2-1"))
+    board.check("more were added than a number of Lua tells exactly", stale(b"entry", b"2-1"), board.script.answer("s", "g", plan))
 
 
 def stat(connection, command, name):
