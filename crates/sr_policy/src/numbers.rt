@@ -5,6 +5,7 @@ ghost use Rattle.sr_policy.specs.Rules.{value_at};
 ghost use Rattle.sr_policy.specs.File.{numbers_of as numbers_in};
 ghost use Rattle.sr_policy.specs.steps.Search.{IsPlace};
 
+use crate::order::is_before;
 use crate::table::{name_of, natural_of};
 use sr_bytes::Name;
 use std::alloc::{AllocError, Global};
@@ -83,7 +84,7 @@ fn place_for<V>(pairs: &[(Name, V)], name: &Name) -> usize
     ensures bound { result ≤ length pairs.now }
     ensures place { IsPlace (λ pair. pair.0) name.now pairs.now result }
 {
-    pairs.partition_point(|pair| pair.0.comes_before(name))
+    pairs.partition_point(|pair| is_before(&pair.0, name))
 }
 
 /// The numbers of a table of a file, by key.

@@ -1,10 +1,11 @@
-ghost use Rattle.std.specs.Prelude.{◌≡◌, IfOk, map, option_and_then, option_map};
+ghost use Rattle.std.specs.Prelude.{◌≡◌, IfOk, IfSome, All, map, option_and_then, option_map};
 ghost use Rattle.sr_policy.specs.Rules.{other_class as all_others, value_at};
+ghost use Rattle.sr_policy.specs.steps.Rows.{IsColumn};
 
 use crate::live::Live;
 use crate::numbers::{Numbers, found, names_of, place_of};
 use crate::rates::Rates;
-use crate::rows::{Row, rows_of};
+use crate::rows::{Column, Row, columns_of, rows_of};
 use sr_bytes::{Name, Pairs};
 use std::alloc::{AllocError, Global};
 use std::marker::Model;
@@ -92,8 +93,9 @@ impl Model for Parts {
 }
 
 impl Policy {
-    ghost use Rattle.std.specs.Prelude.{◌≡◌, IfOk, map, option_map};
+    ghost use Rattle.std.specs.Prelude.{◌≡◌, IfOk, IfSome, All, map, option_map};
     ghost use Rattle.sr_bytes.specs.{AreInOrder, ComesBefore};
+    ghost use Rattle.sr_policy.specs.steps.Rows.{IsColumn};
     ghost use Rattle.sr_policy.specs.Policy.{IsPolicy};
     ghost use Rattle.sr_policy.specs.Rules.{no_rules, value_at, consumers_of, limit_of, live_of, rate_of};
     ghost use Rattle.sr_policy.specs.Rules.{has_tiers, tier_of};
@@ -210,11 +212,37 @@ impl Policy {
         rate_in(self.rates_for(class), consumer)
     }
 
-    /// For a class the rate of each of the consumers, in their order, `None` for one that may not take it.
-    pub fn rates_of(&self, alloc: Global, class: &Name, live: &[Live]) -> Result<Rates, AllocError>
-        ensures { IfOk result (λ rates. rates ≡ map (λ consumer. rate_of self.now class.now consumer.name) live.now) }
+    /// For each of these classes the rate of each of the consumers, in their order, `None` for one that may not take it.
+    pub fn rates_of(
+        &self,
+        alloc: Global,
+        classes: Vec<Name>,
+        live: &[Live],
+    ) -> Result<Vec<(Name, Rates)>, AllocError>
+        ensures { IfOk result (λ list. list.items ≡ map (λ class.
+            (class, map (λ consumer. rate_of self.now class consumer.name) live.now)) classes.items) }
     {
-        rates_in(alloc, self.row_for(class), live)
+        let columns = columns_of(alloc, self.consumers(), live)?;
+        let mut list = Vec::with_capacity(alloc, classes.len())?;
+        for class in classes {
+            let rates = self.rates_at(alloc, &class, columns.as_slice())?;
+            list.push((class, rates))?;
+        }
+        Ok(list)
+    }
+
+    /// For a class the rate of the consumer of each of these columns.
+    fn rates_at(
+        &self,
+        alloc: Global,
+        class: &Name,
+        columns: &[Column<'_>],
+    ) -> Result<Rates, AllocError>
+        requires { All (IsColumn (consumers_of self.now)) columns.now }
+        ensures { IfOk result (λ rates. rates
+            ≡ map (λ column. rate_of self.now class.now column.consumer.now) columns.now) }
+    {
+        rates_in(alloc, self.row_for(class), columns)
     }
 
     /// The class of an entry with these fields.
@@ -241,7 +269,8 @@ impl Policy {
 
     /// The rates of a class, by consumer, where its row lies.
     fn row_for(&self, class: &Name) -> Option<Row<'_>>
-        ensures { result ≡ value_at class.now self.now.rates }
+        ensures rates { option_map (λ row. row.rates) result ≡ value_at class.now self.now.rates }
+        ensures consumers { IfSome result (λ row. row.consumers ≡ consumers_of self.now) }
     {
         let place = place_of(self.rates.as_slice(), class)?;
         let rates = &self.rates[place].1;
@@ -270,25 +299,30 @@ fn rate_in(row: Option<&Numbers>, consumer: &Name) -> Option<u64>
     }
 }
 
-/// The rate of each of the consumers among those of a class, if the class has rates.
-fn rates_in(alloc: Global, row: Option<Row<'_>>, live: &[Live]) -> Result<Rates, AllocError>
-    ensures { IfOk result (λ rates. rates
-        ≡ map (λ consumer. option_and_then (value_at consumer.name) row.entry) live.now) }
+/// The rate of the consumer of each of these columns among those of a class, if the class has rates.
+fn rates_in(
+    alloc: Global,
+    row: Option<Row<'_>>,
+    columns: &[Column<'_>],
+) -> Result<Rates, AllocError>
+    requires { IfSome row (λ row. All (IsColumn row.consumers) columns.now) }
+    ensures { IfOk result (λ rates. rates ≡ map (λ column.
+        option_and_then (value_at column.consumer.now) (option_map (λ row. row.rates) row.entry)) columns.now) }
 {
-    let mut rates = Vec::with_capacity(alloc, live.len())?;
-    let mut near = 0;
-    for consumer in live {
-        rates.push(next_rate(&row, &mut near, &consumer.name))?;
+    let mut rates = Vec::with_capacity(alloc, columns.len())?;
+    for column in columns {
+        rates.push(rate_at(&row, column))?;
     }
     Ok(Rates::new(rates))
 }
 
-/// The rate of one consumer after another in the same way, `near` being where the next one is looked for first.
-fn next_rate(row: &Option<Row<'_>>, near: &mut usize, consumer: &Name) -> Option<u64>
-    ensures { result ≡ option_and_then (value_at consumer.now) row.now }
+/// The rate of the consumer of this column in the same way.
+fn rate_at(row: &Option<Row<'_>>, column: &Column<'_>) -> Option<u64>
+    requires { IfSome row.now (λ row. IsColumn row.consumers column.now) }
+    ensures { result ≡ option_and_then (value_at column.now.consumer.now) (option_map (λ row. row.rates) row.now) }
 {
     match row {
-        Some(row) => row.next(near, consumer),
+        Some(row) => row.at(column),
         None => None,
     }
 }

@@ -109,6 +109,48 @@ impl Snapshot {
         Some(Snapshot { parts })
     }
 
+    /// The snapshot of parts that are known to make one. They are not judged once more.
+    pub fn of(
+        key: Name,
+        group: Name,
+        dead: Vec<Name>,
+        stranded: Vec<Stranded>,
+        gone: Vec<(Id, Name)>,
+        live: Vec<Live>,
+        rates: Vec<(Name, Rates)>,
+    ) -> Snapshot
+        requires { IsSnapshot (record {
+          key = key;
+          group = group;
+          dead = dead.items;
+          stranded = stranded.items;
+          gone = gone.items;
+          live = live.items;
+          rates = rates.items;
+        }) }
+        ensures { result ≡ record {
+          key = key;
+          group = group;
+          dead = dead.items;
+          stranded = stranded.items;
+          gone = gone.items;
+          live = live.items;
+          rates = rates.items;
+        } }
+    {
+        Snapshot {
+            parts: Parts {
+                key,
+                group,
+                dead,
+                stranded,
+                gone,
+                live,
+                rates,
+            },
+        }
+    }
+
     /// The key of the stream.
     pub fn key(&self) -> &Name
         ensures { result.now ≡ self.now.key }

@@ -9,6 +9,7 @@ use crate::bounds::{
     MAX_CLASSES, MAX_CONSUMERS, MAX_FEE, MAX_LIMIT, MAX_RATE, MAX_STRANDED, MAX_WEIGHT,
 };
 use crate::live::Live;
+use crate::order::is_before;
 use crate::rates::Rates;
 use crate::snapshot::Parts;
 use crate::stranded::Stranded;
@@ -127,7 +128,7 @@ fn place_for(names: &[Name], name: &Name) -> usize
     ensures bound { result ≤ length names.now }
     ensures place { IsPlace (λ other. other) name.now names.now result }
 {
-    names.partition_point(|other| other.comes_before(name))
+    names.partition_point(|other| is_before(other, name))
 }
 
 /// Whether no list is too long and no number too great.

@@ -258,7 +258,7 @@ few_classes rules dead entries nacks live policy =
     let tables : length (map (λ (class : Text × List (Text × ℕ)). class.0) rules.rates) ≡ length rules.rates = length-map rules.rates (λ (class : Text × List (Text × ℕ)). class.0) in
     omega (arith, policy.few_classes)
 
-length-filter-le : {X : Type 0} (p : X → Bool) (xs : List X) → length (filter p xs) ≤ length xs
+pub length-filter-le : {X : Type 0} (p : X → Bool) (xs : List X) → length (filter p xs) ≤ length xs
 length-filter-le p xs = omega (arith, length-filter_both p (λ x. not (p x)) (λ x. refl) xs)
 
 few_live : (rules : Rules) (dead : List Text) (nacks : List Nack) → IsPolicy rules → length (live_in rules dead nacks) ≤ 64

@@ -1,11 +1,10 @@
-ghost use Rattle.std.specs.Prelude.{◌≡◌, ◌+◌, ◌<◌, ◌≤◌, Ok, IfOk, IfErr, IfSome, IfNone, length, nat_lt};
+ghost use Rattle.std.specs.Prelude.{◌≡◌, ◌+◌, ◌<◌, ◌≤◌, Ok, IfOk, IfErr, IfSome, IfNone, IsTrue, length, nat_lt};
 ghost use Rattle.std.specs.Prelude.{if◌then◌else◌};
 ghost use Rattle.std.specs.Option.{option_copied};
 ghost use Rattle.sr_bytes.specs.{AreInOrder, ComesBefore};
 ghost use Rattle.sr_policy.specs.Bounds.{most_stranded};
-ghost use Rattle.sr_policy.specs.Snapshot.{IsSnapshot};
 ghost use Rattle.sr_space.specs.Keys.{shown_of};
-ghost use Rattle.sr_space.specs.Snap.{IsSnapFault, if_few, in_order, shown_with, snapped, snapped_stream};
+ghost use Rattle.sr_space.specs.Snap.{IsSnapFault, if_few, in_order, of_dead, shown_with, snapped, snapped_stream};
 ghost use Rattle.sr_space.specs.declared.snap.SnapFault.TheVariants.{Memory, TooMany};
 ghost use Rattle.sr_space.specs.steps.Snapping.{left_in, there_in};
 
@@ -19,9 +18,8 @@ use names::is_among;
 pub use names::names_in_order;
 use sr_bytes::Name;
 use sr_group::Group;
-use sr_ids::Id;
 use sr_pending::Nacks;
-use sr_policy::{Live, Policy, Rates, Snapshot, Stranded};
+use sr_policy::{Policy, Snapshot};
 use sr_stream::Stream;
 use std::alloc::{AllocError, Global};
 
@@ -140,12 +138,16 @@ fn are_too_many(stream: &Stream, group: &Group, dead: &[Name]) -> bool
     false
 }
 
-/// The same of dead consumers in byte order, from their own entries alone. It takes no memory.
+/// The same of dead consumers in byte order, from their own entries alone, which are looked up only if there are more
+/// than a snapshot may have. It takes no memory.
 fn own_are_too_many(stream: &Stream, group: &Group, dead: &[Name]) -> bool
     requires { AreInOrder ComesBefore dead.now }
     ensures { result ≡ nat_lt most_stranded
         (length (left_in dead.now stream.now.shown.entries group.now.shown.nacks)) }
 {
+    if own_are_few(group, dead) {
+        return false;
+    }
     let mut room = MAX_STRANDED;
     for name in dead {
         match room_after(stream, group.pending().of(name), room) {
@@ -154,6 +156,22 @@ fn own_are_too_many(stream: &Stream, group: &Group, dead: &[Name]) -> bool
         }
     }
     false
+}
+
+/// Whether no more entries are pending for the dead than a snapshot may have, be they in the stream or gone.
+fn own_are_few(group: &Group, dead: &[Name]) -> bool
+    requires { AreInOrder ComesBefore dead.now }
+    ensures { IsTrue result → length (of_dead dead.now group.now.shown.nacks) ≤ most_stranded }
+{
+    let mut room = MAX_STRANDED;
+    for name in dead {
+        let own = group.pending().count_of(name);
+        if own > room {
+            return false;
+        }
+        room -= own;
+    }
+    true
 }
 
 /// For how many stranded entries there is still room after these. None if there are too many of them.
@@ -195,40 +213,5 @@ fn snap_few(
     let key = key.copy(alloc)?;
     let name = name.copy(alloc)?;
     let Left { stranded, gone } = left;
-    Ok(snapshot_of(key, name, dead, stranded, gone, live, rates))
-}
-
-/// The snapshot of parts that make one.
-fn snapshot_of(
-    key: Name,
-    group: Name,
-    dead: Vec<Name>,
-    stranded: Vec<Stranded>,
-    gone: Vec<(Id, Name)>,
-    live: Vec<Live>,
-    rates: Vec<(Name, Rates)>,
-) -> Snapshot
-    requires { IsSnapshot (record {
-      key = key;
-      group = group;
-      dead = dead.items;
-      stranded = stranded.items;
-      gone = gone.items;
-      live = live.items;
-      rates = rates.items;
-    }) }
-    ensures { result ≡ record {
-      key = key;
-      group = group;
-      dead = dead.items;
-      stranded = stranded.items;
-      gone = gone.items;
-      live = live.items;
-      rates = rates.items;
-    } }
-{
-    match Snapshot::new(key, group, dead, stranded, gone, live, rates) {
-        Some(snapshot) => snapshot,
-        None => unreachable!(),
-    }
+    Ok(Snapshot::of(key, name, dead, stranded, gone, live, rates))
 }

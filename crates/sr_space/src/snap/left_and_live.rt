@@ -3,7 +3,7 @@ ghost use Rattle.std.specs.Prelude.{◌≡◌, ◌++◌, IfOk, OnOk, length, map
 ghost use Rattle.sr_bytes.specs.{AreInOrder, ComesBefore};
 ghost use Rattle.sr_entries.specs.{entry_with, has_id};
 ghost use Rattle.sr_pending.specs.{owned_by};
-ghost use Rattle.sr_policy.specs.Rules.{class_of, live_of, rate_of, weight_of as weight};
+ghost use Rattle.sr_policy.specs.Rules.{class_of, live_of, weight_of as weight};
 ghost use Rattle.sr_space.specs.Snap.{gone_in, listed, live_in, of_dead, rates_in, stranded_as, stranded_in};
 ghost use Rattle.sr_space.specs.steps.Snapping.{gone_as, there_in};
 
@@ -199,10 +199,5 @@ pub fn rates_by_class(
     ensures { IfOk result (λ list. list.items ≡ rates_in policy.now live.now stranded.now) }
 {
     let classes = classes_of(alloc, stranded)?;
-    let mut list = Vec::with_capacity(alloc, classes.len())?;
-    for class in classes {
-        let rates = policy.rates_of(alloc, &class, live)?;
-        list.push((class, rates))?;
-    }
-    Ok(list)
+    policy.rates_of(alloc, classes, live)
 }

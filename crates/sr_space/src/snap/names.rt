@@ -8,7 +8,7 @@ ghost use Rattle.sr_space.specs.Snap.{in_order};
 ghost use Rattle.sr_space.specs.steps.Snapping.{count_before};
 
 use sr_bytes::Name;
-use sr_policy::Stranded;
+use sr_policy::{Stranded, is_before};
 use std::alloc::{AllocError, Global};
 
 /// Whether a name is one of the names.
@@ -97,7 +97,7 @@ fn place_for(names: &[Name], name: &Name) -> usize
     ensures value { result ≡ count_before name.now names.now }
     ensures bound { result ≤ length names.now }
 {
-    names.partition_point(|other| other.comes_before(name))
+    names.partition_point(|other| is_before(other, name))
 }
 
 /// Whether the name is at its place.

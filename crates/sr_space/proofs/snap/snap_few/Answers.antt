@@ -4,8 +4,8 @@ use Rattle.sr_space.specs.Snap.{gone_in, live_in, rates_in, stranded_in}
 use Rattle.sr_space.proofs.SnapLemmas.{gathered, is_snapshot}
 use Rattle.sr_space.proofs.snap.snap_few.Goals as goal
 
-pub snapshot_of-requires : goal.snapshot_of-requires
-snapshot_of-requires c =
+pub of-requires : goal.of-requires
+of-requires c =
     let rules = c.args.policy.now in
     let entries = c.args.stream.now.shown.entries in
     let nacks = c.args.group.now.shown.nacks in
