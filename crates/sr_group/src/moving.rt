@@ -8,11 +8,10 @@ ghost use Rattle.sr_group.specs.steps.Moving.{AddsRooms, Spends};
 use crate::Group;
 use crate::claim::{Call, Claim, Delivery, Weighed, first_delivery, weigh};
 use crate::consumers::see;
-use crate::show::give;
 use sr_bytes::Name;
 use sr_entries::Entries;
 use sr_ids::Id;
-use sr_pending::{Nack, Owner, Pending};
+use sr_pending::{Owner, Pending};
 use std::alloc::{AllocError, Global};
 use std::marker::Model;
 
@@ -175,15 +174,7 @@ fn take(pending: &mut Pending, call: &Call<'_>, wanted: Wanted)
         Weighed::Leaves => {
             pending.remove(id);
         }
-        Weighed::Moves(Delivery { time, count }) => give(
-            pending,
-            Nack {
-                id,
-                owner,
-                time,
-                count,
-            },
-        ),
+        Weighed::Moves(Delivery { time, count }) => pending.move_to(id, owner, time, count),
     }
 }
 
