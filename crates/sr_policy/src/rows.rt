@@ -1,4 +1,4 @@
-ghost use Rattle.std.specs.Prelude.{◌≡◌, IfOk, IfSome, Some, All, map, slice_get};
+ghost use Rattle.std.specs.Prelude.{◌≡◌, IfOk, All, map};
 ghost use Rattle.sr_policy.specs.steps.Rows.{IsColumn, row_by, rows_by};
 
 use crate::live::Live;
