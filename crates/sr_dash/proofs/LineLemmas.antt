@@ -1,9 +1,14 @@
 -- A line is written column by column.
-use Rattle.std.proofs.Common.{◌≡◌, ℕ, List, [], ◌∷◌, ◌++◌, Option, Some, None, option_map, refl, ap, append_assoc, ◌∙◌}
+use Rattle.std.proofs.Common.{◌≡◌, ℕ, List, [], ◌∷◌, ◌++◌, Option, Some, None, Result, Ok, Err, OnOk, is_ok, if◌then◌else◌, option_map, refl, ap, append_assoc, ◌∙◌}
 use Rattle.std.proofs.lemmas.Grind.{flat_map-append}
 use Rattle.std.proofs.lemmas.List.{flat_map_more}
 use Rattle.sr_group.specs.declared.consumer.Consumer.{Consumer}
 use Rattle.sr_dash.specs.Board.{columns, on_the_right, since}
+
+-- these bytes were written, if the text is that
+pub wrote_these : {E : Type 0} (result : Result (Unit {0}) E) (old new text these : List ℕ) → new ≡ (if is_ok result then old ++ text else old) → text ≡ these → OnOk result (new ≡ old ++ these)
+wrote_these (Ok done) old new text these wrote is = wrote ∙ ap (λ (l : List ℕ). old ++ l) is
+wrote_these (Err fault) old new text these wrote is = tt
 
 -- one more text after what was written
 pub and_then : (start written more before after : List ℕ) → before ≡ start ++ written → after ≡ before ++ more → after ≡ start ++ (written ++ more)

@@ -1,5 +1,7 @@
 //! The line of one consumer, and the lines of some.
-ghost use Rattle.std.specs.Prelude.{◌≡◌, ◌++◌, OnOk, option_map};
+ghost use Rattle.std.specs.Prelude.{◌≡◌, ◌++◌, OnOk, length, option_map};
+ghost use Rattle.sr_group.specs.Group.{oldest_of};
+ghost use Rattle.sr_pending.specs.{owned_by};
 ghost use Rattle.sr_policy.specs.Rules.{has_tiers};
 ghost use Rattle.sr_policy.specs.Snapshot.{places_left as room};
 ghost use Rattle.sr_dash.specs.Board as boards;
@@ -59,7 +61,7 @@ pub(crate) fn write_line(
 {
     let pending = view.group.pending().count_of(name) as u64;
     let limit = view.policy.limit(name);
-    let oldest = since(view.moment, view.group.oldest(name));
+    let oldest = since(view.moment, oldest(view.group, name, pending));
     let idle = since(view.moment, seen);
     write_name(out, name.as_slice())?;
     write_number(out, COUNT_WIDTH, Some(pending))?;
@@ -70,6 +72,18 @@ pub(crate) fn write_line(
     write_tier(out, view.wide, view.policy.tier(name))?;
     out.push(b'\n')?;
     Ok(())
+}
+
+/// When the oldest of a consumer's pending entries was delivered, if so many are pending for it. It looks for none if
+/// there is none.
+fn oldest(group: &Group, name: &Name, pending: u64) -> Option<u64>
+    requires { pending ≡ length (owned_by name.now group.now.shown.nacks) }
+    ensures { result ≡ oldest_of (owned_by name.now group.now.shown.nacks) }
+{
+    if pending == 0 {
+        return None;
+    }
+    group.oldest(name)
 }
 
 /// Writes the columns of a soft limit and its fee, if the board is wide.

@@ -1,5 +1,5 @@
 //! The columns of a line: a name on the left of its column, and texts on the right of theirs.
-ghost use Rattle.std.specs.Prelude.{◌≡◌, ◌++◌, ◌∷◌, ◌<◌, OnOk, replicate};
+ghost use Rattle.std.specs.Prelude.{◌≡◌, ◌++◌, ◌∷◌, ◌<◌, ◌≤◌, OnOk, replicate};
 ghost use Rattle.sr_dash.specs.Board as boards;
 
 use itoa::Buffer;
@@ -7,6 +7,9 @@ use std::alloc::AllocError;
 
 /// How many bytes the column of the names has.
 const NAME_WIDTH: usize = 20;
+
+/// The spaces of which columns take as many as they lack.
+const SPACES: [u8; 20] = [b' '; 20];
 
 /// Writes a name on the left of its column. A longer one is not cut.
 pub(crate) fn write_name(out: &mut Vec<u8>, name: &[u8]) -> Result<(), AllocError>
@@ -24,6 +27,7 @@ pub(crate) fn write_number(
     width: usize,
     number: Option<u64>,
 ) -> Result<(), AllocError>
+    requires { width < 20 }
     ensures { OnOk result (out.new.items ≡ out.old.items ++ 0x20 ∷ boards.on_the_right width (boards.cell number)) }
 {
     let mut digits = Buffer::new();
@@ -35,19 +39,19 @@ pub(crate) fn write_number(
 
 /// Writes a space and a text on the right of its column.
 fn write_right(out: &mut Vec<u8>, width: usize, text: &[u8]) -> Result<(), AllocError>
+    requires { width < 20 }
     ensures { OnOk result (out.new.items ≡ out.old.items ++ 0x20 ∷ boards.on_the_right width text.now) }
 {
-    out.push(b' ')?;
-    write_spaces(out, width.saturating_sub(text.len()))?;
+    write_spaces(out, width.saturating_sub(text.len()) + 1)?;
     out.extend_from_slice(text)
 }
 
-/// Writes this many spaces.
+/// Writes this many spaces at once: at most as many as the widest column has bytes.
 fn write_spaces(out: &mut Vec<u8>, count: usize) -> Result<(), AllocError>
+    requires { count ≤ 20 }
     ensures { OnOk result (out.new.items ≡ out.old.items ++ replicate count 0x20) }
 {
-    out.reserve(count)?;
-    out.resize(out.len() + count, b' ')
+    out.extend_from_slice(&SPACES[..count])
 }
 
 /// Writes the bytes of a name, escaped.
