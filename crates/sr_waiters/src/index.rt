@@ -148,34 +148,29 @@ fn take_all<X>(index: &mut Index, streams: &[(Name, X)], session: u64)
 fn take(index: &mut Index, key: &Name, session: u64)
     ensures { Gives key.now (without session (sessions_by index.old key.now)) index.old index.new }
 {
-    remove(index, key, session);
-    drop_if_empty(index, key);
-}
-
-/// Takes a session from the queue of a key.
-fn remove(index: &mut Index, key: &Name, session: u64)
-    ensures { Gives key.now (without session (sessions_by index.old key.now)) index.old index.new }
-{
-    if let Some(sessions) = index.get_mut(key) {
-        drop(sessions.remove(session));
+    if remove(index, key, session) {
+        drop_empty(index, key);
     }
 }
 
-/// Drops the queue of a key if it is empty.
-fn drop_if_empty(index: &mut Index, key: &Name)
+/// Takes a session from the queue of a key. Answers whether it is empty then.
+fn remove(index: &mut Index, key: &Name, session: u64) -> bool
+    ensures gives { Gives key.now (without session (sessions_by index.old key.now)) index.old index.new }
+    ensures empty { IsTrue result → sessions_by index.new key.now ≡ [] }
+{
+    match index.get_mut(key) {
+        None => false,
+        Some(sessions) => {
+            drop(sessions.remove(session));
+            sessions.is_empty()
+        }
+    }
+}
+
+/// Drops the queue of a key, in which no session is.
+fn drop_empty(index: &mut Index, key: &Name)
+    requires { sessions_by index.old key.now ≡ [] }
     ensures { Gives key.now (sessions_by index.old key.now) index.old index.new }
 {
-    if has_empty(index, key) {
-        drop(index.remove(key));
-    }
-}
-
-/// Whether the key has a queue in which no session is.
-fn has_empty(index: &Index, key: &Name) -> bool
-    ensures { IsTrue result → sessions_by index.now key.now ≡ [] }
-{
-    match index.get(key) {
-        None => false,
-        Some(sessions) => sessions.is_empty(),
-    }
+    drop(index.remove(key));
 }

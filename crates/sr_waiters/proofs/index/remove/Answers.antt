@@ -6,8 +6,8 @@ use Rattle.sr_waiters.specs.Index.{sessions_by, sessions_in, without}
 use Rattle.sr_waiters.proofs.IndexLemmas.{gives-update, keys-left}
 use Rattle.sr_waiters.proofs.index.remove.Goals as goal
 
-pub returns-in-Some : goal.returns-in-Some
-returns-in-Some c =
+pub returns-in-Some-clause-gives : goal.returns-in-Some-clause-gives
+returns-in-Some-clause-gives c =
     let key = c.args.key.now in
     let old = c.args.index.now in
     let is = c.remove.new.self in
