@@ -149,6 +149,9 @@ fn acts_of(
 ) -> Result<Vec<Act>, AllocError>
     ensures { IfOk result (λ acts. acts.items ≡ map (steps.delivery_of reader.now moment noack) unread.entry) }
 {
+    if unread.len() == 0 {
+        return Ok(Vec::new(alloc));
+    }
     let owner = pending.owner(alloc, reader)?;
     let mut rest = unread;
     let mut acts = Vec::with_capacity(alloc, rest.len())?;
