@@ -1,5 +1,6 @@
 //! The columns of a line: a name on the left of its column, and texts on the right of theirs.
 ghost use Rattle.std.specs.Prelude.{◌≡◌, ◌++◌, ◌∷◌, ◌<◌, ◌≤◌, OnOk, replicate};
+ghost use Rattle.std.specs.List.{list_all};
 ghost use Rattle.sr_dash.specs.Board as boards;
 
 use itoa::Buffer;
@@ -54,10 +55,13 @@ fn write_spaces(out: &mut Vec<u8>, count: usize) -> Result<(), AllocError>
     out.extend_from_slice(&SPACES[..count])
 }
 
-/// Writes the bytes of a name, escaped.
+/// Writes the bytes of a name, escaped: at once if each is plain.
 fn write_escaped(out: &mut Vec<u8>, name: &[u8]) -> Result<(), AllocError>
     ensures { OnOk result (out.new.items ≡ out.old.items ++ boards.escaped name.now) }
 {
+    if are_plain(name) {
+        return out.extend_from_slice(name);
+    }
     for byte in name {
         write_byte(out, *byte)?;
     }
@@ -74,6 +78,13 @@ fn write_byte(out: &mut Vec<u8>, byte: u8) -> Result<(), AllocError>
         out.extend_from_slice(&[b'\\', b'x', hex_digit(byte / 16), hex_digit(byte % 16)])?;
     }
     Ok(())
+}
+
+/// Whether each byte is printable, and neither a space nor a backslash.
+fn are_plain(bytes: &[u8]) -> bool
+    ensures { result ≡ list_all boards.is_plain bytes.now }
+{
+    bytes.iter().all(|byte| is_plain(*byte))
 }
 
 /// Whether a byte is printable, and neither a space nor a backslash.

@@ -2,7 +2,14 @@ use Rattle.std.proofs.Common.{ℕ, List, ◌++◌, get_or, take, sym, ap, ◌∙
 use Rattle.std.proofs.lemmas.List.{flat_map_more, take_all, take_more}
 use Rattle.std.proofs.lemmas.Result.{IfOk-from_err}
 use Rattle.sr_dash.specs.Board.{escaped, escaped_byte}
+use Rattle.sr_dash.proofs.LineLemmas.{escaped-plain, wrote_these}
 use Rattle.sr_dash.proofs.write.write_escaped.Goals as goal
+
+pub returns-then-are_plain : goal.returns-then-are_plain
+returns-then-are_plain c =
+    let name = c.args.name.now in
+    let plain = sym c.are_plain.ensures ∙ c.if-are_plain.true in
+    wrote_these c.extend_from_slice.result c.args.out.now.items c.extend_from_slice.new.self.items name (escaped name) c.extend_from_slice.ensures.items (sym (escaped-plain name plain))
 
 pub returns-in_err-write_byte : goal.returns-in_err-write_byte
 returns-in_err-write_byte c = IfOk-from_err _ _ c.from_residual.ensures.0
