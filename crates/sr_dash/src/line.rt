@@ -74,8 +74,8 @@ pub(crate) fn write_line(
     Ok(())
 }
 
-/// When the oldest of a consumer's pending entries was delivered, if so many are pending for it. It looks for none if
-/// there is none.
+/// When the oldest of a consumer's pending entries was delivered, of which there are this many. If there are none, it
+/// looks for none.
 fn oldest(group: &Group, name: &Name, pending: u64) -> Option<u64>
     requires { pending ≡ length (owned_by name.now group.now.shown.nacks) }
     ensures { result ≡ oldest_of (owned_by name.now group.now.shown.nacks) }

@@ -9,7 +9,7 @@ use std::alloc::AllocError;
 /// How many bytes the column of the names has.
 const NAME_WIDTH: usize = 20;
 
-/// The spaces of which columns take as many as they lack.
+/// What columns are filled up from: as many spaces as the widest one has bytes.
 const SPACES: [u8; 20] = [b' '; 20];
 
 /// Writes a name on the left of its column. A longer one is not cut.
