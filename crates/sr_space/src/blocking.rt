@@ -88,7 +88,7 @@ impl Space {
         Ok(Outcome::Reply { send, keep })
     }
 
-    /// Lets a read wait for that many milliseconds; 0 is without end. Its reply, that it found nothing, is dropped.
+    /// Lets a read wait for that many milliseconds; 0 is without end.
     fn begin_waiting(
         &mut self,
         alloc: Global,
@@ -101,11 +101,24 @@ impl Space {
         ensures err { OnErr result (self.new ≡ self.old) }
     {
         let again = self.waiting_as(alloc, call)?;
-        let _nothing = self.at_once(alloc, moment, call)?;
+        self.make_consumers(alloc, moment, call)?;
         Ok(Outcome::Blocked {
             call: again,
             deadline: deadline_of(in_63_bits(moment), wait),
         })
+    }
+
+    /// What a read leaves that finds nothing: its consumers, if it reads for a group. XREAD leaves nothing, so its keys
+    /// are not looked up again.
+    fn make_consumers(&mut self, alloc: Global, moment: u64, call: &Call) -> Result<(), AllocError>
+        ensures keys { OnOk result (self.new ≡ (at_once self.old moment call.now).keys) }
+        ensures err { OnErr result (self.new ≡ self.old) }
+    {
+        if let Call::Xread(_) = call {
+            return Ok(());
+        }
+        let _nothing = self.at_once(alloc, moment, call)?;
+        Ok(())
     }
 
     /// The call as which a read waits: without BLOCK, and each `$` the last id of its stream.

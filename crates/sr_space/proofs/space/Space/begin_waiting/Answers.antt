@@ -10,13 +10,13 @@ returns-in_err-again c =
     let failed = c.from_residual.ensures.0 in
     record { keys = IfOk-from_err _ _ failed; outcome = IfOk-from_err _ _ failed; err = MatchResult-from_err _ _ _ failed (λ _. refl) }
 
-pub returns-in_err-_nothing : goal.returns-in_err-_nothing
-returns-in_err-_nothing c =
-    let failed = c.from_residual-in_err-_nothing.ensures.0 in
-    record { keys = IfOk-from_err _ _ failed; outcome = IfOk-from_err _ _ failed; err = MatchResult-from_err _ _ _ failed (λ _. c.in_err-_nothing.ensures.err) }
+pub returns-in_err-make_consumers : goal.returns-in_err-make_consumers
+returns-in_err-make_consumers c =
+    let failed = c.from_residual-in_err-make_consumers.ensures.0 in
+    record { keys = IfOk-from_err _ _ failed; outcome = IfOk-from_err _ _ failed; err = MatchResult-from_err _ _ _ failed (λ _. c.in_err-make_consumers.ensures.err) }
 
 pub returns-clause-keys : goal.returns-clause-keys
-returns-clause-keys c = c.in_ok-_nothing.ensures.keys
+returns-clause-keys c = c.in_ok-make_consumers.ensures.keys
 
 pub returns-clause-outcome : goal.returns-clause-outcome
 returns-clause-outcome c =
