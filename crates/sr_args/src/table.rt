@@ -1,4 +1,4 @@
-ghost use Rattle.std.specs.Prelude.{◌≡◌, ◌↔◌, IsTrue, List};
+ghost use Rattle.std.specs.Prelude.{◌≡◌, ◌↔◌, ◌∷◌, IsTrue, List};
 ghost use Rattle.std.specs.Option.{option_copied};
 ghost use Rattle.sr_args.specs.Table.{IsCounted};
 ghost use Rattle.sr_args.specs.commands.{row_of, form_of, command_of};
@@ -145,16 +145,14 @@ fn row_of(command: CommandName) -> Row
     ROWS[command as usize]
 }
 
-/// How words meet the name of a row.
-fn name_match<'a>(row: &Row, mut words: Unread<'a>) -> NameMatch<'a>
-    ensures { IsMatch (shown row.now).name words.entry result }
+/// How a first word, and those after it, meet the name of a row.
+fn name_match<'a>(row: &Row, word: &[u8], rest: &Unread<'a>) -> NameMatch<'a>
+    ensures { IsMatch (shown row.now).name (word.now ∷ rest.now) result }
 {
-    let Some(word) = words.next() else {
-        return NameMatch::Other;
-    };
     if !word.eq_ignore_ascii_case(row.first) {
         return NameMatch::Other;
     }
+    let mut words = rest.again();
     let Some(second) = row.second else {
         return NameMatch::Named(words);
     };
@@ -171,15 +169,19 @@ fn name_match<'a>(row: &Row, mut words: Unread<'a>) -> NameMatch<'a>
 pub(crate) fn find_command<'a>(words: &Unread<'a>) -> Found<'a>
     ensures { IsFound words.now result }
 {
-    find_among(&COMMANDS, words)
+    let mut rest = words.again();
+    let Some(word) = rest.next() else {
+        return Found::Unknown;
+    };
+    find_among(&COMMANDS, word, &rest)
 }
 
-/// Which of these commands words name.
-fn find_among<'a>(commands: &[CommandName], words: &Unread<'a>) -> Found<'a>
-    ensures { IsFoundAmong commands.now words.now result }
+/// Which of these commands a first word names, and those after it.
+fn find_among<'a>(commands: &[CommandName], word: &[u8], rest: &Unread<'a>) -> Found<'a>
+    ensures { IsFoundAmong commands.now (word.now ∷ rest.now) result }
 {
     for command in commands {
-        match name_match(&row_of(*command), words.again()) {
+        match name_match(&row_of(*command), word, rest) {
             NameMatch::Named(operands) => return Found::Command(*command, operands),
             NameMatch::Cut => return Found::HalfNamed,
             NameMatch::Other => {}

@@ -1,4 +1,4 @@
-use Rattle.std.proofs.Common.{◌<◌, length, arith}
+use Rattle.std.proofs.Common.{◌<◌, ◌∷◌, length, arith}
 use Rattle.sr_args.specs.steps.Names.{shown}
 use Rattle.sr_args.proofs.NameLemmas.{AreOther-more}
 use Rattle.sr_args.proofs.table.find_among.Goals as goal
@@ -8,5 +8,4 @@ loop-command-preserved c =
     let commands = c.args.commands.now in
     let place = c.loop-command.command-index in
     let within : place < length commands = omega arith in
-    let other = rw c.again.ensures at c.in-Other.ensures in
-    AreOther-more commands place _ (shown c.row_of.result) c.args.words.now c.row_of.ensures within c.loop-command.invariant other
+    AreOther-more commands place _ (shown c.row_of.result) (c.args.word.now ∷ c.args.rest.now) c.row_of.ensures within c.loop-command.invariant c.in-Other.ensures
