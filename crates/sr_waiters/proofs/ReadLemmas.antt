@@ -132,3 +132,26 @@ is_some_first_due moment (read ∷ list) = by (is_due moment read) (is_some_firs
 -- what is left is shorter after a read
 pub shorter-next : (e : ℕ × Blocked) (rest left : Stored) → rest ≡ e ∷ left → length left < length rest
 shorter-next e rest left steps = rw steps (omega arith)
+
+-- ---- when the next read is due
+
+-- a read that is not due makes none due
+pub due-joined : (moment : ℕ) (list : List Waiting) (read : Waiting) → due_at moment list ≡ [] → is_due moment read ≡ false → due_at moment (list ++ read ∷ []) ≡ []
+due-joined moment [] read none later = rw later refl
+due-joined moment (x ∷ list) read none later = by (is_due moment x) none (λ rest. due-joined moment list read rest later)
+  where
+    by : (test : Bool) → cond test (x ∷ due_at moment list) (due_at moment list) ≡ [] → (due_at moment list ≡ [] → due_at moment (list ++ read ∷ []) ≡ [])
+        → cond test (x ∷ due_at moment (list ++ read ∷ [])) (due_at moment (list ++ read ∷ [])) ≡ []
+    by true none rest = absurd (cc)
+    by false none rest = rest none
+
+-- nor does one that goes
+pub due-without : (moment session : ℕ) (list : List Waiting) → due_at moment list ≡ [] → due_at moment (without_session session list) ≡ []
+due-without moment session [] none = refl
+due-without moment session (x ∷ list) none = by (x.session == session) (is_due moment x) none (λ rest. due-without moment session list rest) refl
+  where
+    by : (goes test : Bool) → cond test (x ∷ due_at moment list) (due_at moment list) ≡ [] → (due_at moment list ≡ [] → due_at moment (without_session session list) ≡ [])
+        → is_due moment x ≡ test → due_at moment (cond (not goes) (x ∷ without_session session list) (without_session session list)) ≡ []
+    by goes true none rest is = absurd (cc)
+    by true false none rest is = rest none
+    by false false none rest is = rw is (rest none)

@@ -1,10 +1,10 @@
-ghost use Rattle.std.specs.Prelude.{◌≡◌, Bool, IfOk, IsTrue};
+ghost use Rattle.std.specs.Prelude.{◌≡◌, ℕ, Bool, IfOk, IsTrue, false};
 ghost use Rattle.std.specs.Map.{keys_of};
 ghost use Rattle.sr_args.specs.declared.call.Call as calls;
 ghost use Rattle.sr_waiters.specs.Calls.{ComputesTest};
 ghost use Rattle.sr_waiters.specs.Index.{IsIndexed, reads_of, sessions_by};
-ghost use Rattle.sr_waiters.specs.Layout.{shown_reads};
-ghost use Rattle.sr_waiters.specs.Waiters.{AreOnce, first_that, session_of};
+ghost use Rattle.sr_waiters.specs.Layout.{NoneIsDueBefore, shown_reads};
+ghost use Rattle.sr_waiters.specs.Waiters.{AreOnce, first_that, is_reached, session_of};
 
 use crate::index::{Index, asks, put_if_indexed, put_read, take_read};
 use crate::queue::Queue;
@@ -30,10 +30,7 @@ impl Blocked {
     fn is_due(&self, moment: u64) -> bool
         ensures { result ≡ is_reached self.now.deadline moment }
     {
-        match self.deadline {
-            None => false,
-            Some(deadline) => deadline <= moment,
-        }
+        is_reached(self.deadline, moment)
     }
 }
 
@@ -43,6 +40,8 @@ pub struct Waiters {
     index: Index,
     /// Whether the index has each read: not if memory for it was refused when the last one joined.
     indexed: bool,
+    /// No read is due before this moment. None: no read is due ever.
+    soonest: Option<u64>,
 }
 
 // A function of its own, so that a caller that lets go of one is proved without looking at its parts.
@@ -52,6 +51,7 @@ impl Drop for Waiters {
             reads: _,
             index: _,
             indexed: _,
+            soonest: _,
         } = self;
     }
 }
@@ -62,14 +62,15 @@ impl Model for Waiters {
     ghost use Rattle.std.specs.Map.{keys_of};
     ghost use Rattle.sr_waiters.specs.Waiters.{WaitersState};
     ghost use Rattle.sr_waiters.specs.Index.{IsIndexed};
-    ghost use Rattle.sr_waiters.specs.Layout.{shown_reads};
+    ghost use Rattle.sr_waiters.specs.Layout.{NoneIsDueBefore, shown_reads};
 
     ghost Value = { WaitersState };
 
     ghost view = { λ w. record { list = shown_reads w.reads.entries; room = w.reads.room } };
 
     ghost invariant = { λ w. IsDistinct nat_eq (keys_of w.reads.entries)
-        × (IsTrue w.indexed → IsIndexed w.index (shown_reads w.reads.entries)) };
+        × (IsTrue w.indexed → IsIndexed w.index (shown_reads w.reads.entries))
+        × NoneIsDueBefore w.soonest (shown_reads w.reads.entries) };
 }
 
 impl Waiters {
@@ -90,6 +91,7 @@ impl Waiters {
             reads: Queue::new(alloc, hasher),
             index: HashMap::with_hasher(alloc, hasher),
             indexed: true,
+            soonest: None,
         }
     }
 
@@ -123,6 +125,7 @@ impl Waiters {
         let alloc = *self.reads.allocator();
         let indexed = index_again(&mut self.index, alloc, self.indexed, &self.reads);
         self.indexed = put_if_indexed(&mut self.index, alloc, indexed, &call, session);
+        self.soonest = earlier(self.soonest, deadline);
         let read = Blocked { call, deadline };
         self.reads.push(session, read);
     }
@@ -212,12 +215,25 @@ impl Waiters {
     pub fn first_due(&self, moment: u64) -> Option<u64>
         ensures { result ≡ session_of (slice_get (due_at moment self.now.list) 0) }
     {
+        if !is_reached(self.soonest, moment) {
+            return None;
+        }
         for (session, read) in self.reads.iter() {
             if read.is_due(moment) {
                 return Some(*session);
             }
         }
         None
+    }
+
+    /// Finds out anew when the next read may be due, if one may be at this moment. Until then `due` and `first_due`
+    /// look at none. What contracts see stays as it is. Takes no memory.
+    pub fn look(&mut self, moment: u64)
+        ensures { self.new ≡ self.old }
+    {
+        if is_reached(self.soonest, moment) {
+            self.soonest = soonest_of(&self.reads);
+        }
     }
 
     /// A second list of the same reads.
@@ -241,6 +257,39 @@ impl Waiters {
     {
         let _ = &self.reads;
     }
+}
+
+/// Whether a deadline is reached.
+fn is_reached(deadline: Option<u64>, moment: u64) -> bool
+    ensures { result ≡ is_reached deadline moment }
+{
+    match deadline {
+        None => false,
+        Some(deadline) => deadline <= moment,
+    }
+}
+
+/// The earlier of two deadlines.
+fn earlier(a: Option<u64>, b: Option<u64>) -> Option<u64>
+    ensures a { (moment : ℕ) → is_reached result moment ≡ false → is_reached a moment ≡ false }
+    ensures b { (moment : ℕ) → is_reached result moment ≡ false → is_reached b moment ≡ false }
+{
+    match (a, b) {
+        (None, b) => b,
+        (a, None) => a,
+        (Some(a), Some(b)) => Some(if a <= b { a } else { b }),
+    }
+}
+
+/// The earliest deadline of these reads.
+fn soonest_of(reads: &Queue<Blocked>) -> Option<u64>
+    ensures { NoneIsDueBefore result (shown_reads reads.now.entries) }
+{
+    let mut soonest = None;
+    for (_, read) in reads.iter() {
+        soonest = earlier(soonest, read.deadline);
+    }
+    soonest
 }
 
 /// Makes the index of these reads anew if it has not each of them. Answers whether it has: not if memory is refused.
