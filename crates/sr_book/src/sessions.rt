@@ -1,4 +1,4 @@
-ghost use Rattle.std.specs.Prelude.{◌≡◌, IfSome, IfNone, false};
+ghost use Rattle.std.specs.Prelude.{◌≡◌, IfSome, IfNone, IsTrue, false};
 ghost use Rattle.std.specs.Option.{option_copied};
 ghost use Rattle.sr_book.specs.Server.{is_open, letter_of, with_letter, without};
 ghost use Rattle.sr_book.specs.Layout.{AreRising, IsPlace, below};
@@ -67,6 +67,8 @@ impl OpenSession {
 #[derive(Drop)]
 pub(crate) struct Sessions {
     list: Vec<OpenSession>,
+    /// Where a session was found last. Requests of one session come together, so it is looked for there first.
+    near: usize,
 }
 
 impl Model for Sessions {
@@ -92,6 +94,7 @@ impl Sessions {
     {
         Sessions {
             list: Vec::new(alloc),
+            near: 0,
         }
     }
 
@@ -99,7 +102,7 @@ impl Sessions {
     pub(crate) fn is_open(&self, number: u64) -> bool
         ensures { result ≡ is_open number self.now }
     {
-        is_there(self.list.as_slice(), number)
+        is_there(self.list.as_slice(), number, self.near)
     }
 
     /// The letter of the session, if it is open and has one.
@@ -134,7 +137,7 @@ impl Sessions {
     pub(crate) fn set_letter(&mut self, number: u64, letter: Option<GivenReply>)
         ensures { self.new ≡ with_letter number letter self.old }
     {
-        set_letter_in(&mut self.list, number, letter);
+        self.near = set_letter_in(&mut self.list, number, self.near, letter);
     }
 }
 
@@ -165,12 +168,34 @@ fn place_of(sessions: &[OpenSession], number: u64) -> Option<usize>
     }
 }
 
+/// Whether the session at a place has this number.
+fn is_at(sessions: &[OpenSession], number: u64, place: usize) -> bool
+    ensures { IsTrue result → IsPlace number sessions.now place }
+{
+    match sessions.get(place) {
+        None => false,
+        Some(session) => session.is_numbered(number),
+    }
+}
+
+/// The place of the session with this number, which is looked for first at the place that is handed in.
+fn place_near(sessions: &[OpenSession], number: u64, near: usize) -> Option<usize>
+    requires { AreRising sessions.now }
+    ensures found { IfSome result (IsPlace number sessions.now) }
+    ensures none { IfNone result (is_open number sessions.now ≡ false) }
+{
+    if is_at(sessions, number, near) {
+        return Some(near);
+    }
+    place_of(sessions, number)
+}
+
 /// Whether one of the sessions has this number.
-fn is_there(sessions: &[OpenSession], number: u64) -> bool
+fn is_there(sessions: &[OpenSession], number: u64, near: usize) -> bool
     requires { AreRising sessions.now }
     ensures { result ≡ is_open number sessions.now }
 {
-    match place_of(sessions, number) {
+    match place_near(sessions, number, near) {
         Some(_place) => true,
         None => false,
     }
@@ -197,12 +222,21 @@ fn close_in(sessions: &mut Vec<OpenSession>, number: u64)
     }
 }
 
-/// Gives the session with this number, if it is there, another letter or none.
-fn set_letter_in(sessions: &mut Vec<OpenSession>, number: u64, letter: Option<GivenReply>)
+/// Gives the session with this number, if it is there, another letter or none. Answers where to look for it next.
+fn set_letter_in(
+    sessions: &mut Vec<OpenSession>,
+    number: u64,
+    near: usize,
+    letter: Option<GivenReply>,
+) -> usize
     requires { AreRising sessions.old.items }
     ensures { sessions.new.items ≡ with_letter number letter sessions.old.items }
 {
-    if let Some(place) = place_of(sessions.as_slice(), number) {
-        sessions[place] = OpenSession { number, letter };
+    match place_near(sessions.as_slice(), number, near) {
+        None => near,
+        Some(place) => {
+            sessions[place] = OpenSession { number, letter };
+            place
+        }
     }
 }

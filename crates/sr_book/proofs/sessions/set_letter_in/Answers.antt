@@ -10,8 +10,8 @@ returns-in-Some c =
     let at : IsPlace c.args.number sessions c.in-Some.place = rw c.as_slice.ensures.value at c.in-Some.ensures.found in
     with_letter-set c.args.number c.args.letter sessions c.in-Some.place at.session c.requires at.here at.same
 
-pub returns-in_default : goal.returns-in_default
-returns-in_default c =
+pub returns-in-None : goal.returns-in-None
+returns-in-None c =
     let sessions = c.args.sessions.now.items in
-    let none : is_open c.args.number sessions ≡ false = rw c.as_slice.ensures.value at c.in_default.ensures.none in
+    let none : is_open c.args.number sessions ≡ false = rw c.as_slice.ensures.value at c.in-None.ensures.none in
     sym (with_letter-none c.args.number c.args.letter sessions none)
