@@ -96,6 +96,13 @@ impl Watched {
         self.machine.due(told)
     }
 
+    /// Finds out anew when the next deadline may be reached, as `Machine::look` does.
+    pub(crate) fn look(&mut self, told: u64)
+        ensures { self.new ≡ self.old }
+    {
+        self.machine.look(told);
+    }
+
     /// What the session was last given while it waited, if it had no event since.
     pub(crate) fn letter(&self, alloc: Global, session: u64) -> Result<Option<Letter>, AllocError>
         ensures { IfOk result (λ letter. letter ≡ letter_for session self.now) }
