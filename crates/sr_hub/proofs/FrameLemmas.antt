@@ -16,8 +16,8 @@ use Rattle.sr_hub.specs.declared.stage.Judging.{Judging}
 use Rattle.sr_hub.specs.declared.stage.Recovery.{Recovery}
 use Rattle.sr_hub.specs.declared.stage.Stage.{Stage}
 use Rattle.sr_hub.specs.declared.stage.Stage.TheVariants as stages
-use Rattle.sr_hub.specs.OneRequest.{is_by, said_in, spoken}
-use Rattle.sr_hub.specs.Line.{ConnectionState, IsAskingFor, IsFree, IsJudging, IsLine, IsResting, IsWaitingFor, Stays}
+use Rattle.sr_hub.specs.OneRequest.{AreOf, is_by, said_in, spoken}
+use Rattle.sr_hub.specs.Line.{ConnectionState, IsAskingFor, IsFree, IsJudging, IsLine, IsLost, IsResting, IsWaitingFor, Stays, said_nothing, was_begun}
 use Rattle.sr_hub.specs.Lines.{AreAll}
 use Rattle.sr_hub.specs.Said.{IsOwn}
 use Rattle.sr_hub.proofs.PassLemmas.{Passes, led-passes}
@@ -190,6 +190,10 @@ module _ (session : ℕ) (old new : Server) (records more : List Recorded) (says
     stands = stands-passes passes waits.stands;
   }
 
+  lost-passes : (held : List Words) → IsLost session records held → IsLost session (records ++ more) held
+  lost-passes held (said_nothing few none) = said_nothing few (spoken-same session records more says ∙ none)
+  lost-passes held (was_begun words asked one is of) = was_begun words asked one is (subst (AreOf session asked) (sym (spoken-same session records more says)) of)
+
   stays-passes : (held : List Words) (requests : Progress) (stage : Stage) → Passes session old (addressed session more) new
       → Stays session old records held requests stage → Stays session new (records ++ more) held requests stage
   stays-passes held requests stages.Idle passes stays = resting-passes held passes stays
@@ -197,7 +201,7 @@ module _ (session : ℕ) (old new : Server) (records more : List Recorded) (says
   stays-passes held requests (stages.Asks asked) passes stays = asking-passes held asked.value passes stays
   stays-passes held requests (stages.Judges judging) passes stays = judging-passes held judging passes stays
   stays-passes held requests stages.Broken passes stays = (resting-passes held passes stays.0, stays.1, stays.2)
-  stays-passes held requests stages.CutOff passes stays = tt
+  stays-passes held requests stages.CutOff passes stays = lost-passes held stays
 
 -- ---- a line
 

@@ -334,10 +334,18 @@ pub sends-at : (token count : ℕ) (old new : HubState) → SendsAt token count 
 sends-at token count old new s =
     s.changes.is ∙ sym (ap (λ (o : Option ConnectionState). option_map {U = ConnectionState} (λ (line : ConnectionState). record line { unsent = drop count line.unsent }) o) s.changes.was)
 
+some-there : (at : Option ConnectionState) (line : ConnectionState) → at ≡ Some line → IsSome at
+some-there at line is = subst (λ (o : Option ConnectionState). IsSome o) (sym is) refl
+
+refused-there : (token : ℕ) (fault : TakeFault) (old new : HubState) → IsRefusedAt token fault old new → IsSome (old.at token) → IsSome (new.at token)
+refused-there token fault old new (is_gone at none same) was = subst (λ (h : HubState). IsSome (h.at token)) (sym same) was
+refused-there token fault old new (is_there before after changes same untaken) was = some-there (new.at token) after changes.is
+
 -- all that a call of take promises
 pub record TakeClauses (token : ℕ) (piece : List ℕ) (result : Result (Unit {0}) TakeFault) (old new : HubState) : Type 0 where
   pub lines : (records : List Recorded) (taken given : ℕ → List ℕ) → AreLines records taken given old → GoOn records (with_more token piece taken) given new
   pub rest : OnOk result (IsSomeAnd (new.at token) (λ line. IsAtRest 65536 new.book.server line line.stage))
+  pub there : IsSome (old.at token) → IsSome (new.at token)
   pub others : (other : ℕ) → other ≢ token → new.at other ≡ old.at other
   pub gone : IsErrOf result take_faults.Gone ↔ (old.at token ≡ None)
   pub ended : IsErrOf result take_faults.Ended ↔ IsSomeAnd (old.at token) (λ line. is_ended line.stage ≡ true)
@@ -356,6 +364,7 @@ pub take-clauses : (token : ℕ) (piece : List ℕ) (result : Result (Unit {0}) 
 take-clauses token piece (Ok done) old new apart takes refused = record {
   lines = took-lines token piece old new apart takes;
   rest = took-rest token piece old new takes;
+  there = λ was. some-there (new.at token) takes.after takes.changes.is;
   others = takes.changes.others;
   gone = ((λ is. absurd (no-err done take_faults.Gone is)), (λ none. absurd (took-there token piece old new takes none)));
   ended = ((λ is. absurd (no-err done take_faults.Ended is)), (λ some. absurd (took-going token piece old new takes some)));
@@ -369,6 +378,7 @@ take-clauses token piece (Err fault) old new apart takes refused =
     record {
       lines = refused-lines token piece fault old new refused;
       rest = tt;
+      there = refused-there token fault old new refused;
       others = refused-others token fault old new refused;
       gone = ((λ is. gone.0 (err-same fault take_faults.Gone is)), (λ none. ap (λ (f : TakeFault). Err f) (gone.1 none)));
       ended = ((λ is. ended.0 (err-same fault take_faults.Ended is)), (λ some. ap (λ (f : TakeFault). Err f) (ended.1 some)));

@@ -1,10 +1,11 @@
 -- One connection as a line: its request is answered or held, a letter is taken, bytes are taken and sent.
-use Rattle.std.proofs.Common.{◌≡◌, ◌⊎◌, inl, inr, ℕ, true, false, List, [], ◌∷◌, ◌++◌, take, drop, take-append-drop, append_assoc, Some, None, refl, ap, sym, subst, ◌∙◌, true≢false}
-use Rattle.std.proofs.lemmas.List.{append-nil}
+use Rattle.std.proofs.Common.{◌≡◌, ◌⊎◌, inl, inr, ◌≤◌, ℕ, true, false, List, [], ◌∷◌, ◌++◌, length, arith, take, drop, take-append-drop, append_assoc, Some, None, refl, ap, sym, subst, ◌∙◌, true≢false}
+use Rattle.std.proofs.lemmas.List.{append-nil, append_cancel_left}
 use Rattle.std.specs.Global.{Box}
 use Rattle.sr_resp.specs.{Words, Progress}
 use Rattle.sr_resp.specs.Stream.{Stands}
 use Rattle.sr_resp.specs.Reply.{ReplyParts, reply_text}
+use Rattle.sr_args.specs.declared.call.Command.{Command}
 use Rattle.sr_args.specs.declared.call.Command.TheVariants as commands
 use Rattle.sr_args.specs.{IsCommand}
 use Rattle.sr_waiters.specs.{has_session}
@@ -15,8 +16,8 @@ use Rattle.sr_session.specs.{AreAnswered, protocol_text}
 use Rattle.sr_session.proofs.AnsweredLemmas.{AreAnswered-push}
 use Rattle.sr_session.proofs.LetterLemmas.{HasNone}
 use Rattle.sr_book.specs.declared.event.Event.{Event}
-use Rattle.sr_hub.specs.OneRequest.{IsSilent, IsAnsweredInRecords, replied, spoken}
-use Rattle.sr_hub.specs.Line.{ConnectionState, IsAskingFor, IsFree, IsJoined, IsLine, IsResting, IsWaitingFor, Stays, is_ended, last_text}
+use Rattle.sr_hub.specs.OneRequest.{AreOf, IsAnsweredInRecords, IsSilent, broke_off, is_full, refused, replied, spoken}
+use Rattle.sr_hub.specs.Line.{ConnectionState, IsAskingFor, IsFree, IsJoined, IsLine, IsLost, IsResting, IsWaitingFor, Stays, is_ended, last_text, said_nothing, was_begun}
 use Rattle.sr_hub.specs.declared.stage.Recovery.{Recovery}
 use Rattle.sr_hub.specs.declared.stage.Stage.{Stage}
 use Rattle.sr_hub.specs.declared.stage.Stage.TheVariants as stages
@@ -133,6 +134,45 @@ module _ (words : Words) (records : List Recorded) (taken given : List ℕ) (lin
   pub whole-more : records ++ more ≡ begun.told ++ (begun.more ++ more)
   whole-more = ap (λ (r : List Recorded). r ++ more) begun.whole ∙ append_assoc begun.told begun.more more
 
+-- ---- a request whose reply is lost
+
+few-held : (held : List Words) → held ≡ [] → length held ≤ 1
+few-held held none = subst (λ (h : List Words). length h ≤ 1) (sym none) (let zero_few : 0 ≤ 1 = omega arith in zero_few)
+
+one-held : (held : List Words) (words : Words) → held ≡ words ∷ [] → length held ≤ 1
+one-held held words one = subst (λ (h : List Words). length h ≤ 1) (sym one) (let one_few : 1 ≤ 1 = omega arith in one_few)
+
+-- wherever it stands, it can be cut off
+lost-stays : (session : ℕ) (server : Server) (more : List Recorded) (held : List Words) (requests : Progress) (stage : Stage) → Stays session server more held requests stage
+    → IsLost session more held
+lost-stays session server more held requests stages.Idle stays = said_nothing (few-held held stays.none) stays.silent.says_nothing
+lost-stays session server more held requests stages.Waiting stays = was_begun stays.words (commands.Call stays.call) stays.one stays.is stays.said
+lost-stays session server more held requests (stages.Asks asked) stays = said_nothing (one-held held stays.words stays.one) stays.silent.says_nothing
+lost-stays session server more held requests (stages.Judges judging) stays =
+    was_begun stays.words (commands.Recover judging.apply stays.tries stays.key stays.group stays.dead) stays.one stays.is (stays.verdicts, stays.said, stays.rounds)
+lost-stays session server more held requests stages.Broken stays = said_nothing (few-held held stays.0.none) stays.0.silent.says_nothing
+lost-stays session server more held requests stages.CutOff stays = stays
+
+-- it was answered, and its text is lost
+pub lost-answered : (session : ℕ) (old more new : List Recorded) (words : Words) (text : List ℕ) → IsAnsweredInRecords session old words text new → new ≡ old ++ more
+    → IsLost session more (words ∷ [])
+lost-answered session old more new words text answered grown = by answered
+  where
+    same : (these : List Recorded) → new ≡ old ++ these → these ≡ more
+    same these is = append_cancel_left old these more (sym is ∙ grown)
+
+    silent : (these : List Recorded) → new ≡ old ++ these → IsSilent session these → IsLost session more (words ∷ [])
+    silent these is none = said_nothing (one-held (words ∷ []) words refl) (subst (λ (r : List Recorded). spoken session r ≡ []) (same these is) none.says_nothing)
+
+    begun : (asked : Command) (these : List Recorded) → new ≡ old ++ these → IsCommand words asked → AreOf session asked (spoken session these) → IsLost session more (words ∷ [])
+    begun asked these is command of = was_begun words asked refl command (subst (λ (r : List Recorded). AreOf session asked (spoken session r)) (same these is) of)
+
+    by : IsAnsweredInRecords session old words text new → IsLost session more (words ∷ [])
+    by (refused fault these refuses told is none) = silent these is none
+    by (is_full asked these command full told is none) = silent these is none
+    by (replied asked reply these command told is of one) = begun asked these is command of
+    by (broke_off apply tries key group dead code these command broken told is of none) = begun (commands.Recover apply tries key group dead) these is command of
+
 -- ---- a line without a new record
 
 module _ (records : List Recorded) (server : Server) (taken given : List ℕ) (line : ConnectionState) (l : IsLine records server taken given line) where
@@ -207,7 +247,7 @@ module _ (records : List Recorded) (server : Server) (taken given : List ℕ) (l
     tells = l.tells;
     spelled = l.spelled ∙ ap (λ (t : List ℕ). l.text ++ t) none;
     whole = l.whole;
-    stays = tt;
+    stays = lost-stays line.session server l.more l.held line.requests line.stage l.stays;
   }
 
   -- it is told that its bytes went wrong
@@ -331,7 +371,7 @@ module _ (records : List Recorded) (server : Server) (taken given : List ℕ) (l
     tells = l.tells;
     spelled = l.spelled ∙ ap (λ (t : List ℕ). l.text ++ t) (no_last line.stage goes);
     whole = l.whole;
-    stays = tt;
+    stays = lost-stays line.session server l.more l.held line.requests line.stage l.stays;
   }
     where
       no_last : (stage : Stage) → is_ended stage ≡ false → last_text stage ≡ []

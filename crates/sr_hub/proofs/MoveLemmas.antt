@@ -53,7 +53,7 @@ use Rattle.sr_hub.proofs.OwnLemmas.{IsHeardOut, board-replied, call-blocked, cal
 use Rattle.sr_hub.proofs.SoundLemmas.{IsSound, reached-sound}
 use Rattle.sr_hub.proofs.ShownLemmas.{in_order-twice, snapshot-of, stale-of}
 use Rattle.sr_hub.proofs.StrayLemmas.{letter-given}
-use Rattle.sr_hub.proofs.LineLemmas.{IsBegun, IsBegun-held, IsBegun-line, addressed-after, asked-held, cut_off-line, fault-line, held-line, lettered-line, spoken-after, told-line, whole-more}
+use Rattle.sr_hub.proofs.LineLemmas.{IsBegun, IsBegun-held, IsBegun-line, addressed-after, asked-held, cut_off-line, fault-line, held-line, lettered-line, lost-answered, spoken-after, told-line, whole-more}
 
 -- ---- records that an event adds
 
@@ -297,7 +297,8 @@ tells-line : (words : Words) (records : List Recorded) (taken given : List ℕ) 
 tells-line words records taken given line begun more server text after (told is) is_told free =
     subst (IsLine (records ++ more) server taken given) (sym is) (told-line words records taken given line begun more server text is_told free)
 tells-line words records taken given line begun more server text after (cut_off is) is_told free =
-    subst (IsLine (records ++ more) server taken given) (sym is) (held-line words records taken given line begun more server stages.CutOff refl tt)
+    subst (IsLine (records ++ more) server taken given) (sym is) (held-line words records taken given line begun more server stages.CutOff refl
+    (lost-answered line.session begun.told (begun.more ++ more) (records ++ more) words text is_told (whole-more words records taken given line begun more server)))
 
 -- a request is answered by the reply to its one event
 module _ (words : Words) (asked : Command) (old : BookState) (line : ConnectionState) (at : ℕ) (event : Event) (new : BookState) (after : ConnectionState) (is_command : IsCommand words asked) where

@@ -22,7 +22,7 @@ use Rattle.sr_book.specs.declared.event.Act.TheVariants as acts
 use Rattle.sr_book.specs.declared.event.Event.{Event}
 use Rattle.sr_book.specs.declared.event.Event.TheVariants as events
 use Rattle.sr_book.specs.declared.event.Out.{Out}
-use Rattle.sr_hub.specs.Said.{IsTimed}
+use Rattle.sr_hub.specs.Said.{IsTimed, last_of}
 use Rattle.sr_hub.specs.steps.Telling.{Comes, IsRefusedBy}
 
 -- ---- the moment of the state after an event, and after a serving
@@ -79,12 +79,32 @@ servings-timed index m old (first ∷ servings) new all legal is =
     let rest = servings-timed (index + 1) m legal.0 servings new all.1 legal.2 (here.1 ∙ is) in
     ((here.0 ∙ is, rest.0), rest.1)
 
-max-twice : (a b : ℕ) → max (max a b) b ≡ max a b
+pub max-twice : (a b : ℕ) → max (max a b) b ≡ max a b
 max-twice a b = omega arith
+
+-- ---- the last moment
+
+-- of records at one moment
+last-all : (m : ℕ) (records : List Recorded) → AllByRecursion (λ recorded. recorded.moment ≡ m) records → last_of m records ≡ m
+last-all m [] all = refl
+last-all m (x ∷ records) all = subst (λ (n : ℕ). last_of n records ≡ m) (sym all.0) (last-all m records all.1)
+
+pub last-append : (last : ℕ) (a b : List Recorded) → last_of last (a ++ b) ≡ last_of (last_of last a) b
+last-append last [] b = refl
+last-append last (x ∷ a) b = last-append x.moment a b
+
+-- the next record would be at the same moment
+stays : (moment : ℕ) (old new : BookState) (added : List Recorded) → AllByRecursion (λ recorded. recorded.moment ≡ next_moment old moment) added
+    → new.server.last ≡ last_of old.server.last added → next_moment new moment ≡ next_moment old moment
+stays moment old new [] all last = ap (λ (l : ℕ). moment_after l moment) last
+stays moment old new (x ∷ added) all last =
+    let one : last_of x.moment added ≡ next_moment old moment =
+    subst (λ (n : ℕ). last_of n added ≡ next_moment old moment) (sym all.0) (last-all (next_moment old moment) added all.1) in
+    ap (λ (l : ℕ). moment_after l moment) (last ∙ one) ∙ max-twice old.server.last _
 
 -- ---- an event
 
-step-timed : (old : BookState) (told : ℕ) (event : Event) (answer : Answer) (new : BookState) → IsStepped old told event answer new → IsTimed told old new
+pub step-timed : (old : BookState) (told : ℕ) (event : Event) (answer : Answer) (new : BookState) → IsStepped old told event answer new → IsTimed told old new
 step-timed old told event answer new stepped =
     let m = next_moment old told in
     let all = servings-timed (next_index old + 1) m (event_server old told event) stepped.servings new.server stepped.served stepped.legal (acted-last old.server (next_index old) m event) in
@@ -92,11 +112,11 @@ step-timed old told event answer new stepped =
       added = event_record old told event ∷ stepped.servings;
       grown = stepped.grown;
       at = (refl, all.0);
-      stays = ap (λ (last : ℕ). moment_after last told) all.1 ∙ max-twice old.server.last _;
+      last = all.1 ∙ sym (last-all m stepped.servings all.0);
     }
 
 pub timed_none : (moment : ℕ) (book : BookState) → IsTimed moment book book
-timed_none moment book = record { added = []; grown = sym (append-nil book.records); at = tt; stays = refl }
+timed_none moment book = record { added = []; grown = sym (append-nil book.records); at = tt; last = refl }
 
 pub timed_same : (moment : ℕ) (old new : BookState) → new ≡ old → IsTimed moment old new
 timed_same moment old new same = subst (IsTimed moment old) (sym same) (timed_none moment old)
@@ -118,8 +138,9 @@ pub timed_then : (moment : ℕ) (old middle new : BookState) → IsTimed moment 
 timed_then moment old middle new one two = record {
   added = one.added ++ two.added;
   grown = two.grown ∙ ap (λ (l : List Recorded). l ++ two.added) one.grown ∙ append_assoc old.records one.added two.added;
-  at = timed-append (next_moment old moment) one.added two.added one.at (subst (λ (m : ℕ). AllByRecursion (λ recorded. recorded.moment ≡ m) two.added) one.stays two.at);
-  stays = two.stays ∙ one.stays;
+  at = timed-append (next_moment old moment) one.added two.added one.at
+      (subst (λ (m : ℕ). AllByRecursion (λ recorded. recorded.moment ≡ m) two.added) (stays moment old middle one.added one.at one.last) two.at);
+  last = two.last ∙ ap (λ (l : ℕ). last_of l two.added) one.last ∙ sym (last-append old.server.last one.added two.added);
 }
 
 pub ruleset timed = (timed_none, timed_same, comes_timed, refused_timed)

@@ -6,6 +6,7 @@ use Rattle.std.specs.Prelude.{Option, Some, None}
 use Rattle.sr_resp.specs.{Words, Progress}
 use Rattle.sr_resp.specs.Stream.{Stands}
 use Rattle.sr_args.specs.declared.call.Call.{Call}
+use Rattle.sr_args.specs.declared.call.Command.{Command}
 use Rattle.sr_args.specs.declared.call.Command.TheVariants as commands
 use Rattle.sr_args.specs.{IsCommand}
 use Rattle.sr_policy.specs.{SnapshotState}
@@ -22,7 +23,7 @@ use Rattle.sr_hub.specs.declared.stage.Judging.{Judging}
 use Rattle.sr_hub.specs.declared.stage.Recovery.{Recovery}
 use Rattle.sr_hub.specs.declared.stage.Stage.{Stage}
 use Rattle.sr_hub.specs.declared.stage.Stage.TheVariants as stages
-use Rattle.sr_hub.specs.OneRequest.{IsSilent, IsAnsweredInRecords, AreRounds, spoken}
+use Rattle.sr_hub.specs.OneRequest.{AreOf, AreRounds, IsAnsweredInRecords, IsSilent, spoken}
 
 -- ---- what contracts see
 
@@ -97,6 +98,13 @@ pub record IsResting (session : ℕ) (server : Server) (more : List Recorded) (h
   pub silent : IsSilent session more
   pub free : IsFree session server
 
+-- the one request that is held, if there is one, gets no reply. Of it nothing was recorded, or exactly events that it is;
+-- and the session has no other event since the last request that was answered
+pub data IsLost (session : ℕ) (more : List Recorded) (held : List Words) : Type 0 where
+  said_nothing : length held ≤ 1 → spoken session more ≡ [] → IsLost session more held
+  was_begun : (words : Words) (asked : Command) → held ≡ words ∷ [] → IsCommand words asked
+      → AreOf session asked (spoken session more) → IsLost session more held
+
 -- by what the connection does: where it stands since the last request that was answered
 abbrev pub Stays : ℕ → Server → List Recorded → List Words → Progress → Stage → Type 0
 Stays session server more held requests stages.Idle = IsResting session server more held
@@ -105,7 +113,7 @@ Stays session server more held requests (stages.Asks asked) = IsAskingFor sessio
 Stays session server more held requests (stages.Judges judging) = IsJudging session server more held judging
 Stays session server more held requests stages.Broken =
     IsResting session server more held × (requests.failed ≡ true) × (requests.waiting ≡ [])
-Stays session server more held requests stages.CutOff = ⊤
+Stays session server more held requests stages.CutOff = IsLost session more held
 
 -- what is told last to a connection whose bytes went wrong
 abbrev pub last_text : Stage → List ℕ

@@ -1,6 +1,6 @@
 -- What a call of a hub has the book record: the events of one session, or one event; and servings.
 
-use Rattle.std.specs.Prelude.{⊤, ◌≡◌, ℕ, List, ◌++◌, Option, Some, None}
+use Rattle.std.specs.Prelude.{⊤, ◌≡◌, ℕ, List, [], ◌∷◌, ◌++◌, Option, Some, None}
 use Rattle.std.specs.List.{AllByRecursion}
 use Rattle.sr_book.specs.Server.{speaker}
 use Rattle.sr_book.specs.{BookState, IsStepped, Recorded, next_moment}
@@ -28,12 +28,17 @@ abbrev pub SaysOf : Option ConnectionState → BookState → BookState → Type 
 SaysOf None old new = new ≡ old
 SaysOf (Some line) old new = Says line.session old new
 
--- records were added, each at the moment of a record for this one, and the next would be at the same
+-- the moment of the last record, or the last one before if there is none
+abbrev pub last_of : ℕ → List Recorded → ℕ
+last_of last [] = last
+last_of last (first ∷ records) = last_of first.moment records
+
+-- records were added, each at the moment of a record for this one, and their last moment is the last of the server
 pub record IsTimed (moment : ℕ) (old new : BookState) : Type 0 where
   pub added : List Recorded
   pub grown : new.records ≡ old.records ++ added
   pub at : AllByRecursion (λ recorded. recorded.moment ≡ next_moment old moment) added
-  pub stays : next_moment new moment ≡ next_moment old moment
+  pub last : new.server.last ≡ last_of old.server.last added
 
 -- one record was added of this event, at a moment that is handed in, and then servings
 pub record Occurs (old : BookState) (moment : ℕ) (event : Event) (new : BookState) : Type 0 where

@@ -1,12 +1,13 @@
-ghost use Rattle.sr_hub.specs.Lines.{state_of};
+ghost use Rattle.sr_hub.specs.Lines.{IsLettered, state_of};
 ghost use Rattle.sr_hub.specs.steps.Serving.{Keeps};
 
 use crate::past::{Bounds, Past};
 use crate::watch::{Watch, has_unsent};
 use crate::{Heard, Hub};
 use sr_session::Clock;
-use std::alloc::Global;
+use std::alloc::{AllocError, Global};
 use std::collections::VecDeque;
+use std::marker::Model;
 
 /// While a read with a deadline waits, its deadline is looked at this often, in milliseconds.
 const TICK: u64 = 10;
@@ -56,7 +57,7 @@ pub struct Habits {
 
 /// What a loop needs from turn to turn beside its hub and its sockets.
 #[derive(Drop)]
-pub(crate) struct Keeper<'a, C> {
+pub(crate) struct Keeper<'a, C: Clock> {
     pub(crate) alloc: Global,
     pub(crate) clock: &'a C,
     pub(crate) habits: Habits,
@@ -90,17 +91,30 @@ pub(crate) struct Keeper<'a, C> {
     past: Past,
 }
 
+impl<'a, C: Clock> Model for Keeper<'a, C> {
+    ghost use Rattle.std.specs.Prelude.{IsTrue};
+    ghost use Rattle.sr_hub.specs.steps.Serving.{KeeperState};
+
+    ghost Value = { KeeperState C };
+
+    ghost view = { λ k. record { clock = k.clock.now; later = k.later.items } };
+
+    ghost invariant = { λ k. IsTrue (C.may_tell k.clock.now k.moment) };
+}
+
 impl<'a, C: Clock> Keeper<'a, C> {
-    ghost use Rattle.std.specs.Prelude.{◌≡◌, [], ◌∷◌, ◌++◌, true, false, IfSome, IfNone};
+    ghost use Rattle.std.specs.Prelude.{◌≡◌, ℕ, Bool, IsTrue, [], ◌∷◌, ◌++◌, true, false, IfSome, IfNone};
 
     /// That of a loop which begins.
-    pub(crate) fn new(alloc: Global, clock: &'a C, habits: Habits) -> Keeper<'a, C> {
+    pub(crate) fn new(alloc: Global, clock: &'a C, habits: Habits) -> Keeper<'a, C>
+        ensures { result.clock ≡ clock.now }
+    {
         Keeper {
             alloc,
             clock,
             habits,
             watch: Watch::new(alloc),
-            moment: 0,
+            moment: clock.now(),
             ticked: 0,
             swept: 0,
             idles: false,
@@ -124,20 +138,24 @@ impl<'a, C: Clock> Keeper<'a, C> {
     }
 
     /// What the clock told last.
-    pub(crate) fn now(&self) -> u64 {
+    pub(crate) fn now(&self) -> u64
+        ensures { IsTrue (C.may_tell self.now.clock result) }
+    {
         self.moment
     }
 
     /// Looks at the clock.
     pub(crate) fn looks_up(&mut self)
-        ensures { self.new.later ≡ self.old.later }
+        ensures { self.new ≡ self.old }
     {
         self.moment = self.clock.now();
     }
 
     /// How long the loop may wait for what comes next, in milliseconds: not at all while something is left to be done,
     /// and not long while a connection was put off. `place` says whether a further plan may be made elsewhere.
-    pub(crate) fn patience(&mut self, hub: &Hub, place: bool) -> Option<u64> {
+    pub(crate) fn patience(&mut self, hub: &Hub, place: bool) -> Option<u64>
+        ensures { self.new ≡ self.old }
+    {
         let wait = if self.has_more(hub) {
             0
         } else if self.has_put_off(place) {
@@ -163,7 +181,9 @@ impl<'a, C: Clock> Keeper<'a, C> {
     }
 
     /// This came just now.
-    pub(crate) fn hears(&mut self, heard: Heard) {
+    pub(crate) fn hears(&mut self, heard: Heard)
+        ensures { self.new ≡ self.old }
+    {
         self.begins();
         self.still = heard == Heard::Nothing && self.paused;
         if heard != Heard::Nothing {
@@ -174,7 +194,7 @@ impl<'a, C: Clock> Keeper<'a, C> {
 
     /// The turn of a connection begins.
     pub(crate) fn begins(&mut self)
-        ensures { self.new.later ≡ self.old.later }
+        ensures { self.new ≡ self.old }
     {
         self.looks_up();
         self.began = self.moment;
@@ -188,8 +208,9 @@ impl<'a, C: Clock> Keeper<'a, C> {
     /// Whether a connection that has more to be answered goes on later, since its turn is long already. If memory is
     /// refused for that it goes on now.
     pub(crate) fn puts_off(&mut self, token: usize) -> bool
-        ensures later { result ≡ true → self.new.later.items ≡ self.old.later.items ++ token ∷ [] }
-        ensures now { result ≡ false → self.new.later.items ≡ self.old.later.items }
+        ensures clock { self.new.clock ≡ self.old.clock }
+        ensures later { result ≡ true → self.new.later ≡ self.old.later ++ token ∷ [] }
+        ensures now { result ≡ false → self.new.later ≡ self.old.later }
     {
         let now = self.clock.now();
         let took = now.saturating_sub(self.began);
@@ -202,7 +223,9 @@ impl<'a, C: Clock> Keeper<'a, C> {
     }
 
     /// Something of a recovery was done since this moment. If it took a while others have their share of the time now.
-    pub(crate) fn tires(&mut self, since: u64) {
+    pub(crate) fn tires(&mut self, since: u64)
+        ensures { self.new ≡ self.old }
+    {
         let now = self.clock.now();
         let took = now.saturating_sub(since);
         if took > 0 {
@@ -212,7 +235,7 @@ impl<'a, C: Clock> Keeper<'a, C> {
 
     /// What took so long ended now: others have their share of the time.
     fn pauses(&mut self, now: u64, took: u64)
-        ensures { self.new.later ≡ self.old.later }
+        ensures { self.new ≡ self.old }
     {
         self.ended = now;
         self.took = took;
@@ -227,8 +250,9 @@ impl<'a, C: Clock> Keeper<'a, C> {
 
     /// A connection that goes on now since it was put off, the one that has waited longest.
     pub(crate) fn goes_on(&mut self) -> Option<usize>
-        ensures some { IfSome result (λ token. self.old.later.items ≡ token ∷ self.new.later.items) }
-        ensures none { IfNone result (self.old.later.items ≡ []) }
+        ensures clock { self.new.clock ≡ self.old.clock }
+        ensures some { IfSome result (λ token. self.old.later ≡ token ∷ self.new.later) }
+        ensures none { IfNone result (self.old.later ≡ []) }
     {
         let token = self.later.pop_front()?;
         self.begins();
@@ -244,7 +268,9 @@ impl<'a, C: Clock> Keeper<'a, C> {
 
     /// Has a connection wait until its recovery can be begun, or its plan be made elsewhere. Answers whether it does:
     /// not if memory is refused.
-    pub(crate) fn waits_for_plan(&mut self, token: usize) -> bool {
+    pub(crate) fn waits_for_plan(&mut self, token: usize) -> bool
+        ensures { self.new ≡ self.old }
+    {
         if self.watch.is_wanting(token) {
             return true;
         }
@@ -256,7 +282,9 @@ impl<'a, C: Clock> Keeper<'a, C> {
     }
 
     /// The connection that has waited longest for that. It waits no longer.
-    pub(crate) fn wants_plan(&mut self) -> Option<usize> {
+    pub(crate) fn wants_plan(&mut self) -> Option<usize>
+        ensures { self.new ≡ self.old }
+    {
         let token = self.wanting.pop_front()?;
         self.begins();
         self.watch.note_wanting(token, false);
@@ -264,7 +292,9 @@ impl<'a, C: Clock> Keeper<'a, C> {
     }
 
     /// Notes whether plans may be there that were made elsewhere.
-    pub(crate) fn note_planned(&mut self, planned: bool) {
+    pub(crate) fn note_planned(&mut self, planned: bool)
+        ensures { self.new ≡ self.old }
+    {
         self.planned = planned;
     }
 
@@ -275,7 +305,7 @@ impl<'a, C: Clock> Keeper<'a, C> {
 
     /// Whether a connection is not to be read now: something is left to be done of what it asked for, or it does not
     /// read its replies while requests that are not answered yet hold much.
-    pub(crate) fn holds_back(&self, hub: &Hub, token: usize) -> bool {
+    fn holds_back(&self, hub: &Hub, token: usize) -> bool {
         self.is_underway(hub, token)
             || (self.watch.total() > self.habits.unfinished / 2 && has_unsent(hub, token))
     }
@@ -287,7 +317,9 @@ impl<'a, C: Clock> Keeper<'a, C> {
     }
 
     /// Whether deadlines are to be looked at: not since a while.
-    pub(crate) fn is_tick(&mut self) -> bool {
+    pub(crate) fn is_tick(&mut self) -> bool
+        ensures { self.new ≡ self.old }
+    {
         let due = self.moment.saturating_sub(self.ticked) >= TICK;
         if due {
             self.ticked = self.moment;
@@ -296,12 +328,16 @@ impl<'a, C: Clock> Keeper<'a, C> {
     }
 
     /// Deadlines were looked at, and reads with one may wait on.
-    pub(crate) fn rests(&mut self, waits: bool) {
+    pub(crate) fn rests(&mut self, waits: bool)
+        ensures { self.new ≡ self.old }
+    {
         self.quiet = !waits;
     }
 
     /// Whether all connections are to be looked at: not since a while.
-    pub(crate) fn is_sweep(&mut self) -> bool {
+    pub(crate) fn is_sweep(&mut self) -> bool
+        ensures { self.new ≡ self.old }
+    {
         let often = if self.idles { AGAIN } else { SWEEP };
         let due = self.moment.saturating_sub(self.swept) >= often;
         if due {
@@ -312,14 +348,18 @@ impl<'a, C: Clock> Keeper<'a, C> {
     }
 
     /// Whether a connection is to be closed: it has been idle for too long, and was at the last look.
-    pub(crate) fn gives_up(&mut self, hub: &Hub, token: usize) -> bool {
+    pub(crate) fn gives_up(&mut self, hub: &Hub, token: usize) -> bool
+        ensures { self.new ≡ self.old }
+    {
         let idle = self.is_idle(hub, token);
         self.idles |= idle;
         self.watch.note_idle(token, idle)
     }
 
-    /// A connection is handed a reply for which it waited.
-    pub(crate) fn hands(&mut self, token: usize) {
+    /// Bytes of a connection were read or written, or it is given a reply for which it waited.
+    pub(crate) fn hears_of(&mut self, token: usize)
+        ensures { self.new ≡ self.old }
+    {
         self.watch.hears(token, self.moment);
     }
 
@@ -342,15 +382,73 @@ impl<'a, C: Clock> Keeper<'a, C> {
         }
     }
 
+    /// So many bytes were written to a connection.
+    pub(crate) fn sends(&mut self, token: usize, count: usize)
+        ensures { self.new ≡ self.old }
+    {
+        if count > 0 {
+            self.hears_of(token);
+        }
+    }
+
+    /// Makes room to note one more connection.
+    pub(crate) fn reserve(&mut self) -> Result<(), AllocError>
+        ensures { self.new ≡ self.old }
+    {
+        self.watch.reserve()
+    }
+
+    /// A connection came to this token, and has the latest session.
+    pub(crate) fn comes(&mut self, hub: &Hub, token: usize)
+        ensures { self.new ≡ self.old }
+    {
+        self.watch.comes(hub, token);
+    }
+
+    /// The session of a connection left, or its leave was refused and is made up for later.
+    pub(crate) fn goes(&mut self, token: usize, session: Option<u64>, left: bool)
+        ensures { self.new ≡ self.old }
+    {
+        if left {
+            self.watch.goes(session);
+        } else {
+            self.watch.note_over(token, true);
+        }
+    }
+
+    /// Notes what a connection holds. Answers whether it is not to be read now, if that is new to the sockets.
+    pub(crate) fn looks_at(&mut self, hub: &Hub, token: usize) -> Option<bool>
+        ensures { self.new ≡ self.old }
+    {
+        self.watch.look_at(hub, token);
+        let held = self.holds_back(hub, token);
+        if self.watch.note_held(token, held) {
+            Some(held)
+        } else {
+            None
+        }
+    }
+
+    /// The next connection that was given its reply while it waited, if there is one that was not looked at yet.
+    pub(crate) fn next_lettered(&mut self, hub: &Hub) -> Option<usize>
+        ensures same { self.new ≡ self.old }
+        ensures lettered { IfSome result (IsLettered (state_of hub.now)) }
+    {
+        self.watch.next_lettered(hub)
+    }
+
     /// Bytes came or are to be sent, or a verdict is made: records say as many more.
-    pub(crate) fn weighs(&mut self, bytes: u64) {
+    pub(crate) fn weighs(&mut self, bytes: u64)
+        ensures { self.new ≡ self.old }
+    {
         self.past.says(bytes);
     }
 
     /// Lets go of a part of the records that are kept no longer, and makes a checkpoint if the book keeps too many and
     /// each of them was looked at.
     pub(crate) fn forget(&mut self, hub: &mut Hub)
-        ensures { Keeps (state_of hub.old) (state_of hub.new) }
+        ensures same { self.new ≡ self.old }
+        ensures keeps { (may_tell : ℕ → Bool) → Keeps may_tell (state_of hub.old) may_tell (state_of hub.new) }
     {
         let Some(records) = self.habits.keep else {
             return;
@@ -361,21 +459,21 @@ impl<'a, C: Clock> Keeper<'a, C> {
         let bytes = self.habits.keep_bytes;
         let bounds = Bounds { records, bytes };
         let part = self.past.part(hub, bounds);
-        self.lets_go(part);
+        lets_go(&mut self.past, self.clock, part);
         self.past.cut(hub, bounds);
     }
+}
 
-    /// Lets go of so many of the records that are kept no longer, unless that takes long.
-    fn lets_go(&mut self, part: usize) {
-        if !self.past.has_dropped() {
+/// Lets go of so many of the records that are kept no longer, unless that takes long.
+fn lets_go<C: Clock>(past: &mut Past, clock: &C, part: usize) {
+    if !past.has_dropped() {
+        return;
+    }
+    let since = clock.now();
+    for _ in 0..part / FEW {
+        past.lets_go(FEW);
+        if clock.now().saturating_sub(since) >= LONG {
             return;
-        }
-        let since = self.clock.now();
-        for _ in 0..part / FEW {
-            self.past.lets_go(FEW);
-            if self.clock.now().saturating_sub(since) >= LONG {
-                return;
-            }
         }
     }
 }

@@ -1,7 +1,7 @@
 //! The plans of recoveries in an event loop: a small one is made at once, others by whoever makes them beside the loop.
-ghost use Rattle.std.specs.Prelude.{◌≡◌, ℕ, List, IfSome};
+ghost use Rattle.std.specs.Prelude.{◌≡◌, IfSome};
 ghost use Rattle.sr_hub.specs.Lines.{state_of};
-ghost use Rattle.sr_hub.specs.steps.Serving.{Keeps, Serves};
+ghost use Rattle.sr_hub.specs.steps.Serving.{Keeps, Serves, loop_of};
 
 use crate::copy::copy_of;
 use crate::keeper::Keeper;
@@ -25,22 +25,37 @@ pub(crate) fn judge<S: Sockets, C: Clock>(
     keeper: &mut Keeper<'_, C>,
     token: usize,
 ) -> bool
-    ensures { Serves (state_of hub.old) (S.may_have sockets.old) (state_of hub.new) (S.may_have sockets.new) }
+    ensures { Serves (loop_of (state_of hub.old) (S.may_have sockets.old) (C.may_tell keeper.old.clock))
+        (loop_of (state_of hub.new) (S.may_have sockets.new) (C.may_tell keeper.new.clock)) }
 {
     let Some(wanted) = hub.wants_verdict(token) else {
         return false;
     };
-    if is_large(wanted) && hand_over(hub, sockets, keeper, token) {
+    if is_large(wanted) {
+        return judge_large(hub, sockets, keeper, token);
+    }
+    make_plan(hub, keeper, token)
+}
+
+/// The same for a plan that takes long.
+fn judge_large<S: Sockets, C: Clock>(
+    hub: &mut Hub,
+    sockets: &mut S,
+    keeper: &mut Keeper<'_, C>,
+    token: usize,
+) -> bool
+    ensures { Serves (loop_of (state_of hub.old) (S.may_have sockets.old) (C.may_tell keeper.old.clock))
+        (loop_of (state_of hub.new) (S.may_have sockets.new) (C.may_tell keeper.new.clock)) }
+{
+    if hand_over(hub, sockets, keeper, token) {
         return false;
     }
-    let done = make_plan(hub, keeper, token);
-    keeper.looks_up();
-    done
+    make_plan(hub, keeper, token)
 }
 
 /// Makes the plan that a connection wants, if it wants one, and concludes it. Answers whether it did.
 fn make_plan<C: Clock>(hub: &mut Hub, keeper: &mut Keeper<'_, C>, token: usize) -> bool
-    ensures { Keeps (state_of hub.old) (state_of hub.new) }
+    ensures { Keeps (C.may_tell keeper.old.clock) (state_of hub.old) (C.may_tell keeper.new.clock) (state_of hub.new) }
 {
     let Some(wanted) = hub.wants_verdict(token) else {
         return false;
@@ -49,6 +64,7 @@ fn make_plan<C: Clock>(hub: &mut Hub, keeper: &mut Keeper<'_, C>, token: usize) 
     let before = unsent_len(hub, token);
     let done = hub.judge(keeper.alloc, token, keeper.now());
     keeper.weighs(added(before, unsent_len(hub, token)));
+    keeper.looks_up();
     done
 }
 
@@ -65,8 +81,8 @@ fn hand_over<S: Sockets, C: Clock>(
     keeper: &mut Keeper<'_, C>,
     token: usize,
 ) -> bool
-    ensures { (taken given : ℕ → List ℕ) → S.may_have sockets.old taken given
-        → S.may_have sockets.new taken given }
+    ensures { Serves (loop_of (state_of hub.now) (S.may_have sockets.old) (C.may_tell keeper.old.clock))
+        (loop_of (state_of hub.now) (S.may_have sockets.new) (C.may_tell keeper.new.clock)) }
 {
     let (Some(session), Some(wanted)) = (hub.session(token), hub.wants_verdict(token)) else {
         return false;
@@ -77,14 +93,14 @@ fn hand_over<S: Sockets, C: Clock>(
     if sockets.is_busy() {
         return keeper.waits_for_plan(token);
     }
-    match copy_of(keeper.alloc, wanted) {
-        Some(snapshot) => sockets.plan(Job {
-            token,
-            session,
-            snapshot,
-        }),
-        None => false,
-    }
+    let Some(snapshot) = copy_of(keeper.alloc, wanted) else {
+        return false;
+    };
+    sockets.plan(Job {
+        token,
+        session,
+        snapshot,
+    })
 }
 
 /// Begins the recovery that a connection asks for, if none waits for that and others had their share of the time. Else
@@ -95,7 +111,8 @@ pub(crate) fn begin<S: Sockets, C: Clock>(
     keeper: &mut Keeper<'_, C>,
     token: usize,
 ) -> bool
-    ensures { Serves (state_of hub.old) (S.may_have sockets.old) (state_of hub.new) (S.may_have sockets.new) }
+    ensures { Serves (loop_of (state_of hub.old) (S.may_have sockets.old) (C.may_tell keeper.old.clock))
+        (loop_of (state_of hub.new) (S.may_have sockets.new) (C.may_tell keeper.new.clock)) }
 {
     if (sockets.is_busy() || !keeper.may_begin()) && keeper.waits_for_plan(token) {
         return false;
@@ -112,7 +129,8 @@ fn begin_now<S: Sockets, C: Clock>(
     keeper: &mut Keeper<'_, C>,
     token: usize,
 )
-    ensures { Serves (state_of hub.old) (S.may_have sockets.old) (state_of hub.new) (S.may_have sockets.new) }
+    ensures { Serves (loop_of (state_of hub.old) (S.may_have sockets.old) (C.may_tell keeper.old.clock))
+        (loop_of (state_of hub.new) (S.may_have sockets.new) (C.may_tell keeper.new.clock)) }
 {
     if !hub.asks_recovery(token) {
         return;
@@ -130,7 +148,8 @@ pub(crate) fn go_on_with_recoveries<S: Sockets, C: Clock>(
     sockets: &mut S,
     keeper: &mut Keeper<'_, C>,
 )
-    ensures { Serves (state_of hub.old) (S.may_have sockets.old) (state_of hub.new) (S.may_have sockets.new) }
+    ensures { Serves (loop_of (state_of hub.old) (S.may_have sockets.old) (C.may_tell keeper.old.clock))
+        (loop_of (state_of hub.new) (S.may_have sockets.new) (C.may_tell keeper.new.clock)) }
 {
     conclude_planned(hub, sockets, keeper);
     give_place(hub, sockets, keeper);
@@ -143,7 +162,8 @@ fn conclude_planned<S: Sockets, C: Clock>(
     sockets: &mut S,
     keeper: &mut Keeper<'_, C>,
 )
-    ensures { Serves (state_of hub.old) (S.may_have sockets.old) (state_of hub.new) (S.may_have sockets.new) }
+    ensures { Serves (loop_of (state_of hub.old) (S.may_have sockets.old) (C.may_tell keeper.old.clock))
+        (loop_of (state_of hub.new) (S.may_have sockets.new) (C.may_tell keeper.new.clock)) }
 {
     if !keeper.expects_plans() || !keeper.may_resume() {
         return;
@@ -157,14 +177,15 @@ fn conclude_planned<S: Sockets, C: Clock>(
     let since = keeper.now();
     conclude(hub, keeper, planned);
     keeper.tires(since);
-    keeper.hands(token);
+    keeper.hears_of(token);
     attend(hub, sockets, keeper, token);
 }
 
 /// Goes on with the connection that has waited longest until its recovery can be begun, or its plan be made elsewhere,
 /// if there is a place for that and others had their share of the time.
 fn give_place<S: Sockets, C: Clock>(hub: &mut Hub, sockets: &mut S, keeper: &mut Keeper<'_, C>)
-    ensures { Serves (state_of hub.old) (S.may_have sockets.old) (state_of hub.new) (S.may_have sockets.new) }
+    ensures { Serves (loop_of (state_of hub.old) (S.may_have sockets.old) (C.may_tell keeper.old.clock))
+        (loop_of (state_of hub.new) (S.may_have sockets.new) (C.may_tell keeper.new.clock)) }
 {
     if sockets.is_busy() || !keeper.may_resume() {
         return;
@@ -178,7 +199,7 @@ fn give_place<S: Sockets, C: Clock>(hub: &mut Hub, sockets: &mut S, keeper: &mut
 
 /// Concludes a plan that was made elsewhere, if its connection is still there.
 fn conclude<C: Clock>(hub: &mut Hub, keeper: &mut Keeper<'_, C>, planned: Planned)
-    ensures { Keeps (state_of hub.old) (state_of hub.new) }
+    ensures { Keeps (C.may_tell keeper.old.clock) (state_of hub.old) (C.may_tell keeper.new.clock) (state_of hub.new) }
 {
     let Planned {
         token,

@@ -1,9 +1,10 @@
 //! The event loop: what the network does is told to the hub, and what the hub has for a connection is written to it.
-ghost use Rattle.std.specs.Prelude.{ℕ, List};
+ghost use Rattle.std.specs.Prelude.{List};
 ghost use Rattle.sr_book.specs.{Recorded};
 ghost use Rattle.sr_hub.specs.Heard.{GoOnAs};
-ghost use Rattle.sr_hub.specs.Lines.{AreLines, GoOn, state_of, with_more};
-ghost use Rattle.sr_hub.specs.steps.Serving.{Keeps, Serves};
+ghost use Rattle.sr_hub.specs.Lines.{state_of};
+ghost use Rattle.sr_hub.specs.Traffic.{AreServed, Traffic};
+ghost use Rattle.sr_hub.specs.steps.Serving.{Keeps, Releases, Serves, TakesOn, loop_of};
 
 use crate::keeper::{Habits, Keeper};
 use crate::plans::{begin, go_on_with_recoveries, judge};
@@ -18,7 +19,8 @@ const PIECE: usize = 16 * 1024;
 /// Serves these sockets until nothing will come again, at most as many turns as the habits say.
 ///
 /// Whatever comes in whatever order, each connection is given the replies that the book's records address to its
-/// session, in order, and each byte of them once.
+/// session, in order, and each byte of them once; one that was closed was given them from the first on. Each record that
+/// is added has a moment that the clock may tell, or that of the last record before.
 ///
 /// A plan for few pairs of an entry and a consumer is made in the loop, so that it is never stale; others are made
 /// elsewhere if the sockets have it so.
@@ -29,9 +31,9 @@ pub fn serve_sockets<S: Sockets, C: Clock>(
     clock: &C,
     habits: Habits,
 )
-    ensures lines { (records : List Recorded) (taken given : ℕ → List ℕ) → S.may_have sockets.old taken given
-        → AreLines records taken given (state_of hub.old)
-        → GoOnAs records (S.may_have sockets.new) (state_of hub.new) }
+    ensures served { (records : List Recorded) (traffic : Traffic) → S.may_have sockets.old traffic
+        → AreServed records traffic (state_of hub.old)
+        → GoOnAs (C.may_tell clock.now) hub.old.book.server.last records (S.may_have sockets.new) (state_of hub.new) }
 {
     let mut buffer = [0; PIECE];
     let mut keeper = Keeper::new(alloc, clock, habits);
@@ -50,7 +52,8 @@ fn hear<S: Sockets, C: Clock>(
     keeper: &mut Keeper<'_, C>,
     buffer: &mut [u8],
 ) -> bool
-    ensures { Serves (state_of hub.old) (S.may_have sockets.old) (state_of hub.new) (S.may_have sockets.new) }
+    ensures { Serves (loop_of (state_of hub.old) (S.may_have sockets.old) (C.may_tell keeper.old.clock))
+        (loop_of (state_of hub.new) (S.may_have sockets.new) (C.may_tell keeper.new.clock)) }
 {
     let wait = keeper.patience(hub, !sockets.is_busy());
     let heard = sockets.next(buffer, wait);
@@ -72,19 +75,20 @@ fn hear<S: Sockets, C: Clock>(
 
 /// A connection came: gives it a token, turns it away if there is no place for it, or refuses it if memory is lacking.
 fn admit<S: Sockets, C: Clock>(hub: &mut Hub, sockets: &mut S, keeper: &mut Keeper<'_, C>)
-    ensures { Serves (state_of hub.old) (S.may_have sockets.old) (state_of hub.new) (S.may_have sockets.new) }
+    ensures { Serves (loop_of (state_of hub.old) (S.may_have sockets.old) (C.may_tell keeper.old.clock))
+        (loop_of (state_of hub.new) (S.may_have sockets.new) (C.may_tell keeper.new.clock)) }
 {
     if keeper.is_full() {
         sockets.turn_away();
         return;
     }
-    if keeper.watch.reserve().is_err() {
+    if keeper.reserve().is_err() {
         sockets.refuse();
         return;
     }
     match hub.connect(keeper.alloc, keeper.now()) {
         Ok(token) => {
-            keeper.watch.comes(hub, token);
+            keeper.comes(hub, token);
             sockets.name(token)
         }
         Err(_) => sockets.refuse(),
@@ -93,11 +97,9 @@ fn admit<S: Sockets, C: Clock>(hub: &mut Hub, sockets: &mut S, keeper: &mut Keep
 
 /// Takes the next bytes of a connection, or cuts it off if unanswered requests hold too much with them.
 fn take<C: Clock>(hub: &mut Hub, keeper: &mut Keeper<'_, C>, token: usize, piece: &[u8])
-    ensures { (records : List Recorded) (taken given : ℕ → List ℕ) → AreLines records taken given (state_of hub.old)
-        → GoOn records (with_more token piece.now taken) given (state_of hub.new) }
+    ensures { TakesOn token piece.now (C.may_tell keeper.old.clock) (state_of hub.old) (C.may_tell keeper.new.clock) (state_of hub.new) }
 {
-    let now = keeper.now();
-    keeper.watch.hears(token, now);
+    keeper.hears_of(token);
     if keeper
         .watch
         .exceeds(hub, token, piece.len(), keeper.habits.unfinished)
@@ -106,7 +108,7 @@ fn take<C: Clock>(hub: &mut Hub, keeper: &mut Keeper<'_, C>, token: usize, piece
         return;
     }
     let before = unsent_len(hub, token);
-    let _taken = hub.take(keeper.alloc, token, now, piece);
+    let _taken = hub.take(keeper.alloc, token, keeper.now(), piece);
     keeper.weighs(piece.len() as u64);
     keeper.weighs(added(before, unsent_len(hub, token)));
 }
@@ -116,14 +118,16 @@ pub(crate) fn added(before: usize, after: usize) -> u64 {
     after.saturating_sub(before) as u64
 }
 
-/// A connection is over: a recovery of it that is not concluded is given up.
+/// A connection is over, or was before and its session could not leave: a recovery of it that is not concluded is given
+/// up.
 fn dismiss<S: Sockets, C: Clock>(
     hub: &mut Hub,
     sockets: &mut S,
     keeper: &mut Keeper<'_, C>,
     token: usize,
 )
-    ensures { Serves (state_of hub.old) (S.may_have sockets.old) (state_of hub.new) (S.may_have sockets.new) }
+    ensures { Serves (loop_of (state_of hub.old) (S.may_have sockets.old) (C.may_tell keeper.old.clock))
+        (loop_of (state_of hub.new) (S.may_have sockets.new) (C.may_tell keeper.new.clock)) }
 {
     sockets.close(token);
     release(hub, keeper, token);
@@ -131,13 +135,11 @@ fn dismiss<S: Sockets, C: Clock>(
 
 /// Has the session of a connection leave whose socket is closed. If that is refused, it is tried again later.
 fn release<C: Clock>(hub: &mut Hub, keeper: &mut Keeper<'_, C>, token: usize)
-    ensures { Keeps (state_of hub.old) (state_of hub.new) }
+    ensures { Releases token (C.may_tell keeper.old.clock) (state_of hub.old) (C.may_tell keeper.new.clock) (state_of hub.new) }
 {
     let session = hub.session(token);
-    match hub.close(keeper.alloc, token, keeper.now()) {
-        Ok(()) => keeper.watch.goes(session),
-        Err(_) => keeper.watch.note_over(token, true),
-    }
+    let left = hub.close(keeper.alloc, token, keeper.now()).is_ok();
+    keeper.goes(token, session, left);
 }
 
 /// Goes on with a connection as far as it goes, writes what there is for it, and closes it if it is at its end and
@@ -148,7 +150,8 @@ pub(crate) fn attend<S: Sockets, C: Clock>(
     keeper: &mut Keeper<'_, C>,
     token: usize,
 )
-    ensures { Serves (state_of hub.old) (S.may_have sockets.old) (state_of hub.new) (S.may_have sockets.new) }
+    ensures { Serves (loop_of (state_of hub.old) (S.may_have sockets.old) (C.may_tell keeper.old.clock))
+        (loop_of (state_of hub.new) (S.may_have sockets.new) (C.may_tell keeper.new.clock)) }
 {
     if keeper.watch.is_later(token) {
         return;
@@ -165,15 +168,14 @@ fn close_if_over<S: Sockets, C: Clock>(
     keeper: &mut Keeper<'_, C>,
     token: usize,
 )
-    ensures { Serves (state_of hub.old) (S.may_have sockets.old) (state_of hub.new) (S.may_have sockets.new) }
+    ensures { Serves (loop_of (state_of hub.old) (S.may_have sockets.old) (C.may_tell keeper.old.clock))
+        (loop_of (state_of hub.new) (S.may_have sockets.new) (C.may_tell keeper.new.clock)) }
 {
     if hub.is_over(token) {
         dismiss(hub, sockets, keeper, token);
         return;
     }
-    keeper.watch.look_at(hub, token);
-    let held = keeper.holds_back(hub, token);
-    if keeper.watch.note_held(token, held) {
+    if let Some(held) = keeper.looks_at(hub, token) {
         sockets.hold(token, held);
     }
 }
@@ -186,7 +188,8 @@ fn advance<S: Sockets, C: Clock>(
     keeper: &mut Keeper<'_, C>,
     token: usize,
 )
-    ensures { Serves (state_of hub.old) (S.may_have sockets.old) (state_of hub.new) (S.may_have sockets.new) }
+    ensures { Serves (loop_of (state_of hub.old) (S.may_have sockets.old) (C.may_tell keeper.old.clock))
+        (loop_of (state_of hub.new) (S.may_have sockets.new) (C.may_tell keeper.new.clock)) }
 {
     for _round in 0..u64::MAX {
         if !go_on(hub, sockets, keeper, token) {
@@ -206,7 +209,8 @@ fn go_on<S: Sockets, C: Clock>(
     keeper: &mut Keeper<'_, C>,
     token: usize,
 ) -> bool
-    ensures { Serves (state_of hub.old) (S.may_have sockets.old) (state_of hub.new) (S.may_have sockets.new) }
+    ensures { Serves (loop_of (state_of hub.old) (S.may_have sockets.old) (C.may_tell keeper.old.clock))
+        (loop_of (state_of hub.new) (S.may_have sockets.new) (C.may_tell keeper.new.clock)) }
 {
     if judge(hub, sockets, keeper, token) {
         return true;
@@ -223,7 +227,7 @@ fn go_on<S: Sockets, C: Clock>(
 
 /// Goes on with a connection at the book, and counts what it is to be sent. Answers whether there is such a connection.
 pub(crate) fn further<C: Clock>(hub: &mut Hub, keeper: &mut Keeper<'_, C>, token: usize) -> bool
-    ensures { Keeps (state_of hub.old) (state_of hub.new) }
+    ensures { Keeps (C.may_tell keeper.old.clock) (state_of hub.old) (C.may_tell keeper.new.clock) (state_of hub.new) }
 {
     let before = unsent_len(hub, token);
     let there = hub.go_on(keeper.alloc, token, keeper.now());
@@ -238,7 +242,8 @@ fn write_some<S: Sockets, C: Clock>(
     keeper: &mut Keeper<'_, C>,
     token: usize,
 ) -> bool
-    ensures { Serves (state_of hub.old) (S.may_have sockets.old) (state_of hub.new) (S.may_have sockets.new) }
+    ensures { Serves (loop_of (state_of hub.old) (S.may_have sockets.old) (C.may_tell keeper.old.clock))
+        (loop_of (state_of hub.new) (S.may_have sockets.new) (C.may_tell keeper.new.clock)) }
 {
     let Some(bytes) = hub.unsent(token) else {
         return false;
@@ -249,17 +254,15 @@ fn write_some<S: Sockets, C: Clock>(
     }
     let count = sockets.write(token, bytes);
     hub.sent(token, count);
-    if count > 0 {
-        let now = keeper.now();
-        keeper.watch.hears(token, now);
-    }
+    keeper.sends(token, count);
     count == length
 }
 
 /// Answers the reads whose deadline is reached, goes on with recoveries, serves connections that have a letter, goes on
 /// with one that was put off, and drops old records.
 fn settle<S: Sockets, C: Clock>(hub: &mut Hub, sockets: &mut S, keeper: &mut Keeper<'_, C>)
-    ensures { Serves (state_of hub.old) (S.may_have sockets.old) (state_of hub.new) (S.may_have sockets.new) }
+    ensures { Serves (loop_of (state_of hub.old) (S.may_have sockets.old) (C.may_tell keeper.old.clock))
+        (loop_of (state_of hub.new) (S.may_have sockets.new) (C.may_tell keeper.new.clock)) }
 {
     tick(hub, keeper);
     go_on_with_recoveries(hub, sockets, keeper);
@@ -271,7 +274,8 @@ fn settle<S: Sockets, C: Clock>(hub: &mut Hub, sockets: &mut S, keeper: &mut Kee
 
 /// Goes on with one connection that was put off, and looks at all of them if that was not done for a while.
 fn look_after<S: Sockets, C: Clock>(hub: &mut Hub, sockets: &mut S, keeper: &mut Keeper<'_, C>)
-    ensures { Serves (state_of hub.old) (S.may_have sockets.old) (state_of hub.new) (S.may_have sockets.new) }
+    ensures { Serves (loop_of (state_of hub.old) (S.may_have sockets.old) (C.may_tell keeper.old.clock))
+        (loop_of (state_of hub.new) (S.may_have sockets.new) (C.may_tell keeper.new.clock)) }
 {
     resume(hub, sockets, keeper);
     sweep(hub, sockets, keeper);
@@ -279,7 +283,7 @@ fn look_after<S: Sockets, C: Clock>(hub: &mut Hub, sockets: &mut S, keeper: &mut
 
 /// Answers the reads whose deadline is reached, if that was not looked at for a while.
 fn tick<C: Clock>(hub: &mut Hub, keeper: &mut Keeper<'_, C>)
-    ensures { Keeps (state_of hub.old) (state_of hub.new) }
+    ensures { Keeps (C.may_tell keeper.old.clock) (state_of hub.old) (C.may_tell keeper.new.clock) (state_of hub.new) }
 {
     if keeper.is_tick() {
         // One that is refused is made up for by the next.
@@ -291,10 +295,11 @@ fn tick<C: Clock>(hub: &mut Hub, keeper: &mut Keeper<'_, C>)
 /// Goes on with connections that were given their replies while they waited, and writes to them: with the others later,
 /// if that takes long.
 fn hand_letters<S: Sockets, C: Clock>(hub: &mut Hub, sockets: &mut S, keeper: &mut Keeper<'_, C>)
-    ensures { Serves (state_of hub.old) (S.may_have sockets.old) (state_of hub.new) (S.may_have sockets.new) }
+    ensures { Serves (loop_of (state_of hub.old) (S.may_have sockets.old) (C.may_tell keeper.old.clock))
+        (loop_of (state_of hub.new) (S.may_have sockets.new) (C.may_tell keeper.new.clock)) }
 {
     for _letter in 0..u64::MAX {
-        let Some(token) = keeper.watch.next_lettered(hub) else {
+        let Some(token) = keeper.next_lettered(hub) else {
             return;
         };
         hand(hub, sockets, keeper, token);
@@ -311,16 +316,18 @@ fn hand<S: Sockets, C: Clock>(
     keeper: &mut Keeper<'_, C>,
     token: usize,
 )
-    ensures { Serves (state_of hub.old) (S.may_have sockets.old) (state_of hub.new) (S.may_have sockets.new) }
+    ensures { Serves (loop_of (state_of hub.old) (S.may_have sockets.old) (C.may_tell keeper.old.clock))
+        (loop_of (state_of hub.new) (S.may_have sockets.new) (C.may_tell keeper.new.clock)) }
 {
     further(hub, keeper, token);
-    keeper.hands(token);
+    keeper.hears_of(token);
     attend(hub, sockets, keeper, token);
 }
 
 /// Goes on with the connection that was put off first, if one was and others had their share.
 fn resume<S: Sockets, C: Clock>(hub: &mut Hub, sockets: &mut S, keeper: &mut Keeper<'_, C>)
-    ensures { Serves (state_of hub.old) (S.may_have sockets.old) (state_of hub.new) (S.may_have sockets.new) }
+    ensures { Serves (loop_of (state_of hub.old) (S.may_have sockets.old) (C.may_tell keeper.old.clock))
+        (loop_of (state_of hub.new) (S.may_have sockets.new) (C.may_tell keeper.new.clock)) }
 {
     if !keeper.may_resume() {
         return;
@@ -332,7 +339,8 @@ fn resume<S: Sockets, C: Clock>(hub: &mut Hub, sockets: &mut S, keeper: &mut Kee
 
 /// Looks at all connections, if that was not done for a while.
 fn sweep<S: Sockets, C: Clock>(hub: &mut Hub, sockets: &mut S, keeper: &mut Keeper<'_, C>)
-    ensures { Serves (state_of hub.old) (S.may_have sockets.old) (state_of hub.new) (S.may_have sockets.new) }
+    ensures { Serves (loop_of (state_of hub.old) (S.may_have sockets.old) (C.may_tell keeper.old.clock))
+        (loop_of (state_of hub.new) (S.may_have sockets.new) (C.may_tell keeper.new.clock)) }
 {
     if !keeper.is_sweep() {
         return;
@@ -342,17 +350,19 @@ fn sweep<S: Sockets, C: Clock>(hub: &mut Hub, sockets: &mut S, keeper: &mut Keep
     }
 }
 
-/// Looks at one connection: whether its session could not leave, it has a letter, or it has been idle for too long.
+/// Looks at one connection: whether it was closed and its session could not leave, it has a letter, or it has been idle
+/// for too long.
 fn look_at<S: Sockets, C: Clock>(
     hub: &mut Hub,
     sockets: &mut S,
     keeper: &mut Keeper<'_, C>,
     token: usize,
 )
-    ensures { Serves (state_of hub.old) (S.may_have sockets.old) (state_of hub.new) (S.may_have sockets.new) }
+    ensures { Serves (loop_of (state_of hub.old) (S.may_have sockets.old) (C.may_tell keeper.old.clock))
+        (loop_of (state_of hub.new) (S.may_have sockets.new) (C.may_tell keeper.new.clock)) }
 {
     if keeper.watch.is_over(token) {
-        release(hub, keeper, token);
+        dismiss(hub, sockets, keeper, token);
     } else if hub.has_letter(token) {
         hand(hub, sockets, keeper, token);
     } else if keeper.gives_up(hub, token) {

@@ -45,53 +45,53 @@ pub struct Planned {
 /// What an event loop has outside of it: sockets, each at the token that it was given, and whoever makes the plans
 /// that take long.
 pub trait Sockets {
-    ghost use Rattle.std.specs.Prelude.{◌≤◌, ℕ, List, length, take};
-    ghost use Rattle.sr_hub.specs.Heard.{count_of, taken_after};
-    ghost use Rattle.sr_hub.specs.Lines.{with_more, with_none};
+    ghost use Rattle.std.specs.Prelude.{◌≤◌, length, take};
+    ghost use Rattle.sr_hub.specs.Heard.{count_of, passed_by};
+    ghost use Rattle.sr_hub.specs.Traffic.{Traffic, closes, gives, names};
 
-    /// Whether these may be the bytes that were handed out of the connection at each token since it has the token, and
-    /// those that were written to it. Of sockets that a system holds, no clause can say more than that they may.
-    ghost may_have: { Self → (ℕ → List ℕ) → (ℕ → List ℕ) → Type 0 };
+    /// Whether this may have passed through them: which connections are open, the bytes that were handed out of each and
+    /// those that were written to it, and the same of each that was closed. Of sockets that a system holds, no clause
+    /// can say more than that it may.
+    ghost may_have: { Self → Traffic → Type 0 };
 
     /// Waits for what comes next, at most this many milliseconds, or for as long as nothing comes.
     fn next(&mut self, buffer: &mut [u8], wait: Option<u64>) -> Heard
         ensures bound { count_of result ≤ length buffer.new }
-        ensures bytes { (taken given : ℕ → List ℕ) → may_have self.old taken given
-            → may_have self.new (taken_after result buffer.new taken) given };
+        ensures bytes { (traffic : Traffic) → may_have self.old traffic
+            → may_have self.new (passed_by result buffer.new traffic) };
 
     /// The connection that came last has this token from now on.
     fn name(&mut self, token: usize)
-        ensures { (taken given : ℕ → List ℕ) → may_have self.old taken given
-            → may_have self.new (with_none token taken) (with_none token given) };
+        ensures { (traffic : Traffic) → may_have self.old traffic → may_have self.new (names token traffic) };
 
     /// Tells the client of the connection that came last that there is no place for it, and closes the connection.
     fn turn_away(&mut self)
-        ensures { (taken given : ℕ → List ℕ) → may_have self.old taken given → may_have self.new taken given };
+        ensures { (traffic : Traffic) → may_have self.old traffic → may_have self.new traffic };
 
     /// Closes the connection that came last.
     fn refuse(&mut self)
-        ensures { (taken given : ℕ → List ℕ) → may_have self.old taken given → may_have self.new taken given };
+        ensures { (traffic : Traffic) → may_have self.old traffic → may_have self.new traffic };
 
     /// Writes some of these bytes, from the first on, and answers how many: none if there is no room for them, or no
     /// such connection.
     fn write(&mut self, token: usize, bytes: &[u8]) -> usize
         ensures bound { result ≤ length bytes.now }
-        ensures bytes { (taken given : ℕ → List ℕ) → may_have self.old taken given
-            → may_have self.new taken (with_more token (take result bytes.now) given) };
+        ensures bytes { (traffic : Traffic) → may_have self.old traffic
+            → may_have self.new (gives token (take result bytes.now) traffic) };
 
     /// Reads no bytes of a connection from now on, or reads them again: what it sends waits outside meanwhile. That it
     /// is over is told all the same, but not that its client will send no more.
     fn hold(&mut self, token: usize, held: bool)
-        ensures { (taken given : ℕ → List ℕ) → may_have self.old taken given → may_have self.new taken given };
+        ensures { (traffic : Traffic) → may_have self.old traffic → may_have self.new traffic };
 
     /// Closes a connection, if there is one.
     fn close(&mut self, token: usize)
-        ensures { (taken given : ℕ → List ℕ) → may_have self.old taken given → may_have self.new taken given };
+        ensures { (traffic : Traffic) → may_have self.old traffic → may_have self.new (closes token traffic) };
 
     /// Has a plan made elsewhere, of which `planned` tells once it is made. Answers whether it will be: if not, the
     /// loop makes it itself.
     fn plan(&mut self, job: Job) -> bool
-        ensures { (taken given : ℕ → List ℕ) → may_have self.old taken given → may_have self.new taken given };
+        ensures { (traffic : Traffic) → may_have self.old traffic → may_have self.new traffic };
 
     /// Whether a plan is made elsewhere for a session, and was not told yet.
     fn is_planning(&self, session: u64) -> bool;
@@ -101,5 +101,5 @@ pub trait Sockets {
 
     /// What came of a job, if there is one that is done and was not told yet.
     fn planned(&mut self) -> Option<Planned>
-        ensures { (taken given : ℕ → List ℕ) → may_have self.old taken given → may_have self.new taken given };
+        ensures { (traffic : Traffic) → may_have self.old traffic → may_have self.new traffic };
 }

@@ -1,17 +1,63 @@
--- Cited by private clauses alone: a hub and the bytes of its sockets go on together.
+-- Cited by private clauses alone: an event loop goes on, by the hub alone or with the bytes of its sockets.
 
-use Rattle.std.specs.Prelude.{ℕ, List}
+use Rattle.std.specs.Prelude.{◌≡◌, ◌≢◌, ℕ, Bool, List, ◌++◌, IsSome}
 use Rattle.sr_book.specs.{Recorded}
-use Rattle.sr_hub.specs.Heard.{GoOnAs}
-use Rattle.sr_hub.specs.Lines.{AreLines, GoOn, HubState}
+use Rattle.sr_hub.specs.Heard.{AreTold, GoOnAs}
+use Rattle.sr_hub.specs.Lines.{AreLines, HubState, with_more}
+use Rattle.sr_hub.specs.Said.{last_of}
+use Rattle.sr_hub.specs.Traffic.{AreServed, Traffic}
 
--- if each connection is a line by bytes that may be, each goes on as a line by bytes that may be then
-pub record Serves (old : HubState) (may_have : (ℕ → List ℕ) → (ℕ → List ℕ) → Type 0) (new : HubState)
-    (may_have_then : (ℕ → List ℕ) → (ℕ → List ℕ) → Type 0) : Type 0 where
-  pub goes_on : (records : List Recorded) (taken given : ℕ → List ℕ) → may_have taken given
-      → AreLines records taken given old → GoOnAs records may_have_then new
+-- what contracts see of a keeper: its clock, and the connections that it put off
+pub record KeeperState (C : Type 0) : Type 0 where
+  pub clock : C
+  pub later : List ℕ
 
--- the hub alone: each connection goes on as a line, and no byte was taken or given
-pub record Keeps (old new : HubState) : Type 0 where
+-- ---- the hub alone
+
+-- records were added, at moments of the clock; each connection goes on as a line
+pub record GoesOn (may_tell : ℕ → Bool) (last : ℕ) (records : List Recorded) (taken given : ℕ → List ℕ)
+    (hub : HubState) : Type 0 where
+  pub added : List Recorded
+  pub told : AreTold may_tell last added
+  pub lasts : hub.book.server.last ≡ last_of last added
+  pub lines : AreLines (records ++ added) taken given hub
+
+-- no byte was taken or given, and each connection is still there
+pub record Keeps (may_tell : ℕ → Bool) (old : HubState) (tells_then : ℕ → Bool) (new : HubState) : Type 0 where
+  pub same : tells_then ≡ may_tell
   pub goes_on : (records : List Recorded) (taken given : ℕ → List ℕ) → AreLines records taken given old
-      → GoOn records taken given new
+      → GoesOn may_tell old.book.server.last records taken given new
+  pub there : (token : ℕ) → IsSome (old.at token) → IsSome (new.at token)
+
+-- the same, but the connection at a token may be gone
+pub record Releases (token : ℕ) (may_tell : ℕ → Bool) (old : HubState) (tells_then : ℕ → Bool) (new : HubState) : Type 0 where
+  pub same : tells_then ≡ may_tell
+  pub goes_on : (records : List Recorded) (taken given : ℕ → List ℕ) → AreLines records taken given old
+      → GoesOn may_tell old.book.server.last records taken given new
+  pub there : (other : ℕ) → other ≢ token → IsSome (old.at other) → IsSome (new.at other)
+
+-- the same as the first, but a piece was taken from the connection at a token
+pub record TakesOn (token : ℕ) (piece : List ℕ) (may_tell : ℕ → Bool) (old : HubState) (tells_then : ℕ → Bool)
+    (new : HubState) : Type 0 where
+  pub same : tells_then ≡ may_tell
+  pub goes_on : (records : List Recorded) (taken given : ℕ → List ℕ) → AreLines records taken given old
+      → GoesOn may_tell old.book.server.last records (with_more token piece taken) given new
+  pub there : (other : ℕ) → IsSome (old.at other) → IsSome (new.at other)
+
+-- ---- the hub and its sockets
+
+-- an event loop: its hub, what may have passed through its sockets, and what its clock may tell
+pub record Loop : Type 1 where
+  pub hub : HubState
+  pub may_have : Traffic → Type 0
+  pub may_tell : ℕ → Bool
+
+abbrev pub loop_of : HubState → (Traffic → Type 0) → (ℕ → Bool) → Loop
+loop_of hub may_have may_tell = record { hub = hub; may_have = may_have; may_tell = may_tell }
+
+-- if all are served by what may have passed through the sockets, all are by what may have then
+pub record Serves (old new : Loop) : Type 0 where
+  pub same : new.may_tell ≡ old.may_tell
+  pub goes_on : (records : List Recorded) (traffic : Traffic) → old.may_have traffic
+      → AreServed records traffic old.hub
+      → GoOnAs old.may_tell old.hub.book.server.last records new.may_have new.hub

@@ -23,6 +23,13 @@ returns-clause-rest c =
     (subst (λ (p : HubParts). TakeClauses c.args.token c.args.piece.now c.take_at.result (state_of p) new) c.self.view_is
     (take-clauses c.args.token c.args.piece.now c.take_at.result old new c.self.invariant c.take_at.ensures.ok c.take_at.ensures.err)).rest
 
+pub returns-clause-there : goal.returns-clause-there
+returns-clause-there c =
+    let old : HubState = hub_of c.self.inside.book c.self.inside.connections in
+    let new : HubState = hub_of c.take_at.new.book c.take_at.new.connections in
+    (subst (λ (p : HubParts). TakeClauses c.args.token c.args.piece.now c.take_at.result (state_of p) new) c.self.view_is
+    (take-clauses c.args.token c.args.piece.now c.take_at.result old new c.self.invariant c.take_at.ensures.ok c.take_at.ensures.err)).there
+
 pub returns-clause-others : goal.returns-clause-others
 returns-clause-others c =
     let old : HubState = hub_of c.self.inside.book c.self.inside.connections in
