@@ -2,7 +2,7 @@
 
 use Rattle.std.proofs.Common.{◌⊎◌, ◌≡◌, ◌≢◌, ℕ, ◌<◌, ◌≤◌, Bool, true, false, ◌||◌, ◌&&◌, not, cond, ltb, eqb, Some, None}
 use Rattle.std.proofs.Common.{Option, IfSome, List, [], ◌∷◌, ◌++◌, length, set, refl, sym, ap, ◌∙◌, subst, ⊎_elim}
-use Rattle.std.proofs.Common.{arith}
+use Rattle.std.proofs.Common.{arith, take}
 use Rattle.std.proofs.lemmas.Bool.{false≢true, cases_eq, cases_Bool, cases_lt, ne_eqb, eq-eqb, or_right, or_left}
 use Rattle.std.proofs.lemmas.Bool.{and_parts, lt-ltb, cond-true, cond-false, ltb-true, and_from, not_from_false}
 use Rattle.std.proofs.lemmas.List.{length-set, get_or-set_same, get_or-set_other, get_or_past, set_past, set-get_or}
@@ -13,6 +13,7 @@ use Rattle.std.specs.List.{list_any}
 use Rattle.mio.specs.declared.event.event.Event.{Event}
 use Rattle.sr_hub.specs.declared.sockets.Heard.{Heard}
 use Rattle.sr_hub.specs.declared.sockets.Heard.TheVariants as heard
+use Rattle.sr_events.specs.Bytes.{more}
 use Rattle.sr_events.specs.Slot.{Ends, EndsBy, Reads, SlotState, TellsBy, fresh, has_ended, has_turn, is_read, is_taken, may_have_room, noted}
 use Rattle.sr_events.specs.Turns.{Turns, turns, with_first_turn, with_turn}
 use Rattle.sr_events.specs.Connections.{ChangesAt, IsHeardOf, is_in_turn, open_count, settled, settled_after_event}
@@ -154,6 +155,21 @@ IsKeptBut-IsKept token slots taken ring kept = record {
   scheduled = λ other apart turn. kept.scheduled other turn;
 }
 
+pub IsKept-changed : (token : ℕ) (old new : List SlotState) (taken : ℕ) (ring after : Turns) → IsKept old taken ring
+    → ChangesAt token old new → (slot_at new token).taken ≡ (slot_at old token).taken → after ≡ settled token new ring
+    → IsKept new taken after
+IsKept-changed token old new taken ring after kept changes same is_after = IsKept-settled token old new taken ring after
+    (IsKeptBut-IsKept token old taken ring kept) changes same (rw is_after (Gives-settled token new ring))
+
+pub taken-held : (token : ℕ) (held : Bool) (old new : List SlotState) → ChangesAt token old new
+    → (token < length old → slot_at new token ≡ record (slot_at old token) { held = held })
+    → (slot_at new token).taken ≡ (slot_at old token).taken
+taken-held token held old new changes is_held = ⊎_elim
+    (λ (within : token < length old). ap (λ slot. slot.taken) (is_held within))
+    (λ (past : length old ≤ token). ap (λ slots. (slot_at slots token).taken)
+    (changes ∙ set_past old token (slot_at new token) past))
+    (cases_lt token (length old))
+
 -- the next token takes its turn
 IsKeptBut-pop : (token : ℕ) (slots : List SlotState) (taken : ℕ) (ring after : Turns) → IsKept slots taken ring
     → ring ≡ turns (token ∷ after.tokens) after.most → IsKeptBut token slots taken after
@@ -167,10 +183,34 @@ IsKeptBut-pop token slots taken ring after kept popped =
           ap (λ b. b || is_in_turn other after) (sym (ne_eqb other token apart)) ∙ whole.scheduled other turn;
     }
 
+-- what is known of a connection's bytes once this was told of it
+abbrev pub gave_told : Option Heard → List ℕ → Option (List ℕ) → Option (List ℕ)
+gave_told None buffer gave = gave
+gave_told (Some heard.Came) buffer gave = gave
+gave_told (Some (heard.Bytes of count)) buffer gave = more (take count buffer) gave
+gave_told (Some (heard.Room of)) buffer gave = gave
+gave_told (Some (heard.Over of)) buffer gave = gave
+gave_told (Some heard.Planned) buffer gave = gave
+gave_told (Some heard.Nothing) buffer gave = gave
+gave_told (Some heard.End) buffer gave = gave
+
+-- what an event and a turn leave of a connection: nothing opens or closes it, and no bytes are lost
+pub record Stays (buffer : List ℕ) (told : Option Heard) (old new : SlotState) : Type 0 where
+  pub taken : new.taken ≡ old.taken
+  pub gave : new.gave ≡ gave_told told buffer old.gave
+  pub got : new.got ≡ old.got
+
+Stays-same : (old new : SlotState) → new ≡ old → Stays [] None old new
+Stays-same old new same = record {
+  taken = ap (λ slot. slot.taken) same;
+  gave = ap (λ slot. slot.gave) same;
+  got = ap (λ slot. slot.got) same;
+}
+
 -- an event is about one generation of one slot
-ChangesAt-event : (token generation : ℕ) (event : Event) (old new : List SlotState)
+pub ChangesAt-event : (token generation : ℕ) (event : Event) (old new : List SlotState)
     → new ≡ with_event token generation event old
-    → ChangesAt token old new × ((slot_at new token).taken ≡ (slot_at old token).taken)
+    → ChangesAt token old new × Stays [] None (slot_at old token) (slot_at new token)
 ChangesAt-event token generation event old new is_new =
     ⊎_elim
     (λ (yes : (ltb token (length old) && eqb (slot_at old token).generation generation) ≡ true).
@@ -179,13 +219,19 @@ ChangesAt-event token generation event old new is_new =
     let is_changed : new ≡ set old token (noted event (slot_at old token)) = is_new ∙ cond-true _ _ _ yes in
     let there : slot_at new token ≡ noted event (slot_at old token) =
     ap (λ slots. slot_at slots token) is_changed
-    ∙ get_or-set_same old token (noted event (slot_at old token)) (fresh false 0) within in
-    (is_changed ∙ ap (λ slot. set old token slot) (sym there), ap (λ slot. slot.taken) there))
+    ∙ get_or-set_same old token (noted event (slot_at old token)) (fresh false 0) within in (
+      is_changed ∙ ap (λ slot. set old token slot) (sym there),
+      record {
+        taken = ap (λ slot. slot.taken) there;
+        gave = ap (λ slot. slot.gave) there;
+        got = ap (λ slot. slot.got) there;
+      },
+    ))
     (λ (no : (ltb token (length old) && eqb (slot_at old token).generation generation) ≡ false).
     let is_old : new ≡ old = is_new ∙ cond-false _ _ _ no in
     let there : slot_at new token ≡ slot_at old token = ap (λ slots. slot_at slots token) is_old in (
       is_old ∙ sym (set-get_or old token (fresh false 0)) ∙ ap (λ slot. set old token slot) (sym there),
-      ap (λ slot. slot.taken) there,
+      Stays-same (slot_at old token) (slot_at new token) there,
     ))
     (cases_Bool (ltb token (length old) && eqb (slot_at old token).generation generation))
 
@@ -193,96 +239,112 @@ pub IsKept-event : (token generation : ℕ) (event : Event) (old new : List Slot
     → IsKept old taken ring → new ≡ with_event token generation event old
     → after ≡ settled_after_event token new ring → IsKept new taken after
 IsKept-event token generation event old new taken ring after kept noted is_after =
-    let (changes, same) = ChangesAt-event token generation event old new noted in
-    IsKept-settled token old new taken ring after (IsKeptBut-IsKept token old taken ring kept) changes same
+    let (changes, stays) = ChangesAt-event token generation event old new noted in
+    IsKept-settled token old new taken ring after (IsKeptBut-IsKept token old taken ring kept) changes stays.taken
     (rw is_after (Gives-event token new ring))
 
--- nothing that is told of a connection opens or closes it
-taken-Ends : (all_taken : Bool) (token : ℕ) (old : SlotState) (told : Option Heard) (new : SlotState)
-    → EndsBy all_taken token old told new → new.taken ≡ old.taken
-taken-Ends true token old told new ends = ap (λ slot. slot.taken) ends.1
-taken-Ends false token old told new ends = ap (λ slot. slot.taken) ends.1
+Stays-Ends : (all_taken : Bool) (token : ℕ) (buffer : List ℕ) (old : SlotState) (told : Option Heard) (new : SlotState)
+    → EndsBy all_taken token old told new → Stays buffer told old new
+Stays-Ends true token buffer old told new ends = rw ends.0 (rw ends.1 (record { taken = refl; gave = refl; got = refl }))
+Stays-Ends false token buffer old told new ends = rw ends.0 (rw ends.1 (record { taken = refl; gave = refl; got = refl }))
 
-taken-Reads : (token room : ℕ) (old : SlotState) (told : Option Heard) (new : SlotState)
-    → Reads token room old told new → new.taken ≡ old.taken
-taken-Reads token room old (Some heard.Came) new reads = absurd reads
-taken-Reads token room old (Some (heard.Bytes of count)) new reads = ap (λ slot. slot.taken) reads.2
-taken-Reads token room old (Some (heard.Room of)) new reads = absurd reads
-taken-Reads token room old (Some (heard.Over of)) new reads = ap (λ slot. slot.taken) reads.1
-taken-Reads token room old (Some heard.Planned) new reads = absurd reads
-taken-Reads token room old (Some heard.Nothing) new reads = absurd reads
-taken-Reads token room old (Some heard.End) new reads = absurd reads
-taken-Reads token room old None new reads =
+Stays-Reads : (token : ℕ) (buffer : List ℕ) (old : SlotState) (told : Option Heard) (new : SlotState)
+    → Reads token buffer old told new → Stays buffer told old new
+Stays-Reads token buffer old (Some heard.Came) new reads = absurd reads
+Stays-Reads token buffer old (Some (heard.Bytes of count)) new reads =
+    rw reads.2 (record { taken = refl; gave = refl; got = refl })
+Stays-Reads token buffer old (Some (heard.Room of)) new reads = absurd reads
+Stays-Reads token buffer old (Some (heard.Over of)) new reads =
+    rw reads.1 (record { taken = refl; gave = refl; got = refl })
+Stays-Reads token buffer old (Some heard.Planned) new reads = absurd reads
+Stays-Reads token buffer old (Some heard.Nothing) new reads = absurd reads
+Stays-Reads token buffer old (Some heard.End) new reads = absurd reads
+Stays-Reads token buffer old None new reads =
     ⊎_elim
-    (λ (unread : new ≡ record old { readable = false }). ap (λ slot. slot.taken) unread)
+    (λ (unread : new ≡ record old { readable = false }). rw unread (record { taken = refl; gave = refl; got = refl }))
     (λ (others : (new ≡ old) ⊎ Ends token old None new).
     ⊎_elim
-    (λ (same : new ≡ old). ap (λ slot. slot.taken) same)
-    (λ (ends : Ends token old None new). taken-Ends (is_taken old.output) token old None new ends)
+    (λ (same : new ≡ old). rw same (record { taken = refl; gave = refl; got = refl }))
+    (λ (ends : Ends token old None new). Stays-Ends (is_taken old.output) token buffer old None new ends)
     others)
     reads
 
-taken-Tells : (failed room_again read : Bool) (token room : ℕ) (old : SlotState) (told : Option Heard)
-    (new : SlotState) → TellsBy failed room_again read token room old told new → new.taken ≡ old.taken
-taken-Tells true room_again read token room old told new tells = ap (λ slot. slot.taken) tells.1
-taken-Tells false true read token room old told new tells = ap (λ slot. slot.taken) tells.1
-taken-Tells false false true token room old told new tells = taken-Reads token room old told new tells
-taken-Tells false false false token room old told new tells = ap (λ slot. slot.taken) tells.1
+Stays-Tells : (failed room_again read : Bool) (token : ℕ) (buffer : List ℕ) (old : SlotState) (told : Option Heard)
+    (new : SlotState) → TellsBy failed room_again read token buffer old told new → Stays buffer told old new
+Stays-Tells true room_again read token buffer old told new tells =
+    rw tells.0 (rw tells.1 (record { taken = refl; gave = refl; got = refl }))
+Stays-Tells false true read token buffer old told new tells =
+    rw tells.0 (rw tells.1 (record { taken = refl; gave = refl; got = refl }))
+Stays-Tells false false true token buffer old told new tells = Stays-Reads token buffer old told new tells
+Stays-Tells false false false token buffer old told new tells =
+    rw tells.0 (rw tells.1 (record { taken = refl; gave = refl; got = refl }))
 
--- what is told of a connection names it, and of bytes at most as many as there was room
-heard_of-Reads : (token room : ℕ) (old : SlotState) (told : Option Heard) (new : SlotState)
-    → Reads token room old told new → IfSome told (IsHeardOf token room)
-heard_of-Reads token room old (Some heard.Came) new reads = absurd reads
-heard_of-Reads token room old (Some (heard.Bytes of count)) new reads = (reads.0, reads.1)
-heard_of-Reads token room old (Some (heard.Room of)) new reads = absurd reads
-heard_of-Reads token room old (Some (heard.Over of)) new reads = reads.0
-heard_of-Reads token room old (Some heard.Planned) new reads = absurd reads
-heard_of-Reads token room old (Some heard.Nothing) new reads = absurd reads
-heard_of-Reads token room old (Some heard.End) new reads = absurd reads
-heard_of-Reads token room old None new reads = tt
+-- what is told of a connection names it: of bytes at most as many as there was room; room after a write that came short,
+-- and an end that was noted
+heard_of-Reads : (token : ℕ) (buffer : List ℕ) (old : SlotState) (told : Option Heard) (new : SlotState)
+    → Reads token buffer old told new → IfSome told (IsHeardOf token (length buffer) new)
+heard_of-Reads token buffer old (Some heard.Came) new reads = absurd reads
+heard_of-Reads token buffer old (Some (heard.Bytes of count)) new reads = (reads.0, reads.1)
+heard_of-Reads token buffer old (Some (heard.Room of)) new reads = absurd reads
+heard_of-Reads token buffer old (Some (heard.Over of)) new reads = (reads.0, ap (λ slot. slot.failed) reads.1)
+heard_of-Reads token buffer old (Some heard.Planned) new reads = absurd reads
+heard_of-Reads token buffer old (Some heard.Nothing) new reads = absurd reads
+heard_of-Reads token buffer old (Some heard.End) new reads = absurd reads
+heard_of-Reads token buffer old None new reads = tt
 
-heard_of-Tells : (failed room_again read : Bool) (token room : ℕ) (old : SlotState) (told : Option Heard)
-    (new : SlotState) → TellsBy failed room_again read token room old told new → IfSome told (IsHeardOf token room)
-heard_of-Tells true room_again read token room old told new tells = rw tells.0 refl
-heard_of-Tells false true read token room old told new tells = rw tells.0 refl
-heard_of-Tells false false true token room old told new tells = heard_of-Reads token room old told new tells
-heard_of-Tells false false false token room old told new tells = rw tells.0 tt
+heard_of-Tells : (failed room_again read : Bool) (token : ℕ) (buffer : List ℕ) (old : SlotState) (told : Option Heard)
+    (new : SlotState) → old.failed ≡ failed → TellsBy failed room_again read token buffer old told new
+    → IfSome told (IsHeardOf token (length buffer) new)
+heard_of-Tells true room_again read token buffer old told new failed tells =
+    rw tells.0 (refl, ap (λ slot. slot.failed) tells.1 ∙ failed)
+heard_of-Tells false true read token buffer old told new failed tells =
+    rw tells.0 (refl, ap (λ slot. slot.output) tells.1)
+heard_of-Tells false false true token buffer old told new failed tells =
+    heard_of-Reads token buffer old told new tells
+heard_of-Tells false false false token buffer old told new failed tells = rw tells.0 tt
 
--- and neither does its turn
-taken-TellsAt : (token room : ℕ) (old new : List SlotState) (told : Option Heard) → TellsAt token room old told new
-    → (slot_at new token).taken ≡ (slot_at old token).taken
-taken-TellsAt token room old new told tells = ⊎_elim
+pub Stays-TellsAt : (token : ℕ) (buffer : List ℕ) (old new : List SlotState) (told : Option Heard)
+    → TellsAt token buffer old told new → Stays buffer told (slot_at old token) (slot_at new token)
+Stays-TellsAt token buffer old new told tells = ⊎_elim
     (λ (turn : has_turn (slot_at old token) ≡ true).
-    taken-Tells (slot_at old token).failed (may_have_room (slot_at old token).output) (is_read (slot_at old token)) token room (slot_at old token) told
-    (slot_at new token) (tells.some turn))
+    Stays-Tells (slot_at old token).failed (may_have_room (slot_at old token).output) (is_read (slot_at old token))
+    token buffer (slot_at old token) told (slot_at new token) (tells.some turn))
     (λ (none : has_turn (slot_at old token) ≡ false).
-    ap (λ slots. (slot_at slots token).taken) (tells.none none).1)
+    rw (tells.none none).0 (rw (tells.none none).1 (record { taken = refl; gave = refl; got = refl })))
     (cases_Bool (has_turn (slot_at old token)))
 
-pub IsKept-told : (token room : ℕ) (old new : List SlotState) (taken : ℕ) (told : Option Heard)
+pub IsKept-told : (token : ℕ) (buffer : List ℕ) (old new : List SlotState) (taken : ℕ) (told : Option Heard)
     (ring popped after : Turns) → IsKept old taken ring → ring ≡ turns (token ∷ popped.tokens) popped.most
-    → TellsAt token room old told new
+    → TellsAt token buffer old told new
     → after ≡ settled token new popped → IsKept new taken after
-IsKept-told token room old new taken told ring popped after kept pops tells is_after =
+IsKept-told token buffer old new taken told ring popped after kept pops tells is_after =
     IsKept-settled token old new taken popped after (IsKeptBut-pop token old taken ring popped kept pops)
-    tells.others (taken-TellsAt token room old new told tells) (rw is_after (Gives-settled token new popped))
+    tells.others (Stays-TellsAt token buffer old new told tells).taken (rw is_after (Gives-settled token new popped))
 
--- what is told of a connection is told of a token that there is
-pub told_within : (token room : ℕ) (old new : List SlotState) (told : Option Heard) → TellsAt token room old told new
-    → IfSome told (λ heard. (of : ℕ) × (of < length new) × IsHeardOf of room heard)
-told_within token room old new told tells = ⊎_elim
+-- what is told of a connection is told of it
+pub told_of : (token : ℕ) (buffer : List ℕ) (old new : List SlotState) (told : Option Heard)
+    → TellsAt token buffer old told new → IfSome told (IsHeardOf token (length buffer) (slot_at new token))
+told_of token buffer old new told tells = ⊎_elim
     (λ (turn : has_turn (slot_at old token) ≡ true).
-    let of_token : IfSome told (IsHeardOf token room) =
-    heard_of-Tells (slot_at old token).failed (may_have_room (slot_at old token).output) (is_read (slot_at old token)) token room (slot_at old token) told
-    (slot_at new token) (tells.some turn) in
+    heard_of-Tells (slot_at old token).failed (may_have_room (slot_at old token).output) (is_read (slot_at old token))
+    token buffer (slot_at old token) told (slot_at new token) refl (tells.some turn))
+    (λ (none : has_turn (slot_at old token) ≡ false). rw (tells.none none).0 tt)
+    (cases_Bool (has_turn (slot_at old token)))
+
+-- and its token is one that there is
+pub told_within : (token : ℕ) (buffer : List ℕ) (old new : List SlotState) (told : Option Heard)
+    → TellsAt token buffer old told new
+    → IfSome told (λ heard. (of : ℕ) × (of < length new) × IsHeardOf of (length buffer) (slot_at new of) heard)
+told_within token buffer old new told tells = ⊎_elim
+    (λ (turn : has_turn (slot_at old token) ≡ true).
     let within : token < length new =
     omega (arith, within_from_turn token old turn, same_length token old new tells.others) in
-    named told of_token within)
+    named told (told_of token buffer old new told tells) within)
     (λ (none : has_turn (slot_at old token) ≡ false). rw (tells.none none).0 tt)
     (cases_Bool (has_turn (slot_at old token)))
   where
-    named : (told : Option Heard) → IfSome told (IsHeardOf token room) → token < length new
-        → IfSome told (λ heard. (of : ℕ) × (of < length new) × IsHeardOf of room heard)
+    named : (told : Option Heard) → IfSome told (IsHeardOf token (length buffer) (slot_at new token)) → token < length new
+        → IfSome told (λ heard. (of : ℕ) × (of < length new) × IsHeardOf of (length buffer) (slot_at new of) heard)
     named None of_token within = tt
     named (Some heard) of_token within = (token, within, of_token)
 

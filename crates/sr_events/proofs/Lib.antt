@@ -1,3 +1,4 @@
+pub mod BytesLemmas
 pub mod ConnectionsLemmas
 pub mod RingLemmas
 pub mod SocketsLemmas

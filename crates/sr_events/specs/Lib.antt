@@ -2,6 +2,7 @@
 -- it is.
 
 pub mod Accepting
+pub mod Bytes
 pub mod Connections
 pub mod Slot
 pub mod Sockets

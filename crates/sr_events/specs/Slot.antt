@@ -1,16 +1,18 @@
 -- A place for a connection in an event loop: what is known of the one that is there, and what can be told of it.
 
 use Rattle.std.specs.Prelude.{◌≡◌, ◌<◌, ◌≤◌, ◌==◌, ◌&&◌, ◌||◌, ◌⊎◌, ℕ, Bool, true, false, Option, Some, None}
-use Rattle.std.specs.Prelude.{if◌then◌else◌, not}
+use Rattle.std.specs.Prelude.{if◌then◌else◌, not, List, length, take}
 use Rattle.mio.specs.declared.event.event.Event.{Event}
 use Rattle.mio.specs.Event.{is_readable, is_writable, is_error, is_read_closed, is_write_closed}
 use Rattle.sr_hub.specs.declared.sockets.Heard.{Heard}
 use Rattle.sr_hub.specs.declared.sockets.Heard.TheVariants as heard
+use Rattle.sr_events.specs.Bytes.{more}
 use Rattle.sr_events.specs.declared.slot.Output.{Output}
 use Rattle.sr_events.specs.declared.slot.Output.TheVariants as output
 
 -- whether a connection is there, which generation of the place it is, whether bytes may wait to be read, whether its
--- peer sends no more, how far the last write came, whether it is not to be read for now, and whether it is over
+-- peer sends no more, how far the last write came, whether it is not to be read for now, and whether it is over; and
+-- the bytes that were read from it and written to it, where they are known
 pub record SlotState : Type 0 where
   pub taken : Bool
   pub generation : ℕ
@@ -19,6 +21,8 @@ pub record SlotState : Type 0 where
   pub output : Output
   pub held : Bool
   pub failed : Bool
+  pub gave : Option (List ℕ)
+  pub got : Option (List ℕ)
 
 -- a place without a connection, or with one that just came
 abbrev pub fresh : Bool → ℕ → SlotState
@@ -30,7 +34,13 @@ fresh taken generation = record {
   output = output.Taken;
   held = false;
   failed = false;
+  gave = None;
+  got = None;
 }
+
+-- a place without a connection
+abbrev pub IsEmpty : SlotState → Type 0
+IsEmpty slot = (slot.taken ≡ false) × ((slot.gave ≡ None) × (slot.got ≡ None))
 
 -- all that was to be written was taken; and there may be room for the rest
 abbrev pub is_taken : Output → Bool
@@ -79,38 +89,44 @@ EndsBy false token old told new = (told ≡ None) × (new ≡ record old { ended
 abbrev pub Ends : ℕ → SlotState → Option Heard → SlotState → Type 0
 Ends token old told new = EndsBy (is_taken old.output) token old told new
 
--- what a read into this many bytes tells of the connection at a token, and what it leaves: more waits after a read that
--- filled the buffer, and at a peer that sends no more the end
-abbrev pub Reads : ℕ → ℕ → SlotState → Option Heard → SlotState → Type 0
-Reads token room old (Some heard.Came) new = ⊥
-Reads token room old (Some (heard.Bytes of count)) new =
-    (of ≡ token) × (count ≤ room) × (new ≡ record old { readable = old.ended || (count == room) })
-Reads token room old (Some (heard.Room of)) new = ⊥
-Reads token room old (Some (heard.Over of)) new = (of ≡ token) × (new ≡ record old { failed = true })
-Reads token room old (Some heard.Planned) new = ⊥
-Reads token room old (Some heard.Nothing) new = ⊥
-Reads token room old (Some heard.End) new = ⊥
-Reads token room old None new =
+-- what a read into a buffer tells of the connection at a token, and what it leaves: its next bytes are those at the front
+-- of the buffer; more waits after a read that filled it, and at a peer that sends no more the end
+abbrev pub Reads : ℕ → List ℕ → SlotState → Option Heard → SlotState → Type 0
+Reads token buffer old (Some heard.Came) new = ⊥
+Reads token buffer old (Some (heard.Bytes of count)) new =
+    (of ≡ token) × (count ≤ length buffer)
+    × (new ≡ record old {
+      readable = old.ended || (count == length buffer);
+      gave = more (take count buffer) old.gave;
+    })
+Reads token buffer old (Some (heard.Room of)) new = ⊥
+Reads token buffer old (Some (heard.Over of)) new = (of ≡ token) × (new ≡ record old { failed = true })
+Reads token buffer old (Some heard.Planned) new = ⊥
+Reads token buffer old (Some heard.Nothing) new = ⊥
+Reads token buffer old (Some heard.End) new = ⊥
+Reads token buffer old None new =
     (new ≡ record old { readable = false }) ⊎ ((new ≡ old) ⊎ Ends token old None new)
 
 -- what is told of the connection at a token in its turn, by whether it is over, whether there may be room, and whether
 -- it is read
-abbrev pub TellsBy : Bool → Bool → Bool → ℕ → ℕ → SlotState → Option Heard → SlotState → Type 0
-TellsBy true room_again read token room old told new = (told ≡ Some (heard.Over token)) × (new ≡ old)
-TellsBy false true read token room old told new =
+abbrev pub TellsBy : Bool → Bool → Bool → ℕ → List ℕ → SlotState → Option Heard → SlotState → Type 0
+TellsBy true room_again read token buffer old told new = (told ≡ Some (heard.Over token)) × (new ≡ old)
+TellsBy false true read token buffer old told new =
     (told ≡ Some (heard.Room token)) × (new ≡ record old { output = output.Full })
-TellsBy false false true token room old told new = Reads token room old told new
-TellsBy false false false token room old told new = (told ≡ None) × (new ≡ old)
+TellsBy false false true token buffer old told new = Reads token buffer old told new
+TellsBy false false false token buffer old told new = (told ≡ None) × (new ≡ old)
 
-abbrev pub Tells : ℕ → ℕ → SlotState → Option Heard → SlotState → Type 0
-Tells token room old told new =
-    TellsBy old.failed (may_have_room old.output) (is_read old) token room old told new
+abbrev pub Tells : ℕ → List ℕ → SlotState → Option Heard → SlotState → Type 0
+Tells token buffer old told new =
+    TellsBy old.failed (may_have_room old.output) (is_read old) token buffer old told new
 
--- this many of `length` bytes were written: if not all, there is no room until an event says so, or it is over
-pub record Writes (length : ℕ) (old : SlotState) (count : ℕ) (new : SlotState) : Type 0 where
-  pub within : count ≤ length
+-- this many of these bytes were written, from the first on: if not all, there is no room until an event says so, or it is
+-- over
+pub record Writes (bytes : List ℕ) (old : SlotState) (count : ℕ) (new : SlotState) : Type 0 where
+  pub within : count ≤ length bytes
   pub none : old.taken ≡ false → (count ≡ 0) × (new ≡ old)
-  pub short : old.taken ≡ true → count < length
+  pub short : old.taken ≡ true → count < length bytes
       → (new.failed ≡ true) ⊎ ((new.output ≡ output.Full) ⊎ (new.output ≡ output.Room))
-  pub all : 0 < count → count ≡ length → new.output ≡ output.Taken
-  pub others : new ≡ record old { output = new.output; failed = new.failed }
+  pub all : 0 < count → count ≡ length bytes → new.output ≡ output.Taken
+  pub got : new.got ≡ more (take count bytes) old.got
+  pub others : new ≡ record old { output = new.output; failed = new.failed; got = new.got }

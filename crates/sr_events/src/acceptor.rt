@@ -1,10 +1,11 @@
-ghost use Rattle.std.specs.Prelude.{◌≡◌, ◌≢◌, ◌↔◌, ◌⊎◌, true, IsTrue, IsSomeAnd, Contains};
+ghost use Rattle.std.specs.Prelude.{◌≡◌, ◌≢◌, ◌↔◌, ◌⊎◌, true, IfOk, IfSome, IsTrue, IsSomeAnd, Contains};
 ghost use Rattle.std.specs.IoError.{error_kind, raw_os_error};
 ghost use Rattle.std.specs.declared.io.ErrorKind.{ErrorKind};
 ghost use Rattle.sr_events.specs.Accepting.{Accepts, tried_again};
+ghost use Rattle.sr_events.specs.Bytes.{IsUnused};
 
-use mio::net::{TcpListener, TcpStream};
-use std::io::{Error, ErrorKind, Write};
+use crate::stream::{Listener, Stream};
+use std::io::{Error, ErrorKind};
 
 /// How many connections are accepted at most until the sockets are polled again.
 const BATCH: usize = 64;
@@ -46,20 +47,13 @@ enum Fault {
     Short,
 }
 
-/// The next connection of a listener.
-#[derive(Drop)]
-pub(crate) enum Accepted {
-    Stream(TcpStream),
-    /// None for now.
-    Nobody,
-    /// None will ever come again.
-    End,
-}
+/// No connection will ever come again.
+#[derive(Clone, Copy, Debug, PartialEq, Eq)]
+pub(crate) struct Ended;
 
-/// A listener whose connections are accepted until none waits.
+/// A listener's connections are accepted until none waits.
 #[derive(Drop)]
 pub(crate) struct Acceptor {
-    listener: TcpListener,
     waiting: Waiting,
     /// How many may be accepted until the sockets are polled again.
     left: usize,
@@ -67,11 +61,10 @@ pub(crate) struct Acceptor {
 
 impl Acceptor {
     /// Connections may wait already.
-    pub fn new(listener: TcpListener) -> Acceptor
+    pub fn new() -> Acceptor
         ensures { result.waiting ≡ Waiting.Maybe }
     {
         Acceptor {
-            listener,
             waiting: Waiting::Maybe,
             left: BATCH,
         }
@@ -108,32 +101,29 @@ impl Acceptor {
         self.waiting == Waiting::Later
     }
 
-    /// The next connection, until the pass is over.
-    pub fn next(&mut self) -> Accepted
-        ensures { Accepts self.old result self.new }
+    /// The next connection of the listener, if there is one, until the pass is over.
+    pub fn next<L: Listener>(&mut self, listener: &mut L) -> Result<Option<L::Stream>, Ended>
+        ensures accepts { Accepts self.old result self.new }
+        ensures unused { IfOk result (λ came. IfSome came (λ stream. IsUnused (L.Stream.gave stream) (L.Stream.got stream))) }
     {
         while self.left > 0 && self.waiting == Waiting::Maybe {
             self.left -= 1;
-            match self.listener.accept() {
-                Ok((stream, _)) => {
-                    // Without it replies may come late, and nothing else changes.
-                    let _ = stream.set_nodelay(true);
-                    return Accepted::Stream(stream);
-                }
+            match listener.accept() {
+                Ok(stream) => return Ok(Some(stream)),
                 Err(error) => match fault_of(&error) {
                     Fault::Empty => self.waiting = Waiting::Nobody,
                     Fault::Passing => {}
-                    Fault::Own => return Accepted::End,
+                    Fault::Own => return Err(Ended),
                     Fault::Short => self.waiting = Waiting::Later,
                 },
             }
         }
-        Accepted::Nobody
+        Ok(None)
     }
 }
 
 /// Tells a client that there is no place for it, as far as that can be written at once.
-pub(crate) fn turn_away(mut stream: TcpStream) {
+pub(crate) fn turn_away<S: Stream>(mut stream: S) {
     let _ = stream.write(TURNED_AWAY);
 }
 

@@ -2,26 +2,27 @@ ghost use Rattle.std.specs.Prelude.{◌≡◌, ◌≢◌, ◌+◌, ◌*◌, ◌/
 ghost use Rattle.std.specs.Prelude.{replicate};
 ghost use Rattle.std.specs.Prelude.{IfOk, IfSome, IfNone, IsTrue, slice_set, vec_len};
 ghost use Rattle.mio.specs.Event.{event_token};
-ghost use Rattle.sr_events.specs.Connections.{ChangesAt, IsHeardOf, open_count, settled, settled_after_event, slot_at};
-ghost use Rattle.sr_events.specs.Connections.{with_event};
-ghost use Rattle.sr_events.specs.Slot.{Writes, fresh};
+ghost use Rattle.sr_events.specs.Bytes.{IsUnused};
+ghost use Rattle.sr_events.specs.Connections.{ChangesAt, IsHeardOf, KeepBytes, TellBytes, open_count, settled};
+ghost use Rattle.sr_events.specs.Connections.{settled_after_event, slot_at, with_event};
+ghost use Rattle.sr_events.specs.Slot.{IsEmpty, Writes, fresh};
 ghost use Rattle.sr_events.specs.Turns.{turns};
 ghost use Rattle.sr_events.specs.steps.Connections.{TellsAt};
 
 use crate::key::Key;
 use crate::ring::Ring;
 use crate::slot::Slot;
+use crate::stream::Stream;
+use mio::Registry;
 use mio::event::Event;
-use mio::net::TcpStream;
-use mio::{Interest, Registry};
 use sr_hub::Heard;
 use std::alloc::{AllocError, Global};
 use std::marker::Model;
 
 /// The connections that are open, each in the slot of its token, and those of which something can be told.
 #[derive(Drop)]
-pub(crate) struct Connections {
-    slots: Vec<Slot>,
+pub(crate) struct Connections<S: Stream> {
+    slots: Vec<Slot<S>>,
     /// How many slots have a connection.
     taken: usize,
     ring: Ring,
@@ -29,7 +30,7 @@ pub(crate) struct Connections {
     left: usize,
 }
 
-impl Model for Connections {
+impl<S: Stream> Model for Connections<S> {
     ghost use Rattle.sr_events.specs.Connections.{Kept};
     ghost use Rattle.sr_events.specs.steps.Connections.{IsKept};
 
@@ -40,9 +41,9 @@ impl Model for Connections {
     ghost invariant = { λ kept. IsKept kept.slots.items kept.taken kept.ring };
 }
 
-impl Connections {
+impl<S: Stream> Connections<S> {
     /// Room for this many connections.
-    pub fn new(alloc: Global, most: usize) -> Result<Connections, AllocError>
+    pub fn new(alloc: Global, most: usize) -> Result<Connections<S>, AllocError>
         ensures { IfOk result (λ kept.
             kept ≡ record { slots = replicate most (fresh false 1); turns = turns [] most; left = 0 }) }
     {
@@ -82,6 +83,7 @@ impl Connections {
         ensures turns { let token = (event_token event.now).0 in
             self.new.turns ≡ settled_after_event (token % 2 ^ 32) self.new.slots self.old.turns }
         ensures left { self.new.left ≡ self.old.left }
+        ensures bytes { KeepBytes self.old.slots self.new.slots }
     {
         let key = Key::of(event.token());
         let token = key.slot as usize;
@@ -92,7 +94,8 @@ impl Connections {
     /// What is told of the next connections in turn, until the pass is over.
     pub fn next(&mut self, buffer: &mut [u8]) -> Option<Heard>
         ensures told { IfSome result (λ heard. (token : ℕ) × (token < length self.new.slots)
-            × IsHeardOf token (length buffer.new) heard) }
+            × IsHeardOf token (length buffer.new) (slot_at self.new.slots token) heard) }
+        ensures bytes { TellBytes result buffer.new self.old.slots self.new.slots }
         ensures none { IfNone result ((self.new.left ≡ 0) ⊎ (self.new.turns.tokens ≡ [])) }
         ensures count { length self.new.slots ≡ length self.old.slots }
     {
@@ -110,8 +113,10 @@ impl Connections {
 
     /// Puts a connection into the slot of this token, and has it polled. Answers whether it could: if not, the
     /// connection is closed.
-    pub fn seat(&mut self, registry: &Registry, token: usize, stream: TcpStream) -> bool
+    pub fn seat(&mut self, registry: &Registry, token: usize, stream: S) -> bool
         ensures there { (slot_at self.new.slots token).taken ≡ result }
+        ensures bytes { IsUnused (S.gave stream) (S.got stream)
+            → IsUnused (slot_at self.new.slots token).gave (slot_at self.new.slots token).got }
         ensures others { ChangesAt token self.old.slots self.new.slots }
         ensures left { self.new.left ≡ self.old.left }
     {
@@ -132,7 +137,7 @@ impl Connections {
 
     /// Writes some of these bytes, from the first on, and answers how many.
     pub fn write(&mut self, token: usize, bytes: &[u8]) -> usize
-        ensures written { Writes (length bytes.now)
+        ensures written { Writes bytes.now
             (slot_at self.old.slots token) result (slot_at self.new.slots token) }
         ensures others { ChangesAt token self.old.slots self.new.slots }
         ensures left { self.new.left ≡ self.old.left }
@@ -155,7 +160,7 @@ impl Connections {
 
     /// Closes the connection in the slot of this token, if there is one.
     pub fn close(&mut self, token: usize)
-        ensures gone { (slot_at self.new.slots token).taken ≡ false }
+        ensures gone { IsEmpty (slot_at self.new.slots token) }
         ensures others { ChangesAt token self.old.slots self.new.slots }
         ensures left { self.new.left ≡ self.old.left }
     {
@@ -166,7 +171,7 @@ impl Connections {
 }
 
 /// This many slots without a connection.
-fn empty_slots(alloc: Global, most: usize) -> Result<Vec<Slot>, AllocError>
+fn empty_slots<S: Stream>(alloc: Global, most: usize) -> Result<Vec<Slot<S>>, AllocError>
     ensures { IfOk result (λ slots. slots.items ≡ replicate most (fresh false 1)) }
 {
     let mut slots = Vec::with_capacity(alloc, most)?;
@@ -177,7 +182,7 @@ fn empty_slots(alloc: Global, most: usize) -> Result<Vec<Slot>, AllocError>
 }
 
 /// Notes what an event says of one generation of a slot.
-fn note_at(slots: &mut Vec<Slot>, token: usize, generation: u32, event: &Event)
+fn note_at<S: Stream>(slots: &mut Vec<Slot<S>>, token: usize, generation: u32, event: &Event)
     ensures { slots.new.items ≡ with_event token generation event.now slots.old.items }
 {
     if token < slots.len() && slots[token].generation() == generation {
@@ -186,7 +191,7 @@ fn note_at(slots: &mut Vec<Slot>, token: usize, generation: u32, event: &Event)
 }
 
 /// Gives a connection a turn if something can be told of it.
-fn settle(slots: &[Slot], ring: &mut Ring, token: usize)
+fn settle<S: Stream>(slots: &[Slot<S>], ring: &mut Ring, token: usize)
     ensures { ring.new ≡ settled token slots.now ring.old }
 {
     if token < slots.len() && slots[token].has_turn() {
@@ -196,7 +201,7 @@ fn settle(slots: &[Slot], ring: &mut Ring, token: usize)
 
 /// The same of a connection of which an event was noted: one that is over or whose peer sends no more comes before all
 /// others.
-fn settle_after_event(slots: &[Slot], ring: &mut Ring, token: usize)
+fn settle_after_event<S: Stream>(slots: &[Slot<S>], ring: &mut Ring, token: usize)
     ensures { ring.new ≡ settled_after_event token slots.now ring.old }
 {
     if token < slots.len() && slots[token].has_ended() && slots[token].has_turn() {
@@ -207,8 +212,8 @@ fn settle_after_event(slots: &[Slot], ring: &mut Ring, token: usize)
 }
 
 /// What is told of a connection in its turn, if something can be.
-fn tell_of(slots: &mut Vec<Slot>, token: usize, buffer: &mut [u8]) -> Option<Heard>
-    ensures { TellsAt token (length buffer.new) slots.old.items result slots.new.items }
+fn tell_of<S: Stream>(slots: &mut Vec<Slot<S>>, token: usize, buffer: &mut [u8]) -> Option<Heard>
+    ensures { TellsAt token buffer.new slots.old.items result slots.new.items }
 {
     if token < slots.len() && slots[token].has_turn() {
         slots[token].turn(token, buffer)
@@ -218,8 +223,8 @@ fn tell_of(slots: &mut Vec<Slot>, token: usize, buffer: &mut [u8]) -> Option<Hea
 }
 
 /// Writes some of these bytes to a connection, from the first on, and answers how many.
-fn write_at(slots: &mut Vec<Slot>, token: usize, bytes: &[u8]) -> usize
-    ensures written { Writes (length bytes.now) (slot_at slots.old.items token) result (slot_at slots.new.items token) }
+fn write_at<S: Stream>(slots: &mut Vec<Slot<S>>, token: usize, bytes: &[u8]) -> usize
+    ensures written { Writes bytes.now (slot_at slots.old.items token) result (slot_at slots.new.items token) }
     ensures others { ChangesAt token slots.old.items slots.new.items }
 {
     if token < slots.len() {
@@ -230,7 +235,7 @@ fn write_at(slots: &mut Vec<Slot>, token: usize, bytes: &[u8]) -> usize
 }
 
 /// Has a connection not be read from now on, or read again.
-fn hold_at(slots: &mut Vec<Slot>, token: usize, held: bool)
+fn hold_at<S: Stream>(slots: &mut Vec<Slot<S>>, token: usize, held: bool)
     ensures held { token < length slots.old.items
         → slot_at slots.new.items token ≡ record (slot_at slots.old.items token) { held = held } }
     ensures others { ChangesAt token slots.old.items slots.new.items }
@@ -241,9 +246,9 @@ fn hold_at(slots: &mut Vec<Slot>, token: usize, held: bool)
 }
 
 /// Closes a connection, if there is one. Answers whether there was.
-fn clear_at(slots: &mut Vec<Slot>, token: usize) -> bool
+fn clear_at<S: Stream>(slots: &mut Vec<Slot<S>>, token: usize) -> bool
     ensures value { result ≡ (slot_at slots.old.items token).taken }
-    ensures gone { (slot_at slots.new.items token).taken ≡ false }
+    ensures gone { IsEmpty (slot_at slots.new.items token) }
     ensures others { ChangesAt token slots.old.items slots.new.items }
 {
     if token < slots.len() {
@@ -253,17 +258,18 @@ fn clear_at(slots: &mut Vec<Slot>, token: usize) -> bool
     }
 }
 
-/// Has a connection polled, for bytes and for room. If that fails it is closed.
-fn registered(
+/// Has a connection polled. If that fails it is closed.
+fn registered<S: Stream>(
     registry: &Registry,
     generation: u32,
     token: usize,
-    mut stream: TcpStream,
-) -> Option<TcpStream> {
+    mut stream: S,
+) -> Option<S>
+    ensures { IfSome result (λ polled. (S.gave polled ≡ S.gave stream) × (S.got polled ≡ S.got stream)) }
+{
     let slot = u32::try_from(token).ok()?;
     let key = Key { generation, slot };
-    let both = Interest::READABLE | Interest::WRITABLE;
-    match registry.register(&mut stream, key.token(), both) {
+    match stream.register(registry, key.token()) {
         Ok(()) => Some(stream),
         Err(_) => None,
     }

@@ -8,8 +8,10 @@ mod planner;
 mod ring;
 mod slot;
 mod sockets;
+mod stream;
 
 pub use acceptor::{LISTENERS_OWN, is_listeners_own};
 pub use key::WAKER;
 pub use planner::{NoPlanner, Planner};
 pub use sockets::EventSockets;
+pub use stream::{Listener, Stream};

@@ -1,12 +1,12 @@
-ghost use Rattle.std.specs.Prelude.{◌≡◌, ◌≢◌, ◌||◌, true, false, length};
+ghost use Rattle.std.specs.Prelude.{◌≡◌, ◌≢◌, ◌||◌, true, false};
 ghost use Rattle.mio.specs.Event.{is_readable, is_error, is_read_closed, is_write_closed};
-ghost use Rattle.sr_events.specs.Slot.{Ends, Reads, Tells, Writes, fresh, has_ended, has_turn, is_read, noted};
+ghost use Rattle.sr_events.specs.Slot.{Ends, IsEmpty, Reads, Tells, Writes, fresh, has_ended, has_turn, is_read, noted};
 
 use crate::key::generation_after;
+use crate::stream::Stream;
 use mio::event::Event;
-use mio::net::TcpStream;
 use sr_hub::Heard;
-use std::io::{ErrorKind, Read, Write};
+use std::io::ErrorKind;
 use std::marker::Model;
 
 /// How far the last write to a connection came.
@@ -37,8 +37,8 @@ impl Output {
 
 /// A place for a connection, and what is known of the one that is there.
 #[derive(Drop)]
-pub(crate) struct Slot {
-    stream: Option<TcpStream>,
+pub(crate) struct Slot<S: Stream> {
+    stream: Option<S>,
     /// Another one for each connection that is there.
     generation: u32,
     /// Bytes may wait to be read.
@@ -52,8 +52,9 @@ pub(crate) struct Slot {
     failed: bool,
 }
 
-impl Model for Slot {
+impl<S: Stream> Model for Slot<S> {
     ghost use Rattle.std.specs.Prelude.{is_some};
+    ghost use Rattle.sr_events.specs.Bytes.{known_of};
     ghost use Rattle.sr_events.specs.Slot.{SlotState};
 
     ghost Value = { SlotState };
@@ -66,12 +67,14 @@ impl Model for Slot {
       output = slot.output;
       held = slot.held;
       failed = slot.failed;
+      gave = known_of S.gave slot.stream;
+      got = known_of S.got slot.stream;
     } };
 }
 
-impl Slot {
+impl<S: Stream> Slot<S> {
     /// A place without a connection.
-    pub fn new() -> Slot
+    pub fn new() -> Slot<S>
         ensures { result ≡ fresh false 1 }
     {
         Slot {
@@ -93,8 +96,8 @@ impl Slot {
     }
 
     /// Puts a connection there.
-    pub fn fill(&mut self, stream: TcpStream)
-        ensures { self.new ≡ fresh true self.old.generation }
+    pub fn fill(&mut self, stream: S)
+        ensures { self.new ≡ record (fresh true self.old.generation) { gave = S.gave stream; got = S.got stream } }
     {
         self.stream = Some(stream);
         self.readable = false;
@@ -107,7 +110,7 @@ impl Slot {
     /// Closes the connection that is there. Answers whether there was one.
     pub fn clear(&mut self) -> bool
         ensures value { result ≡ self.old.taken }
-        ensures taken { self.new.taken ≡ false }
+        ensures gone { IsEmpty self.new }
         ensures none { self.old.taken ≡ false → self.new ≡ self.old }
         ensures generation { self.old.taken ≡ true → self.new.generation ≢ self.old.generation }
     {
@@ -165,7 +168,7 @@ impl Slot {
     /// What can be told of the connection, which has this token: that it is over, that there is room, or its next
     /// bytes.
     pub fn turn(&mut self, token: usize, buffer: &mut [u8]) -> Option<Heard>
-        ensures { Tells token (length buffer.new) self.old result self.new }
+        ensures { Tells token buffer.new self.old result self.new }
     {
         if self.failed {
             return Some(Heard::Over { token });
@@ -182,7 +185,7 @@ impl Slot {
 
     /// Reads the connection once.
     fn read(&mut self, token: usize, buffer: &mut [u8]) -> Option<Heard>
-        ensures { Reads token (length buffer.new) self.old result self.new }
+        ensures { Reads token buffer.new self.old result self.new }
     {
         let stream = self.stream.as_mut()?;
         match stream.read(buffer) {
@@ -225,7 +228,7 @@ impl Slot {
 
     /// Writes some of these bytes, from the first on, and answers how many.
     pub fn write(&mut self, bytes: &[u8]) -> usize
-        ensures { Writes (length bytes.now) self.old result self.new }
+        ensures { Writes bytes.now self.old result self.new }
     {
         let Some(stream) = self.stream.as_mut() else {
             return 0;

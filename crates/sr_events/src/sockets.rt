@@ -5,14 +5,15 @@ ghost use Rattle.std.specs.List.{list_any};
 ghost use Rattle.mio.specs.Event.{event_token};
 ghost use Rattle.mio.specs.Events.{items};
 ghost use Rattle.sr_hub.specs.Heard.{count_of};
-ghost use Rattle.sr_events.specs.Connections.{slot_at};
+ghost use Rattle.sr_events.specs.Connections.{BeginsAt, KeepBytes, TellBytes, slot_at};
 ghost use Rattle.sr_events.specs.Sockets.{HasCome, Tells, new_sockets};
 
-use crate::acceptor::{Accepted, Acceptor, Waiting, turn_away};
+use crate::acceptor::{Acceptor, Ended, Waiting, turn_away};
 use crate::connections::Connections;
 use crate::key::{LISTENER, WAKER};
 use crate::planner::Planner;
-use mio::net::{TcpListener, TcpStream};
+use crate::stream::{Listener, Stream};
+use mio::net::TcpListener;
 use mio::{Events, Interest, Poll};
 use sr_hub::{Heard, Job, Planned, Sockets};
 use std::alloc::Global;
@@ -32,13 +33,14 @@ const RETRY: u64 = 10;
 /// come. The sockets are polled after each pass over those that have a turn, so that one that sends without pause keeps
 /// nobody out. A connection that is held back is not read.
 #[derive(Drop)]
-pub struct EventSockets<P: Planner> {
+pub struct EventSockets<P: Planner, L: Listener = TcpListener> {
     poll: Poll,
     events: Events,
+    listener: L,
     acceptor: Acceptor,
-    connections: Connections,
+    connections: Connections<L::Stream>,
     /// The connection that came last, until it has a token.
-    latest: Option<TcpStream>,
+    latest: Option<L::Stream>,
     /// Whether the sockets were polled since it came.
     looked: bool,
     /// A token that was given to a connection which could not have it.
@@ -48,8 +50,9 @@ pub struct EventSockets<P: Planner> {
     planner: P,
 }
 
-impl<P: Planner> Model for EventSockets<P> {
-    ghost use Rattle.std.specs.Prelude.{is_some};
+impl<P: Planner, L: Listener> Model for EventSockets<P, L> {
+    ghost use Rattle.std.specs.Prelude.{IfSome, is_some};
+    ghost use Rattle.sr_events.specs.Bytes.{IsUnused};
     ghost use Rattle.sr_events.specs.Sockets.{SocketsState};
 
     ghost Value = { SocketsState };
@@ -62,17 +65,20 @@ impl<P: Planner> Model for EventSockets<P> {
       lost = sockets.lost;
       woken = sockets.woken;
     } };
+
+    ghost invariant = { λ sockets. IfSome sockets.latest
+        (λ stream. IsUnused (L.Stream.gave stream) (L.Stream.got stream)) };
 }
 
-impl<P: Planner + Drop> EventSockets<P> {
+impl<P: Planner + Drop, L: Listener> EventSockets<P, L> {
     /// Serves at most `most` connections of this listener at a time. All memory is taken here: no later call allocates.
     pub fn new(
         alloc: Global,
         poll: Poll,
-        mut listener: TcpListener,
+        mut listener: L,
         most: usize,
         planner: P,
-    ) -> io::Result<EventSockets<P>>
+    ) -> io::Result<EventSockets<P, L>>
         ensures { IfOk result (λ sockets. sockets ≡ new_sockets most) }
     {
         let events = Events::with_capacity(alloc, EVENTS)?;
@@ -82,7 +88,8 @@ impl<P: Planner + Drop> EventSockets<P> {
         Ok(EventSockets {
             poll,
             events,
-            acceptor: Acceptor::new(listener),
+            listener,
+            acceptor: Acceptor::new(),
             connections,
             latest: None,
             looked: false,
@@ -98,6 +105,7 @@ impl<P: Planner + Drop> EventSockets<P> {
         ensures lost { (token : ℕ) → self.old.lost ≡ Some token → result ≡ Some (Heard.Over token) }
         ensures none { IfNone result ((self.new.lost ≡ None) × (self.new.woken ≡ false)) }
         ensures held { self.old.came ≡ true → self.new.came ≡ true }
+        ensures bytes { TellBytes result buffer.new self.old.kept.slots self.new.kept.slots }
     {
         if let Some(token) = self.lost.take() {
             return Some(Heard::Over { token });
@@ -122,13 +130,13 @@ impl<P: Planner + Drop> EventSockets<P> {
         ensures others { (self.new.lost ≡ self.old.lost) × (self.new.woken ≡ self.old.woken) }
     {
         if self.latest.is_none() {
-            match self.acceptor.next() {
-                Accepted::Stream(stream) => {
+            match self.acceptor.next(&mut self.listener) {
+                Ok(Some(stream)) => {
                     self.latest = Some(stream);
                     self.looked = false;
                 }
-                Accepted::End => return Some(Heard::End),
-                Accepted::Nobody => return None,
+                Ok(None) => return None,
+                Err(Ended) => return Some(Heard::End),
             }
         }
         if self.connections.is_full() && !self.looked {
@@ -143,6 +151,7 @@ impl<P: Planner + Drop> EventSockets<P> {
         ensures pass { IsTrue result → self.new.kept.left ≡ length self.new.kept.turns.tokens }
         ensures came { self.new.came ≡ self.old.came }
         ensures looked { IsTrue result → self.new.looked ≡ true }
+        ensures bytes { KeepBytes self.old.kept.slots self.new.kept.slots }
     {
         let timeout = self.timeout(wait);
         if let Err(error) = self.poll.poll(&mut self.events, timeout)
@@ -185,28 +194,34 @@ impl<P: Planner + Drop> EventSockets<P> {
     fn seat(&mut self, token: usize) -> bool
         ensures there { IsTrue result → (slot_at self.new.kept.slots token).taken ≡ true }
         ensures came { self.new.came ≡ false }
+        ensures bytes { BeginsAt token self.old.kept.slots self.new.kept.slots }
     {
         match self.latest.take() {
             Some(stream) => self.connections.seat(self.poll.registry(), token, stream),
-            None => false,
+            None => {
+                self.connections.close(token);
+                false
+            }
         }
     }
 }
 
-impl<P: Planner + Drop> Sockets for EventSockets<P> {
-    ghost use Rattle.std.specs.Prelude.{◌≡◌, ◌<◌, ◌≤◌, ◌⊎◌, ⊤, ℕ, true, false, length, Some};
+impl<P: Planner + Drop, L: Listener> Sockets for EventSockets<P, L> {
+    ghost use Rattle.std.specs.Prelude.{◌≡◌, ◌<◌, ◌≤◌, ◌⊎◌, ℕ, List, true, false, length, take, Some};
     ghost use Rattle.sr_hub.specs.Heard.{count_of};
-    ghost use Rattle.sr_events.specs.Connections.{ChangesAt, slot_at};
-    ghost use Rattle.sr_events.specs.Slot.{Writes};
+    ghost use Rattle.sr_hub.specs.Lines.{with_more};
+    ghost use Rattle.sr_events.specs.Connections.{BeginsAt, ChangesAt, KeepBytes, MayHave, TellBytes, slot_at};
+    ghost use Rattle.sr_events.specs.Slot.{IsEmpty, Writes};
     ghost use Rattle.sr_events.specs.Sockets.{Tells};
 
-    ghost may_have = { λ _ _ _. ⊤ };
+    ghost may_have = { λ sockets traffic. MayHave sockets.kept.slots traffic.taken traffic.given };
 
     fn next(&mut self, buffer: &mut [u8], wait: Option<u64>) -> Heard
         ensures bound { count_of result ≤ length buffer.new }
         ensures told { Tells (length buffer.new) self.old result self.new }
         ensures lost { (token : ℕ) → self.old.lost ≡ Some token → result ≡ Heard.Over token }
         ensures held { self.old.came ≡ true → self.new.came ≡ true }
+        ensures bytes { TellBytes (Some result) buffer.new self.old.kept.slots self.new.kept.slots }
     {
         match self.at_hand(buffer) {
             Some(heard) => heard,
@@ -218,6 +233,7 @@ impl<P: Planner + Drop> Sockets for EventSockets<P> {
     fn name(&mut self, token: usize)
         ensures there { ((slot_at self.new.kept.slots token).taken ≡ true) ⊎ (self.new.lost ≡ Some token) }
         ensures came { self.new.came ≡ false }
+        ensures bytes { BeginsAt token self.old.kept.slots self.new.kept.slots }
     {
         if !self.seat(token) {
             self.lost = Some(token);
@@ -240,9 +256,11 @@ impl<P: Planner + Drop> Sockets for EventSockets<P> {
 
     fn write(&mut self, token: usize, bytes: &[u8]) -> usize
         ensures bound { result ≤ length bytes.now }
-        ensures written { Writes (length bytes.now)
+        ensures written { Writes bytes.now
             (slot_at self.old.kept.slots token) result (slot_at self.new.kept.slots token) }
         ensures others { ChangesAt token self.old.kept.slots self.new.kept.slots }
+        ensures bytes { (taken given : ℕ → List ℕ) → MayHave self.old.kept.slots taken given
+            → MayHave self.new.kept.slots taken (with_more token (take result bytes.now) given) }
     {
         self.connections.write(token, bytes)
     }
@@ -251,13 +269,15 @@ impl<P: Planner + Drop> Sockets for EventSockets<P> {
         ensures held { token < length self.old.kept.slots
             → slot_at self.new.kept.slots token ≡ record (slot_at self.old.kept.slots token) { held = held } }
         ensures others { ChangesAt token self.old.kept.slots self.new.kept.slots }
+        ensures bytes { KeepBytes self.old.kept.slots self.new.kept.slots }
     {
         self.connections.hold(token, held);
     }
 
     fn close(&mut self, token: usize)
-        ensures gone { (slot_at self.new.kept.slots token).taken ≡ false }
+        ensures gone { IsEmpty (slot_at self.new.kept.slots token) }
         ensures others { ChangesAt token self.old.kept.slots self.new.kept.slots }
+        ensures bytes { KeepBytes self.old.kept.slots self.new.kept.slots }
     {
         self.connections.close(token);
     }
@@ -284,10 +304,15 @@ impl<P: Planner + Drop> Sockets for EventSockets<P> {
 }
 
 /// Notes what a poll reported. Answers whether the waker was used.
-fn note_all(events: &Events, acceptor: &mut Acceptor, connections: &mut Connections) -> bool
+fn note_all<S: Stream>(
+    events: &Events,
+    acceptor: &mut Acceptor,
+    connections: &mut Connections<S>,
+) -> bool
     ensures woken { result ≡ list_any (λ event. (event_token event).0 == 0) (items events.now) }
     ensures listener { list_any (λ event. (event_token event).0 == 1) (items events.now) ≡ true
         → acceptor.new.waiting ≡ Waiting.Maybe }
+    ensures bytes { KeepBytes connections.old.slots connections.new.slots }
 {
     let mut woken = false;
     for event in events {

@@ -3,9 +3,9 @@
 use Rattle.std.specs.Prelude.{⊤, ◌≡◌, ℕ, Bool, IsTrue, List, [], ◌∷◌, ◌++◌, take}
 use Rattle.sr_book.specs.{Recorded}
 use Rattle.sr_book.specs.Server.{moment_after}
-use Rattle.sr_hub.specs.Lines.{HubState}
+use Rattle.sr_hub.specs.Lines.{HubState, with_more}
 use Rattle.sr_hub.specs.Said.{last_of}
-use Rattle.sr_hub.specs.Traffic.{AreServed, Traffic, takes}
+use Rattle.sr_hub.specs.Traffic.{AreServed, Traffic}
 use Rattle.sr_hub.specs.declared.sockets.Heard.{Heard}
 use Rattle.sr_hub.specs.declared.sockets.Heard.TheVariants as heard
 
@@ -19,15 +19,19 @@ count_of heard.Planned = 0
 count_of heard.Nothing = 0
 count_of heard.End = 0
 
--- what passed through the sockets: more bytes of a connection were taken if its bytes came, the first in the buffer
+-- the bytes that were taken from the connection at each token: more of the one whose bytes came, the first in the buffer
+abbrev pub taken_after : Heard → List ℕ → (ℕ → List ℕ) → ℕ → List ℕ
+taken_after heard.Came buffer taken = taken
+taken_after (heard.Bytes token count) buffer taken = with_more token (take count buffer) taken
+taken_after (heard.Room token) buffer taken = taken
+taken_after (heard.Over token) buffer taken = taken
+taken_after heard.Planned buffer taken = taken
+taken_after heard.Nothing buffer taken = taken
+taken_after heard.End buffer taken = taken
+
+-- what passed through the sockets then
 abbrev pub passed_by : Heard → List ℕ → Traffic → Traffic
-passed_by heard.Came buffer traffic = traffic
-passed_by (heard.Bytes token count) buffer traffic = takes token (take count buffer) traffic
-passed_by (heard.Room token) buffer traffic = traffic
-passed_by (heard.Over token) buffer traffic = traffic
-passed_by heard.Planned buffer traffic = traffic
-passed_by heard.Nothing buffer traffic = traffic
-passed_by heard.End buffer traffic = traffic
+passed_by heard buffer traffic = record traffic { taken = taken_after heard buffer traffic.taken }
 
 -- each record has the later of the moment before it and one that the clock may tell
 abbrev pub AreTold : (ℕ → Bool) → ℕ → List Recorded → Type 0

@@ -2,7 +2,7 @@ use Rattle.std.proofs.Common.{◌≤◌}
 use Rattle.sr_events.proofs.acceptor.Acceptor.next.Given as goal
 
 abbrev pub invariant-loop-self : goal.invariant-loop-self
-invariant-loop-self l = l.self.left ≤ l.fn.self.left
+invariant-loop-self g l = l.self.left ≤ l.fn.self.left
 
 abbrev pub decreases-loop-self : goal.decreases-loop-self
-decreases-loop-self l = l.self.left
+decreases-loop-self g l = l.self.left
