@@ -1,7 +1,7 @@
 -- The bytes that may have passed through each connection, whatever is read, written, noted or closed.
 
 use Rattle.std.proofs.Common.{◌⊎◌, ◌≡◌, ◌≢◌, ℕ, ◌<◌, ◌≤◌, Bool, true, false, cond, eqb, Some, None, ◌||◌, ◌&&◌, ltb}
-use Rattle.std.proofs.Common.{IfSome, Option, List, [], ◌++◌, length, set, refl, sym, ap, ◌∙◌, subst, ⊎_elim, take}
+use Rattle.std.proofs.Common.{IfSome, Option, List, [], ◌∷◌, ◌++◌, length, set, refl, sym, ap, ◌∙◌, subst, ⊎_elim, take}
 use Rattle.std.specs.Prelude.{is_some, unwrap_or}
 use Rattle.std.proofs.lemmas.Bool.{false≢true, cases_eq, cases_Bool, cases_lt, ne_eqb, eq-eqb, cond-true, cond-false}
 use Rattle.std.proofs.lemmas.List.{get_or-set_other, set_past}
@@ -9,6 +9,7 @@ use Rattle.mio.specs.declared.event.event.Event.{Event}
 use Rattle.sr_hub.specs.declared.sockets.Heard.{Heard}
 use Rattle.sr_hub.specs.declared.sockets.Heard.TheVariants as heard
 use Rattle.sr_hub.specs.Lines.{with_more, with_none}
+use Rattle.sr_hub.specs.Traffic.{Traffic, closes, names, with_answer}
 use Rattle.sr_events.specs.Bytes.{IsUnused, MayBe, more}
 use Rattle.sr_events.specs.Slot.{Ends, EndsBy, IsEmpty, Reads, SlotState, TellsBy, Writes, fresh, has_turn, is_read}
 use Rattle.sr_events.specs.Slot.{is_taken, may_have_room}
@@ -181,3 +182,23 @@ pub bytes_or_nothing : (buffer : List ℕ) (old between new : List SlotState) (t
 bytes_or_nothing buffer old between new None keep tell = λ taken given may. tell taken given (keep taken given may)
 bytes_or_nothing buffer old between new (Some one) keep tell = λ taken given may.
     tell taken given (keep taken given may)
+
+-- closing a connection, or naming one, leaves what passed through the others
+pub closes_bytes : (token : ℕ) (traffic : Traffic) (Of : (ℕ → List ℕ) → (ℕ → List ℕ) → Type 0)
+    → Of traffic.taken traffic.given → Of (closes token traffic).taken (closes token traffic).given
+closes_bytes token traffic Of may = by (traffic.opened token)
+  where
+    by : (opened : Bool) → (let after : Traffic = cond opened (record {
+      opened = with_answer token false traffic.opened;
+      taken = traffic.taken;
+      given = traffic.given;
+      closed = record { taken = traffic.taken token; given = traffic.given token } ∷ traffic.closed;
+    }) traffic in Of after.taken after.given)
+    by true = may
+    by false = may
+
+pub names_bytes : (token : ℕ) (traffic : Traffic) (Of : (ℕ → List ℕ) → (ℕ → List ℕ) → Type 0)
+    → Of (with_none token traffic.taken) (with_none token traffic.given)
+    → Of (names token traffic).taken (names token traffic).given
+names_bytes token traffic Of may =
+    closes_bytes token traffic (λ taken given. Of (with_none token taken) (with_none token given)) may

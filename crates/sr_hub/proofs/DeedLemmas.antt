@@ -16,8 +16,23 @@ use Rattle.sr_hub.specs.Line.{ConnectionState, IsLine}
 use Rattle.sr_hub.specs.Lines.{AreLines, GoOn, HubState, with_more}
 use Rattle.sr_hub.specs.Said.{LeavesOf, Occurs}
 use Rattle.sr_hub.specs.Deeds.{Does, DoesAll, IsSaidBy, given_after, given_by, taken_after, taken_by}
-use Rattle.sr_hub.specs.steps.Serving.{Keeps}
-use Rattle.sr_hub.proofs.HubLemmas.{none-added}
+use Rattle.sr_hub.proofs.HubLemmas.{none-added, same-lines}
+
+-- ---- what a call leaves of the lines
+
+-- each connection goes on as a line, and no byte was taken or given
+abbrev pub Goes : HubState → HubState → Type 0
+Goes old new = (records : List Recorded) (taken given : ℕ → List ℕ) → AreLines records taken given old → GoOn records taken given new
+
+pub goes-same : (old new : HubState) → new ≡ old → Goes old new
+goes-same old new same records taken given lines = same-lines old new same records taken given lines
+
+pub goes-lines : (old new : HubState) → ((records : List Recorded) (taken given : ℕ → List ℕ) → AreLines records taken given old → AreLines records taken given new) → Goes old new
+goes-lines old new lines records taken given was = none-added records taken given new (lines records taken given was)
+
+pub goes-close : (old new : HubState) (result : Result (Unit {0}) BookFault) → OnOk result (Goes old new) → OnErr result (new ≡ old) → Goes old new
+goes-close old new (Ok done) goes same = goes
+goes-close old new (Err fault) goes same = goes-same old new same
 
 -- ---- one call
 
@@ -37,8 +52,8 @@ pub does-at : (timed : Timed) (deed : Deed) (outcome : Outcome) (old new : HubSt
 does-at timed deed outcome old new is does = does-as timed deed outcome old new is does.said does.goes_on
 
 -- a connection does not come
-pub connects-not : (moment : ℕ) (old new : HubState) → new ≡ old → Keeps old new → Does (record { moment = moment; deed = deeds.Connect }) outcomes.Other old new
-connects-not moment old new same keeps = record { said = ap (λ (h : HubState). h.book) same; goes_on = keeps.goes_on }
+pub connects-not : (moment : ℕ) (old new : HubState) → new ≡ old → Goes old new → Does (record { moment = moment; deed = deeds.Connect }) outcomes.Other old new
+connects-not moment old new same keeps = record { said = ap (λ (h : HubState). h.book) same; goes_on = keeps }
 
 -- deadlines are looked at
 pub does-tick : (timed : Timed) (old new : HubState) (result : Result Bool BookFault) → timed.deed ≡ deeds.Tick
@@ -50,15 +65,15 @@ does-tick timed old new (Err fault) is event none refused goes = does-as timed d
 
 -- a connection is over
 pub does-close : (timed : Timed) (token : ℕ) (old new : HubState) (result : Result (Unit {0}) BookFault) → timed.deed ≡ deeds.Close token
-    → OnOk result (LeavesOf (old.at token) old.book timed.moment new.book) → OnErr result (new ≡ old) → Keeps old new → Does timed outcomes.Other old new
-does-close timed token old new (Ok done) is left refused keeps = does-as timed (deeds.Close token) outcomes.Other old new is (inl left) keeps.goes_on
-does-close timed token old new (Err fault) is left refused keeps = does-as timed (deeds.Close token) outcomes.Other old new is (inr (ap (λ (h : HubState). h.book) refused)) keeps.goes_on
+    → OnOk result (LeavesOf (old.at token) old.book timed.moment new.book) → OnErr result (new ≡ old) → Goes old new → Does timed outcomes.Other old new
+does-close timed token old new (Ok done) is left refused keeps = does-as timed (deeds.Close token) outcomes.Other old new is (inl left) keeps
+does-close timed token old new (Err fault) is left refused keeps = does-as timed (deeds.Close token) outcomes.Other old new is (inr (ap (λ (h : HubState). h.book) refused)) keeps
 
 -- a checkpoint is made
-pub does-compact : (timed : Timed) (keep : ℕ) (old new : HubState) (done : Bool) → timed.deed ≡ deeds.Compact keep → (IsTrue done → new.book ≡ rebased old.book) → (done ≡ false → new ≡ old) → Keeps old new
+pub does-compact : (timed : Timed) (keep : ℕ) (old new : HubState) (done : Bool) → timed.deed ≡ deeds.Compact keep → (IsTrue done → new.book ≡ rebased old.book) → (done ≡ false → new ≡ old) → Goes old new
     → Does timed outcomes.Other old new
-does-compact timed keep old new true is book none keeps = does-as timed (deeds.Compact keep) outcomes.Other old new is (inl (book refl)) keeps.goes_on
-does-compact timed keep old new false is book none keeps = does-as timed (deeds.Compact keep) outcomes.Other old new is (inr (ap (λ (h : HubState). h.book) (none refl))) keeps.goes_on
+does-compact timed keep old new true is book none keeps = does-as timed (deeds.Compact keep) outcomes.Other old new is (inl (book refl)) keeps
+does-compact timed keep old new false is book none keeps = does-as timed (deeds.Compact keep) outcomes.Other old new is (inr (ap (λ (h : HubState). h.book) (none refl))) keeps
 
 -- no bytes at a token are the same bytes
 more-none : (token : ℕ) (all : ℕ → List ℕ) (at : ℕ) → with_more token [] all at ≡ all at

@@ -1,8 +1,7 @@
 use Rattle.sr_hub.specs.Lines.{state_of}
 use Rattle.sr_hub.specs.declared.deeds.Deed.TheVariants as deeds
 use Rattle.sr_hub.specs.declared.deeds.Outcome.TheVariants as outcomes
-use Rattle.sr_hub.proofs.DeedLemmas.{does-as, does-at, does-close, does-compact, does-pass, does-tick}
-use Rattle.sr_hub.proofs.ServeLemmas.{keeps-close, keeps-lines}
+use Rattle.sr_hub.proofs.DeedLemmas.{does-as, does-at, does-close, does-compact, does-pass, does-tick, goes-close, goes-lines}
 use Rattle.sr_hub.proofs.deeds.do_deed.Goals as goal
 
 pub returns-in-Connect : goal.returns-in-Connect
@@ -42,10 +41,10 @@ pub returns-in-Close : goal.returns-in-Close
 returns-in-Close c =
     does-close c.args.timed.now c.in-Close.token (state_of c.args.hub.now) (state_of c.close-left.new.self) c.close-left.result c.in-Close.is
     c.close-left.ensures.event c.close-left.ensures.err
-    (keeps-close (state_of c.args.hub.now) (state_of c.close-left.new.self) c.close-left.result c.close-left.ensures.lines c.close-left.ensures.err)
+    (goes-close (state_of c.args.hub.now) (state_of c.close-left.new.self) c.close-left.result c.close-left.ensures.lines c.close-left.ensures.err)
 
 pub returns-in-Compact : goal.returns-in-Compact
 returns-in-Compact c =
     does-compact c.args.timed.now c.in-Compact.keep (state_of c.args.hub.now) (state_of c.compact.new.self) c.compact.result c.in-Compact.is
     c.compact.ensures.book c.compact.ensures.none
-    (keeps-lines (state_of c.args.hub.now) (state_of c.compact.new.self) c.compact.ensures.lines)
+    (goes-lines (state_of c.args.hub.now) (state_of c.compact.new.self) c.compact.ensures.lines)
