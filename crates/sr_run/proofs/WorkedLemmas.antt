@@ -1,7 +1,7 @@
 -- What workers leave, put together from what each of them leaves.
-use Rattle.std.proofs.Common.{◌≡◌, ℕ, zero, suc, take, drop, get_or, ◌+◌, ◌*◌, ◌<◌, ◌≤◌, List, [], ◌∷◌, ◌++◌, length, length-append, map, refl, sym, ap, ap₂, ◌∙◌, subst, arith, append-nil, append_assoc, Result, Ok, Err}
-use Rattle.std.specs.Prelude.{All, ◌≢◌, MatchResult, sum, sum_by}
-use Rattle.std.specs.List.{flat_map}
+use Rattle.std.proofs.Common.{◌≡◌, ℕ, zero, suc, take, drop, get_or, ◌+◌, ◌*◌, ◌<◌, ◌≤◌, List, [], ◌∷◌, ◌++◌, length, length-append, map, refl, sym, ap, ap₂, ◌∙◌, subst, arith, append-nil, append_assoc, Result, Ok, Err, Option, None, Some, Bool, true, false, cond}
+use Rattle.std.specs.Prelude.{All, ◌≢◌, IfSome, MatchResult, slice_get, sum, sum_by}
+use Rattle.std.specs.List.{count_by, flat_map}
 use Rattle.std.proofs.lemmas.Grind.{flat_map-append}
 use Rattle.std.proofs.lemmas.List.{length-drop, length-map, length-take-le, map-append, map_more, map_push, take-append-drop, take-append-le, take_more}
 use Rattle.std.proofs.lemmas.List.Concat.{flat_map-cons, length-flat_map}
@@ -11,9 +11,11 @@ use Rattle.std.proofs.lemmas.List.Sums.{sum-map, sum_by-append, sum_by-cons}
 use Rattle.std.proofs.Math.Seq.{take-append_seam, drop-append_seam}
 use Rattle.sr_args.specs.declared.call.Call.{Call}
 use Rattle.sr_book.specs.{BookState}
-use Rattle.sr_run.specs.Closed.{IsClosed}
+use Rattle.sr_run.specs.Closed.{AreCompared, IsClosed}
 use Rattle.sr_run.specs.Crews.{AreHalves, AreTogether, CrewState, HasNotWorked, HasWorked, IsCrew, IsStopped, first_of, joined, seats_from}
-use Rattle.sr_seats.specs.{SeatState, count_before, count_made, new_seat, new_seats}
+use Rattle.sr_book.specs.declared.answer.Letter.{Letter}
+use Rattle.sr_seats.specs.{Agrees, SeatState, count_before, count_made, count_skipped, new_seat, new_seats}
+use Rattle.sr_seats.specs.Closing.{Follows, Matches, MayFollow, MayMatch, is_skipped}
 use Rattle.sr_run.specs.Shared.{HasMade, RefusesEvent}
 use Rattle.sr_run.specs.Worked.{AreWorked, HasNotRun, HasRun, IsWorked, count_calls, joined_up}
 use Rattle.sr_run.specs.declared.fault.RunFault.{RunFault}
@@ -334,6 +336,7 @@ front_has_not_worked front back faults.Count halves refused = refused
 front_has_not_worked front back faults.Memory halves refused = tt
 front_has_not_worked front back (faults.Worker at why) halves refused = (refused.0, refused.1, front_is_stopped front back refused.0 refused.2, refused.3)
 front_has_not_worked front back (faults.Close why) halves refused = refused
+front_has_not_worked front back (faults.Skipped count) halves refused = refused
 front_has_not_worked front back faults.Thread halves refused = tt
 
 -- a fault of the second half is one of the whole if the first half has worked
@@ -345,6 +348,7 @@ back_has_not_worked front back seats receipts (faults.Worker at why) halves work
     let here : at ≡ front.first + (length front.scripts + refused.0) = omega (arith, refused.1, halves.next) in
     (length front.scripts + refused.0, here, back_is_stopped front back refused.0 seats receipts halves worked refused.2, refused.3)
 back_has_not_worked front back seats receipts (faults.Close why) halves worked refused = refused
+back_has_not_worked front back seats receipts (faults.Skipped count) halves worked refused = refused
 back_has_not_worked front back seats receipts faults.Thread halves worked refused = tt
 
 first_of_both : (front back : CrewState) (one other : RunFault) → AreHalves front back → HasNotWorked front one → HasNotWorked back other → HasNotWorked (joined front back) (first_of one other)
@@ -352,6 +356,7 @@ first_of_both front back one faults.Count halves refused nor = front_has_not_wor
 first_of_both front back one faults.Memory halves refused nor = front_has_not_worked front back one halves refused
 first_of_both front back one (faults.Worker at why) halves refused nor = front_has_not_worked front back one halves refused
 first_of_both front back one (faults.Close why) halves refused nor = front_has_not_worked front back one halves refused
+first_of_both front back one (faults.Skipped count) halves refused nor = front_has_not_worked front back one halves refused
 first_of_both front back one faults.Thread halves refused nor = tt
 
 -- a crew has worked or not, by its halves
@@ -387,6 +392,9 @@ Memory≢Count is = cc
 pub Close≢Count : (why : CloseFault) → faults.Close why ≢ faults.Count
 Close≢Count why is = cc
 
+pub Skipped≢Count : (count : ℕ) → faults.Skipped count ≢ faults.Count
+Skipped≢Count count is = cc
+
 sizes_of_all : {V X : Type 0} (f : V → List X) (xs : List V) → map length (map f xs) ≡ map (λ x. length (f x)) xs
 sizes_of_all f [] = refl
 sizes_of_all f (x ∷ xs) = ap (λ (ns : List ℕ). length (f x) ∷ ns) (sizes_of_all f xs)
@@ -413,13 +421,37 @@ crew_has_not_run scripts crew (faults.Worker at why) first told refused =
     let stopped : IsStopped 0 scripts at = subst R here (subst Q told (subst P first refused.2)) in
     ((stopped.within, refused.3), λ is. let it = is in cc)
 crew_has_not_run scripts crew (faults.Close why) first told refused = absurd refused
+crew_has_not_run scripts crew (faults.Skipped count) first told refused = absurd refused
 crew_has_not_run scripts crew faults.Thread first told refused = (tt, λ is. let it = is in cc)
+
+-- of a list of which nothing is counted, each has not what is counted
+none_counted : {X : Type 0} (p : X → Bool) (xs : List X) (at : ℕ) → count_by p xs ≡ 0 → IfSome (slice_get xs at) (λ x. p x ≡ false)
+none_counted p [] at none = tt
+none_counted p (x ∷ xs) zero none = not_one (p x) (count_by p xs) (sym (sum_by-cons (λ y. cond (p y) 1 0) x xs) ∙ none)
+  where
+    not_one : (b : Bool) (n : ℕ) → cond b 1 0 + n ≡ 0 → b ≡ false
+    not_one true n is = absurd (omega (arith, is))
+    not_one false n is = refl
+none_counted p (x ∷ xs) (suc at) none =
+    let all : cond (p x) 1 0 + count_by p xs ≡ 0 = sym (sum_by-cons (λ y. cond (p y) 1 0) x xs) ∙ none in
+    none_counted p xs at (omega (arith, all))
+
+-- receipts that agree, of which none is skipped, are compared
+compared_if_none_skipped : (book : BookState) (receipts : List Receipt) (letters : List Letter) → Agrees book receipts letters → count_skipped book.base receipts letters ≡ 0 → AreCompared book receipts
+compared_if_none_skipped book receipts letters agrees none at within =
+    let skips : Receipt → Bool = λ receipt. is_skipped book.base receipt.index in
+    one (slice_get receipts at) (agrees.good at within) (none_counted skips receipts at (omega (arith, none)))
+  where
+    one : (found : Option Receipt) → IfSome found (λ receipt. MayFollow book (take at receipts) receipt × MayMatch book receipt) → IfSome found (λ receipt. is_skipped book.base receipt.index ≡ false)
+        → IfSome found (λ receipt. Follows book (take at receipts) receipt × Matches book receipt)
+    one None may kept = tt
+    one (Some receipt) may kept = (may.0 kept, may.1 kept)
 
 -- a closed run of a crew that has worked, with its receipts script by script
 pub whole_run : {V W : Type 0} (f : V → List Call) (h : W → List Receipt) (crew : CrewState) (scripts : List V) (sizes : List ℕ) (groups : List W) (seats : List SeatState) (receipts handed_in : List Receipt)
     (book : BookState) (acts skipped : ℕ) → HasWorked crew seats receipts → crew.first ≡ 0 → crew.scripts ≡ map f scripts → sizes ≡ map (λ s. length (f s)) scripts → map (λ g. length (h g)) groups ≡ sizes
-    → flat_map (λ g. h g) groups ≡ receipts → handed_in ≡ receipts → IsClosed (count_before seats) handed_in [] book acts skipped → acts ≡ count_made seats → HasRun (map f scripts) (map h groups) book acts skipped
-whole_run f h crew scripts sizes groups seats receipts handed_in book acts skipped worked first told sizes_are grouped same handed closed total =
+    → flat_map (λ g. h g) groups ≡ receipts → handed_in ≡ receipts → IsClosed (count_before seats) handed_in [] book acts skipped → skipped ≡ 0 → acts ≡ count_made seats → HasRun (map f scripts) (map h groups) book acts skipped
+whole_run f h crew scripts sizes groups seats receipts handed_in book acts skipped worked first told sizes_are grouped same handed closed none total =
     let lengths : map length (map h groups) ≡ map length crew.scripts = sizes_of_all h groups ∙ grouped ∙ sizes_are ∙ sym (sizes_of_all f scripts) ∙ ap (λ (ss : List (List Call)). map length ss) (sym told) in
     let flat : joined_up (map h groups) ≡ receipts = flat_map-map (λ (list : List Receipt). list) h groups ∙ same in
     let P : List Receipt → Type 0 = λ rs. IsClosed 0 rs [] book acts skipped in
@@ -427,8 +459,10 @@ whole_run f h crew scripts sizes groups seats receipts handed_in book acts skipp
     let Q : ℕ → Type 0 = λ n. AreWorked n crew.scripts (map h groups) in
     let R : List (List Call) → Type 0 = λ ss. AreWorked 0 ss (map h groups) in
     let many : count_calls crew.scripts + 2 * length crew.scripts ≡ count_calls (map f scripts) + 2 * length (map f scripts) = ap (λ (ss : List (List Call)). count_calls ss + 2 * length ss) told in
+    let whole : IsClosed 0 (joined_up (map h groups)) [] book acts skipped = subst P (handed ∙ sym flat) (subst N worked.fresh closed) in
     record {
       worked = subst R told (subst Q first (worked_by_script crew seats receipts (map h groups) worked lengths flat));
       counted = total ∙ worked.shares ∙ many;
-      closed = subst P (handed ∙ sym flat) (subst N worked.fresh closed);
+      closed = whole;
+      compared = compared_if_none_skipped book (joined_up (map h groups)) [] whole.agrees (sym whole.left_out ∙ none);
     }

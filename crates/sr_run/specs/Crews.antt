@@ -57,6 +57,7 @@ HasNotWorked crew faults.Memory = ⊤
 HasNotWorked crew (faults.Worker at fault) =
     (place : ℕ) × (at ≡ crew.first + place) × IsStopped crew.first crew.scripts place × RefusesEvent fault
 HasNotWorked crew (faults.Close fault) = ⊥
+HasNotWorked crew (faults.Skipped count) = ⊥
 HasNotWorked crew faults.Thread = ⊤
 
 -- the fault that is told if each half has one
@@ -65,6 +66,7 @@ first_of fault faults.Count = fault
 first_of fault faults.Memory = fault
 first_of fault (faults.Worker at other) = fault
 first_of fault (faults.Close other) = fault
+first_of fault (faults.Skipped count) = fault
 first_of fault faults.Thread = faults.Thread
 
 -- what came of a crew, by what came of its halves: the seats and the receipts of both, or a fault

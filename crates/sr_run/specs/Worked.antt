@@ -5,7 +5,7 @@ use Rattle.std.specs.Prelude.{⊤, ◌≡◌, ◌≢◌, ◌<◌, ◌+◌, ◌*�
 use Rattle.std.specs.List.{flat_map}
 use Rattle.sr_args.specs.declared.call.Call.{Call}
 use Rattle.sr_book.specs.{BookState}
-use Rattle.sr_run.specs.Closed.{IsClosed}
+use Rattle.sr_run.specs.Closed.{AreCompared, IsClosed}
 use Rattle.sr_run.specs.Shared.{RefusesEvent}
 use Rattle.sr_seats.specs.declared.fault.CloseFault.TheVariants as closing
 use Rattle.sr_run.specs.declared.fault.RunFault.{RunFault}
@@ -36,17 +36,20 @@ abbrev pub count_calls : List (List Call) → ℕ
 count_calls scripts = sum_by length scripts
 
 -- a run of scripts: the receipts of each are those of its calls, each worker made two events besides, and it is closed
--- with them, but for so many that are skipped
+-- with them, each of which is compared with its record
 pub record HasRun (scripts : List (List Call)) (receipts : List (List Receipt)) (book : BookState) (acts skipped : ℕ) :
     Type 0 where
   pub worked : AreWorked 0 scripts receipts
   pub counted : acts ≡ count_calls scripts + 2 * length scripts
   pub closed : IsClosed 0 (joined_up receipts) [] book acts skipped
+  pub compared : AreCompared book (joined_up receipts)
 
--- why scripts have not run: an event was refused to one of them; or the run, whose seats are all there, is not closed
+-- why scripts have not run: an event was refused to one of them; or the run, whose seats are all there, is not closed, or
+-- is not compared with so many receipts, whose records are kept no longer
 abbrev pub HasNotRun : List (List Call) → RunFault → Type 0
 HasNotRun scripts faults.Count = ⊤
 HasNotRun scripts faults.Memory = ⊤
 HasNotRun scripts (faults.Worker at fault) = (at < length scripts) × RefusesEvent fault
 HasNotRun scripts (faults.Close fault) = fault ≢ closing.Short
+HasNotRun scripts (faults.Skipped count) = 0 < count
 HasNotRun scripts faults.Thread = ⊤

@@ -251,6 +251,10 @@ fn first_of(fault: RunFault, other: RunFault) -> RunFault
 {
     match other {
         RunFault::Thread => RunFault::Thread,
-        RunFault::Count | RunFault::Memory | RunFault::Worker { .. } | RunFault::Close(_) => fault,
+        RunFault::Count
+        | RunFault::Memory
+        | RunFault::Worker { .. }
+        | RunFault::Close(_)
+        | RunFault::Skipped(_) => fault,
     }
 }

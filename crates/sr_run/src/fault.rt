@@ -12,6 +12,9 @@ pub enum RunFault {
     Worker { at: usize, fault: SeatFault },
     /// All events were carried out, and the run was not closed.
     Close(CloseFault),
+    /// All events were carried out, and the run was closed, but not compared with this many of its receipts: their
+    /// records are kept no longer.
+    Skipped(u64),
     /// A thread could not be started.
     Thread,
 }

@@ -27,9 +27,9 @@ pub struct Ran {
     pub receipts: Vec<Vec<Receipt>>,
 }
 
-/// Runs from 1 to 64 scripts over a new book, and closes it with all receipts. Each script has a worker in a thread of
-/// its own, which joins, makes the calls of the script in order, and leaves. Which worker's event comes first is not
-/// said.
+/// Runs from 1 to 64 scripts over a new book, and closes it with all receipts, each compared with its record. Each
+/// script has a worker in a thread of its own, which joins, makes the calls of the script in order, and leaves. Which
+/// worker's event comes first is not said.
 ///
 /// Moments are the clock's. Before each call its worker passes the gate, outside the lock. A worker to which an event
 /// is refused stops there and leaves, and the others go on.
@@ -102,6 +102,10 @@ fn run_over<L: Ledger + Send + Sync, C: Clock + Sync, G: Gate + Sync, R: Threads
         Ok(closed) => closed,
         Err(refused) => return Err(RunFault::Close(refused.fault)),
     };
+    // A worker that makes a checkpoint leaves receipts that nothing can be compared with.
+    if closed.skipped > 0 {
+        return Err(RunFault::Skipped(closed.skipped));
+    }
     match by_script(alloc, sizes.as_slice(), receipts) {
         Ok(receipts) => Ok(Ran { closed, receipts }),
         Err(AllocError) => Err(RunFault::Memory),

@@ -1,6 +1,6 @@
 use Rattle.std.proofs.Common.{◌≡◌, length, map, ap, ◌∙◌, arith}
 use Rattle.std.proofs.lemmas.Result.{IfOk-from_err, err_from_is_err_and}
-use Rattle.sr_run.proofs.WorkedLemmas.{Close≢Count, Memory≢Count, crew_has_not_run, crew_of_scripts, receipts_by_sizes, whole_run}
+use Rattle.sr_run.proofs.WorkedLemmas.{Close≢Count, Memory≢Count, Skipped≢Count, crew_has_not_run, crew_of_scripts, receipts_by_sizes, whole_run}
 use Rattle.sr_run.proofs.workers.run_over.Goals as goal
 
 pub returns-in_err-seats-clause-err : goal.returns-in_err-seats-clause-err
@@ -32,7 +32,7 @@ returns-in-Ok-by_script-clause-ok g c =
     c.as_slice-3.ensures.value ∙ c.in-Ok.ensures ∙ ap (λ scripts. map (λ script. length script.items) scripts) c.as_slice.ensures.value in
     whole_run (λ script. script.items) (λ group. group.items) c.new.result c.args.scripts.items c.as_slice-3.result.now c.in-Ok-by_script.receipts.items finished.seats.items finished.receipts.items
     c.as_slice-2.result.now c.in-Ok-close.closed.book c.in-Ok-close.closed.acts c.in-Ok-close.closed.skipped c.in_ok-seats.ensures c.new.ensures.first c.new.ensures.scripts sizes c.in-Ok-by_script.ensures.sizes
-    c.in-Ok-by_script.ensures.same c.as_slice-2.ensures.value c.in-Ok-close.ensures.ok c.in-Ok-close.ensures.acts
+    c.in-Ok-by_script.ensures.same c.as_slice-2.ensures.value c.in-Ok-close.ensures.ok (omega (arith, c.if-closed-gt0.false)) c.in-Ok-close.ensures.acts
 
 pub returns-in_err-seats-clause-ok : goal.returns-in_err-seats-clause-ok
 returns-in_err-seats-clause-ok g c = IfOk-from_err _ _ c.from_residual.ensures.0

@@ -119,7 +119,7 @@ fn is_memory(fault: RunFault) -> bool {
     match fault {
         RunFault::Memory | RunFault::Thread => true,
         RunFault::Worker { at: _, fault } => fault == SeatFault::Memory,
-        RunFault::Count | RunFault::Close(_) => false,
+        RunFault::Count | RunFault::Close(_) | RunFault::Skipped(_) => false,
     }
 }
 
