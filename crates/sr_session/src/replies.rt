@@ -37,6 +37,11 @@ impl Replies {
         }
     }
 
+    /// Whether so many bytes are gathered that they are sent before the next reply.
+    pub(crate) fn is_long(&self) -> bool {
+        self.gathered.len() >= MOST_KEPT
+    }
+
     /// How many bytes are gathered.
     pub(crate) fn len(&self) -> usize
         ensures { result ≡ length self.now.gathered.items }

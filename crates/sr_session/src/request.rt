@@ -31,7 +31,7 @@ pub fn code_of_fault(fault: CallFault) -> ErrCode
 }
 
 /// Answers one request of an open session that does not wait: its reply is gathered. Replies that were gathered before
-/// a call that may wait are sent first.
+/// a call that may wait are sent first, and so are long ones.
 pub(crate) fn answer_asked<W: Sink, D: Desk, C: Clock, G: Gate>(
     alloc: Global,
     writer: &mut W,
@@ -102,7 +102,7 @@ fn answer_command<W: Sink, D: Desk, C: Clock, G: Gate>(
     Ok(())
 }
 
-/// Sends what is gathered, if the command may wait.
+/// Sends what is gathered, if the command may wait or much is gathered.
 fn send_before<W: Sink, D: Desk>(
     writer: &mut W,
     desk: &mut D,
@@ -120,7 +120,7 @@ fn send_before<W: Sink, D: Desk>(
     ensures shows { D.shows desk.new ≡ D.shows desk.old }
     ensures same { D.borrows desk.new ≡ D.borrows desk.old }
 {
-    if blocking && may_wait(command) {
+    if (blocking && may_wait(command)) || replies.is_long() {
         desk.pause();
         replies.send(writer)
     } else {
