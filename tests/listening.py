@@ -5,8 +5,8 @@ checkpoints.
 usage: tests/listening.py PROGRAM [WAY ..]
 
 PROGRAM is sr_server, or `redis-server` (Debian: redis-server), with which the answers to `answered` were compared. WAY is `workers` or
-`connections`, by which sr_server serves; both if none is named. More connections than are served are tried with workers alone:
-`tests/connections.py` has those of a loop. There the server that gets 1,500 may have 256 descriptors open, so it ends if it accepts more of
+`connections`, by which sr_server serves; both if none is named. More connections than are served, and records that are let go of by their
+bytes, are tried with workers alone: `tests/connections.py` has those of a loop. There the server that gets 1,500 may have 256 descriptors open, so it ends if it accepts more of
 them than it serves.
 
 Prints each answer that differs, and how many there are; the status is 1 if one differs, or if the server ended or took too long.
@@ -20,6 +20,7 @@ import sys
 import tempfile
 import time
 
+from lib import connections_kept as kept
 from lib import resp, servers
 from lib.tally import judged
 
@@ -269,17 +270,18 @@ def served(tally, program, way):
     few(bounded, FEW, AT_A_TIME, keep=KEPT)
 
 
-def beyond_workers(tally, program):
-    """More connections than workers."""
+def of_workers(tally, program):
+    """More connections than workers, and records that are let go of by their bytes."""
     number = min(MANY, servers.raised_limit(MANY))
     tally.serve(more_than_workers, lambda: servers.Server(program, workers=FEW))
     tally.serve(many, lambda: servers.Server(program, workers=FEW, descriptors=DESCRIPTORS), number)
+    tally.serve(kept.kept_bytes, lambda: servers.Server(program, workers=FEW, **{"keep": kept.MANY, "keep-bytes": kept.BYTES}))
 
 
 def run(tally, program, way):
     served(tally, program, way)
     if way == servers.THREADS:
-        beyond_workers(tally, program)
+        of_workers(tally, program)
 
 
 def main():

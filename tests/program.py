@@ -62,7 +62,7 @@ WORKERS, KEEP = b"--workers takes a number from 1 to 64", b"--keep takes a numbe
 CONNECTIONS, IDLE = b"--connections takes a number from 1 to 10000", b"--idle takes a number from 0 to 86400"
 UNFINISHED = b"--unfinished takes a number from 1 to 1000000000000"
 KEEP_BYTES, IDLE_WAITING = b"--keep-bytes takes a number from 1 to 1000000000000", b"--idle-waiting takes a number from 0 to 86400"
-KEEP_BYTES_ALONE, IDLE_WAITING_ALONE = b"--keep-bytes needs --connections and --keep", b"--idle-waiting needs --connections"
+KEEP_BYTES_ALONE, IDLE_WAITING_ALONE = b"--keep-bytes needs --keep", b"--idle-waiting needs --connections"
 FIRST = [
     ("--stdio --keep 0 --workers 0", WORKERS),
     ("--stdio --connections 0 --keep 0", KEEP),
@@ -88,10 +88,10 @@ FIRST = [
     ("--listen 127.0.0.1:6379 --connections 1 --workers 1 --keep-bytes 1", b"--connections and --workers exclude each other"),
     ("--stdio --keep-bytes 1 --keep 1", b"--keep needs --listen"),
     ("--stdio --keep-bytes 1", KEEP_BYTES_ALONE),
-    ("--listen 127.0.0.1:6379 --keep 1 --keep-bytes 1", KEEP_BYTES_ALONE),
+    ("--listen 127.0.0.1:6379 --workers 1 --keep-bytes 1", KEEP_BYTES_ALONE),
     ("--listen 127.0.0.1:6379 --connections 1 --keep-bytes 1 --idle-waiting 1", KEEP_BYTES_ALONE),
     ("--listen 127.0.0.1:6379 --idle-waiting 0 --keep-bytes 1", KEEP_BYTES_ALONE),
-    ("--listen 127.0.0.1:6379 --workers 1 --idle-waiting 0", IDLE_WAITING_ALONE),
+    ("--listen 127.0.0.1:6379 --keep 1 --keep-bytes 1 --idle-waiting 0", IDLE_WAITING_ALONE),
     ("--stdio --idle-waiting 1", IDLE_WAITING_ALONE),
 ]
 
@@ -171,7 +171,7 @@ def addresses(program):
     """What is tried of addresses, what is wanted of it and what came of it. The text of an address is said as it was given."""
     yield "an address that is taken", (1, b"", b"listen: cannot bind\n"), to_taken(program)
     local = f"{HOST}:{free_port()}"
-    yield local, (f"listening on {local}\n".encode(), b""), begun(program, f"sr_server --listen {local} --workers 3 --keep 1000000000")
+    yield local, (f"listening on {local}\n".encode(), b""), begun(program, f"sr_server --listen {local} --workers 3 --keep 1000000000 --keep-bytes 1")
     local = f"{HOST}:{free_port()}"
     line = f"sr_server --listen {local} --connections 100 --idle 86400 --unfinished 1000000000000 --keep 1"
     line += " --keep-bytes 1000000000000 --idle-waiting 86400"

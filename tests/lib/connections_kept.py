@@ -1,4 +1,4 @@
-"""What one loop keeps in memory: records that are let go by their number and by their bytes, buffers of long replies, reads that wait."""
+"""What a loop keeps in memory, and workers of `kept_bytes`: records that are let go by their number and by their bytes, buffers of long replies, reads that wait."""
 
 import time
 

@@ -1,5 +1,5 @@
 -- Options never ask for two things, and for nothing if there is a fault.
-use Rattle.std.proofs.Common.{◌≡◌, ◌∙◌, ℕ, List, [], Option, None, Some, is_some, unwrap_or, true, ap, inl, inr, refl, subst, sym, true≢false}
+use Rattle.std.proofs.Common.{◌≡◌, ◌∙◌, ℕ, List, [], Option, None, Some, is_some, unwrap_or, true, ap, refl, subst, sym, true≢false}
 use Rattle.std.specs.Net.Grammar.{IsSocketText}
 use Rattle.sr_options.specs.Command.{AreNumbers, AsksForAddress, AsksForNothing, AsksForStdio, IsFaultOf, IsWay}
 use Rattle.sr_options.specs.Numbers.{IsConnections, IsIdle, IsKeep, IsKeepBytes, IsUnfinished, IsWorkers}
@@ -44,13 +44,13 @@ numbers_of_stdio asked asks = record {
 }
 
 numbers_of_way : (asked : Asked) (way : Way) (keep : Option ℕ) → IsWay asked way → IsKeep asked.keep keep → AreNumbers asked
-numbers_of_way asked (ways.Workers number) keep served kept = record {
-  workers = (number, served.0);
+numbers_of_way asked (ways.Workers working) keep served kept = record {
+  workers = (working.workers, served.0);
   keep = (keep, kept);
   connections = (None, no_connections _ served.1);
   idle = (None, no_idle _ served.2);
   unfinished = (1073741824, no_unfinished _ served.3);
-  keep_bytes = (67108864, no_keep_bytes _ served.4);
+  keep_bytes = (working.keep_bytes, served.4);
   idle_waiting = (None, no_idle _ served.5);
 }
 numbers_of_way asked (ways.Loop looping) keep served kept = record {
@@ -80,13 +80,13 @@ no_loop written number none is = true≢false (ap is_some (subst (λ w. IsConnec
 
 -- beside a loop, workers
 not_beside : (asked : Asked) (way : Way) → is_some asked.connections ≡ true → is_some asked.workers ≡ true → IsWay asked way → ⊥
-not_beside asked (ways.Workers number) connections workers served = is_given _ connections served.1
+not_beside asked (ways.Workers working) connections workers served = is_given _ connections served.1
 not_beside asked (ways.Loop looping) connections workers served = is_given _ workers served.0
 
 -- without a loop, nothing that it alone has
 without_loop : (asked : Asked) (way : Way) → asked.connections ≡ None → IsWay asked way
-    → (asked.idle ≡ None) × (asked.unfinished ≡ None) × (asked.keep_bytes ≡ None) × (asked.idle_waiting ≡ None)
-without_loop asked (ways.Workers number) none served = (served.2, served.3, served.4, served.5)
+    → (asked.idle ≡ None) × (asked.unfinished ≡ None) × (asked.idle_waiting ≡ None)
+without_loop asked (ways.Workers working) none served = (served.2, served.3, served.5)
 without_loop asked (ways.Loop looping) none served = absurd (no_loop _ _ none served.1)
 
 -- what one session does not have
@@ -127,15 +127,11 @@ fault_asks_for_nothing asked faults.UnfinishedAlone is = record {
   no_stdio = λ asks. is_given _ is.2 asks.no_bound;
   no_address = λ asks. is_given _ is.2 (without_loop asked asks.2 is.0.2 asks.4.served).1;
 }
-fault_asks_for_nothing asked faults.KeepBytesAlone (bytes, inl all) = record {
-  no_stdio = λ asks. is_given _ bytes asks.no_bytes;
-  no_address = λ asks. is_given _ bytes (asks.4.with_keep all.4);
-}
-fault_asks_for_nothing asked faults.KeepBytesAlone (bytes, inr none) = record {
-  no_stdio = λ asks. is_given _ bytes asks.no_bytes;
-  no_address = λ asks. is_given _ bytes (without_loop asked asks.2 none.0.2 asks.4.served).2;
+fault_asks_for_nothing asked faults.KeepBytesAlone is = record {
+  no_stdio = λ asks. is_given _ is.0 asks.no_bytes;
+  no_address = λ asks. is_given _ is.0 (asks.4.with_keep is.1);
 }
 fault_asks_for_nothing asked faults.IdleWaitingAlone is = record {
   no_stdio = λ asks. is_given _ is.4 asks.no_wait;
-  no_address = λ asks. is_given _ is.4 (without_loop asked asks.2 is.0.2 asks.4.served).3;
+  no_address = λ asks. is_given _ is.4 (without_loop asked asks.2 is.0.2 asks.4.served).2;
 }

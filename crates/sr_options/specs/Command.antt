@@ -27,8 +27,9 @@ pub record AsksForStdio (asked : Asked) : Type 0 where
 
 -- the options ask to serve connections in this way: by workers, or by a loop, which only --connections asks for
 abbrev pub IsWay : Asked → Way → Type 0
-IsWay asked (ways.Workers number) = IsWorkers asked.workers number × (asked.connections ≡ None)
-    × (asked.idle ≡ None) × (asked.unfinished ≡ None) × (asked.keep_bytes ≡ None) × (asked.idle_waiting ≡ None)
+IsWay asked (ways.Workers working) = IsWorkers asked.workers working.workers × (asked.connections ≡ None)
+    × (asked.idle ≡ None) × (asked.unfinished ≡ None) × IsKeepBytes asked.keep_bytes working.keep_bytes
+    × (asked.idle_waiting ≡ None)
 IsWay asked (ways.Loop looping) = (asked.workers ≡ None) × IsConnections asked.connections (Some looping.connections)
     × IsIdle asked.idle looping.idle × IsUnfinished asked.unfinished looping.unfinished
     × IsKeepBytes asked.keep_bytes looping.keep_bytes × IsIdleWaiting asked.idle_waiting looping.idle_waiting
@@ -101,15 +102,14 @@ pub record IsReadable (asked : Asked) : Type 0 where
 abbrev pub HasNoLoop : Asked → Type 0
 HasNoLoop asked = IsReadable asked × ((asked.stdio ≡ false) ⊎ (asked.keep ≡ None)) × (asked.connections ≡ None)
 
--- a loop is asked for, beside neither a session nor workers, and all records are kept
-abbrev pub KeepsAllInLoop : Asked → Type 0
-KeepsAllInLoop asked = IsReadable asked × (asked.stdio ≡ false) × (is_some asked.connections ≡ true)
-    × (asked.workers ≡ None) × (asked.keep ≡ None)
+-- a loop is asked for, beside neither a session nor workers
+abbrev pub HasLoop : Asked → Type 0
+HasLoop asked = IsReadable asked × (asked.stdio ≡ false) × (is_some asked.connections ≡ true) × (asked.workers ≡ None)
 
 -- what is wrong first: a number, of the options in the order of the cases; then the address, and whether one thing is
 -- asked for; then what does not go together: with a session, records that are kept, and a loop; with a loop, workers;
--- and without one what it alone has: seconds, bytes of requests, bytes of records, which also all that are kept have
--- not, and seconds of a read that waits
+-- bytes of records, all of which are kept; and without one what it alone has, seconds and bytes of requests, then such
+-- bytes of records, and then what it alone has too, seconds of a read that waits
 abbrev pub IsFaultOf : Asked → UsageFault → Type 0
 IsFaultOf asked faults.Workers = (number : ℕ) → ¬ (IsWorkers asked.workers number)
 IsFaultOf asked faults.Keep = HasWorkers asked × ((keep : Option ℕ) → ¬ (IsKeep asked.keep keep))
@@ -133,7 +133,7 @@ IsFaultOf asked faults.ConnectionsBeside = IsReadable asked × (asked.stdio ≡ 
     × (is_some asked.connections ≡ true) × (is_some asked.workers ≡ true)
 IsFaultOf asked faults.IdleAlone = HasNoLoop asked × (is_some asked.idle ≡ true)
 IsFaultOf asked faults.UnfinishedAlone = HasNoLoop asked × (asked.idle ≡ None) × (is_some asked.unfinished ≡ true)
-IsFaultOf asked faults.KeepBytesAlone = (is_some asked.keep_bytes ≡ true)
-    × (KeepsAllInLoop asked ⊎ (HasNoLoop asked × (asked.idle ≡ None) × (asked.unfinished ≡ None)))
+IsFaultOf asked faults.KeepBytesAlone = (is_some asked.keep_bytes ≡ true) × (asked.keep ≡ None)
+    × (HasLoop asked ⊎ (HasNoLoop asked × (asked.idle ≡ None) × (asked.unfinished ≡ None)))
 IsFaultOf asked faults.IdleWaitingAlone = HasNoLoop asked × (asked.idle ≡ None) × (asked.unfinished ≡ None)
-    × (asked.keep_bytes ≡ None) × (is_some asked.idle_waiting ≡ true)
+    × ((asked.keep ≡ None) → asked.keep_bytes ≡ None) × (is_some asked.idle_waiting ≡ true)

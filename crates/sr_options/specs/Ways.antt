@@ -6,5 +6,5 @@ use Rattle.sr_options.specs.declared.way.Way.TheVariants as ways
 
 -- that many workers, or the one in which the loop runs
 abbrev pub threads_of : Way → ℕ
-threads_of (ways.Workers number) = number
+threads_of (ways.Workers working) = working.workers
 threads_of (ways.Loop looping) = 1

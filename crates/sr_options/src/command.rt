@@ -7,7 +7,7 @@ ghost use Rattle.sr_options.specs.steps.Read.{AreRead, GoTogether};
 use crate::numbers::{Numbers, numbers_of};
 use crate::options::Options;
 use crate::request::{Listening, Request};
-use crate::way::{Looping, Way};
+use crate::way::{Looping, Way, Working};
 use std::net::SocketAddr;
 use thiserror::Error;
 
@@ -56,8 +56,8 @@ pub enum UsageFault {
     /// Requests are to be bounded that no loop reads.
     #[error("--unfinished needs --connections")]
     UnfinishedAlone,
-    /// The bytes of records are to be bounded that no loop keeps, or all of which are kept.
-    #[error("--keep-bytes needs --connections and --keep")]
+    /// The bytes of records are to be bounded all of which are kept.
+    #[error("--keep-bytes needs --keep")]
     KeepBytesAlone,
     /// Connections whose reads wait are to be closed that no loop serves.
     #[error("--idle-waiting needs --connections")]
@@ -111,7 +111,9 @@ fn clash_of(options: &Options<'_>) -> Option<UsageFault>
         Some(_) => None,
         None if options.idle.is_some() => Some(UsageFault::IdleAlone),
         None if options.unfinished.is_some() => Some(UsageFault::UnfinishedAlone),
-        None if options.keep_bytes.is_some() => Some(UsageFault::KeepBytesAlone),
+        None if options.keep_bytes.is_some() && options.keep.is_none() => {
+            Some(UsageFault::KeepBytesAlone)
+        }
         None if options.idle_waiting.is_some() => Some(UsageFault::IdleWaitingAlone),
         None => None,
     }
@@ -126,7 +128,10 @@ fn way_of(options: &Options<'_>, numbers: Numbers) -> Way
     ensures range { (1 ≤ threads_of result) × (threads_of result ≤ 64) }
 {
     match numbers.connections {
-        None => Way::Workers(numbers.workers),
+        None => Way::Workers(Working {
+            workers: numbers.workers,
+            keep_bytes: numbers.keep_bytes,
+        }),
         Some(connections) => Way::Loop(Looping {
             connections,
             idle: numbers.idle,

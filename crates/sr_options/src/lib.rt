@@ -10,4 +10,4 @@ mod way;
 pub use command::{UsageFault, request_of};
 pub use options::{Options, read_options};
 pub use request::{Listening, Request};
-pub use way::{Looping, Way};
+pub use way::{Looping, Way, Working};

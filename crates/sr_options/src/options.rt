@@ -125,7 +125,7 @@ fn loop_options<'a>(alloc: Global, command: Command<'a>) -> Result<Command<'a>, 
             alloc,
             "keep-bytes",
             "BYTES",
-            "With --connections and --keep: make a checkpoint too once the records take about this much [default: 67108864]",
+            "With --keep: make a checkpoint too once the records take about this much [default: 67108864]",
         ))?
         .arg(valued(
             alloc,

@@ -3,10 +3,20 @@ ghost use Rattle.std.specs.Prelude.{◌≤◌, unwrap_or};
 /// How the connections that come are served.
 #[derive(Clone, Copy)]
 pub enum Way {
-    /// By this many threads, each of which serves one connection at a time.
-    Workers(usize),
+    /// By threads, each of which serves one connection at a time.
+    Workers(Working),
     /// By one loop, for all of them.
     Loop(Looping),
+}
+
+/// What threads serve.
+#[derive(Clone, Copy)]
+pub struct Working {
+    /// How many there are, and so how many connections are served at a time.
+    pub workers: usize,
+    /// About this many bytes the kept records take at most: beyond them a checkpoint is made, if any is made at all.
+    pub keep_bytes: u64,
+    ghost recorded: { (1 ≤ keep_bytes) × (keep_bytes ≤ 1000000000000) },
 }
 
 /// What one loop serves.

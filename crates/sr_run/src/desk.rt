@@ -3,6 +3,7 @@ ghost use Rattle.sr_run.specs.Desk.{HasRefused, desk_fault_of};
 ghost use Rattle.sr_run.specs.Shared.{HasMade, HasNotMade, HasSeen};
 
 use crate::Shared;
+use crate::past::weight_of;
 use crate::shared::Turn;
 use sr_book::{Answer, Event, Letter};
 use sr_seats::{ActFault, Seat, SeatFault};
@@ -83,6 +84,7 @@ impl<'a, L: Ledger, R: Wait + rt::Clock> Desk for SeatDesk<'a, L, R> {
         ensures same { self.new.seat.ghost_name ≡ self.old.seat.ghost_name }
     {
         let goes_on = may_go_on(&event);
+        self.shared.says(weight_of(&event));
         let mut turn = match self.turn.take() {
             Some(turn) => turn,
             None => self.shared.turn(self.rt),

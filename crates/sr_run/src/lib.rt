@@ -4,6 +4,7 @@
 mod crew;
 mod desk;
 mod fault;
+mod past;
 mod peer;
 mod shared;
 mod waiting;

@@ -13,8 +13,8 @@
 //! - `--idle-waiting SECONDS`, with `--connections` alone, is the same for a connection whose read waits;
 //! - `--unfinished BYTES`, with `--connections` alone, is how many bytes the requests hold together that are not
 //! answered yet, from 1 to 1,000,000,000,000, and 1,073,741,824 without it;
-//! - `--keep-bytes BYTES`, with `--connections` and `--keep` alone, is about how many bytes the records take at most
-//! that are kept, from 1 to 1,000,000,000,000, and 67,108,864 without it.
+//! - `--keep-bytes BYTES`, with `--keep` alone, is about how many bytes the records take at most that are kept, from 1
+//! to 1,000,000,000,000, and 67,108,864 without it.
 //!
 //! It ends with status 0 at the end of standard input, with 1 after a fault, which is one line on standard error, and
 //! with 2 if the command line is refused, or the process may not open as many files as a loop needs. Of several faults

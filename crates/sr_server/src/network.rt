@@ -218,11 +218,12 @@ pub(crate) fn begin_serving<
     requires way { (1 ≤ threads_of way) × (threads_of way ≤ 64) }
 {
     match (listener, way) {
-        (SystemListener::Waits(listener), Way::Workers(workers)) => {
+        (SystemListener::Waits(listener), Way::Workers(working)) => {
             let serving = Serving {
-                workers,
+                workers: working.workers,
                 accepts: u64::MAX,
                 keep,
+                keep_bytes: working.keep_bytes,
             };
             begin_workers(rt, alloc, listener, book, serving)
         }

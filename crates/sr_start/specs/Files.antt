@@ -7,12 +7,12 @@ use Rattle.sr_options.specs.declared.way.Way.TheVariants as ways
 -- a loop needs one file for each connection, and 16 more. The network may tell that the process may open as many, or
 -- that it does not know. For workers nothing is asked
 abbrev pub HasFiles : (Option ℕ → Bool) → Way → Type 0
-HasFiles may_open (ways.Workers number) = Unit {0}
+HasFiles may_open (ways.Workers working) = Unit {0}
 HasFiles may_open (ways.Loop looping) = (most : Option ℕ) × IsTrue (may_open most)
     × IfSome most (λ number. looping.connections + 16 ≤ number)
 
 -- the network may tell that the process may not open as many files as a loop needs
 abbrev pub LacksFiles : (Option ℕ → Bool) → Way → Type 0
-LacksFiles may_open (ways.Workers number) = ⊥
+LacksFiles may_open (ways.Workers working) = ⊥
 LacksFiles may_open (ways.Loop looping) = (most : ℕ) × IsTrue (may_open (Some most))
     × (most < looping.connections + 16)

@@ -4,6 +4,7 @@
 #![tactic(auto)]
 
 mod clock;
+mod counting;
 mod fault;
 mod limits;
 mod listen;

@@ -1,6 +1,7 @@
 ghost use Rattle.std.specs.Prelude.{◌≡◌, ◌⊎◌, ◌↔◌, ◌+◌, ◌<◌, ◌≤◌, [], length, true, IfOk, IfErr, OnErr, vec_len};
 
 use crate::clock::SystemClock;
+use crate::counting::{CountedSink, CountedSource};
 use crossbeam_channel::{Receiver, SendError, Sender, bounded};
 use sr_book::{Book, Record};
 use sr_events::is_listeners_own;
@@ -62,6 +63,8 @@ pub struct Serving {
     pub accepts: u64,
     /// How many records are kept: if there are more, a checkpoint is made. None: all of them.
     pub keep: Option<u64>,
+    /// About how many bytes they take at most: if they take more, a checkpoint is made too.
+    pub keep_bytes: u64,
 }
 
 /// What keeps the time of a server.
@@ -89,7 +92,7 @@ pub enum ServeFault {
 ///
 /// Each of the `workers` threads, 1 to 64, serves one connection at a time, and further ones wait for a free worker. A
 /// timer thread answers the reads whose deadline is reached, and makes a checkpoint if more than `keep` records are
-/// kept. A session that ends closes its own connection alone. A failed accept is tried again, unless it is the
+/// kept, whatever bytes they take. A session that ends closes its own connection alone. A failed accept is tried again, unless it is the
 /// listener's own fault: then no connection is accepted any more, and those that are served are shut down.
 pub fn serve<R: Threads + Wait + rt::Clock + Sync>(
     rt: &R,
@@ -107,11 +110,13 @@ pub fn serve<R: Threads + Wait + rt::Clock + Sync>(
         workers,
         accepts,
         keep,
+        keep_bytes: u64::MAX,
     };
     serve_begun(rt, alloc, listener, book, serving, None)
 }
 
-/// The same, and says when the threads stand, right before the first connection is accepted.
+/// The same, and says when the threads stand, right before the first connection is accepted. If records are let go of at
+/// all, a worker whose request makes them take more than `keep_bytes` makes a checkpoint too.
 pub fn serve_begun<R: Threads + Wait + rt::Clock + Sync>(
     rt: &R,
     alloc: Global,
@@ -167,7 +172,17 @@ fn serve_seats<L: Ledger + Send + Sync, R: Threads + Wait + rt::Clock + Sync>(
         seat,
         keep: serving.keep,
     };
+    let shared = kept_within(shared, serving);
     serve_timed(rt, alloc, accepting, &shared, seats, timer)
+}
+
+/// The book, of whose records no more is kept than is asked for.
+fn kept_within<L: Ledger>(shared: Shared<L>, serving: Serving) -> Shared<L> {
+    if serving.keep.is_some() {
+        shared.within(serving.keep_bytes)
+    } else {
+        shared
+    }
 }
 
 /// Serves with a worker at each of the seats, and a timer at one more, which is told to stop whatever the outcome.
@@ -408,8 +423,8 @@ fn serve_connection<L: Ledger, R: Wait + rt::Clock>(
     seat: &mut Seat<L>,
     connection: &TcpStream,
 ) -> Ended {
-    let mut reader = ReadFrom::new(connection);
-    let mut writer = WriteTo::new(connection);
+    let mut reader = CountedSource::new(shared, ReadFrom::new(connection));
+    let mut writer = CountedSink::new(shared, WriteTo::new(connection));
     let mut desk = SeatDesk::beside(rt, shared, seat, connection);
     run_session(
         alloc,

@@ -22,6 +22,5 @@ pub record GoTogether (asked : Asked) : Type 0 where
   pub one_way : (asked.workers ≡ None) ⊎ (asked.connections ≡ None)
   pub idle : asked.connections ≡ None → asked.idle ≡ None
   pub unfinished : asked.connections ≡ None → asked.unfinished ≡ None
-  pub keep_bytes : asked.connections ≡ None → asked.keep_bytes ≡ None
   pub with_keep : asked.keep ≡ None → asked.keep_bytes ≡ None
   pub idle_waiting : asked.connections ≡ None → asked.idle_waiting ≡ None
