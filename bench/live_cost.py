@@ -6,9 +6,9 @@ usage: bench/live_cost.py BEFORE AFTER [RUNS]
 Prints a table in Markdown with a row for each group below: how the runs ended, how many calls Redis was sent, how much
 of its processor's time they took (INFO, used_cpu_user), and how long the longest script took (commandstats), while
 which nobody else is served. `until none is left` is one run with --all, if the program has it, or else one after
-another with --at-most 4096. In a busy group 8 workers add, read and acknowledge without pause; the limits of its
-consumers are half as much again as is needed, and a run, of which there are RUNS (100 without it), has three tries, and
---spare 8 if the program has that.
+another with --at-most 4096. In a busy group 8 workers add, read and acknowledge without pause, at most two entries at a
+time; the limits of its consumers are half as much again as is needed, and a run, of which there are RUNS (100 without
+it), has three tries, and --spare 2 if the program has that.
 It needs redis-server.
 """
 
@@ -111,7 +111,7 @@ def cost_of(program, setting, action, options):
 
 def is_done(program, server, group, tries=TRIES):
     recover.PROGRAM = program
-    spare = ["--spare", WORKERS] if has(program, b"--spare") else []
+    spare = ["--spare", recover_busy.MOST_READ] if has(program, b"--spare") else []
     options = ["--tries", tries, "--timeout", 60_000, *spare]
     return recover.run(server.port, recover.policy_text(group.lives), "run", NAMES, *options).status == 0
 

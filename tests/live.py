@@ -27,7 +27,7 @@ import time
 
 import live_script
 from lib import recover, recover_busy, recover_closed, recover_cluster, recover_cuts, recover_errors, recover_rows, servers
-from lib.live import Dump, Plan, all_replies, number_of, problem_of, seen_by, up_to
+from lib.live import Dump, Plan, after_acks, all_replies, number_of, problem_of, seen_by, spared, up_to
 from lib.resp import ErrorReply, encoded, value_of
 
 HISTORIES, SEED = 300, 1
@@ -44,8 +44,9 @@ class History(live_script.History):
         self.often = choice.choice([0, 0.05, 0.1, 0.2, 0.4])
         self.right_before = choice.choice([0, 0.5, 0.8])
         self.check = choice.random() < 0.4
-        self.within = choice.choice([0, 0, 1, 5, 30, 2**64 - 1])
+        self.within = self.asked_within = choice.choice([0, 0, 1, 5, 30, 2**64 - 1])
         self.seen_within = choice.choice([None, None, None, 0, 20, 10**12])
+        self.spare = choice.choice([0, 0, 1, 1, 2, 10**9])
 
     def acts(self, call):
         """What another client does right before a call. It may be only that the live acknowledge, as they always do."""
@@ -64,7 +65,8 @@ class History(live_script.History):
         return encoded(told)
 
     def options(self):
-        yield from ("--tries", self.tries, "--within", self.within)
+        yield from ("--tries", self.tries, "--within", self.asked_within)
+        yield from ["--spare", self.spare] if self.spare else ()
         yield from [] if self.most is None else ("--at-most", self.most)
         yield from [] if self.seen_within is None else ("--seen-within", self.seen_within)
         yield from ["--check"] if self.check else []
@@ -77,8 +79,10 @@ class Watch:
         self.history, self.connection = history, connection
         self.told, self.faults, self.log = recover.Told(), [], []
         self.scripts, self.error, self.plan, self.is_cheapest = [], None, None, False
+        self.spare = history.spare
 
     def act(self, call):
+        self.see_spare()
         acts = self.history.acts(call)
         self.log += [*acts, call.words[:1] + call.words[-1:]]
         all_replies(self.connection, acts)
@@ -94,13 +98,23 @@ class Watch:
             self.faults.append(f"{call.words} changed something")
         return recover.Sent(text)
 
+    def see_spare(self):
+        """Once what was looked up has too few places with those that are left free, it goes on without these."""
+        if not self.spare or not self.told.is_whole:
+            return
+        seen, lives = self.told.seen(), self.told.live(self.history.lives, self.history.seen_within)
+        last = first_of(seen, self.history.most)
+        if not is_twice(seen) and problem_of(spared(lives, self.spare), seen, last)[1].least() is None:
+            self.spare = 0
+
     def judge(self, words, reply, before, after):
         """What is wrong with a plan that was sent, by what the program was told, and with what came of it."""
         self.scripts.append(reply)
         self.plan, group, within = recover.plan_of(words, self.told.live(self.history.lives, self.history.seen_within))
+        self.faults += faults_of_plan(self.plan, self.told.seen(), self.history.most, self.spare)
+        self.history.within = min(self.history.asked_within + worth_of(self.plan, self.spare), 2**64 - 1)
         if (words[3], group, within) != (self.history.key, self.history.group, self.history.within):
-            self.faults.append(f"the script is called for {words[3:6]}")
-        self.faults += faults_of_plan(self.plan, self.told.seen(), self.history.most)
+            self.faults.append(f"the script is called for {words[3:6]}, at most at {self.history.within}")
         self.faults += live_script.faults_of(self.plan, self.history, reply, before, after)
         self.is_cheapest = live_script.is_still_cheapest(self.plan, self.history, before)
 
@@ -120,7 +134,20 @@ def are_there(rows):
     return [(entry_id, fields is not None) for entry_id, fields in rows]
 
 
-def faults_of_plan(plan, seen, most):
+def is_twice(seen):
+    """Whether an entry is pending for two."""
+    ids = [row[0] for own in seen.rows.values() for row in own]
+    return len(set(ids)) < len(ids)
+
+
+def worth_of(plan, spare):
+    """What the free places are worth if each consumer acknowledges as many entries as places are left free."""
+    if not spare or plan.total is None:
+        return 0
+    return problem_of(plan.lives, after_acks(plan.seen, spare), plan.last)[1].gap(plan.goes, plan.prices)
+
+
+def faults_of_plan(plan, seen, most, spare):
     """What is wrong with a plan, by what the program was told."""
     if plan.last != first_of(seen, most):
         yield f"compared up to {plan.last}, not {first_of(seen, most)}"
@@ -128,7 +155,7 @@ def faults_of_plan(plan, seen, most):
         yield f"{plan.seen.removed} are said to have been removed, and {seen.removed} had been"
     wanted = {name: are_there(up_to(own, plan.last)) for name, own in seen.rows.items()}
     sent = {name: are_there(own) for name, own in plan.seen.rows.items()}
-    ids, problem = problem_of(plan.lives, seen, plan.last)
+    ids, problem = problem_of(spared(plan.lives, spare), seen, plan.last)
     plan.seen, plan.total = seen, problem.total(plan.goes) if ids == plan.ids else None
     if sent != wanted or ids != plan.ids:
         yield f"the script gets {sent} and {plan.ids}, and Redis told {wanted}"
@@ -172,20 +199,21 @@ def faults_of_end(watch, ended):
     """What is wrong with how the program ended."""
     history, last = watch.history, (watch.scripts or [None])[-1]
     seen, status = watch.told.seen(), ended.status
-    ids = [row[0] for own in seen.rows.values() for row in own]
-    is_twice = len(set(ids)) < len(ids)
+    watch.see_spare()
+    if watch.spare != history.spare and not ended.errors.count(b"note: too few places with --spare %d" % history.spare):
+        yield "it does not tell that it plans without --spare"
     if status not in (0, 3) and b"done" in ended.out + ended.errors:
         yield "it prints done"
     if isinstance(last, list) and last[0] == b"done":
         yield from faults_of_print(watch, ended) if status == 0 else ["it was carried out"]
     elif status == 4:
-        stale = ended.errors == b"group: it changed while it was looked at: try again\n" and is_twice
+        stale = ended.errors.endswith(b"group: it changed while it was looked at: try again\n") and is_twice(seen)
         stale = stale or (last and recover.Printed(ended.out).stale == last)
         yield from [] if stale else [f"stale, and the script answered {last}"]
     elif status == 3:
         lives = watch.told.live(history.lives, history.seen_within)
         _, problem = problem_of(lives, seen, first_of(seen, history.most))
-        yield from [] if not is_twice and problem.least() is None else [f"there is a plan for {seen}"]
+        yield from [] if not is_twice(seen) and problem.least() is None else [f"there is a plan for {seen}"]
     elif status != 1 or not watch.error or re.sub(rb"[^ -~]", b"?", watch.error) not in ended.errors:
         yield f"Redis told {watch.error!r}, and the script answered {last}"
 

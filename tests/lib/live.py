@@ -129,6 +129,17 @@ def tiers(live, pending):
     return [(free, 0), (room - free, fee)]
 
 
+def spared(lives, spare):
+    """The consumers with limits that are lower by so many places, and soft limits that are at most as high."""
+    lower = [(live, max(0, live.limit - spare)) for live in lives]
+    return [live._replace(limit=limit, tier=live.tier and (min(live.tier[0], limit), live.tier[1])) for live, limit in lower]
+
+
+def after_acks(seen, acks):
+    """What is seen once each consumer has acknowledged so many entries."""
+    return seen._replace(numbers={name: max(0, number - acks) for name, number in seen.numbers.items()})
+
+
 class Plan:
     """A cheapest plan for what was seen, or for the first entries of it (`most`), and the prices that show it."""
 

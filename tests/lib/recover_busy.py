@@ -7,7 +7,7 @@ by itself: the printed gap may not be below it.
 `--within` allows for what is acknowledged, and not for what is read. So it matters what the plan fills: a busy consumer
 that it fills to its limit, or to its soft limit, has no room for one entry more than it had in the snapshot. In the
 roomy group busy consumers have no soft limit and some room to spare, and nine of ten runs have to be done. In the tight
-group about half of them are filled, and how many runs are done is only printed.
+group about half of them are filled, and how many runs are done is only printed, as it is with `--spare`.
 """
 
 import collections
@@ -133,10 +133,11 @@ class Watch:
         return Sent(encoded(answer))
 
 
-def judged(tally, group, script, printed, within):
+def judged(tally, group, script, printed, spare, asked):
     """Compares what is printed with the state that the script saw. The gap and the loss."""
     words, numbers, answer = script
-    plan, *_ = plan_of(words, group.lives)
+    plan, _, within = plan_of(words, group.lives)
+    tally.check(f"busy: within {within} with --spare {spare}", True, within > asked if spare else within == asked)
     total, least = group.total(plan, numbers), least_total(*group.problem(numbers))
     gap = printed.done[1]
     wanted = tuple(answer[1:]), len(group.stranded), total
@@ -153,7 +154,7 @@ def give_back(connection, group):
     all_replies(connection, (["XCLAIM", "s", "g", "D", 0, *part, "JUSTID"] for part in parts))
 
 
-def played(tally, server, group, clients, runs=RUNS):
+def played(tally, server, group, clients, spare, runs=RUNS):
     """How many of the runs were done, at which gaps and losses, and why others were not."""
     done, reasons = [], collections.Counter()
     policy = policy_text(group.lives)
@@ -165,11 +166,11 @@ def played(tally, server, group, clients, runs=RUNS):
             for _ in range(runs):
                 watch = Watch()
                 proxy.begin(watch.act)
-                options = ["--tries", TRIES, "--within", total // PART, "--timeout", PATIENCE]
+                options = ["--tries", TRIES, "--within", total // PART, "--spare", spare, "--timeout", PATIENCE]
                 found = run(proxy.port, policy, "run", ["s", "g", "D"], *options)
                 reasons.update(answer[1].decode() for *_, answer in watch.scripts if answer[0] == b"stale")
                 if found.status == 0:
-                    done.append(judged(tally, group, watch.scripts[-1], Printed(found.out), total // PART))
+                    done.append(judged(tally, group, watch.scripts[-1], Printed(found.out), spare, total // PART))
                 else:
                     tally.check("busy: status", (4, b""), (found.status, found.errors))
                 give_back(connection, group)
@@ -179,10 +180,11 @@ def played(tally, server, group, clients, runs=RUNS):
 
 def compare(tally):
     """Compares runs at both groups."""
-    for name, spare, least in (("roomy", ENTRIES // 10, RUNS * 9 // 10), ("tight", 0, 0)):
-        group = Group(random.Random(7), ENTRIES, TAKERS, CLIENTS, spare)
+    groups = ("roomy", ENTRIES // 10, 0, RUNS * 9 // 10), ("tight", 0, 0, 0), ("tight, with --spare", 0, MOST_READ, 0)
+    for name, room, spare, least in groups:
+        group = Group(random.Random(7), ENTRIES, TAKERS, CLIENTS, room)
         with Redis() as server:
-            done, reasons, total = played(tally, server, group, CLIENTS)
+            done, reasons, total = played(tally, server, group, CLIENTS, spare)
         tally.check(f"a busy group that is {name}: {len(done)} of {RUNS} runs are done", True, len(done) >= least)
         told = ", ".join(f"{word} {count}" for word, count in sorted(reasons.items())) or "none"
         gap, loss = map(max, zip(*done)) if done else (0, 0)

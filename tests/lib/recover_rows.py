@@ -37,6 +37,26 @@ GAPS = [
 ]
 
 
+# A has two entries and two places left, and B one entry and three places. With --spare 1 the plan is that of TWO: it gives
+# 1-1 to B and 2-1 to A, which has a price of 2, and one place left. So the gap is 2, and 4 if A acknowledges one.
+SPARE_TWO = [*TWO[:-3], *lines("XADD s 0-3 c x\nXREADGROUP GROUP g A COUNT 1 STREAMS s >"), *TWO[-3:]]
+SPARE_LIVE = [live._replace(limit=limit) for live, limit in zip(TWO_LIVE, (4, 4))]
+GIVEN_TO_A, GIVEN_TO_B = script_rows.GIVEN_TO_A, script_rows.GIVEN_TO_B
+SPARE_ROWS = [
+    ("nothing has changed", "PING", [], script_rows.done(2, 2)),
+    ("A acknowledges one", "XACK s g 0-1", [], script_rows.done(2, 4)),
+    ("A acknowledges two", "XACK s g 0-1 0-3", [], script_rows.stale(b"gap", b"6")),
+    ("A acknowledges two, within less", "XACK s g 0-1 0-3", ["--within", 1], script_rows.stale(b"gap", b"6")),
+    ("A acknowledges two, within as much", "XACK s g 0-1 0-3", ["--within", 2], script_rows.done(2, 6)),
+    ("A is given one", GIVEN_TO_A, [], script_rows.done(2, 0)),
+    ("A is given two", f"{GIVEN_TO_A}\n{GIVEN_TO_A}", [], script_rows.stale(b"room", b"A")),
+    ("A is given two, within any gap", f"{GIVEN_TO_A}\n{GIVEN_TO_A}", ["--within", 2**64 - 1], script_rows.stale(b"room", b"A")),
+    ("B is given one", GIVEN_TO_B, [], script_rows.done(2, 2)),
+    ("A acknowledges one, and B is given one", f"XACK s g 0-1\n{GIVEN_TO_B}", [], script_rows.done(2, 4)),
+    ("an entry of the dead is acknowledged", "XACK s g 1-1", [], script_rows.stale(b"pending", b"D")),
+]
+
+
 class Bench:
     """A Redis, the program before it, and what is compared."""
 
@@ -90,6 +110,7 @@ def between(bench, proxy):
     rows += [(TWO, TWO_LIVE, what, changes, ["--at-most", 1], wanted) for what, changes, wanted in FIRST_ROWS]
     rows += [(script_rows.GONE, TWO_LIVE, what, changes, [], wanted) for what, changes, wanted in script_rows.GONE_ROWS]
     rows += [(TWO, TWO_LIVE, what, changes, options, wanted) for what, changes, options, wanted in GAPS]
+    rows += [(SPARE_TWO, SPARE_LIVE, f"--spare 1: {what}", changes, ["--spare", 1, *options], wanted) for what, changes, options, wanted in SPARE_ROWS]
     idle = ["--idle-over", script_rows.IDLE]
     rows += [(script_rows.IDLE_TWO, TWO_LIVE, what, changes, idle, wanted) for what, changes, wanted in IDLE_ROWS]
     for setting, lives, what, changes, options, wanted in rows:
@@ -208,6 +229,9 @@ def policies(bench, _):
 
 
 OPTIONS = [
+    "--spare -1",
+    "--spare 1000000001",
+    "--spare x",
     "--seen-within -1",
     "--seen-within 1000000000001",
     "--seen-within x",
@@ -566,6 +590,29 @@ def gone(bench, _):
     bench.check("after XACK none is told", b"gone" in bench.plan(lives=lives).out, False)
 
 
+def spare(bench, proxy):
+    """--spare: both entries at A are cheaper by 2, and A has just two places. It is planned without if it cannot be."""
+    bench.begin(SPARE_TWO)
+    for places, total in ((0, 4), (1, 6)):
+        found = bench.plan("--spare", places, lives=SPARE_LIVE)
+        bench.check(f"--spare {places}", (0, total, b""), (found.status, Printed(found.out).total, found.errors))
+    problem = bench.plan("--spare", 1, "--check", lives=SPARE_LIVE).out
+    bench.check("--check has the lower limits", True, b"consumer A 1\nconsumer B 2\n" in problem)
+    note = b"note: too few places with --spare %d, so it is planned without it\n"
+    for places in (2, 10**9):
+        found = bench.plan("--spare", places, lives=SPARE_LIVE)
+        bench.check(f"--spare {places}", (0, 4, note % places), (found.status, Printed(found.out).total, found.errors))
+    bench.begin()
+    proxy.begin(before_script(bench.connection, GIVEN_TO_B))
+    found = bench.plan("--spare", 1, action="run", port=proxy.port)
+    bench.check("a run without", (0, PLAN + b"done, claimed 2, gap 0\n", note % 1), found[:3])
+    bench.begin()
+    short = b"none: too few places for\n0-1\n1-1\n2-1\n"
+    for action in ("plan", "run"):
+        found = bench.plan("--spare", 1, action=action, names=["s", "g", "A", "D"])
+        bench.check(f"{action}: no plan without either", (3, short, note % 1), found[:3])
+
+
 def idle(bench, _):
     """--idle-over: an entry that has not been idle for so long is left, and is not even read."""
     bench.begin(script_rows.IDLE_TWO)
@@ -750,7 +797,7 @@ def compare(tally, connection):
     """Compares all rows."""
     bench = Bench(tally, connection)
     looks = between, statuses, other_names, policies, command_lines, places, passwords, echoing, rights
-    reads = firsts, no_further, many, everything, hidden, too_long, gone, idle, newcomers, seen_within, leftovers
+    reads = firsts, no_further, many, everything, hidden, too_long, gone, spare, idle, newcomers, seen_within, leftovers
     parts = *looks, *reads, rounds, within_snapshot, checked, silence, large
     with Proxy(bench.port) as proxy:
         for part in parts:

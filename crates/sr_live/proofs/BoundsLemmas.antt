@@ -11,7 +11,7 @@ use Rattle.sr_live.proofs.LackLemmas.{at_most_worse_by_lack, filled_lacks_nothin
 use Rattle.sr_live.proofs.LackLemmas.{AreLeast}
 use Rattle.sr_live.proofs.AlikeLemmas.{are_least-alike, assigned-alike, tiers-alike, total_of-alike}
 use Rattle.sr_live.proofs.GapLemmas.{gap_of-lack}
-use Rattle.sr_live.proofs.WorkLemmas.{problems-alike, room-from_problem, room-in_problem, same_first, soft-same}
+use Rattle.sr_live.proofs.WorkLemmas.{costs-same, problems-alike, room-from_problem, room-in_problem, same_first, soft-same}
 
 -- the plan is an assignment of the new snapshot's problem, at the same total, and each entry is in a tier where the sum
 -- of charge and price is least
@@ -43,7 +43,7 @@ shown-now old now assign prices total was work is none =
     record {
       assignment = is.assignment;
       shown = record {
-        one_each = was.shown.one_each ∙ tiers-alike (problem_of old) q (problems-alike old now work);
+        one_each = was.shown.one_each ∙ tiers-alike (problem_of old) q (problems-alike old now (costs-same old now work));
         least = is.least;
         filled = lacking_nothing_is_filled q assign prices (are_tiers now.live) placed
             (sym (gap_of-lack now assign prices placed) ∙ none);
@@ -71,7 +71,7 @@ pub shown_while_filled : (old now : SnapshotState) (assign prices : List ℕ) (t
     ↔ IsShown (problem_of now) (best assign prices total)
 shown_while_filled old now assign prices total snapshot work same was = (
   λ h.
-      let fits : Fits old now assign = record { work = work; room = h.0; free = same } in
+      let fits : Fits old now assign = record { work = costs-same old now work; room = h.0; free = same } in
       (shown-now old now assign prices total was.0 work (kept old now assign prices total was.0 fits) h.1, was.1),
   λ is. (room-shown old now assign prices total snapshot work is.0, gap-shown now assign prices total is.0),
 )

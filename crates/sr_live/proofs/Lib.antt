@@ -14,3 +14,7 @@ pub mod RoundsLemmas
 pub mod ConclusionLemmas
 pub mod FirstLemmas
 pub mod ListingLemmas
+pub mod SpareLemmas
+pub mod NearLemmas
+pub mod GivenLemmas
+pub mod SpareLawLemmas

@@ -4,6 +4,7 @@ use Rattle.std.proofs.Common.{Result, add-one, append_assoc, ap, inl, inr, refl,
 use Rattle.std.proofs.lemmas.Result.{IfErr-weaker, IfOk-weaker, err_from_is_err_and}
 use Rattle.std.specs.Result.{IsErrAnd}
 use Rattle.sr_check.specs.PlanAnswer.{PlanAnswer, best, short}
+use Rattle.sr_policy.specs.declared.live.Live.{Live}
 use Rattle.sr_policy.specs.{Text, SnapshotState}
 use Rattle.sr_policy.specs.Rules.{Rules}
 use Rattle.sr_peer.specs.{Part}
@@ -21,22 +22,23 @@ use Rattle.sr_live.specs.Conclusion.{HasNoConclusion, IsCalled, SaysConcluded}
 use Rattle.sr_live.specs.Looking.{Exchange, Talks}
 use Rattle.sr_live.specs.Reading.{BreaksOff, HasOnlyRead}
 use Rattle.sr_live.specs.Rounds.{ArePassed, BreaksAtScript, EndsAll, FitsPlan, HasBroken, HasFailed, HasMade}
-use Rattle.sr_live.specs.Rounds.{HasRun, IsConcluded, IsPassed, IsPlanned, IsReady}
+use Rattle.sr_live.specs.Rounds.{HasRun, IsConcluded, IsPassed, IsPlanned, IsReady, within_of}
 use Rattle.sr_live.specs.Words.{last_word, words_for}
 use Rattle.sr_live.proofs.TalkLemmas.{Talks-none, Talks-trans}
 
 -- there are no words only for a shortage
 pub short-from-none : (group : Text) (within : ℕ) (last : Text) (idle removed : ℕ) (rows : List Row)
-    (shown : SnapshotState) (answer : PlanAnswer) → words_for group within last idle removed rows shown answer ≡ None
-    → (set : List ℕ) × (answer ≡ short set)
-short-from-none group within last idle removed rows shown (best assign prices total) is = absurd cc
-short-from-none group within last idle removed rows shown (short set) is = (set, refl)
+    (live : List Live) (shown : SnapshotState) (answer : PlanAnswer)
+    → words_for group within last idle removed rows live shown answer ≡ None → (set : List ℕ) × (answer ≡ short set)
+short-from-none group within last idle removed rows live shown (best assign prices total) is = absurd cc
+short-from-none group within last idle removed rows live shown (short set) is = (set, refl)
 
 module _ (rules : Rules) (asked : Asked) (terms : Terms) where
   abbrev AreWords : Planned → List Text → Type 0
   AreWords planned words =
-      words_for planned.verdict.snapshot.group terms.within (last_word planned.looked.last) asked.idle
-      planned.looked.removed planned.looked.rows.items planned.verdict.snapshot planned.verdict.answer ≡ Some words
+      words_for planned.verdict.snapshot.group (within_of terms planned) (last_word planned.looked.last) asked.idle
+      planned.looked.removed planned.looked.rows.items planned.live.items planned.verdict.snapshot
+      planned.verdict.answer ≡ Some words
 
   ready-from : (planned : Planned) (look before : List Exchange) (words call : List Text)
       → IsPlanned rules asked terms.at_most look planned → AreWords planned words → IsCalled asked.key words before call

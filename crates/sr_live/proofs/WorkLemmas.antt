@@ -1,6 +1,6 @@
 -- The problems of two snapshots with the same work differ in the rooms of their tiers alone.
 use Rattle.std.proofs.Common.{◌≡◌, ℕ, zero, suc, ◌+◌, ◌<◌, ◌≤◌, min, List, [], ◌∷◌, ◌++◌, length, get_or, map}
-use Rattle.std.proofs.Common.{Option, Some, None, IfSome, unwrap_or, All, refl, sym, ap, ◌∙◌, subst, inl, inr, arith}
+use Rattle.std.proofs.Common.{Option, Some, None, IfSome, option_map, unwrap_or, All, refl, sym, ap, ◌∙◌, subst, inl, inr, arith}
 use Rattle.std.specs.List.{flat_map}
 use Rattle.std.proofs.lemmas.Bool.{cases_lt}
 use Rattle.std.proofs.lemmas.List.{get_or-map, length-map}
@@ -14,7 +14,7 @@ use Rattle.sr_policy.specs.Rules.{value_at}
 use Rattle.sr_policy.specs.Snapshot.{IsTier}
 use Rattle.sr_policy.specs.Problem.{costs_at, next_tier, tiers_from}
 use Rattle.sr_policy.proofs.ProblemLemmas.{room_of-live}
-use Rattle.sr_live.specs.Bounds.{free_load, free_loads, terms_of, HaveRoom, IsSameWork}
+use Rattle.sr_live.specs.Bounds.{fee_of, free_load, free_loads, terms_of, HaveRoom, HaveSameCosts, IsSameWork}
 use Rattle.sr_live.proofs.AlikeLemmas.{first_room, shape, AreAlike, HaveSameFirst}
 use Rattle.sr_live.proofs.TiersLemmas.{first_room-live, room_at-le}
 
@@ -25,42 +25,62 @@ no_consumer = record { name = []; limit = 0; pending = 0; tier = None }
 abbrev pub Terms : Type 0
 Terms = Text × ℕ × Option (ℕ × ℕ)
 
+-- a consumer's name and its fee, if it has one
+abbrev Fees : Type 0
+Fees = Text × Option ℕ
+
+abbrev fees_in : Terms → Fees
+fees_in terms = (terms.0, option_map (λ (tier : ℕ × ℕ). tier.1) terms.2)
+
+fees-terms : (live : List Live) → map fee_of live ≡ map fees_in (map terms_of live)
+fees-terms [] = refl
+fees-terms (x ∷ live) = ap (λ (fees : List Fees). fee_of x ∷ fees) (fees-terms live)
+
+-- the same work has the same costs
+pub costs-same : (old now : SnapshotState) → IsSameWork old now → HaveSameCosts old now
+costs-same old now work = record {
+  stranded = work.stranded;
+  rates = work.rates;
+  live = fees-terms old.live ∙ ap (λ (terms : List Terms). map fees_in terms) work.live ∙ sym (fees-terms now.live);
+}
+
 -- ---- the consumers
 
--- what depends on the terms of the consumers alone is the same
-same_terms : {X : Type 0} (f : List Live → X) (g : List Terms → X)
-    → ((live : List Live) → f live ≡ g (map terms_of live)) → (old now : List Live)
-    → map terms_of old ≡ map terms_of now → f old ≡ f now
-same_terms f g by old now same = by old ∙ ap g same ∙ sym (by now)
+-- what depends on the fees of the consumers alone is the same
+same_fees : {X : Type 0} (f : List Live → X) (g : List Fees → X)
+    → ((live : List Live) → f live ≡ g (map fee_of live)) → (old now : List Live)
+    → map fee_of old ≡ map fee_of now → f old ≡ f now
+same_fees f g by old now same = by old ∙ ap g same ∙ sym (by now)
 
-length-terms : (live : List Live) → length live ≡ length (map terms_of live)
-length-terms live = sym (length-map live terms_of)
+length-fees : (live : List Live) → length live ≡ length (map fee_of live)
+length-fees live = sym (length-map live fee_of)
 
-no_rates-terms : (live : List Live)
-    → ◌≡◌ {A = List (Option ℕ)} (map (λ _. None) live) (map (λ _. None) (map terms_of live))
-no_rates-terms [] = refl
-no_rates-terms (x ∷ live) = ap (λ (l : List (Option ℕ)). None ∷ l) (no_rates-terms live)
+no_rates-fees : (live : List Live)
+    → ◌≡◌ {A = List (Option ℕ)} (map (λ _. None) live) (map (λ _. None) (map fee_of live))
+no_rates-fees [] = refl
+no_rates-fees (x ∷ live) = ap (λ (l : List (Option ℕ)). None ∷ l) (no_rates-fees live)
 
 -- the shape of a second tier, if there is one
-abbrev next_shapes : ℕ → Option (ℕ × ℕ) → List (ℕ × ℕ)
+abbrev next_shapes : ℕ → Option ℕ → List (ℕ × ℕ)
 next_shapes c None = []
-next_shapes c (Some tier) = (c, tier.1) ∷ []
+next_shapes c (Some fee) = (c, fee) ∷ []
 
--- the shapes of the tiers of consumers on these terms
-abbrev shapes_from : ℕ → List Terms → List (ℕ × ℕ)
+-- the shapes of the tiers of consumers with these fees
+abbrev shapes_from : ℕ → List Fees → List (ℕ × ℕ)
 shapes_from c [] = []
-shapes_from c (terms ∷ rest) = ((c, 0) ∷ next_shapes c terms.2) ++ shapes_from (c + 1) rest
+shapes_from c (fees ∷ rest) = ((c, 0) ∷ next_shapes c fees.1) ++ shapes_from (c + 1) rest
 
 next-shapes : (c : ℕ) (x : Live) (tier : Option (ℕ × ℕ)) (rest : List Tier)
-    → map shape (next_tier c x tier ++ rest) ≡ next_shapes c tier ++ map shape rest
+    → map shape (next_tier c x tier ++ rest)
+    ≡ next_shapes c (option_map (λ (own : ℕ × ℕ). own.1) tier) ++ map shape rest
 next-shapes c x None rest = refl
 next-shapes c x (Some tier) rest = refl
 
-tiers-shapes : (c : ℕ) (live : List Live) → map shape (tiers_from c live) ≡ shapes_from c (map terms_of live)
+tiers-shapes : (c : ℕ) (live : List Live) → map shape (tiers_from c live) ≡ shapes_from c (map fee_of live)
 tiers-shapes c [] = refl
 tiers-shapes c (x ∷ live) =
     ap (λ shapes. (c, 0) ∷ shapes) (next-shapes c x x.tier (tiers_from (c + 1) live)
-    ∙ ap (λ shapes. next_shapes c x.tier ++ shapes) (tiers-shapes (c + 1) live))
+    ∙ ap (λ shapes. next_shapes c (fee_of x).1 ++ shapes) (tiers-shapes (c + 1) live))
 
 -- ---- the problems
 
@@ -69,27 +89,27 @@ abbrev costs_in : List Stranded → List (Text × List (Option ℕ)) → List (O
 costs_in stranded rates none =
     flat_map (λ entry. costs_at entry.weight (unwrap_or (value_at entry.class rates) none)) stranded
 
-costs-alike : (old now : SnapshotState) → IsSameWork old now → (problem_of old).costs ≡ (problem_of now).costs
+costs-alike : (old now : SnapshotState) → HaveSameCosts old now → (problem_of old).costs ≡ (problem_of now).costs
 costs-alike old now work =
     let none : List Live → List (Option ℕ) = λ live. map (λ _. None) live in
     let same : none old.live ≡ none now.live =
-    same_terms none (λ terms. map (λ _. None) terms) no_rates-terms old.live now.live work.live in
+    same_fees none (λ fees. map (λ _. None) fees) no_rates-fees old.live now.live work.live in
     ap (λ stranded. costs_in stranded old.rates (none old.live)) work.stranded
     ∙ ap (λ rates. costs_in now.stranded rates (none old.live)) work.rates
     ∙ ap (costs_in now.stranded now.rates) same
 
--- the problems of the same work differ in their rooms alone
-pub problems-alike : (old now : SnapshotState) → IsSameWork old now → AreAlike (problem_of old) (problem_of now)
+-- problems with the same costs differ in their rooms alone
+pub problems-alike : (old now : SnapshotState) → HaveSameCosts old now → AreAlike (problem_of old) (problem_of now)
 problems-alike old now work = record {
-  takers = same_terms (λ live. length live) (λ terms. length terms) length-terms old.live now.live work.live;
+  takers = same_fees (λ live. length live) (λ fees. length fees) length-fees old.live now.live work.live;
   entries = ap (λ stranded. length stranded) work.stranded;
   costs = costs-alike old now work;
-  shapes = same_terms (λ live. map shape (tiers_from 0 live)) (shapes_from 0) (tiers-shapes 0) old.live now.live
+  shapes = same_fees (λ live. map shape (tiers_from 0 live)) (shapes_from 0) (tiers-shapes 0) old.live now.live
       work.live;
 }
 
 -- as many consumers are live
-pub live-same : (old now : SnapshotState) → IsSameWork old now → length old.live ≡ length now.live
+pub live-same : (old now : SnapshotState) → HaveSameCosts old now → length old.live ≡ length now.live
 live-same old now work = (problems-alike old now work).takers
 
 -- ---- the soft limits
@@ -105,14 +125,14 @@ soft-terms old now same soft = subst (λ (terms : Terms). IfSome terms.2 (IsTier
 terms-at : (old now : SnapshotState) (i : ℕ) (d : Live) → IsSameWork old now → i < length now.live
     → terms_of (get_or old.live i d) ≡ terms_of (get_or now.live i d)
 terms-at old now i d work lt =
-    sym (get_or-map terms_of old.live i d (terms_of d) (omega (arith, live-same old now work)))
+    sym (get_or-map terms_of old.live i d (terms_of d) (omega (arith, live-same old now (costs-same old now work))))
     ∙ ap (λ (terms : List Terms). get_or terms i (terms_of d)) work.live
     ∙ get_or-map terms_of now.live i d (terms_of d) lt
 
 pub soft-same : (old now : SnapshotState) → IsSameWork old now → AreSoft old.live → AreSoft now.live
 soft-same old now work soft i d lt =
     soft-terms (get_or old.live i d) (get_or now.live i d) (terms-at old now i d work lt)
-    (soft i d (omega (arith, live-same old now work)))
+    (soft i d (omega (arith, live-same old now (costs-same old now work))))
 
 -- ---- how many entries are without a fee
 
@@ -134,7 +154,7 @@ free_load-live s assign i d lt =
     ∙ ap (min (load assign i)) (sym (first_room-live s i d lt))
 
 -- if as many entries of each consumer are without a fee, as many are in its first tier
-pub same_first : (old now : SnapshotState) (assign : List ℕ) → IsSameWork old now
+pub same_first : (old now : SnapshotState) (assign : List ℕ) → HaveSameCosts old now
     → free_loads assign 0 old.live ≡ free_loads assign 0 now.live
     → HaveSameFirst (problem_of old) (problem_of now) assign
 same_first old now assign work same i lt =

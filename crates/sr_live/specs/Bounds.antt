@@ -3,7 +3,8 @@
 -- more than a cheapest one.
 -- Source: linear programming duality and complementary slackness.
 
-use Rattle.std.specs.Prelude.{⊤, ◌≡◌, ℕ, ◌+◌, ◌-◌, ◌*◌, ◌<◌, ◌≤◌, List, [], ◌∷◌, Option, drop, map, min, slice_index_or}
+use Rattle.std.specs.Prelude.{⊤, ◌≡◌, ℕ, ◌+◌, ◌-◌, ◌*◌, ◌<◌, ◌≤◌, List, [], ◌∷◌, Option, drop, map, min, option_map}
+use Rattle.std.specs.Prelude.{slice_index_or}
 use Rattle.sr_policy.specs.declared.live.Live.{Live}
 use Rattle.sr_policy.specs.{room_at, tier_count, Text, SnapshotState}
 use Rattle.sr_policy.specs.Problem.{free_room}
@@ -19,6 +20,17 @@ pub record IsSameWork (old now : SnapshotState) : Type 0 where
   pub stranded : old.stranded ≡ now.stranded
   pub rates : old.rates ≡ now.rates
   pub live : map terms_of old.live ≡ map terms_of now.live
+
+-- what a live consumer is charged with beyond its soft limit, if it has one
+abbrev pub fee_of : Live → Text × Option ℕ
+fee_of consumer = (consumer.name, option_map (λ tier. tier.1) consumer.tier)
+
+-- the same entries are stranded, at the same rates, and the same consumers are live, with the same fees. Their limits and
+-- soft limits may differ, and how many entries are pending for them
+pub record HaveSameCosts (old now : SnapshotState) : Type 0 where
+  pub stranded : old.stranded ≡ now.stranded
+  pub rates : old.rates ≡ now.rates
+  pub live : map fee_of old.live ≡ map fee_of now.live
 
 -- of so many entries that the consumer is given, how many are without a fee
 abbrev pub free_load : ℕ → Live → ℕ
@@ -56,6 +68,6 @@ gap_of shown assign prices = gap_from assign 0 prices shown.live
 -- the plan of the old snapshot can be carried out in the new one, and costs what it cost: there is room for it, and as
 -- many entries are without a fee
 pub record Fits (old now : SnapshotState) (assign : List ℕ) : Type 0 where
-  pub work : IsSameWork old now
+  pub work : HaveSameCosts old now
   pub room : HaveRoom assign 0 now.live
   pub free : free_loads assign 0 old.live ≡ free_loads assign 0 now.live

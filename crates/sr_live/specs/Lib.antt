@@ -5,9 +5,11 @@ pub mod Conclusion
 pub mod First
 pub mod Looked
 pub mod Looking
+pub mod Near
 pub mod Reading
 pub mod Rounds
 pub mod Said
 pub mod Server
+pub mod Spare
 pub mod Words
 pub mod steps

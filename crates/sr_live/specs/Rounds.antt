@@ -22,15 +22,21 @@ use Rattle.sr_live.specs.Conclusion.{IsCalled, IsUnanswered, SaysConcluded}
 use Rattle.sr_live.specs.Looked.{shown_of}
 use Rattle.sr_live.specs.Looking.{Exchange, IsLooked, Talks}
 use Rattle.sr_live.specs.Reading.{BreaksOff}
+use Rattle.sr_live.specs.Spare.{in_64_bits, with_spare, worth_by}
 use Rattle.sr_live.specs.Words.{last_word, words_for}
 
--- this was looked up in this talk, and the verdict is of the snapshot of it
+-- this was looked up in this talk, and the verdict is of the snapshot of it, with lower limits where places are to be
+-- left free
 pub record IsPlanned (rules : Rules) (asked : Asked) (at_most : Option ℕ) (talk : List Exchange) (planned : Planned)
     : Type 0 where
   pub looked : IsLooked asked at_most talk planned.looked.idles.items planned.looked.numbers.items
       planned.looked.rows.items planned.looked.last planned.looked.removed
-  pub snapshot : planned.verdict.snapshot
-      ≡ shown_of rules asked planned.looked.idles.items planned.looked.numbers.items planned.looked.rows.items
+  pub live : planned.live.items ≡ (shown_of rules asked planned.looked.idles.items planned.looked.numbers.items
+      planned.looked.rows.items).live
+  pub snapshot : planned.verdict.snapshot ≡ with_spare asked.spare (shown_of rules asked planned.looked.idles.items
+      planned.looked.numbers.items planned.looked.rows.items)
+  pub worth : planned.worth
+      ≡ worth_by asked.spare planned.live.items planned.verdict.snapshot planned.verdict.answer
 
 -- what was looked up in this talk is of no one moment: it makes no snapshot
 pub record HasChanged (rules : Rules) (asked : Asked) (at_most : Option ℕ) (talk : List Exchange) : Type 0 where
@@ -46,6 +52,10 @@ abbrev pub IsJudged : Rules → Asked → Option ℕ → List Exchange → Optio
 IsJudged rules asked at_most talk None = HasChanged rules asked at_most talk
 IsJudged rules asked at_most talk (Some planned) = IsPlanned rules asked at_most talk planned
 
+-- the gap at which a plan may be carried out: what was asked for, beside what free places may come to be worth
+abbrev pub within_of : Terms → Planned → ℕ
+within_of terms planned = in_64_bits (terms.within + planned.worth)
+
 -- a round up to this call of its script: the plan is of what was looked up, and the words are exactly those of the plan
 pub record IsReady (rules : Rules) (asked : Asked) (terms : Terms) (talk : List Exchange) (planned : Planned)
     (call : List Text) : Type 0 where
@@ -53,8 +63,9 @@ pub record IsReady (rules : Rules) (asked : Asked) (terms : Terms) (talk : List 
   pub before : List Exchange
   pub words : List Text
   pub planned_so : IsPlanned rules asked terms.at_most look planned
-  pub are_words : words_for planned.verdict.snapshot.group terms.within (last_word planned.looked.last) asked.idle
-      planned.looked.removed planned.looked.rows.items planned.verdict.snapshot planned.verdict.answer ≡ Some words
+  pub are_words : words_for planned.verdict.snapshot.group (within_of terms planned) (last_word planned.looked.last)
+      asked.idle planned.looked.removed planned.looked.rows.items planned.live.items planned.verdict.snapshot
+      planned.verdict.answer ≡ Some words
   pub called : IsCalled asked.key words before call
   pub spelled : talk ≡ look ++ before
 
@@ -68,10 +79,10 @@ pub record IsConcluded (rules : Rules) (asked : Asked) (terms : Terms) (talk : L
   pub says : SaysConcluded parts told
   pub spelled : talk ≡ first ++ (call, parts) ∷ []
 
--- all entries of the plan were claimed, and the gap is within what was asked for
+-- all entries of the plan were claimed, and the gap is one at which it may be carried out
 pub record FitsPlan (terms : Terms) (planned : Planned) (claimed gap : ℕ) : Type 0 where
   pub whole : claimed ≡ length planned.verdict.snapshot.stranded
-  pub within : gap ≤ terms.within
+  pub within : gap ≤ within_of terms planned
 
 -- the plan was carried out
 pub record IsDone (rules : Rules) (asked : Asked) (terms : Terms) (talk : List Exchange) (planned : Planned)
@@ -79,7 +90,7 @@ pub record IsDone (rules : Rules) (asked : Asked) (terms : Terms) (talk : List E
   pub concluded : IsConcluded rules asked terms talk planned (concluded.Done claimed gap)
   pub fits : FitsPlan terms planned claimed gap
 
--- there is no plan for what was looked up: too few places
+-- there is no plan for what was looked up: too few places, without those that are to be left free
 pub record IsImpossible (rules : Rules) (asked : Asked) (at_most : Option ℕ) (talk : List Exchange) (planned : Planned)
     : Type 0 where
   pub planned_so : IsPlanned rules asked at_most talk planned

@@ -66,9 +66,10 @@ plan_words group within last idle removed dead rows moves live prices =
     ++ decimal (length live) ∷ []
     ++ lives_words moves live prices
 
--- the words for a plan; none for a shortage
-abbrev pub words_for : Text → ℕ → Text → ℕ → ℕ → List Row → SnapshotState → PlanAnswer → Option (List Text)
-words_for group within last idle removed rows shown (best assign prices total) =
-    Some (plan_words group within last idle removed shown.dead rows (moves_of shown assign) shown.live
+-- the words for a plan, with the live consumers as they are bounded; none for a shortage
+abbrev pub words_for : Text → ℕ → Text → ℕ → ℕ → List Row → List Live → SnapshotState → PlanAnswer
+    → Option (List Text)
+words_for group within last idle removed rows live shown (best assign prices total) =
+    Some (plan_words group within last idle removed shown.dead rows (moves_of shown assign) live
     (prices_by shown.live prices))
-words_for group within last idle removed rows shown (short set) = None
+words_for group within last idle removed rows live shown (short set) = None

@@ -15,9 +15,10 @@ mod said;
 mod script;
 mod server;
 mod snapshot;
+mod spare;
 mod words;
 
-pub use bounds::{at_most_worse, still_cheapest};
+pub use bounds::{at_most_worse, fits_with_spare, holds_while_near, still_cheapest};
 pub use conclusion::{Concluded, conclude};
 pub use consumers::{look_idles, look_numbers};
 pub use fault::{LiveCall, LiveFault};

@@ -15,6 +15,8 @@ pub struct Asked {
     /// For how many milliseconds a consumer of the group may have been idle, or it is given nothing. `None`: any
     /// consumer of the policy that is not dead is given entries.
     pub seen_within: Option<u64>,
+    /// How many places of each live consumer the plan leaves free.
+    pub spare: u64,
     /// How many entries are read at a time at most, one or more.
     pub together: u64,
 }

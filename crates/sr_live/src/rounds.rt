@@ -4,18 +4,19 @@ ghost use Rattle.sr_live.specs.declared.fault.LiveFault.TheVariants.{Unfit};
 ghost use Rattle.sr_live.specs.declared.rounds.Ran.TheVariants.{Done};
 ghost use Rattle.sr_live.specs.Looking.{Exchange, Talks};
 ghost use Rattle.sr_live.specs.Reading.{BreaksOff, HasOnlyRead};
-ghost use Rattle.sr_live.specs.Rounds.{FitsPlan, HasBroken, HasFailed, HasMade, HasRun, IsJudged, IsPlanned};
+ghost use Rattle.sr_live.specs.Rounds.{FitsPlan, HasBroken, HasFailed, HasMade, HasRun, IsJudged, IsPlanned, within_of};
 
 use crate::conclusion::{Concluded, conclude};
 use crate::fault::LiveFault;
 use crate::looked::{Asked, Looked};
 use crate::looking::look;
-use crate::snapshot::{SnapshotFault, snapshot_of};
+use crate::snapshot::{SnapshotFault, live_consumers, snapshot_of};
+use crate::spare::worth_left;
 use crate::words::{Limits, script_words};
 use sr_bytes::Name;
 use sr_peer::Peer;
 use sr_plan::Verdict;
-use sr_policy::Policy;
+use sr_policy::{Live, Policy};
 use std::alloc::{AllocError, Global};
 
 /// How a plan is made and carried out.
@@ -34,8 +35,13 @@ pub struct Terms {
 pub struct Planned {
     /// What was looked up.
     pub looked: Looked,
-    /// A cheapest plan, or a shortage.
+    /// The live consumers, with their own limits.
+    pub live: Vec<Live>,
+    /// A cheapest plan within lower limits, or a shortage there.
     pub verdict: Verdict,
+    /// What the free places come to be worth at most, if each live consumer acknowledges as many entries as places were
+    /// to be left free.
+    pub worth: u64,
 }
 
 /// What came of the rounds.
@@ -93,6 +99,7 @@ fn judged<P: Peer>(
     ensures err { IfErr result (BreaksOff (P.sent peer.old) (P.sent peer.new)) }
 {
     let looked = look(peer, alloc, asked, at_most)?;
+    let live = live_consumers(alloc, policy, asked, &looked)?;
     let snapshot = match snapshot_of(alloc, policy, asked, &looked) {
         Ok(snapshot) => snapshot,
         Err(SnapshotFault::Memory) => return Err(LiveFault::Memory),
@@ -100,7 +107,13 @@ fn judged<P: Peer>(
         Err(SnapshotFault::Changed) => return Ok(None),
     };
     let verdict = Verdict::make(alloc, snapshot)?;
-    Ok(Some(Planned { looked, verdict }))
+    let worth = worth_left(alloc, &verdict, live.as_slice(), asked.spare)?;
+    Ok(Some(Planned {
+        looked,
+        live,
+        verdict,
+        worth,
+    }))
 }
 
 /// Makes plans and has Redis carry one out, in as many rounds as it takes, and at most `tries`.
@@ -161,13 +174,14 @@ fn round<P: Peer>(
         return Ok(None);
     };
     let limits = Limits {
-        within: terms.within,
+        within: allowed(terms, &planned),
         last: planned.looked.last,
         idle: asked.idle,
         removed: planned.looked.removed,
     };
     let rows = planned.looked.rows.as_slice();
-    let Some(words) = script_words(alloc, &planned.verdict, rows, limits)? else {
+    let live = planned.live.as_slice();
+    let Some(words) = script_words(alloc, &planned.verdict, live, rows, limits)? else {
         return Ok(Some(Ran::Impossible(planned)));
     };
     match conclude(peer, alloc, &asked.key, words.as_slice())? {
@@ -176,12 +190,20 @@ fn round<P: Peer>(
     }
 }
 
+/// The gap at which a plan may be carried out.
+fn allowed(terms: Terms, planned: &Planned) -> u64
+    ensures { result ≡ within_of terms planned.now }
+{
+    terms.within.saturating_add(planned.worth)
+}
+
 /// A plan that was carried out, if what the script answers fits it.
 fn done(terms: Terms, planned: Planned, claimed: u64, gap: u64) -> Result<Option<Ran>, LiveFault>
     ensures ok { IfOk result (λ ran. (ran ≡ Some (Done planned claimed gap)) × FitsPlan terms planned claimed gap) }
     ensures err { IfErr result (λ fault. (fault ≡ Unfit) × (FitsPlan terms planned claimed gap → ⊥)) }
 {
-    if claimed != planned.verdict.snapshot().stranded().len() as u64 || gap > terms.within {
+    let all = planned.verdict.snapshot().stranded().len() as u64;
+    if claimed != all || gap > allowed(terms, &planned) {
         return Err(LiveFault::Unfit);
     }
     Ok(Some(Ran::Done {

@@ -6,8 +6,10 @@ ghost use Rattle.sr_policy.specs.Snapshot.{IsSnapshot, is_among as among};
 ghost use Rattle.sr_space.specs.{listed};
 ghost use Rattle.sr_live.specs.Looked.{gone_of, is_seen as seen, live_by, may_receive as receives, number_of};
 ghost use Rattle.sr_live.specs.Looked.{shown_of, stranded_by};
+ghost use Rattle.sr_live.specs.Spare.{with_spare};
 
 use crate::looked::{Asked, Looked, Row};
+use crate::spare::lowered;
 use sr_bytes::{Fields, Name};
 use sr_ids::Id;
 use sr_policy::{Live, Policy, Rates, Snapshot, Stranded, weight_of};
@@ -30,7 +32,7 @@ pub enum SnapshotFault {
 }
 
 /// The snapshot of a group as it was looked up: what its dead consumers have left, and which other consumers of the
-/// policy could take it.
+/// policy could take it. Their limits are lower by the places that are to be left free.
 ///
 /// Source: docs/RECOVERY.md.
 pub fn snapshot_of(
@@ -39,8 +41,8 @@ pub fn snapshot_of(
     asked: &Asked,
     looked: &Looked,
 ) -> Result<Snapshot, SnapshotFault>
-    ensures ok { IfOk result (λ snapshot. snapshot
-        ≡ shown_of policy.now asked.now looked.now.idles.items looked.now.numbers.items looked.now.rows.items) }
+    ensures ok { IfOk result (λ snapshot. snapshot ≡ with_spare asked.now.spare
+        (shown_of policy.now asked.now looked.now.idles.items looked.now.numbers.items looked.now.rows.items)) }
     ensures many { IsErrOf result SnapshotFault.TooMany
         → most_stranded < length (flat_map (stranded_by policy.now) looked.now.rows.items) }
     ensures few { IsErrOf result SnapshotFault.Changed
@@ -98,15 +100,15 @@ impl Model for Gathered {
     } };
 }
 
-/// The parts of the snapshot of a group as it was looked up.
+/// The parts of the snapshot of a group as it was looked up, with lower limits.
 fn gather(
     alloc: Global,
     policy: &Policy,
     asked: &Asked,
     looked: &Looked,
 ) -> Result<Gathered, AllocError>
-    ensures { IfOk result (λ parts. parts
-        ≡ shown_of policy.now asked.now looked.now.idles.items looked.now.numbers.items looked.now.rows.items) }
+    ensures { IfOk result (λ parts. parts ≡ with_spare asked.now.spare
+        (shown_of policy.now asked.now looked.now.idles.items looked.now.numbers.items looked.now.rows.items)) }
 {
     let stranded = stranded_rows(alloc, policy, looked.rows.as_slice())?;
     let gone = gone_rows(alloc, looked.rows.as_slice())?;
@@ -119,7 +121,7 @@ fn gather(
         dead,
         stranded,
         gone,
-        live,
+        live: lowered(alloc, live.as_slice(), asked.spare)?,
         rates,
     })
 }
@@ -205,7 +207,7 @@ fn push_gone(list: &mut Vec<(Id, Name)>, alloc: Global, row: &Row) -> Result<(),
 }
 
 /// The consumers of the policy that are not dead and may be given entries, each with how many are pending for it.
-fn live_consumers(
+pub(crate) fn live_consumers(
     alloc: Global,
     policy: &Policy,
     asked: &Asked,

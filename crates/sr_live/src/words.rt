@@ -28,18 +28,20 @@ pub struct Limits {
 
 /// The words behind the key with which Redis is asked to carry out the plan of a verdict. `None` for a shortage.
 ///
-/// `rows` are the entries that are pending for the dead, as they were looked up.
+/// `live` are the live consumers with their own limits, and `rows` are the entries that are pending for the dead, as
+/// they were looked up.
 ///
 /// Source: Redis documentation, command EVAL.
 pub fn script_words(
     alloc: Global,
     verdict: &Verdict,
+    live: &[Live],
     rows: &[Row],
     limits: Limits,
 ) -> Result<Option<Vec<Name>>, AllocError>
     ensures { IfOk result (λ words. option_map (λ list. list.items) words
         ≡ words_for verdict.now.snapshot.group limits.within (last_word limits.last) limits.idle limits.removed rows.now
-        verdict.now.snapshot verdict.now.answer) }
+        live.now verdict.now.snapshot verdict.now.answer) }
 {
     let Some(prices) = verdict.prices() else {
         return Ok(None);
@@ -53,8 +55,8 @@ pub fn script_words(
     push_asked(&mut words, alloc, snapshot.group(), limits)?;
     push_number(&mut words, alloc, snapshot.dead().len() as u64)?;
     push_dead(&mut words, alloc, snapshot.dead(), rows)?;
-    push_number(&mut words, alloc, snapshot.live().len() as u64)?;
-    push_lives(&mut words, alloc, moves.as_slice(), snapshot.live(), prices)?;
+    push_number(&mut words, alloc, live.len() as u64)?;
+    push_lives(&mut words, alloc, moves.as_slice(), live, prices)?;
     Ok(Some(words))
 }
 
@@ -150,7 +152,10 @@ fn push_row(words: &mut Vec<Name>, alloc: Global, row: &Row) -> Result<(), Alloc
 }
 
 /// The moves as a list.
-fn list_of<'a>(alloc: Global, mut moves: Moves<'a>) -> Result<Vec<(Id, &'a Name)>, AllocError>
+pub(crate) fn list_of<'a>(
+    alloc: Global,
+    mut moves: Moves<'a>,
+) -> Result<Vec<(Id, &'a Name)>, AllocError>
     ensures { IfOk result (λ list. map (λ move. (move.0, move.1.now)) list.items ≡ moves.entry) }
 {
     let mut list = Vec::with_capacity(alloc, moves.len())?;
@@ -180,7 +185,7 @@ fn push_lives(
 }
 
 /// The prices of the next consumer, which then is read.
-fn next_prices<'a>(prices: &mut Prices<'a>) -> &'a [u64]
+pub(crate) fn next_prices<'a>(prices: &mut Prices<'a>) -> &'a [u64]
     ensures value { result.now ≡ (slice_index_or prices.old 0 ([], [])).1 }
     ensures left { prices.new ≡ drop 1 prices.old }
 {

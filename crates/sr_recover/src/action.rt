@@ -6,7 +6,9 @@ use crate::fault::{Fault, live_fault, unreadable};
 use crate::notes::{Notes, look_members};
 use crate::options::{Action, Options};
 use crate::place::{place_named, read_place};
-use crate::print::{print_done, print_gone, print_plan, print_stale, print_step, print_sum};
+use crate::print::{
+    print_done, print_gone, print_plan, print_spare, print_stale, print_step, print_sum,
+};
 use crate::wire::{Wire, authenticate, connect, select};
 use sr_bytes::Name;
 use sr_live::{Asked, LiveFault, Planned, Ran, Terms, look_idles, look_numbers, plan, run};
@@ -64,7 +66,7 @@ pub(crate) fn act(rt: &HostRuntime, options: &Options<'_>) -> Result<Status, Fau
     }
     let mut asked = asked(rt.alloc(), options)?;
     let mut moves = 0;
-    for _ in 0..=MAX_MOVES + MAX_SHORTER {
+    for _ in 0..=MAX_MOVES + MAX_SHORTER + 1 {
         let mut wire = connect(rt, &place, options.timeout)?;
         authenticate(
             &mut wire,
@@ -83,6 +85,10 @@ pub(crate) fn act(rt: &HostRuntime, options: &Options<'_>) -> Result<Status, Fau
             }
             // The rest of the reply may still come, so the next look-up has a connection of its own.
             Err(Fault::TooLong) if asked.together > 1 => asked.together /= 2,
+            Err(Fault::NoSpare) if asked.spare > 0 => {
+                print_spare(&mut rt.stderr(), asked.spare)?;
+                asked.spare = 0;
+            }
             ended => return ended,
         }
     }
@@ -156,7 +162,10 @@ fn show_plan(
         members: &members,
     };
     match plan(wire, rt.alloc(), policy, asked, options.at_most) {
-        Ok(planned) => print_planned(rt, options, notes, &planned, false),
+        Ok(planned) => {
+            see_spare(asked, &planned)?;
+            print_planned(rt, options, notes, &planned, false)
+        }
         Err(fault) => Err(live_fault(rt.alloc(), fault, wire.script())),
     }
 }
@@ -211,6 +220,9 @@ fn carry_out(
             Ok(ran) => ran,
             Err(fault) => return Err(live_fault(rt.alloc(), fault, wire.script())),
         };
+        if let Ran::Impossible(planned) = &ran {
+            see_spare(asked, planned)?;
+        }
         let is_last = is_last(options, &ran);
         let status = print_ran(rt, options, notes, step, &ran)?;
         if is_last {
@@ -218,6 +230,14 @@ fn carry_out(
         }
     }
     Ok(Status::Done)
+}
+
+/// Refuses a shortage while places are to be left free: there may be enough of them in all.
+fn see_spare(asked: &Asked, planned: &Planned) -> Result<(), Fault> {
+    if asked.spare > 0 && planned.verdict.total().is_none() {
+        return Err(Fault::NoSpare);
+    }
+    Ok(())
 }
 
 /// How many entries a plan has at most.
@@ -350,6 +370,7 @@ fn asked(alloc: Global, options: &Options<'_>) -> Result<Asked, Fault> {
         dead: names_in_order(alloc, dead.as_slice())?,
         idle: options.idle_over,
         seen_within: options.seen_within,
+        spare: options.spare,
         together: TOGETHER,
     })
 }

@@ -51,6 +51,8 @@ pub(crate) enum Fault {
     UnknownError(String),
     #[error("group: too many entries: 100,000 are looked at at most, and without --at-most 4,096 may be stranded")]
     TooMany,
+    #[error("group: too few places with --spare")]
+    NoSpare,
     #[error("group: it changed while it was looked at: try again")]
     Changed,
     #[error("output: a write failed")]

@@ -8,6 +8,9 @@ use std::convert::AsStr;
 /// The version: its date in CHANGELOG.md.
 const VERSION: &str = "2026-12-01";
 
+/// How many places may be left free: as many as a limit allows.
+const MAX_SPARE: u64 = 1_000_000_000;
+
 /// What the statuses mean.
 const STATUSES: &str = "Statuses:
   0  a plan is printed, or carried out
@@ -48,6 +51,8 @@ pub(crate) struct Options<'a> {
     pub(crate) idle_over: u64,
     /// For how many milliseconds a consumer may have been idle, or it is given nothing.
     pub(crate) seen_within: Option<u64>,
+    /// How many places of each live consumer are left free.
+    pub(crate) spare: u64,
     /// The user's name.
     pub(crate) user: Option<&'a str>,
     /// The path of the file with the password.
@@ -137,6 +142,13 @@ fn options_of<'a>(
             "--idle-over: a number from 0 to 1000000000000",
         )?,
         seen_within: seen_within(given.get_str("seen-within"))?,
+        spare: number(
+            given.get_str("spare"),
+            0,
+            0,
+            MAX_SPARE,
+            "--spare: a number from 0 to 1000000000",
+        )?,
         user: given.get_str("user"),
         password_file: given.get_str("password-file"),
         timeout: number(
@@ -267,6 +279,12 @@ fn planner<'a>(alloc: Global, name: &'a str, about: &'a str) -> Result<Command<'
             "seen-within",
             "MS",
             "Give entries to those consumers alone that have been idle for at most MS milliseconds",
+        ))?
+        .arg(valued(
+            alloc,
+            "spare",
+            "N",
+            "Leave N places of each consumer free, for what others do meanwhile [default: 0]",
         ))?
         .arg(
             Arg::new(alloc, "check")

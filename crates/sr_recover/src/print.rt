@@ -211,6 +211,12 @@ pub(crate) fn print_sum<W: Write>(out: &mut W) -> Result<(), Fault> {
     )
 }
 
+/// Notes that no places can be left free.
+pub(crate) fn print_spare<W: Write>(out: &mut W, spare: u64) -> Result<(), Fault> {
+    print_number(out, b"note: too few places with --spare ", spare)?;
+    say(out, b", so it is planned without it\n")
+}
+
 /// Prints what was not as it had been looked up.
 pub(crate) fn print_stale<W: Write>(
     out: &mut W,

@@ -9,6 +9,12 @@ returns-in_err-looked-clause-err g c =
     let broken = c.in_err-looked.ensures.err in
     breaks-passed c.from_residual.result _ _ _ c.from_residual.ensures.1 broken.looking broken.read
 
+pub returns-in_err-live-clause-err : goal.returns-in_err-live-clause-err
+returns-in_err-live-clause-err g c =
+    let seen = c.in_ok-looked.ensures.ok in
+    breaks-memory c.from_residual-in_err-live.result _ _ c.from_residual-in_err-live.ensures.1
+    (reads-whole _ _ _ _ seen.0 seen.1 (IsLooked-reads c.args.asked.now _ _ _ _ _ _ _ seen.2))
+
 pub returns-in-Err-Memory-clause-err : goal.returns-in-Err-Memory-clause-err
 returns-in-Err-Memory-clause-err g c =
     let seen = c.in_ok-looked.ensures.ok in
@@ -49,4 +55,10 @@ pub returns-in_err-verdict-clause-err : goal.returns-in_err-verdict-clause-err
 returns-in_err-verdict-clause-err g c =
     let seen = c.in_ok-looked.ensures.ok in
     breaks-memory c.from_residual-in_err-verdict.result _ _ c.from_residual-in_err-verdict.ensures.1
+    (reads-whole _ _ _ _ seen.0 seen.1 (IsLooked-reads c.args.asked.now _ _ _ _ _ _ _ seen.2))
+
+pub returns-in_err-worth-clause-err : goal.returns-in_err-worth-clause-err
+returns-in_err-worth-clause-err g c =
+    let seen = c.in_ok-looked.ensures.ok in
+    breaks-memory c.from_residual-in_err-worth.result _ _ c.from_residual-in_err-worth.ensures.1
     (reads-whole _ _ _ _ seen.0 seen.1 (IsLooked-reads c.args.asked.now _ _ _ _ _ _ _ seen.2))
