@@ -247,8 +247,14 @@ class Told:
             self.is_whole = False
             self.rows.setdefault(words[-1], []).extend([row[0], UNREAD] for row in reply)
         elif words[0] == b"XRANGE":
-            for row in (row for own in self.rows.values() for row in own if row[0] == words[2]):
-                row[1] = reply[0][1] if reply else None
+            self.add_range(*map(number_of, words[2:4]), int(words[5]) if len(words) > 4 else None, reply)
+
+    def add_range(self, first, last, count, reply):
+        """What a range tells, which is of no entry behind the last one if it lists as many as were asked for."""
+        there = {number_of(entry_id): fields for entry_id, fields in reply}
+        last = max(there) if len(reply) == count else last
+        for row in (row for own in self.rows.values() for row in own if first <= number_of(row[0]) <= last):
+            row[1] = there.get(number_of(row[0]))
 
     def seen(self):
         """With --at-most entries that come later are listed and not read: no plan has to do with them."""

@@ -20,10 +20,10 @@ GROUP = ["s", "g", "D"]
 WORKERS = 4
 SILENCE = 400  # milliseconds, for answers that stop: long enough that no other one is late on a busy machine
 HANGS = 5  # of the cuts every this many hangs too
-CALLS = ["XPENDING", "XINFO", "XPENDING", "XRANGE", "XRANGE", "XPENDING", "EVALSHA", "EVAL"]
+CALLS = ["XPENDING", "XINFO", "XPENDING", "XRANGE", "XPENDING", "EVALSHA", "EVAL"]
 FIRST_SENT = CALLS.index("EVALSHA")
 SEEN = ["--seen-within", 10**12]
-SEEN_CALL = 4  # with it: behind XINFO, XPENDING and two of XRANGE
+SEEN_CALL = 3  # with it: behind XINFO, XPENDING and XRANGE
 UNKNOWN = b"redis: the plan was sent, and what came of it is not known: "
 
 # What comes in place of an answer: no reply of RESP2, another one, or one that only begins well.
@@ -121,8 +121,7 @@ def garbage(lengths):
     for number in range(len(lengths)):
         for text in [*GARBAGE, *noise, *([] if number < FIRST_SENT else [ENDLESS])]:
             yield number, f"{text[:40]!r} in place of {CALLS[number]}", lambda _, text=text: Sent(text, "close")
-        if CALLS[number : number + 2] != ["XRANGE", "XRANGE"]:
-            yield number, f"another reply behind {CALLS[number]}", lambda text: Sent(text + b"+OK\r\n", "close")
+        yield number, f"another reply behind {CALLS[number]}", lambda text: Sent(text + b"+OK\r\n", "close")
 
 
 def lengths_of(side, *options):

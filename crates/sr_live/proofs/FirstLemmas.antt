@@ -68,6 +68,15 @@ finds-there wanted (suc left) row one there = λ later.
     some : (k : ℕ) → suc k ≢ 0
     some k = λ is. omega (arith, is)
 
+-- one entry
+pub Finds-one : (wanted : ℕ) (row : Row) → 0 < wanted
+    → Finds wanted (row ∷ []) (cond (is_some row.fields) (wanted - 1) wanted)
+Finds-one wanted row some = by (is_some row.fields) refl
+  where
+    by : (test : Bool) → is_some row.fields ≡ test → Finds wanted (row ∷ []) (cond test (wanted - 1) wanted)
+    by true there = finds-there wanted (wanted - 1) row (omega (arith, some)) there
+    by false gone = finds-gone wanted row some gone
+
 -- how many of them are stranded
 abbrev pub stranded_in : List Row → ℕ
 stranded_in rows = length (filter (λ (row : Row). is_some row.fields) rows)

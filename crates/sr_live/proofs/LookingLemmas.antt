@@ -1,13 +1,14 @@
 -- How a group is looked up: what one more word, entry or reply adds to what was asked and answered.
 use Rattle.std.proofs.Common.{◌≡◌, ℕ, ◌+◌, ◌-◌, ◌<◌, ◌≤◌, List, [], ◌∷◌, ◌++◌, length, get_or, map, take, drop, codes}
-use Rattle.std.proofs.Common.{Option, Result, Ok, refl, sym, ap, ◌∙◌, subst}
+use Rattle.std.proofs.Common.{Option, Result, Ok, refl, sym, ap, ◌∙◌, subst, inl, inr, arith}
 use Rattle.std.proofs.Common.{Bool, true, false, cond, ◌&&◌, ◌||◌, ◌==◌, nat_lt}
 use Rattle.std.proofs.Common.{append-nil, append_assoc, take-append-drop}
-use Rattle.std.proofs.lemmas.List.{flat_map_more, length-map, map-append, take_all, take_more}
+use Rattle.std.proofs.lemmas.Bool.{cases_order}
+use Rattle.std.proofs.lemmas.List.{flat_map_more, get_or_default, length-map, map-append, take_all, take_more}
 use Rattle.std.proofs.lemmas.List.Concat.{flat_map-append}
 use Rattle.std.proofs.lemmas.Result.{IfOk-at_ok, IfOk-weaker}
 use Rattle.std.specs.Io.KnownBytes.{Appends}
-use Rattle.std.specs.List.{flat_map}
+use Rattle.std.specs.List.{AllByRecursion, flat_map, list_all}
 use Rattle.std.specs.List.Sorted.{IsSortedBy}
 use Rattle.std.specs.Ordering.{is_lt, nat_cmp, ordering_then}
 use Rattle.std.specs.Result.{IfOk}
@@ -15,13 +16,13 @@ use Rattle.std.specs.declared.cmp.Ordering.TheVariants.{Less, Equal, Greater}
 use Rattle.sr_ids.specs.declared.id.Id.{Id}
 use Rattle.sr_ids.specs.{is_below, spelling}
 use Rattle.sr_policy.specs.{Text}
-use Rattle.sr_peer.specs.{Part, part_text, request_text}
+use Rattle.sr_peer.specs.{Array, Part, part_text, request_text}
 use Rattle.sr_live.specs.declared.looked.Row.{Row}
-use Rattle.sr_live.specs.Looking.{Exchange, LooksEntries, Talks, answered_of, asked_of, entry_call, listed_as}
-use Rattle.sr_live.specs.Said.{SayEntries, SaysEntry}
+use Rattle.sr_live.specs.Looking.{Exchange, LooksEntries, Talks, answered_of, asked_of, entry_call, listed_as, range_call}
+use Rattle.sr_live.specs.Said.{AreEntries, IsTold, Listed, SayEntries, SaysEntry, SaysRange, fields_at, is_between, reaches}
 use Rattle.sr_live.specs.steps.Listing.{Finds}
 use Rattle.sr_live.proofs.FirstLemmas.{Finds-more, Finds-none, finds-all, stranded_in}
-use Rattle.sr_live.proofs.TalkLemmas.{Talks-none, Talks-trans}
+use Rattle.sr_live.proofs.TalkLemmas.{Talks-none, Talks-one, Talks-trans}
 
 -- ---- what a call says is understood
 
@@ -147,7 +148,7 @@ talk-looks key [] [] say = refl
 talk-looks key [] (row ∷ rows) say = absurd say
 talk-looks key (reply ∷ replies) [] say = absurd say
 talk-looks key (reply ∷ replies) (row ∷ rows) say =
-    (reply, talk_of key replies rows, say.0, talk-looks key replies rows say.1, refl)
+    (row ∷ [], rows, inl (row, refl, refl, say.0), talk-looks key replies rows say.1, refl)
 
 -- the call for one entry
 abbrev call_text : Text → Id × Text → List ℕ
@@ -199,14 +200,14 @@ looks-together key sent got sent_then got_then requests answers parts listed old
 
 pub LooksEntries-append : (key : Text) (rows more : List Row) (front behind : List Exchange) → LooksEntries key rows front
     → LooksEntries key more behind → LooksEntries key (rows ++ more) (front ++ behind)
-LooksEntries-append key [] more front behind none looks =
-    subst (LooksEntries key more) (ap (λ (l : List Exchange). l ++ behind) (sym none)) looks
-LooksEntries-append key (row ∷ rows) more front behind (parts, others, says, rest, spelled) looks = (
-  parts,
-  others ++ behind,
-  says,
-  LooksEntries-append key rows more others behind rest looks,
-  ap (λ (l : List Exchange). l ++ behind) spelled,
+LooksEntries-append key rows more [] behind none looks =
+    subst (λ (l : List Row). LooksEntries key (l ++ more) behind) (sym none) looks
+LooksEntries-append key rows more (exchange ∷ front) behind (one, others, reads, rest, joined) looks = (
+  one,
+  others ++ more,
+  reads,
+  LooksEntries-append key others more front behind rest looks,
+  ap (λ (l : List Row). l ++ more) joined ∙ append_assoc one others more,
 )
 
 -- some of the entries were looked up, and these are left
@@ -273,6 +274,117 @@ found-together key sent got sent_then got_then none rows old now wanted left lis
       joined ∙ ap (λ (l : List Row). old ++ l) same,
       subst (Finds wanted more) (ap (λ (l : List Row). wanted - stranded_in l) (sym same) ∙ sym counted)
           (finds-all more wanted some count),
+    )
+
+-- ---- a range
+
+-- entries that rise, and one more
+pub rising-next : (entries : List Listed) (at : ℕ) (a b : Listed) → 1 ≤ at → at < length entries
+    → is_below (get_or entries (at - 1) a).0 (get_or entries at b).0 ≡ true
+    → ((k : ℕ) (d : Listed) → k + 1 < at → is_below (get_or entries k d).0 (get_or entries (k + 1) d).0 ≡ true)
+    → (k : ℕ) (d : Listed) → k + 1 < at + 1 → is_below (get_or entries k d).0 (get_or entries (k + 1) d).0 ≡ true
+rising-next entries at a b some within below before k d high = elim (cases_order (k + 1) at) [
+  | inr (inl less) ↦ before k d less
+  | inl same ↦
+      let is : k ≡ at - 1 = omega (arith, same) in
+      ap (λ (e : Listed). is_below e.0 (get_or entries (k + 1) d).0)
+      (get_or_default entries k d a (omega (arith, same, within)) ∙ ap (λ (i : ℕ). get_or entries i a) is)
+      ∙ ap (λ (e : Listed). is_below (get_or entries (at - 1) a).0 e.0)
+      (get_or_default entries (k + 1) d b (omega (arith, same, within)) ∙ ap (λ (i : ℕ). get_or entries i b) same)
+      ∙ below
+  | inr (inr past) ↦ absurd (omega (arith, past, high))
+]
+
+-- what is known of the entries that a reply lists
+pub says-range : (first last : Id) (count : ℕ) (parts : List Part) (entries seen : List Listed) → seen ≡ entries
+    → (body : List Part) × AreEntries body entries × (parts ≡ Array (length entries) ∷ body) → length seen ≤ count
+    → list_all (λ (entry : Listed). is_between first last entry.0) seen ≡ true
+    → ((k : ℕ) (d : Listed) → k + 1 < length seen → is_below (get_or seen k d).0 (get_or seen (k + 1) d).0 ≡ true)
+    → SaysRange first last count parts entries
+says-range first last count parts entries seen same (body, are, spelled) few inside rising = record {
+  body = body;
+  spelled = spelled;
+  are = are;
+  few = subst (λ (l : List Listed). length l ≤ count) same few;
+  inside = subst (λ (l : List Listed). list_all (λ (entry : Listed). is_between first last entry.0) l ≡ true) same inside;
+  rising = subst (λ (l : List Listed). (k : ℕ) (d : Listed) → k + 1 < length l
+      → is_below (get_or l k d).0 (get_or l (k + 1) d).0 ≡ true) same rising;
+}
+
+all-push : {X : Type 0} (P : X → Type 0) (xs : List X) (x : X) → AllByRecursion P xs → P x
+    → AllByRecursion P (xs ++ x ∷ [])
+all-push P [] x all one = (one, tt)
+all-push P (first ∷ xs) x all one = (all.0, all-push P xs x all.1 one)
+
+-- the first of the rows, this many, are as the entries of a range tell them
+abbrev pub AreTold : Id → Id → ℕ → List Listed → List (Id × Text) → ℕ → List Row → List Row → ℕ → ℕ → Type 0
+AreTold first last count entries listed n old now wanted left =
+    (more : List Row) × AllByRecursion (IsTold first last count entries) more × (map listed_as more ≡ take n listed)
+    × (now ≡ old ++ more) × Finds wanted more left
+
+module _ (first last : Id) (count : ℕ) (entries : List Listed) (listed : List (Id × Text)) (old : List Row) (wanted : ℕ)
+  where
+    pub AreTold-none : 0 < wanted → AreTold first last count entries listed 0 old old wanted wanted
+    AreTold-none some = ([], tt, refl, sym (append-nil old), Finds-none wanted some)
+
+    -- one more row
+    pub AreTold-next : (n : ℕ) (d one : Id × Text) (before now : List Row) (left_then left : ℕ) → n < length listed
+        → one ≡ get_or listed n one → 0 < left_then → reaches first last count entries (get_or listed n d).0 ≡ true
+        → AreTold first last count entries listed n old before wanted left_then
+        → (row : Row) × (listed_as row ≡ one) × (row.fields ≡ fields_at one.0 entries) × (now ≡ before ++ row ∷ [])
+        × Finds left_then (row ∷ []) left
+        → AreTold first last count entries listed (n + 1) old now wanted left
+    AreTold-next n d one before now left_then left within read some reached (more, all, are, is, found)
+        (row, same, has, pushed, finds) =
+        let id : row.id ≡ one.0 = ap (λ (entry : Id × Text). entry.0) same in
+        let there : row.id ≡ (get_or listed n d).0 =
+        id ∙ ap (λ (entry : Id × Text). entry.0) (read ∙ get_or_default listed n one d within) in
+        let told : IsTold first last count entries row = record {
+          reached = ap (reaches first last count entries) there ∙ reached;
+          fields = has ∙ ap (λ (id : Id). fields_at id entries) (sym id);
+        } in (
+          more ++ row ∷ [],
+          all-push (IsTold first last count entries) more row all told,
+          map-append listed_as more (row ∷ []) ∙ ap (λ (l : List (Id × Text)). l ++ listed_as row ∷ []) are
+              ∙ ap (λ (entry : Id × Text). take n listed ++ entry ∷ []) (same ∙ read) ∙ sym (take_more listed n one within),
+          pushed ∙ ap (λ (l : List Row). l ++ row ∷ []) is ∙ append_assoc old more (row ∷ []),
+          Finds-more wanted left_then left more (row ∷ []) some found finds,
+        )
+
+-- one call, and what its reply tells
+pub looks-range : (key : Text) (sent got sent_then got_then : Option (List ℕ)) (request answers : List ℕ)
+    (parts : List Part) (first last : Id) (count told wanted left : ℕ) (listed : List (Id × Text)) (old now : List Row)
+    → request ≡ request_text (range_call key first last count) → Appends sent sent_then request
+    → Appends got got_then answers → answers ≡ flat_map part_text parts
+    → (entries : List Listed) × (more : List Row) × SaysRange first last count parts entries
+    × AllByRecursion (IsTold first last count entries) more × (map listed_as more ≡ take told listed)
+    × (now ≡ old ++ more) × Finds wanted more left
+    → (talk : List Exchange) × (more : List Row) × Talks sent got sent_then got_then talk × LooksEntries key more talk
+    × (map listed_as more ≡ take told listed) × (now ≡ old ++ more) × Finds wanted more left
+looks-range key sent got sent_then got_then request answers parts first last count told wanted left listed old now asked
+    was_sent has_come spelled (entries, more, says, all, are, is, finds) = (
+      (range_call key first last count, parts) ∷ [],
+      more,
+      Talks-one sent got sent_then got_then (range_call key first last count) parts request answers asked spelled was_sent
+          has_come,
+      (
+        more,
+        [],
+        inr (record {
+          first = first;
+          last = last;
+          count = count;
+          entries = entries;
+          calls = refl;
+          says = says;
+          told = all;
+        }),
+        refl,
+        sym (append-nil more),
+      ),
+      are,
+      is,
+      finds,
     )
 
 -- ---- the order of ids

@@ -1,5 +1,5 @@
 -- Calls that only read: of a look-up that breaks off, what was sent before and what is sent then add up.
-use Rattle.std.proofs.Common.{◌≡◌, ℕ, List, [], ◌∷◌, ◌++◌, map, Option, Some, None, Result, Err, refl, sym, ap, ◌∙◌, subst}
+use Rattle.std.proofs.Common.{◌≡◌, ◌⊎◌, ℕ, List, [], ◌∷◌, ◌++◌, map, Option, Some, None, Result, Err, refl, sym, ap, ◌∙◌, subst}
 use Rattle.std.proofs.Common.{Ok, append-nil, append_assoc, inl, inr}
 use Rattle.std.proofs.KnownBytes.{Appends-nil, Appends-trans}
 use Rattle.std.proofs.lemmas.List.Concat.{flat_map-append}
@@ -19,7 +19,8 @@ use Rattle.sr_live.specs.declared.fault.LiveFault.TheVariants.{Memory}
 use Rattle.sr_live.specs.declared.looked.Asked.{Asked}
 use Rattle.sr_live.specs.declared.looked.Row.{Row}
 use Rattle.sr_live.specs.Looking.{Exchange, IsLooked, ListsDead, ListsPages, LooksEntries, LooksIdle, LooksLive, LooksRows}
-use Rattle.sr_live.specs.Looking.{Talks, asked_of, entry_call, last_of, numbers_call, pending_call, start_after}
+use Rattle.sr_live.specs.Looking.{ReadsOne, ReadsRange, Talks, asked_of, entry_call, last_of, numbers_call, pending_call}
+use Rattle.sr_live.specs.Looking.{range_call, start_after}
 use Rattle.sr_live.specs.Reading.{BreaksOff, HasOnlyRead, IsOfLooking, Reads}
 
 -- ---- what was sent
@@ -82,6 +83,13 @@ reads-part sent sent_then call request is reads part = record {
     sends = part.sends;
   };
 }
+
+-- a request for a range, or a part of it
+pub reads-range : (sent sent_then : Option (List ℕ)) (key : Text) (first last : Id) (count : ℕ) (request : List ℕ)
+    → request ≡ request_text (range_call key first last count) → SendsPart sent sent_then request
+    → HasOnlyRead sent sent_then
+reads-range sent sent_then key first last count request is part =
+    reads-part sent sent_then (range_call key first last count) request is (inr (inr refl)) part
 
 -- requests for these entries, or a part of them
 entries-asked : (key : Text) (listed : List (Id × Text))
@@ -166,11 +174,18 @@ ListsDead-reads key group idle last (name ∷ dead) talk listed (own, others, id
     (reading-append own others (ListsPages-reads key group idle name last None own ids pages)
     (ListsDead-reads key group idle last dead others rest lists))
 
+ReadsRows-reads : (key : Text) (rows : List Row) (exchange : Exchange)
+    → ReadsOne key rows exchange ⊎ ReadsRange key rows exchange → Reads exchange.0
+ReadsRows-reads key rows exchange (inl (row, one, is, says)) =
+    reads-as exchange.0 (entry_call key row.id) is (entry-reads key row.id)
+ReadsRows-reads key rows exchange (inr range) =
+    reads-as exchange.0 (range_call key range.first range.last range.count) range.calls (inr (inr refl))
+
 pub LooksEntries-reads : (key : Text) (rows : List Row) (talk : List Exchange) → LooksEntries key rows talk
     → AreReading talk
-LooksEntries-reads key [] talk looks = subst AreReading (sym looks) tt
-LooksEntries-reads key (row ∷ rows) talk (parts, others, says, looks, talk_is) =
-    subst AreReading (sym talk_is) (entry-reads key row.id, LooksEntries-reads key rows others looks)
+LooksEntries-reads key rows [] looks = tt
+LooksEntries-reads key rows (exchange ∷ talk) (front, behind, reads, looks, joined) =
+    (ReadsRows-reads key front exchange reads, LooksEntries-reads key behind talk looks)
 
 -- in any order
 pub reading-permutation : (xs ys : List Exchange) → IsPermutation xs ys → AreReading xs → AreReading ys

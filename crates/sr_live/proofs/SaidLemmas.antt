@@ -12,8 +12,8 @@ use Rattle.sr_policy.specs.{Text}
 use Rattle.sr_policy.specs.Rules.{value_at}
 use Rattle.sr_peer.specs.{Part, Array, Bulk, Int}
 use Rattle.sr_peer.specs.Reply.{NullArray, NullBulk, items_of}
-use Rattle.sr_live.specs.Said.{ArePendingRows, IsFront, IsPendingRow, SayConsumers, SaysConsumer, SaysEntry, SaysNumbers}
-use Rattle.sr_live.specs.Said.{SaysRemoved, consumer_parts, fields_parts, number_parts, pairs_parts}
+use Rattle.sr_live.specs.Said.{AreEntries, ArePendingRows, IsEntry, IsFront, IsPendingRow, Listed, SayConsumers, SaysConsumer}
+use Rattle.sr_live.specs.Said.{SaysEntry, SaysNumbers, SaysRemoved, consumer_parts, fields_parts, number_parts, pairs_parts}
 
 -- ---- the first field with a name, after one more field
 
@@ -183,6 +183,53 @@ pub fields-spelled : (text : List ℕ) (fields : List (Text × Text)) (n places 
     → c ≡ pairs_parts fields ++ rest
     → all ≡ Array 2 ∷ Bulk text ∷ Array (2 * length fields) ∷ pairs_parts fields ++ rest
 fields-spelled text fields n places all a b c rest two count header first second pairs = cc
+
+-- the entry that is read part by part
+pub IsEntry-from : (id : Id) (text : List ℕ) (fields : List (Text × Text)) (n places : ℕ) (all a b c rest : List Part)
+    → SpellsId 0 text id → n ≡ 2 → places ≡ 2 * length fields → all ≡ Array n ∷ a → a ≡ Bulk text ∷ b
+    → b ≡ Array places ∷ c → c ≡ pairs_parts fields ++ rest
+    → (front : List Part) × IsEntry front (id, fields) × (all ≡ front ++ rest)
+IsEntry-from id text fields n places all a b c rest spells two count header first second pairs = (
+  Array 2 ∷ Bulk text ∷ Array (2 * length fields) ∷ pairs_parts fields,
+  record { text = text; spells = spells; spelled = refl },
+  fields-spelled text fields n places all a b c rest two count header first second pairs,
+)
+
+-- an entry that has this id
+pub entry-named : (id : Id) (entry : Listed) (all rest : List Part) → entry.0 ≡ id
+    → (front : List Part) × IsEntry front entry × (all ≡ front ++ rest)
+    → (text : List ℕ) × SpellsId 0 text id
+    × (all ≡ Array 2 ∷ Bulk text ∷ Array (2 * length entry.1) ∷ pairs_parts entry.1 ++ rest)
+entry-named id entry all rest same (front, is, spelled) = (
+  is.text,
+  subst (SpellsId 0 is.text) same is.spells,
+  spelled ∙ ap (λ (l : List Part). l ++ rest) is.spelled,
+)
+
+AreEntries-push : (parts : List Part) (entries : List Listed) (front : List Part) (entry : Listed)
+    → AreEntries parts entries → IsEntry front entry → AreEntries (parts ++ front) (entries ++ entry ∷ [])
+AreEntries-push parts [] front entry before is =
+    (front, [], is, refl, ap (λ (l : List Part). l ++ front) before ∙ sym (append-nil front))
+AreEntries-push parts (first ∷ entries) front entry (one, others, has, are, spelled) is = (
+  one,
+  others ++ front,
+  has,
+  AreEntries-push others entries front entry are is,
+  ap (λ (l : List Part). l ++ front) spelled ∙ append_assoc one others front,
+)
+
+-- the entries so far, and one more
+pub entries-next : (all left rest : List Part) (entries now : List Listed) (entry : Listed) (n : ℕ)
+    → now ≡ entries ++ entry ∷ []
+    → (body : List Part) × AreEntries body entries × (length entries ≡ n) × (all ≡ body ++ left)
+    → (front : List Part) × IsEntry front entry × (left ≡ front ++ rest)
+    → (body : List Part) × AreEntries body now × (length now ≡ n + 1) × (all ≡ body ++ rest)
+entries-next all left rest entries now entry n pushed (body, before, count, spelled) (front, is, next) = (
+  body ++ front,
+  subst (AreEntries (body ++ front)) (sym pushed) (AreEntries-push body entries front entry before is),
+  ap length pushed ∙ length-push entries entry n count,
+  spelled ∙ ap (λ (l : List Part). body ++ l) next ∙ sym (append_assoc body front rest),
+)
 
 pub SaysEntry-one : (id : Id) (fields : List (Text × Text)) (n : ℕ) (all left rest : List Part) → n ≡ 1
     → all ≡ Array n ∷ left

@@ -4,7 +4,7 @@
 use Rattle.std.specs.Prelude.{◌≡◌, ◌⊎◌, ⊤, ℕ, ◌<◌, ◌≤◌, Bool, true, false, not, List, [], ◌∷◌, ◌++◌, length, map, codes}
 use Rattle.std.specs.Prelude.{decimal, Option, Some, None}
 use Rattle.std.specs.Io.KnownBytes.{Appends}
-use Rattle.std.specs.List.{flat_map}
+use Rattle.std.specs.List.{AllByRecursion, flat_map}
 use Rattle.std.specs.List.Sorted.{IsPermutation, IsSortedBy}
 use Rattle.sr_ids.specs.declared.id.Id.{Id}
 use Rattle.sr_ids.specs.{is_below, spelling}
@@ -13,7 +13,7 @@ use Rattle.sr_peer.specs.{Part, part_text, request_text}
 use Rattle.sr_live.specs.declared.looked.Asked.{Asked}
 use Rattle.sr_live.specs.declared.looked.Row.{Row}
 use Rattle.sr_live.specs.First.{kept_rows}
-use Rattle.sr_live.specs.Said.{SaysEntry, SaysIdle, SaysNumbers, SaysPending, SaysRemoved}
+use Rattle.sr_live.specs.Said.{IsTold, Listed, SaysEntry, SaysIdle, SaysNumbers, SaysPending, SaysRange, SaysRemoved}
 
 -- a call in words, and the parts of its reply
 abbrev pub Exchange : Type 0
@@ -53,6 +53,11 @@ pending_call key group idle start name = pending_words key group (decimal idle) 
 
 abbrev pub entry_call : Text → Id → List Text
 entry_call key id = codes "XRANGE" ∷ key ∷ spelling id ∷ spelling id ∷ []
+
+-- the first entries of those from one id to another
+abbrev pub range_call : Text → Id → Id → ℕ → List Text
+range_call key first last count =
+    codes "XRANGE" ∷ key ∷ spelling first ∷ spelling last ∷ codes "COUNT" ∷ decimal count ∷ []
 
 -- ---- what is looked up
 
@@ -95,12 +100,27 @@ ListsDead key group idle last (name ∷ dead) talk listed =
     × ListsPages key group idle name last None own ids × ListsDead key group idle last dead others rest
     × (talk ≡ own ++ others) × (listed ≡ map (λ id. (id, name)) ids ++ rest)
 
--- each of these entries as it is in the stream
+-- one row was read: its entry as it is in the stream
+abbrev pub ReadsOne : Text → List Row → Exchange → Type 0
+ReadsOne key rows exchange =
+    (row : Row) × (rows ≡ row ∷ []) × (exchange.0 ≡ entry_call key row.id) × SaysEntry exchange.1 row.id row.fields
+
+-- rows were read by a range that begins and ends somewhere: each is as the range tells it
+pub record ReadsRange (key : Text) (rows : List Row) (exchange : Exchange) : Type 0 where
+  pub first : Id
+  pub last : Id
+  pub count : ℕ
+  pub entries : List Listed
+  pub calls : exchange.0 ≡ range_call key first last count
+  pub says : SaysRange first last count exchange.1 entries
+  pub told : AllByRecursion (IsTold first last count entries) rows
+
+-- each of these rows was read, in their order
 abbrev pub LooksEntries : Text → List Row → List Exchange → Type 0
-LooksEntries key [] talk = talk ≡ []
-LooksEntries key (row ∷ rows) talk =
-    (parts : List Part) × (others : List Exchange) × SaysEntry parts row.id row.fields
-    × LooksEntries key rows others × (talk ≡ (entry_call key row.id, parts) ∷ others)
+LooksEntries key rows [] = rows ≡ []
+LooksEntries key rows (exchange ∷ talk) =
+    (front : List Row) × (behind : List Row) × (ReadsOne key front exchange ⊎ ReadsRange key front exchange)
+    × LooksEntries key behind talk × (rows ≡ front ++ behind)
 
 -- an entry with its owner, as it was listed
 abbrev pub listed_as : Row → Id × Text

@@ -1,11 +1,11 @@
 -- What the replies of Redis say of a group.
 -- Source: Redis documentation, commands XINFO STREAM, XINFO CONSUMERS, XPENDING and XRANGE.
 
-use Rattle.std.specs.Prelude.{◌≡◌, ⊤, ◌⊎◌, ℕ, ◌+◌, ◌*◌, ℤ, pos, List, [], ◌∷◌, ◌++◌, length, codes, decimal}
-use Rattle.std.specs.Prelude.{Option, Some, None}
-use Rattle.std.specs.List.{AllByRecursion, flat_map}
+use Rattle.std.specs.Prelude.{◌≡◌, ⊤, ◌⊎◌, ℕ, ◌+◌, ◌*◌, ◌<◌, ◌≤◌, ℤ, pos, List, [], ◌∷◌, ◌++◌, length, codes, decimal}
+use Rattle.std.specs.Prelude.{Bool, true, not, ◌&&◌, ◌||◌, nat_lt, slice_index_or, if◌then◌else◌, Option, Some, None}
+use Rattle.std.specs.List.{AllByRecursion, flat_map, list_all, list_any}
 use Rattle.sr_ids.specs.declared.id.Id.{Id}
-use Rattle.sr_ids.specs.{SpellsId}
+use Rattle.sr_ids.specs.{SpellsId, is_below, is_same_id}
 use Rattle.sr_policy.specs.{Text}
 use Rattle.sr_policy.specs.Rules.{value_at}
 use Rattle.sr_peer.specs.{Part, Array, Bulk, Int}
@@ -116,3 +116,52 @@ SayEntries [] [] = ⊤
 SayEntries (parts ∷ replies) (row ∷ rows) = SaysEntry parts row.id row.fields × SayEntries replies rows
 SayEntries [] (row ∷ rows) = ⊥
 SayEntries (parts ∷ replies) [] = ⊥
+
+-- ---- XRANGE with COUNT: entries from one id to another, in order, no more than that
+
+-- an entry that is listed: its id, and its fields
+abbrev pub Listed : Type 0
+Listed = Id × List (Text × Text)
+
+pub record IsEntry (parts : List Part) (entry : Listed) : Type 0 where
+  pub text : List ℕ
+  pub spells : SpellsId 0 text entry.0
+  pub spelled : parts ≡ Array 2 ∷ Bulk text ∷ Array (2 * length entry.1) ∷ pairs_parts entry.1
+
+-- the parts are such entries, one after another
+abbrev pub AreEntries : List Part → List Listed → Type 0
+AreEntries parts [] = parts ≡ []
+AreEntries parts (entry ∷ entries) =
+    (front : List Part) × (behind : List Part) × IsEntry front entry × AreEntries behind entries
+    × (parts ≡ front ++ behind)
+
+-- the id is one of those from the first to the last
+abbrev pub is_between : Id → Id → Id → Bool
+is_between first last id = not (is_below id first) && not (is_below last id)
+
+-- the reply lists these entries
+pub record SaysRange (first last : Id) (count : ℕ) (parts : List Part) (entries : List Listed) : Type 0 where
+  pub body : List Part
+  pub spelled : parts ≡ Array (length entries) ∷ body
+  pub are : AreEntries body entries
+  pub few : length entries ≤ count
+  pub inside : list_all (λ entry. is_between first last entry.0) entries ≡ true
+  pub rising : (k : ℕ) → (d : Listed) → k + 1 < length entries
+      → is_below (slice_index_or entries k d).0 (slice_index_or entries (k + 1) d).0 ≡ true
+
+-- the fields of the listed entry with this id, if one has it
+abbrev pub fields_at : Id → List Listed → Option (List (Text × Text))
+fields_at id [] = None
+fields_at id (entry ∷ entries) = if is_same_id entry.0 id then Some entry.1 else fields_at id entries
+
+-- whether it is listed, or not in the stream: all from the first id to the last are listed, since they are fewer than
+-- were asked for; or all up to this id, since one is listed that does not come before it
+abbrev pub reaches : Id → Id → ℕ → List Listed → Id → Bool
+reaches first last count entries id =
+    is_between first last id
+    && (nat_lt (length entries) count || list_any (λ entry. not (is_below entry.0 id)) entries)
+
+-- the entries tell what the stream has at the id of this row: the entry with its fields, or nothing
+pub record IsTold (first last : Id) (count : ℕ) (entries : List Listed) (row : Row) : Type 0 where
+  pub reached : reaches first last count entries row.id ≡ true
+  pub fields : row.fields ≡ fields_at row.id entries

@@ -1,5 +1,5 @@
 //! What the stream has of the entries that are pending for the dead.
-ghost use Rattle.std.specs.Prelude.{◌≡◌, ◌++◌, ◌<◌, ◌≤◌, List, filter, is_some, length, map, IfErr, IfOk, OnOk};
+ghost use Rattle.std.specs.Prelude.{◌≡◌, ◌++◌, ◌<◌, ◌≤◌, List, filter, is_some, length, map, take, IfErr, IfOk, OnOk};
 ghost use Rattle.std.specs.List.{flat_map};
 ghost use Rattle.sr_ids.specs.declared.id.Id.{Id};
 ghost use Rattle.sr_policy.specs.{Text};
@@ -14,6 +14,7 @@ ghost use Rattle.sr_live.specs.steps.Listing.{Finds};
 use crate::fault::{LiveCall, LiveFault};
 use crate::looked::{Asked, Row};
 use crate::looking::{append_request, understood};
+use crate::ranges::{Pace, look_range};
 use crate::said::{Misread, end, entry_said};
 use sr_bytes::Name;
 use sr_ids::{Id, write_id};
@@ -30,6 +31,8 @@ pub(crate) struct Found {
     pub(crate) rows: Vec<Row>,
     /// How many more stranded ones are wanted.
     pub(crate) wanted: u64,
+    /// How the next ones are read.
+    pub(crate) pace: Pace,
 }
 
 /// Looks up the fields of the first of these entries, some of them at a time, until as many as are wanted are stranded.
@@ -53,18 +56,49 @@ pub(crate) fn look_first<P: Peer>(
         if found.rows.len() >= MAX_ROWS {
             return Err(LiveFault::TooMany);
         }
-        let most = found
-            .wanted
-            .min(asked.together.max(1))
-            .min(left.len() as u64);
-        let (together, rest) = left.split_at(most as usize);
-        look_some(peer, alloc, asked, together, found)?;
+        let count = look_next(peer, alloc, asked, left, found)?;
+        let (_together, rest) = left.split_at(count);
         left = rest;
     }
     Ok(())
 }
 
-/// Looks up the fields of these entries, no more than are wanted.
+/// Looks up the fields of some of these entries, of the first one at least, and answers of how many: by a range, or one
+/// by one, after a range that listed many others.
+fn look_next<P: Peer>(
+    peer: &mut P,
+    alloc: Global,
+    asked: &Asked,
+    listed: &[(Id, Name)],
+    found: &mut Found,
+) -> Result<usize, LiveFault>
+    requires listed { 0 < length listed.now }
+    requires some { 0 < found.old.wanted }
+    ensures some { IfOk result (λ count. (0 < count) × (count ≤ length listed.now)) }
+    ensures ok { IfOk result (λ count. (talk : List Exchange) × (more : List Row)
+        × Talks (P.sent peer.old) (P.got peer.old) (P.sent peer.new) (P.got peer.new) talk
+        × LooksEntries asked.now.key more talk × (map listed_as more ≡ take count listed.now)
+        × (found.new.rows.items ≡ found.old.rows.items ++ more)
+        × Finds found.old.wanted more found.new.wanted) }
+    ensures err { IfErr result (BreaksOff (P.sent peer.old) (P.sent peer.new)) }
+{
+    let most = found
+        .pace
+        .together
+        .min(asked.together)
+        .max(1)
+        .min(listed.len() as u64);
+    if found.pace.singly == 0 {
+        let (together, _rest) = listed.split_at(most as usize);
+        return look_range(peer, alloc, asked, together, found);
+    }
+    let count = most.min(found.wanted) as usize;
+    let (together, _rest) = listed.split_at(count);
+    look_some(peer, alloc, asked, together, found)?;
+    Ok(count)
+}
+
+/// Looks up the fields of these entries one by one, no more than are wanted.
 fn look_some<P: Peer>(
     peer: &mut P,
     alloc: Global,
@@ -83,6 +117,7 @@ fn look_some<P: Peer>(
 {
     let mut more = Vec::with_capacity(alloc, listed.len())?;
     look_together(peer, alloc, &asked.key, listed, &mut more)?;
+    found.pace = found.pace.after_single(listed.len() as u64);
     found.wanted = found.wanted.saturating_sub(count_stranded(more.as_slice()));
     found.rows.append(&mut more)?;
     Ok(())

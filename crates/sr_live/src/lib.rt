@@ -10,6 +10,7 @@ mod fault;
 mod listing;
 mod looked;
 mod looking;
+mod ranges;
 mod rounds;
 mod said;
 mod script;

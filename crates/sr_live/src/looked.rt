@@ -17,7 +17,7 @@ pub struct Asked {
     pub seen_within: Option<u64>,
     /// How many places of each live consumer the plan leaves free.
     pub spare: u64,
-    /// How many entries are read at a time at most, one or more.
+    /// How many entries are read at a time at most, one or more: few of long ones.
     pub together: u64,
 }
 

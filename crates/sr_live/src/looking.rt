@@ -16,6 +16,7 @@ use crate::entries::{Found, MAX_ROWS, look_first};
 use crate::fault::{LiveCall, LiveFault};
 use crate::listing::{Listing, PAGE, are_listed, count_sure, is_before, list_on, unlisted};
 use crate::looked::{Asked, Looked, Row};
+use crate::ranges::Pace;
 use crate::said::{Misread, removed_said};
 use sr_bytes::Name;
 use sr_ids::Id;
@@ -109,6 +110,7 @@ fn look_rows<P: Peer>(
         found: Found {
             rows: Vec::new(alloc),
             wanted: at_most.unwrap_or(MAX_STRANDED + 1).max(1),
+            pace: Pace::first(),
         },
     };
     // Each pass but the last has looked at a page or more.

@@ -9,8 +9,9 @@ ghost use Rattle.sr_peer.specs.Reply.{items_of};
 ghost use Rattle.sr_live.specs.Conclusion.{SaysConcluded};
 ghost use Rattle.sr_live.specs.declared.said.Misread.TheVariants.{Memory};
 ghost use Rattle.sr_live.specs.steps.Misread.{IsMisread, IsNoError};
-ghost use Rattle.sr_live.specs.Said.{IsFront, IsPendingRow, SaysConsumer, SaysEntry, SaysIdle, SaysNumbers};
-ghost use Rattle.sr_live.specs.Said.{SaysPending, SaysRemoved, consumer_parts, fields_parts, number_parts, pairs_parts};
+ghost use Rattle.sr_live.specs.Said.{AreEntries, IsEntry, IsFront, IsPendingRow, SaysConsumer, SaysEntry, SaysIdle};
+ghost use Rattle.sr_live.specs.Said.{SaysNumbers, SaysPending, SaysRemoved, consumer_parts, fields_parts, number_parts};
+ghost use Rattle.sr_live.specs.Said.{pairs_parts};
 
 use crate::conclusion::Concluded;
 use itoa::Buffer;
@@ -361,17 +362,46 @@ fn fields_said(alloc: Global, parts: &mut Parts<'_>, id: Id) -> Result<Fields, M
     ensures { IfOk result (λ fields. (text : List ℕ) × SpellsId 0 text id
         × (parts.old ≡ Array 2 ∷ Bulk text ∷ Array (2 * length fields) ∷ pairs_parts fields ++ parts.new)) }
 {
+    let (found, fields) = listed_said(alloc, parts)?;
+    if found != id {
+        return Err(Misread::Shape);
+    }
+    Ok(fields)
+}
+
+/// The entries that XRANGE lists, each with its fields.
+///
+/// Source: Redis documentation, command XRANGE.
+pub(crate) fn entries_said(
+    alloc: Global,
+    mut parts: Parts<'_>,
+) -> Result<Vec<(Id, Fields)>, Misread>
+    ensures { IfOk result (λ entries. (body : List wire.Part) × AreEntries body entries.items
+        × (parts.entry ≡ Array (length entries.items) ∷ body)) }
+{
+    let count = header(alloc, &mut parts)?;
+    let mut entries = Vec::new(alloc);
+    for _ in 0..count {
+        entries.push(listed_said(alloc, &mut parts)?)?;
+    }
+    end(&mut parts)?;
+    Ok(entries)
+}
+
+/// The next entry, with its fields.
+fn listed_said(alloc: Global, parts: &mut Parts<'_>) -> Result<(Id, Fields), Misread>
+    ensures { IfOk result (λ entry. (front : List wire.Part) × IsEntry front entry
+        × (parts.old ≡ front ++ parts.new)) }
+{
     if header(alloc, parts)? != 2 {
         return Err(Misread::Shape);
     }
-    if id_said(parts)? != id {
-        return Err(Misread::Shape);
-    }
+    let id = id_said(parts)?;
     let places = header(alloc, parts)?;
     if places % 2 != 0 {
         return Err(Misread::Shape);
     }
-    pairs_said(alloc, parts, places / 2)
+    Ok((id, pairs_said(alloc, parts, places / 2)?))
 }
 
 /// The next fields with their values, which are so many.

@@ -26,8 +26,11 @@ const MAX_STEPS: u64 = 1_000_000;
 /// How many times the key may have moved to another node.
 const MAX_MOVES: usize = 16;
 
-/// How many entries are read at a time at first.
-const TOGETHER: u64 = 32;
+/// How many entries are read at a time at most.
+const TOGETHER: u64 = 256;
+
+/// How many are read at a time at most after a reply that was too long.
+const FEWER_TOGETHER: u64 = 16;
 
 /// How many times fewer are read at a time, until it is one.
 const MAX_SHORTER: usize = 5;
@@ -84,7 +87,9 @@ pub(crate) fn act(rt: &HostRuntime, options: &Options<'_>) -> Result<Status, Fau
                 place = place_named(rt.alloc(), &place, to.as_str())?;
             }
             // The rest of the reply may still come, so the next look-up has a connection of its own.
-            Err(Fault::TooLong) if asked.together > 1 => asked.together /= 2,
+            Err(Fault::TooLong) if asked.together > 1 => {
+                asked.together = (asked.together / 2).min(FEWER_TOGETHER);
+            }
             Err(Fault::NoSpare) if asked.spare > 0 => {
                 print_spare(&mut rt.stderr(), asked.spare)?;
                 asked.spare = 0;
