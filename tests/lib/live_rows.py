@@ -113,6 +113,7 @@ GONE_ROWS = [
     ("the other one is deleted", "XDEL s 2-1", stale(b"entry", b"2-1")),
     ("the gone entry is acknowledged and the dead gets one more", "XACK s g 1-1\nXCLAIM s g D 0 0-2", stale(b"pending", b"D")),
     ("the dead gets one more behind", "XADD s 3-1 c x\nXREADGROUP GROUP g D STREAMS s >", stale(b"pending", b"D")),
+    ("the dead gets one that is gone, before the first entry", "XCLAIM s g D 0 0-2\nXTRIM s MINID 2-1", done(1)),
 ]
 
 # 1-1 has been idle for longer than asked for, and 2-1 has not: the plan gives 1-1 to A, at 2, with prices of 0. What is
@@ -336,8 +337,8 @@ def pages(board):
 
 
 def gone(board):
-    """Entries that were gone when the group was looked up: they are listed, in pages, and none of them is read; nor is one
-    that is there, if none was removed since."""
+    """Entries that were gone when the group was looked up: they are listed, in pages, but not those before the first entry of
+    the stream; none of them is read, nor is one that is there, if none was removed since."""
     for number in (1, 999, 1000, 1001, 2500):
         for left in (1, number // 2 + 1, number):
             board.begin(stranded(number))
@@ -349,6 +350,8 @@ def gone(board):
                 all_replies(board.connection, [["CONFIG", "RESETSTAT"]])
                 board.conclude(f"{number} entries, {len(ids)} gone, {len(acknowledged)} acknowledged", plan, done(1))
                 board.check("calls of XRANGE", 0, stat(board.connection, b"xrange", b"calls"))
+                if left == number:
+                    board.check("calls of XPENDING behind gone ones", 2, stat(board.connection, b"xpending", b"calls"))
                 all_replies(board.connection, [["XCLAIM", "s", "g", "D", 0, f"{left}-1", "JUSTID"]])
 
 

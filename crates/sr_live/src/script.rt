@@ -14,10 +14,11 @@ pub const SCRIPT: &str =
 --
 -- Compared: these rows are pending for the dead, as idle as asked for, and no others (but those that have become as
 -- idle since then, if any time is asked for), and none of their entries is deleted: if as many entries were removed as
--- had been, none was since, and none is read. What was gone does not matter, since no plan moves it. Each live
--- consumer has room for what it is given, and as many of its entries are without a fee. Then the plan is still an
--- assignment at the total that it had. No plan of this moment costs less than it by more than the gap, which is price
--- times free places, summed over all tiers; at a gap of 0 it is still cheapest.
+-- had been, none was since, and none is read. What was gone does not matter, since no plan moves it; nor does what is
+-- pending before the first entry of the stream, which is gone. Each live consumer has room for what it is given, and as
+-- many of its entries are without a fee. Then the plan is still an assignment at the total that it had. No plan of this
+-- moment costs less than it by more than the gap, which is price times free places, summed over all tiers; at a gap of 0
+-- it is still cheapest.
 --
 -- Answers:  done, how many entries were claimed, the gap
 --           stale, and then  group NAME    there is no such group, or no such key
@@ -101,10 +102,10 @@ local function behind_gone(rows, at, id)
   return at
 end
 
--- Whether these rows are pending for the consumer, and no others. It asks for one more than these. If entries have to
--- be idle, others may have become so since then.
-local function are_pending(group, last, idle, dead)
-  local rows, at, start = dead.rows, 1, '-'
+-- Whether these rows are pending for the consumer from this id on, and no others. It asks for one more than these. If
+-- entries have to be idle, others may have become so since then.
+local function are_pending(group, start, last, idle, dead)
+  local rows, at = dead.rows, 1
   local is_any = idle == '0'
   repeat
     local count = is_any and math.min(MOST_ROWS, #rows + 2 - at) or MOST_ROWS
@@ -122,22 +123,25 @@ local function are_pending(group, last, idle, dead)
   return behind_gone(rows, at) > #rows
 end
 
--- Whether no entry was removed since this many had been: those that were added less those that are there.
-local function is_whole(removed)
+-- What is known of the stream: whether no entry was removed since this many had been, by those that were added less
+-- those that are there; and the id of its first entry.
+local function read_stream(removed)
   local stream, fields = redis.call('XINFO', 'STREAM', key), {}
   for at = 1, #stream, 2 do
     fields[stream[at]] = stream[at + 1]
   end
-  local added = fields['entries-added']
-  return added < EXACT and added - fields['length'] == removed
+  local added, first = fields['entries-added'], fields['first-entry']
+  return { is_whole = added < EXACT and added - fields['length'] == removed, first = first and first[1] or '-' }
 end
 
--- What is not as it was with a dead consumer, as two words, or nil.
-local function change_of(group, last, idle, whole, dead)
-  if not are_pending(group, last, idle, dead) then
+-- What is not as it was with a dead consumer, as two words, or nil. What is pending before the first entry of the stream
+-- is gone, and there may be much of it, so it is asked for only if the rest is not as it was: then for what has changed.
+local function change_of(group, last, idle, stream, dead)
+  local is_same = are_pending(group, stream.first, last, idle, dead) or are_pending(group, '-', last, idle, dead)
+  if not is_same then
     return 'pending', dead.name
   end
-  for _, row in ipairs(whole and {} or dead.rows) do
+  for _, row in ipairs(stream.is_whole and {} or dead.rows) do
     if row.is_there and #redis.call('XRANGE', key, row.id, row.id) == 0 then
       return 'entry', row.id
     end
@@ -179,9 +183,9 @@ local function conclude()
   if fault then
     return fault.err:find('^NOGROUP') and { 'stale', 'group', group } or fault
   end
-  local whole = is_whole(removed)
+  local stream = read_stream(removed)
   for _, one in ipairs(dead) do
-    local what, which = change_of(group, last, idle, whole, one)
+    local what, which = change_of(group, last, idle, stream, one)
     if what then
       return { 'stale', what, which }
     end
