@@ -54,8 +54,8 @@ settled_after_event token slots turns =
     then (if has_ended (slot_at slots token) then with_first_turn token turns else with_turn token turns)
     else turns
 
--- this is told of the connection at a token: bytes, at most as many as there is room; room, after a write that came short;
--- or that it is over, which was noted of it
+-- this is told of the connection at a token: bytes, at most as many as there is room; room, after a write that came
+-- short; or that it is over, which was noted of it
 abbrev pub IsHeardOf : ℕ → ℕ → SlotState → Heard → Type 0
 IsHeardOf token room slot heard.Came = ⊥
 IsHeardOf token room slot (heard.Bytes of count) = (of ≡ token) × (count ≤ room)

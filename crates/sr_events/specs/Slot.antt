@@ -89,8 +89,8 @@ EndsBy false token old told new = (told ≡ None) × (new ≡ record old { ended
 abbrev pub Ends : ℕ → SlotState → Option Heard → SlotState → Type 0
 Ends token old told new = EndsBy (is_taken old.output) token old told new
 
--- what a read into a buffer tells of the connection at a token, and what it leaves: its next bytes are those at the front
--- of the buffer; more waits after a read that filled it, and at a peer that sends no more the end
+-- what a read into a buffer tells of the connection at a token, and what it leaves: its next bytes are those at the
+-- front of the buffer; more waits after a read that filled it, and at a peer that sends no more the end
 abbrev pub Reads : ℕ → List ℕ → SlotState → Option Heard → SlotState → Type 0
 Reads token buffer old (Some heard.Came) new = ⊥
 Reads token buffer old (Some (heard.Bytes of count)) new =
@@ -120,8 +120,8 @@ abbrev pub Tells : ℕ → List ℕ → SlotState → Option Heard → SlotState
 Tells token buffer old told new =
     TellsBy old.failed (may_have_room old.output) (is_read old) token buffer old told new
 
--- this many of these bytes were written, from the first on: if not all, there is no room until an event says so, or it is
--- over
+-- this many of these bytes were written, from the first on: if not all, there is no room until an event says so, or it
+-- is over
 pub record Writes (bytes : List ℕ) (old : SlotState) (count : ℕ) (new : SlotState) : Type 0 where
   pub within : count ≤ length bytes
   pub none : old.taken ≡ false → (count ≡ 0) × (new ≡ old)

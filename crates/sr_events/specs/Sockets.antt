@@ -42,8 +42,8 @@ abbrev pub HasCome : SocketsState → Type 0
 HasCome sockets = (sockets.came ≡ true) × (IsFull sockets.kept → sockets.looked ≡ true)
 
 -- what is told of these sockets, with room for that many bytes: a connection comes only once each that is there had its
--- turn in this pass, and is kept until it has a token; each token is one that there is, or one whose connection could not
--- have it; room is told after a write that came short, and an end that was noted
+-- turn in this pass, and is kept until it has a token; each token is one that there is, or one whose connection could
+-- not have it; room is told after a write that came short, and an end that was noted
 abbrev pub Tells : ℕ → SocketsState → Heard → SocketsState → Type 0
 Tells room old heard.Came new = HasCome new × ((new.kept.left ≡ 0) ⊎ (new.kept.turns.tokens ≡ []))
 Tells room old (heard.Bytes token count) new = (token < length new.kept.slots) × (count ≤ room)

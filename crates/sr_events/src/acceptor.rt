@@ -104,7 +104,8 @@ impl Acceptor {
     /// The next connection of the listener, if there is one, until the pass is over.
     pub fn next<L: Listener>(&mut self, listener: &mut L) -> Result<Option<L::Stream>, Ended>
         ensures accepts { Accepts self.old result self.new }
-        ensures unused { IfOk result (λ came. IfSome came (λ stream. IsUnused (L.Stream.gave stream) (L.Stream.got stream))) }
+        ensures unused { IfOk result (λ came.
+            IfSome came (λ stream. IsUnused (L.Stream.gave stream) (L.Stream.got stream))) }
     {
         while self.left > 0 && self.waiting == Waiting::Maybe {
             self.left -= 1;

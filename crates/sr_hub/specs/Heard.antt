@@ -19,7 +19,8 @@ count_of heard.Planned = 0
 count_of heard.Nothing = 0
 count_of heard.End = 0
 
--- the bytes that were taken from the connection at each token: more of the one whose bytes came, the first in the buffer
+-- the bytes that were taken from the connection at each token: more of the one whose bytes came, the first in the
+-- buffer
 abbrev pub taken_after : Heard → List ℕ → (ℕ → List ℕ) → ℕ → List ℕ
 taken_after heard.Came buffer taken = taken
 taken_after (heard.Bytes token count) buffer taken = with_more token (take count buffer) taken

@@ -98,8 +98,8 @@ pub record IsResting (session : ℕ) (server : Server) (more : List Recorded) (h
   pub silent : IsSilent session more
   pub free : IsFree session server
 
--- the one request that is held, if there is one, gets no reply. Of it nothing was recorded, or exactly events that it is;
--- and the session has no other event since the last request that was answered
+-- the one request that is held, if there is one, gets no reply. Of it nothing was recorded, or exactly events that it
+-- is; and the session has no other event since the last request that was answered
 pub data IsLost (session : ℕ) (more : List Recorded) (held : List Words) : Type 0 where
   said_nothing : length held ≤ 1 → spoken session more ≡ [] → IsLost session more held
   was_begun : (words : Words) (asked : Command) → held ≡ words ∷ [] → IsCommand words asked

@@ -1,4 +1,5 @@
--- What passes through the sockets of an event loop: the bytes of connections that are open, and of those that were closed.
+-- What passes through the sockets of an event loop: the bytes of connections that are open, and of those that were
+-- closed.
 
 use Rattle.std.specs.Prelude.{◌≡◌, ◌==◌, ℕ, Bool, true, false, List, [], ◌∷◌, ◌++◌, if◌then◌else◌, IsSome}
 use Rattle.std.specs.List.{AllByRecursion}
@@ -72,8 +73,8 @@ pub record WasLine (records : List Recorded) (connection : Closed) : Type 0 wher
   pub legal : Legal 1 (empty_server server.rules) before server
   pub was : IsLine before server connection.taken connection.given line
 
--- the connections of a hub and of its sockets: each that is open is in the hub; each that is in the hub is a line of the
--- bytes that were taken from it and given to it; and each that was closed was one
+-- the connections of a hub and of its sockets: each that is open is in the hub; each that is in the hub is a line of
+-- the bytes that were taken from it and given to it; and each that was closed was one
 pub record AreServed (records : List Recorded) (traffic : Traffic) (hub : HubState) : Type 0 where
   pub opened : (token : ℕ) → traffic.opened token ≡ true → IsSome (hub.at token)
   pub lines : AreLines records traffic.taken traffic.given hub

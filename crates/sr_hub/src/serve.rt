@@ -19,8 +19,8 @@ const PIECE: usize = 16 * 1024;
 /// Serves these sockets until nothing will come again, at most as many turns as the habits say.
 ///
 /// Whatever comes in whatever order, each connection is given the replies that the book's records address to its
-/// session, in order, and each byte of them once; one that was closed was given them from the first on. Each record that
-/// is added has a moment that the clock may tell, or that of the last record before.
+/// session, in order, and each byte of them once; one that was closed was given them from the first on. Each record
+/// that is added has a moment that the clock may tell, or that of the last record before.
 ///
 /// A plan for few pairs of an entry and a consumer is made in the loop, so that it is never stale; others are made
 /// elsewhere if the sockets have it so.
@@ -97,7 +97,8 @@ fn admit<S: Sockets, C: Clock>(hub: &mut Hub, sockets: &mut S, keeper: &mut Keep
 
 /// Takes the next bytes of a connection, or cuts it off if unanswered requests hold too much with them.
 fn take<C: Clock>(hub: &mut Hub, keeper: &mut Keeper<'_, C>, token: usize, piece: &[u8])
-    ensures { TakesOn token piece.now (C.may_tell keeper.old.clock) (state_of hub.old) (C.may_tell keeper.new.clock) (state_of hub.new) }
+    ensures { TakesOn token piece.now (C.may_tell keeper.old.clock) (state_of hub.old)
+        (C.may_tell keeper.new.clock) (state_of hub.new) }
 {
     keeper.hears_of(token);
     if keeper
@@ -135,7 +136,8 @@ fn dismiss<S: Sockets, C: Clock>(
 
 /// Has the session of a connection leave whose socket is closed. If that is refused, it is tried again later.
 fn release<C: Clock>(hub: &mut Hub, keeper: &mut Keeper<'_, C>, token: usize)
-    ensures { Releases token (C.may_tell keeper.old.clock) (state_of hub.old) (C.may_tell keeper.new.clock) (state_of hub.new) }
+    ensures { Releases token (C.may_tell keeper.old.clock) (state_of hub.old)
+        (C.may_tell keeper.new.clock) (state_of hub.new) }
 {
     let session = hub.session(token);
     let left = hub.close(keeper.alloc, token, keeper.now()).is_ok();

@@ -49,9 +49,9 @@ pub trait Sockets {
     ghost use Rattle.sr_hub.specs.Heard.{count_of, passed_by};
     ghost use Rattle.sr_hub.specs.Traffic.{Traffic, closes, gives, names};
 
-    /// Whether this may have passed through them: which connections are open, the bytes that were handed out of each and
-    /// those that were written to it, and the same of each that was closed. Of sockets that a system holds, no clause
-    /// can say more than that it may.
+    /// Whether this may have passed through them: which connections are open, the bytes that were handed out of each
+    /// and those that were written to it, and the same of each that was closed. Of sockets that a system holds, no
+    /// clause can say more than that it may.
     ghost may_have: { Self → Traffic → Type 0 };
 
     /// Waits for what comes next, at most this many milliseconds, or for as long as nothing comes.

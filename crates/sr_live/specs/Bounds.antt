@@ -25,8 +25,8 @@ pub record IsSameWork (old now : SnapshotState) : Type 0 where
 abbrev pub fee_of : Live → Text × Option ℕ
 fee_of consumer = (consumer.name, option_map (λ tier. tier.1) consumer.tier)
 
--- the same entries are stranded, at the same rates, and the same consumers are live, with the same fees. Their limits and
--- soft limits may differ, and how many entries are pending for them
+-- the same entries are stranded, at the same rates, and the same consumers are live, with the same fees. Their limits
+-- and soft limits may differ, and how many entries are pending for them
 pub record HaveSameCosts (old now : SnapshotState) : Type 0 where
   pub stranded : old.stranded ≡ now.stranded
   pub rates : old.rates ≡ now.rates

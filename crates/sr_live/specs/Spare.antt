@@ -1,6 +1,5 @@
--- Plans that leave some places of each live consumer free, since others go on working: they are made within lower limits,
--- and may be carried out at what the free places may come to be worth meanwhile.
--- Source: docs/LIVE.md.
+-- Plans that leave some places of each live consumer free, since others go on working: they are made within lower
+-- limits, and may be carried out at what the free places may come to be worth meanwhile. Source: docs/LIVE.md.
 
 use Rattle.std.specs.Prelude.{ℕ, ◌+◌, ◌-◌, ◌^◌, min, nat_eq, if◌then◌else◌, List, [], ◌∷◌, length, map, drop}
 use Rattle.std.specs.Prelude.{slice_index_or, Option, option_map}
@@ -45,8 +44,8 @@ after_acks acks consumer = record {
   tier = consumer.tier;
 }
 
--- what the free places of these consumers are worth at the prices of each, if these moves are made once each of them has
--- acknowledged so many entries
+-- what the free places of these consumers are worth at the prices of each, if these moves are made once each of them
+-- has acknowledged so many entries
 abbrev pub worth_of : ℕ → List (Id × Text) → List Live → List (Text × List ℕ) → ℕ
 worth_of acks moves [] prices = 0
 worth_of acks moves (consumer ∷ live) prices =
@@ -57,8 +56,8 @@ worth_of acks moves (consumer ∷ live) prices =
 abbrev pub in_64_bits : ℕ → ℕ
 in_64_bits n = min n (2 ^ 64 - 1)
 
--- what the free places of these consumers may come to be worth before a plan is carried out: if each acknowledges as many
--- entries as places are left free; nothing if none are
+-- what the free places of these consumers may come to be worth before a plan is carried out: if each acknowledges as
+-- many entries as places are left free; nothing if none are
 abbrev pub worth_by : ℕ → List Live → SnapshotState → PlanAnswer → ℕ
 worth_by spare live shown (best assign prices total) =
     if nat_eq spare 0 then 0

@@ -14,8 +14,8 @@
 -- had been, none was since, and none is read. What was gone does not matter, since no plan moves it; nor does what is
 -- pending before the first entry of the stream, which is gone. Each live consumer has room for what it is given, and as
 -- many of its entries are without a fee. Then the plan is still an assignment at the total that it had. No plan of this
--- moment costs less than it by more than the gap, which is price times free places, summed over all tiers; at a gap of 0
--- it is still cheapest.
+-- moment costs less than it by more than the gap, which is price times free places, summed over all tiers; at a gap of
+-- 0 it is still cheapest.
 --
 -- Answers:  done, how many entries were claimed, the gap
 --           stale, and then  group NAME    there is no such group, or no such key
@@ -131,8 +131,9 @@ local function read_stream(removed)
   return { is_whole = added < EXACT and added - fields['length'] == removed, first = first and first[1] or '-' }
 end
 
--- What is not as it was with a dead consumer, as two words, or nil. What is pending before the first entry of the stream
--- is gone, and there may be much of it, so it is asked for only if the rest is not as it was: then for what has changed.
+-- What is not as it was with a dead consumer, as two words, or nil. What is pending before the first entry of the
+-- stream is gone, and there may be much of it, so it is asked for only if the rest is not as it was: then for what has
+-- changed.
 local function change_of(group, last, idle, stream, dead)
   local is_same = are_pending(group, stream.first, last, idle, dead) or are_pending(group, '-', last, idle, dead)
   if not is_same then

@@ -7,7 +7,8 @@ ghost use Rattle.sr_peer.specs.{request_text};
 ghost use Rattle.sr_live.specs.declared.looked.Row.{Row};
 ghost use Rattle.sr_live.specs.Looking.{Exchange, LooksEntries, Talks, listed_as, range_call};
 ghost use Rattle.sr_live.specs.Reading.{BreaksOff};
-ghost use Rattle.sr_live.specs.Said.{IsTold, Listed, SaysRange, fields_at as at, is_between as between, reaches as reach};
+ghost use Rattle.sr_live.specs.Said.{IsTold, Listed, SaysRange};
+ghost use Rattle.sr_live.specs.Said.{fields_at as at, is_between as between, reaches as reach};
 ghost use Rattle.sr_live.specs.steps.Listing.{Finds};
 
 use crate::entries::Found;
@@ -245,8 +246,8 @@ fn are_up_to(entries: &[(Id, Fields)], id: Id) -> bool
     entries.iter().any(|entry| !is_before(entry.0, id))
 }
 
-/// Adds those first ones of the rows of which the entries of a range tell, until as many as are wanted are stranded, and
-/// answers how many they are.
+/// Adds those first ones of the rows of which the entries of a range tell, until as many as are wanted are stranded,
+/// and answers how many they are.
 fn push_told(
     alloc: Global,
     range: Range,

@@ -3,8 +3,8 @@ ghost use Rattle.sr_bytes.specs.{comes_before};
 
 use sr_bytes::Name;
 
-/// Whether a name comes before another in byte order, as `Name::comes_before` answers. It goes byte by byte, which takes
-/// less for names of a few bytes, as those of classes and consumers mostly are.
+/// Whether a name comes before another in byte order, as `Name::comes_before` answers. It goes byte by byte, which
+/// takes less for names of a few bytes, as those of classes and consumers mostly are.
 pub fn is_before(name: &Name, other: &Name) -> bool
     ensures { result ≡ comes_before name.now other.now }
 {

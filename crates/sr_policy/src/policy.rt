@@ -212,7 +212,8 @@ impl Policy {
         rate_in(self.rates_for(class), consumer)
     }
 
-    /// For each of these classes the rate of each of the consumers, in their order, `None` for one that may not take it.
+    /// For each of these classes the rate of each of the consumers, in their order, `None` for one that may not take
+    /// it.
     pub fn rates_of(
         &self,
         alloc: Global,

@@ -44,8 +44,8 @@ pub record HasRun (scripts : List (List Call)) (receipts : List (List Receipt)) 
   pub closed : IsClosed 0 (joined_up receipts) [] book acts skipped
   pub compared : AreCompared book (joined_up receipts)
 
--- why scripts have not run: an event was refused to one of them; or the run, whose seats are all there, is not closed, or
--- is not compared with so many receipts, whose records are kept no longer
+-- why scripts have not run: an event was refused to one of them; or the run, whose seats are all there, is not closed,
+-- or is not compared with so many receipts, whose records are kept no longer
 abbrev pub HasNotRun : List (List Call) → RunFault → Type 0
 HasNotRun scripts faults.Count = ⊤
 HasNotRun scripts faults.Memory = ⊤

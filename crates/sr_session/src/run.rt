@@ -69,8 +69,8 @@ impl From<AllocError> for End {
 /// Serves one connection: joins, reads requests and writes the reply to each, in order, and leaves at every end.
 ///
 /// It reads at most 4,096 bytes at a time, at most `turns` times, and writes the replies to the requests of one read
-/// together, except that those before a call that may wait go out before it, and so does what has come to 64 KiB. Without
-/// `blocking` a call is taken as if BLOCK was not given. A session that cannot join reads nothing.
+/// together, except that those before a call that may wait go out before it, and so does what has come to 64 KiB.
+/// Without `blocking` a call is taken as if BLOCK was not given. A session that cannot join reads nothing.
 ///
 /// Source: RESP2 protocol specification, "Sending commands to a Redis server" and "Multiple commands and pipelining".
 pub fn run_session<R: Source, W: Sink, D: Desk, C: Clock, G: Gate>(

@@ -92,8 +92,9 @@ pub enum ServeFault {
 ///
 /// Each of the `workers` threads, 1 to 64, serves one connection at a time, and further ones wait for a free worker. A
 /// timer thread answers the reads whose deadline is reached, and makes a checkpoint if more than `keep` records are
-/// kept, whatever bytes they take. A session that ends closes its own connection alone. A failed accept is tried again, unless it is the
-/// listener's own fault: then no connection is accepted any more, and those that are served are shut down.
+/// kept, whatever bytes they take. A session that ends closes its own connection alone. A failed accept is tried
+/// again, unless it is the listener's own fault: then no connection is accepted any more, and those that are served
+/// are shut down.
 pub fn serve<R: Threads + Wait + rt::Clock + Sync>(
     rt: &R,
     alloc: Global,
@@ -115,8 +116,8 @@ pub fn serve<R: Threads + Wait + rt::Clock + Sync>(
     serve_begun(rt, alloc, listener, book, serving, None)
 }
 
-/// The same, and says when the threads stand, right before the first connection is accepted. If records are let go of at
-/// all, a worker whose request makes them take more than `keep_bytes` makes a checkpoint too.
+/// The same, and says when the threads stand, right before the first connection is accepted. If records are let go of
+/// at all, a worker whose request makes them take more than `keep_bytes` makes a checkpoint too.
 pub fn serve_begun<R: Threads + Wait + rt::Clock + Sync>(
     rt: &R,
     alloc: Global,

@@ -17,4 +17,5 @@ NoneIsDueBefore soonest list = (moment : ℕ) → is_reached soonest moment ≡ 
 
 -- the reads that are left are those that are due at such a moment
 abbrev pub AreDueAmong : Option ℕ → List Waiting → List Waiting → Type 0
-AreDueAmong soonest left list = (moment : ℕ) → is_reached soonest moment ≡ false → due_at moment left ≡ due_at moment list
+AreDueAmong soonest left list =
+    (moment : ℕ) → is_reached soonest moment ≡ false → due_at moment left ≡ due_at moment list

@@ -20,7 +20,8 @@ pub record IsKeptBut (token : ℕ) (slots : List SlotState) (taken : ℕ) (turns
       → is_in_turn other turns ≡ true
 
 -- what is told of the connection at a token, into this buffer
-pub record TellsAt (token : ℕ) (buffer : List ℕ) (old : List SlotState) (told : Option Heard) (new : List SlotState) : Type 0 where
+pub record TellsAt (token : ℕ) (buffer : List ℕ) (old : List SlotState) (told : Option Heard)
+    (new : List SlotState) : Type 0 where
   pub others : ChangesAt token old new
   pub some : has_turn (slot_at old token) ≡ true → Tells token buffer (slot_at old token) told (slot_at new token)
   pub none : has_turn (slot_at old token) ≡ false → (told ≡ None) × (new ≡ old)

@@ -30,7 +30,8 @@ pub record Keeps (may_tell : ℕ → Bool) (old : HubState) (tells_then : ℕ �
   pub there : (token : ℕ) → IsSome (old.at token) → IsSome (new.at token)
 
 -- the same, but the connection at a token may be gone
-pub record Releases (token : ℕ) (may_tell : ℕ → Bool) (old : HubState) (tells_then : ℕ → Bool) (new : HubState) : Type 0 where
+pub record Releases (token : ℕ) (may_tell : ℕ → Bool) (old : HubState) (tells_then : ℕ → Bool)
+    (new : HubState) : Type 0 where
   pub same : tells_then ≡ may_tell
   pub goes_on : (records : List Recorded) (taken given : ℕ → List ℕ) → AreLines records taken given old
       → GoesOn may_tell old.book.server.last records taken given new
