@@ -1,6 +1,6 @@
 -- What a plan gives each consumer, by its moves and by its assignment, and what the free places are worth by either.
 use Rattle.std.proofs.Common.{◌≡◌, ℕ, zero, suc, ◌+◌, ◌-◌, ◌*◌, ◌<◌, min, Bool, true, false, List, [], ◌∷◌, length}
-use Rattle.std.proofs.Common.{cond, map, drop, take, get_or, Option, Some, None, is_some, All, refl, sym, ap, ◌∙◌, subst, arith}
+use Rattle.std.proofs.Common.{cond, map, drop, take, get_or, Option, Some, None, is_some, All, refl, sym, ap, ◌∙◌, arith}
 use Rattle.std.proofs.Common.{eq-eqb, eqb-true, get_or-take, mul-zero}
 use Rattle.std.specs.Prelude.{if◌then◌else◌, ◌==◌, nat_eq, count_by, filter}
 use Rattle.std.specs.Cmp.Lexicographic.{pointwise, same_text}
@@ -12,7 +12,7 @@ use Rattle.std.proofs.lemmas.List.Sums.{length-filter, sum_by-cons}
 use Rattle.sr_ids.specs.declared.id.Id.{Id}
 use Rattle.sr_transport.specs.Assignment.{load}
 use Rattle.sr_check.specs.PlanAnswer.{moves_of, name_at, prices_by}
-use Rattle.sr_check.proofs.OrderLemmas.{name_at-is, one_consumer}
+use Rattle.sr_check.proofs.OrderLemmas.{one_consumer}
 use Rattle.sr_policy.specs.declared.live.Live.{Live}
 use Rattle.sr_policy.specs.declared.stranded.Stranded.{Stranded}
 use Rattle.sr_policy.specs.{AreInOrder, Text, SnapshotState, tier_count}

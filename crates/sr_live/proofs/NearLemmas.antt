@@ -1,6 +1,6 @@
 -- A plan that leaves places free fits the group as it is, and goes on to fit while few entries come and go.
-use Rattle.std.proofs.Common.{◌≡◌, ℕ, ◌+◌, ◌-◌, ◌*◌, ◌<◌, ◌≤◌, min, List, [], ◌∷◌, length, map, drop, get_or}
-use Rattle.std.proofs.Common.{Option, Some, None, is_some, option_map, inl, inr, refl, sym, ap, ◌∙◌, subst, arith}
+use Rattle.std.proofs.Common.{◌≡◌, ℕ, ◌+◌, ◌-◌, ◌*◌, ◌<◌, ◌≤◌, min, List, [], ◌∷◌, map, drop, get_or}
+use Rattle.std.proofs.Common.{Option, Some, None, is_some, option_map, inl, inr, refl, sym, ap, ◌∙◌, arith}
 use Rattle.std.proofs.Common.{mul-le-mul_left}
 use Rattle.std.specs.Prelude.{if◌then◌else◌}
 use Rattle.std.specs.Option.{option_map_or}
@@ -10,7 +10,7 @@ use Rattle.sr_check.specs.{best, IsShown}
 use Rattle.sr_policy.specs.declared.live.Live.{Live}
 use Rattle.sr_policy.specs.{Text, SnapshotState, problem_of, tier_count}
 use Rattle.sr_policy.specs.Snapshot.{IsSnapshot}
-use Rattle.sr_live.specs.Bounds.{fee_of, free_load, free_loads, gap_at, gap_from, terms_of, Fits, HaveRoom}
+use Rattle.sr_live.specs.Bounds.{fee_of, free_load, free_loads, gap_at, gap_from, Fits, HaveRoom}
 use Rattle.sr_live.specs.Near.{AreNear}
 use Rattle.sr_live.specs.Spare.{after_acks, spared, spared_tier, with_spare}
 use Rattle.sr_live.proofs.WorkLemmas.{room-from_problem}

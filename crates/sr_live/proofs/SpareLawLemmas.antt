@@ -1,5 +1,5 @@
 -- A plan that leaves places free holds while few entries come and go: the law.
-use Rattle.std.proofs.Common.{ℕ, ◌+◌, ◌<◌, ◌≤◌, All, List, length, map, arith}
+use Rattle.std.proofs.Common.{ℕ, ◌<◌, ◌≤◌, All, List, length, arith}
 use Rattle.std.proofs.lemmas.List.{length-map}
 use Rattle.sr_transport.proofs.CallerLemmas.{placed_below}
 use Rattle.sr_check.specs.{best, IsShown}
