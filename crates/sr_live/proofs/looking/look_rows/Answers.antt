@@ -17,7 +17,7 @@ loop-init g c =
     let seen : Seen = record {
       listings = c.in_ok-unlisted.field-0;
       ahead = c.new.result;
-      found = record { rows = c.new-2.result; wanted = c.max.result };
+      found = record { rows = c.new-2.result; wanted = c.max.result; pace = c.first.result };
     } in
     let listings : c.in_ok-unlisted.field-0.items ≡ map unlisted_of asked.dead.items =
     c.in_ok-unlisted.ensures ∙ ap (map unlisted_of) c.as_slice.ensures.value in
