@@ -1,9 +1,9 @@
 -- The bytes that may have passed through each connection, whatever is read, written, noted or closed.
 
-use Rattle.std.proofs.Common.{◌⊎◌, ◌≡◌, ◌≢◌, ℕ, ◌<◌, ◌≤◌, Bool, true, false, cond, eqb, Some, None, ◌||◌, ◌&&◌, ltb}
-use Rattle.std.proofs.Common.{IfSome, Option, List, [], ◌∷◌, ◌++◌, length, set, refl, sym, ap, ◌∙◌, subst, ⊎_elim, take}
+use Rattle.std.proofs.Common.{◌⊎◌, ◌≡◌, ◌≢◌, ℕ, ◌<◌, ◌≤◌, Bool, true, false, cond, eqb, Some, None}
+use Rattle.std.proofs.Common.{IfSome, Option, List, [], ◌∷◌, ◌++◌, length, refl, ap, ◌∙◌, ⊎_elim, take}
 use Rattle.std.specs.Prelude.{is_some, unwrap_or}
-use Rattle.std.proofs.lemmas.Bool.{false≢true, cases_eq, cases_Bool, cases_lt, ne_eqb, eq-eqb, cond-true, cond-false}
+use Rattle.std.proofs.lemmas.Bool.{false≢true, cases_eq, cases_lt, ne_eqb, eq-eqb, cond-true, cond-false}
 use Rattle.std.proofs.lemmas.List.{get_or-set_other, set_past}
 use Rattle.mio.specs.declared.event.event.Event.{Event}
 use Rattle.sr_hub.specs.declared.sockets.Heard.{Heard}
@@ -11,8 +11,7 @@ use Rattle.sr_hub.specs.declared.sockets.Heard.TheVariants as heard
 use Rattle.sr_hub.specs.Lines.{with_more, with_none}
 use Rattle.sr_hub.specs.Traffic.{Traffic, closes, names, with_answer}
 use Rattle.sr_events.specs.Bytes.{IsUnused, MayBe, more}
-use Rattle.sr_events.specs.Slot.{Ends, EndsBy, IsEmpty, Reads, SlotState, TellsBy, Writes, fresh, has_turn, is_read}
-use Rattle.sr_events.specs.Slot.{is_taken, may_have_room}
+use Rattle.sr_events.specs.Slot.{IsEmpty, SlotState, Writes, fresh}
 use Rattle.sr_events.specs.Connections.{BeginsAt, ChangesAt, IsHeardOf, KeepBytes, MayHave, TellBytes, slot_at}
 use Rattle.sr_events.specs.Connections.{taken_told, with_event}
 use Rattle.sr_events.specs.Sockets.{HasCome, SocketsState}

@@ -1,4 +1,4 @@
-use Rattle.std.proofs.Common.{◌∙◌, length}
+use Rattle.std.proofs.Common.{◌∙◌}
 use Rattle.sr_events.proofs.BytesLemmas.{bytes_told, bytes_untold}
 use Rattle.sr_events.proofs.ConnectionsLemmas.{IsKept-told, same_length, told_within}
 use Rattle.sr_events.proofs.connections.Connections.next.Goals as goal
