@@ -1,4 +1,6 @@
 //! A reader and a writer of a session whose bytes are counted: the records of its book say as many.
+ghost use Rattle.std.specs.Prelude.{◌≡◌};
+
 use sr_resp::{Sink, WriteFailed};
 use sr_run::Shared;
 use sr_session::{ReadFailed, Source};
