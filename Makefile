@@ -19,9 +19,10 @@ TWO = $(MAKE) --no-print-directory --output-sync -j2
 JOBS = $(shell awk -v most=$$(nproc) '/^MemAvailable/ { jobs = int($$2 / 5000000) } END { print jobs < 1 ? 1 : jobs < most ? jobs : most }' \
     /proc/meminfo)
 
-# Where `make install` puts the programs, the pages and the unit.
+# Where `make install` puts the programs, the pages and the units.
 PREFIX = /usr/local
 PAGES = $(DESTDIR)$(PREFIX)/share/doc/sr_server
+MANUALS = $(DESTDIR)$(PREFIX)/share/man/man1
 UNITS = $(DESTDIR)$(PREFIX)/lib/systemd/system
 
 # The sessions of the commands whose names begin with T, in either case.
@@ -62,11 +63,11 @@ demo-live:
 	@cd crates/sr_recover && rt run -- --help > /dev/null
 	@scripts/demo-live $(RECOVER)
 
-# The same with a program without proofs, which is built in a minute or two and kept for the run.
+# The same with a program without proofs, which is built in a minute or two and kept as crates/sr_recover/out/tried/sr_recover.
 try-live:
 	@scripts/demo-live
 
-# Installs the proved server, plan_check, sr_recover, the systemd unit, policies and pages. `make demo` and `make demo-live` build the programs;
+# Installs the proved server, plan_check, sr_recover with its man page, units of systemd, policies and pages. `make demo` and `make demo-live` build the programs;
 # then: make install, or make install PREFIX=/opt/sr DESTDIR=/tmp/package
 install:
 	@for program in $(SERVER) $(CHECKER) $(RECOVER); do \
@@ -74,8 +75,10 @@ install:
 	install -D -t $(DESTDIR)$(PREFIX)/bin $(SERVER) $(CHECKER) $(RECOVER)
 	for page in README.md CHANGELOG.md docs/* crates/*/*.md examples/*.session examples/*/*; do \
 	    install -D -m 644 $$page $(PAGES)/$$page || exit 1; done
-	install -d $(UNITS)
-	sed 's|/usr/local/|$(PREFIX)/|' examples/operations/sr_server.service > $(UNITS)/sr_server.service
+	install -d $(UNITS) $(MANUALS)
+	for unit in sr_server.service sr_recover.service sr_recover.timer; do \
+	    sed 's|/usr/local/|$(PREFIX)/|' examples/operations/$$unit > $(UNITS)/$$unit || exit 1; done
+	scripts/manual $(RECOVER) > $(MANUALS)/sr_recover.1
 
 # The whole gate: every proof from nothing, the must-fail edits, the tests and the program's stored run. Then the programs that
 # were proved are given the sessions, histories and plans of the README, of examples/ and of tests/, two runs at a time, and the

@@ -97,7 +97,7 @@ ROWS = {
     "by_turns": row(share.by_turns, "at most 50 ms", at_most("ms that a PING waits", 50), BOTH),
     "slow_ones": row(share.slow_ones, "all is read and answered", lambda own, _: own["MB read"] == own["MB of the reply"] and own["XADD answered"],
                      options={"idle": 2}, redis=("--timeout", "2")),
-    "adds_first": row(share.adds_first, "all are replied", lambda own, _: own["of the replies"] == 1, BOTH),
+    "adds_first": row(share.adds_first, "all are replied", lambda own, _: own["of the replies"] == 1),
     "recoveries_16": recovered(16),
     "recoveries_1024": recovered(1_024),
     "idle_recoveries": row(recovery.idle_recoveries, "all are done", lambda own, _: own["done"] == own["recoveries"],

@@ -11,11 +11,12 @@ done       judged as tests/live_script.py does it, by the state right before and
 stale      nothing has changed by any call of the program, and what is printed is what the script answered
 the rest   there is no plan for what the replies told; or Redis replied an error, which is printed
 
-Before that come rows worked out by hand (lib/recover_rows.py), standard input, output or error that is closed
-(lib/recover_closed.py), replies that are cut or wrong (lib/recover_cuts.py), and errors (lib/recover_errors.py);
+Before that come rows worked out by hand (lib/recover_rows.py, lib/recover_names.py), standard input, output or error
+that is closed (lib/recover_closed.py), JSON (lib/recover_json.py), URLs, sockets and Sentinels (lib/recover_reach.py),
+replies that are cut or wrong (lib/recover_cuts.py), errors (lib/recover_errors.py), and groups that are watched (lib/recover_watch.py);
 afterwards a busy group (lib/recover_busy.py) and a cluster (lib/recover_cluster.py). Prints what is wrong, a tally, and
-one last line; the status is 1 if something is wrong. It needs redis-server. For a slow build of the program BUSY_ENTRIES=512 in the
-environment makes the busy group smaller.
+one last line; the status is 1 if something is wrong. It needs redis-server. For a slow build of the program
+BUSY_ENTRIES=512 in the environment makes the busy group smaller.
 """
 
 import collections
@@ -26,7 +27,8 @@ import sys
 import time
 
 import live_script
-from lib import recover, recover_busy, recover_closed, recover_cluster, recover_cuts, recover_errors, recover_rows, servers
+from lib import recover, recover_busy, recover_closed, recover_cluster, recover_cuts, recover_errors, recover_json, recover_names
+from lib import recover_reach, recover_rows, recover_watch, servers
 from lib.live import Dump, Plan, after_acks, all_replies, number_of, problem_of, seen_by, spared, up_to
 from lib.resp import ErrorReply, encoded, value_of
 
@@ -61,7 +63,7 @@ class History(live_script.History):
         if call.words[:2] != [b"XINFO", b"CONSUMERS"] or text.startswith(b"-"):
             return text
         more = self.choice.choice([[], [b"inactive", -1]])
-        told = [[*one[:-1], self.choice.choice([0, 1, 20, 21, 10**12, 2**62]), *more] for one in value_of(text)]
+        told = [[*one[:5], self.choice.choice([0, 1, 20, 21, 10**12, 2**62]), *more] for one in value_of(text)]
         return encoded(told)
 
     def options(self):
@@ -286,9 +288,13 @@ def main():
     tally = recover.Tally()
     with servers.Redis() as server, server.connect() as connection:
         timed("rows", recover_rows.compare, tally, connection)
+        timed("names", recover_names.compare, tally, connection)
         timed("closed", recover_closed.compare, tally, connection)
+        timed("json", recover_json.compare, tally, connection)
+        timed("reach", recover_reach.compare, tally)
         timed("cuts", recover_cuts.compare, tally)
         timed("errors", recover_errors.compare, tally)
+        timed("watch", recover_watch.compare, tally, connection)
         ends, wrong = timed("histories", played, connection, histories, seed)
     timed("busy", recover_busy.compare, tally)
     timed("cluster", recover_cluster.compare, tally)

@@ -24,8 +24,9 @@ PROGRAM = os.environ.get("SR_RECOVER", os.path.join(ROOT, "crates", "sr_recover"
 SECONDS = 120  # that the program has
 UNREAD = object()  # in place of the fields of an entry that was listed, and not asked for
 
-# What the program printed, how it ended, and after how long.
-Run = collections.namedtuple("Run", "status out errors seconds")
+# What the program printed, how it ended, and after how long. Its last notes, on what would help, are not among the errors.
+Run = collections.namedtuple("Run", "status out errors seconds advice", defaults=[b""])
+ADVICE = re.compile(rb"^note: (?:one more place|these may go to|nobody who is live) .*\n", re.MULTILINE)
 
 # What goes to the program in place of a reply, and what the proxy does then: None, "close" or "hang".
 Sent = collections.namedtuple("Sent", "text then", defaults=[None])
@@ -140,12 +141,17 @@ def words_of(port, policy, action, names, options):
     return [PROGRAM, action, *place, *map(str, options), "--", *map(os.fsdecode, names)]
 
 
+def run_of(status, out, errors, seconds=None):
+    """A run that ended so."""
+    return Run(status, out, ADVICE.sub(b"", errors), seconds, b"".join(ADVICE.findall(errors)))
+
+
 def ended(words, env=None):
     """Runs the program to its end."""
-    env = {name: value for name, value in os.environ.items() if name != "REDISCLI_AUTH"} | (env or {})
+    env = {name: value for name, value in os.environ.items() if name not in ("REDISCLI_AUTH", "REDIS_URL")} | (env or {})
     began = time.monotonic()
     done = subprocess.run(words, stdin=subprocess.DEVNULL, capture_output=True, timeout=SECONDS, check=False, env=env)
-    return Run(done.returncode, done.stdout, done.stderr, time.monotonic() - began)
+    return run_of(done.returncode, done.stdout, done.stderr, time.monotonic() - began)
 
 
 def run(port, policy, action, names, *options, env=None):

@@ -9,7 +9,7 @@ import threading
 
 from .live import Live, all_replies
 from .live_rows import TWO, TWO_LIVE, lines
-from .recover import Run, policy_text, words_of
+from .recover import policy_text, run_of, words_of
 from .recover_rows import GROUP, PLAN, without_idle
 from .servers import HOST
 
@@ -19,10 +19,10 @@ FAILED = b"output: a write failed"
 DONE = b"done, claimed 2, gap 0\n"
 NOTE = b"note: the group has no consumer E\n"
 BOARD = (
-    b"consumer  pending  limit  soft  room  idle\n"
-    b"A               1      2     -     1\n"
-    b"B               1      3     -     2\n"
-    b"D               2      -     -     -\n"
+    b"consumer  pending  limit  soft  room  idle  delivered\n"
+    b"A               1      2     -     1          1\n"
+    b"B               1      3     -     2          1\n"
+    b"D               2      -     -     -          1\n"
 )
 NONE = (
     b"consumer  entries  cost  price\n"
@@ -103,7 +103,7 @@ def run(closed, port, lives, action, names):
         words = ["sh", "-c", f'exec "$0" "$@" {closing}', *words_of(port, file.name, action, names, [])]
         done = subprocess.run(words, stdin=subprocess.DEVNULL, capture_output=True, timeout=SECONDS, check=False)
     out = without_idle(done.stdout) if action == "board" else done.stdout
-    return Run(done.returncode, out, done.stderr, None)
+    return run_of(done.returncode, out, done.stderr)
 
 
 def rows(tally, connection, relay):

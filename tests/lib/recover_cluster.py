@@ -1,5 +1,6 @@
 """sr_recover at a cluster of three nodes: the key may be on another node than the one that is named."""
 
+import re
 import shutil
 import subprocess
 import time
@@ -11,6 +12,7 @@ from .resp import Fault
 from .servers import HOST, Redis, free_port
 
 NODES, SECONDS = 3, 60
+AFTER = 1000  # milliseconds after which a consumer is dead
 
 
 def started():
@@ -68,8 +70,26 @@ def rows(tally, nodes):
             done = Printed(found.out).done
             tally.check(f"{key} is carried out", (0, b"", (2, 0)), (found.status, found.errors, done))
             tally.check(f"{key} afterwards", [], connection.call("XPENDING", key, "g", "-", "+", 9, "D"))
+    watched(tally, nodes)
     found = run(nodes[0].port, policy_text(TWO_LIVE), "board", ["jobs", "g"], "--db", 1)
     tally.check("another database", (1, b"", True), (*found[:2], b"SELECT" in found.errors))
+
+
+def watched(tally, nodes):
+    """A group on each node, of which all are watched by way of the first one: the dead one's entries have been idle."""
+    keys = [key_of(owner, number) for number, owner in enumerate(nodes)]
+    for key, owner in zip(keys, nodes):
+        with owner.connect() as connection:
+            all_replies(connection, [["DEL", key], *commands(key)])
+    time.sleep(AFTER / 1000)
+    for key, owner in zip(keys, nodes):
+        with owner.connect() as connection:  # A and B are seen
+            all_replies(connection, [["XREADGROUP", "GROUP", "g", name, "STREAMS", key, "0"] for name in "AB"])
+    groups = [word for key in keys for word in (key, "g")]
+    found = run(nodes[0].port, policy_text(TWO_LIVE), "watch", groups, "--once", "--dead-after", AFTER)
+    line = r"\d+ %s g: dead D, claimed 2, cost 6, gap 0, tries 1, ms \d+\n"
+    is_told = re.fullmatch("".join(line % key for key in keys).encode(), found.out) is not None
+    tally.check(f"watch of {groups}: {found.out}", (0, b"", True), (found.status, found.errors, is_told))
 
 
 def compare(tally):

@@ -12,7 +12,7 @@ use Rattle.sr_hub.specs.declared.hub.TakeFault.TheVariants as take_faults
 use Rattle.sr_hub.specs.declared.stage.Stage.TheVariants as stages
 use Rattle.sr_hub.specs.OneRequest.{spoken}
 use Rattle.sr_hub.specs.Line.{Begins, ConnectionState, IsAtRest, IsLine, is_ended}
-use Rattle.sr_hub.specs.Lines.{AreAll, AreApart, AreLines, GoOn, HubState, with_more}
+use Rattle.sr_hub.specs.Lines.{AreAll, AreApart, AreLines, GoOn, HubState, session_at, with_more}
 use Rattle.sr_hub.specs.Said.{Says, SaysOf}
 use Rattle.sr_hub.specs.steps.Calls.{BeginsAt, Changes, IsRefusedAt, MovesAt, SendsAt, TakesAt, hub_of, is_gone, is_there}
 use Rattle.sr_hub.specs.steps.Moves.{Adds, KeepsOpen, Moves, Takes}
@@ -334,18 +334,21 @@ pub sends-at : (token count : ℕ) (old new : HubState) → SendsAt token count 
 sends-at token count old new s =
     s.changes.is ∙ sym (ap (λ (o : Option ConnectionState). option_map {U = ConnectionState} (λ (line : ConnectionState). record line { unsent = drop count line.unsent }) o) s.changes.was)
 
-some-there : (at : Option ConnectionState) (line : ConnectionState) → at ≡ Some line → IsSome at
-some-there at line is = subst (λ (o : Option ConnectionState). IsSome o) (sym is) refl
+-- it has the session that it had
+pub changes-session : (token : ℕ) (old new : HubState) (before after : ConnectionState) → Changes token old new before after → session_at new token ≡ session_at old token
+changes-session token old new before after changes =
+    let of : Option ConnectionState → Option ℕ = λ o. option_map (λ (line : ConnectionState). line.session) o in
+    ap of changes.is ∙ ap (λ (n : ℕ). Some n) changes.same ∙ sym (ap of changes.was)
 
-refused-there : (token : ℕ) (fault : TakeFault) (old new : HubState) → IsRefusedAt token fault old new → IsSome (old.at token) → IsSome (new.at token)
-refused-there token fault old new (is_gone at none same) was = subst (λ (h : HubState). IsSome (h.at token)) (sym same) was
-refused-there token fault old new (is_there before after changes same untaken) was = some-there (new.at token) after changes.is
+refused-session : (token : ℕ) (fault : TakeFault) (old new : HubState) → IsRefusedAt token fault old new → session_at new token ≡ session_at old token
+refused-session token fault old new (is_gone at none same) = ap (λ (h : HubState). session_at h token) same
+refused-session token fault old new (is_there before after changes same untaken) = changes-session token old new before after changes
 
 -- all that a call of take promises
 pub record TakeClauses (token : ℕ) (piece : List ℕ) (result : Result (Unit {0}) TakeFault) (old new : HubState) : Type 0 where
   pub lines : (records : List Recorded) (taken given : ℕ → List ℕ) → AreLines records taken given old → GoOn records (with_more token piece taken) given new
   pub rest : OnOk result (IsSomeAnd (new.at token) (λ line. IsAtRest 65536 new.book.server line line.stage))
-  pub there : IsSome (old.at token) → IsSome (new.at token)
+  pub session : session_at new token ≡ session_at old token
   pub others : (other : ℕ) → other ≢ token → new.at other ≡ old.at other
   pub gone : IsErrOf result take_faults.Gone ↔ (old.at token ≡ None)
   pub ended : IsErrOf result take_faults.Ended ↔ IsSomeAnd (old.at token) (λ line. is_ended line.stage ≡ true)
@@ -364,7 +367,7 @@ pub take-clauses : (token : ℕ) (piece : List ℕ) (result : Result (Unit {0}) 
 take-clauses token piece (Ok done) old new apart takes refused = record {
   lines = took-lines token piece old new apart takes;
   rest = took-rest token piece old new takes;
-  there = λ was. some-there (new.at token) takes.after takes.changes.is;
+  session = changes-session token old new takes.before takes.after takes.changes;
   others = takes.changes.others;
   gone = ((λ is. absurd (no-err done take_faults.Gone is)), (λ none. absurd (took-there token piece old new takes none)));
   ended = ((λ is. absurd (no-err done take_faults.Ended is)), (λ some. absurd (took-going token piece old new takes some)));
@@ -378,7 +381,7 @@ take-clauses token piece (Err fault) old new apart takes refused =
     record {
       lines = refused-lines token piece fault old new refused;
       rest = tt;
-      there = refused-there token fault old new refused;
+      session = refused-session token fault old new refused;
       others = refused-others token fault old new refused;
       gone = ((λ is. gone.0 (err-same fault take_faults.Gone is)), (λ none. ap (λ (f : TakeFault). Err f) (gone.1 none)));
       ended = ((λ is. ended.0 (err-same fault take_faults.Ended is)), (λ some. ap (λ (f : TakeFault). Err f) (ended.1 some)));
@@ -398,6 +401,7 @@ pub record GoOnClauses (token : ℕ) (result : Bool) (old new : HubState) : Type
   pub rest : IsTrue result → IsSomeAnd (new.at token) (λ line. IsAtRest 65536 new.book.server line line.stage)
   pub others : (other : ℕ) → other ≢ token → new.at other ≡ old.at other
   pub none : result ≡ false → new ≡ old
+  pub session : session_at new token ≡ session_at old token
   pub said : SaysOf (old.at token) old.book new.book
   pub apart : AreApart new
 
@@ -412,6 +416,7 @@ go_on-clauses token true old new apart moves none = record {
   rest = λ is. moved-rest token old new (moves refl);
   others = (moves refl).changes.others;
   none = none;
+  session = changes-session token old new (moves refl).before (moves refl).after (moves refl).changes;
   said = says-at (old.at token) (moves refl).before old.book new.book (moves refl).moves.more (moves refl).changes.was (moves refl).moves.adds;
   apart = moved-apart token old new apart (moves refl);
 }
@@ -420,6 +425,7 @@ go_on-clauses token false old new apart moves none = record {
   rest = λ is. absurd (true≢false (sym is));
   others = λ other away. ap (λ (h : HubState). h.at other) (none refl);
   none = none;
+  session = ap (λ (h : HubState). session_at h token) (none refl);
   said = says-same (old.at token) old.book new.book (ap (λ (h : HubState). h.book) (none refl));
   apart = subst AreApart (sym (none refl)) apart;
 }
@@ -496,6 +502,7 @@ unfed-after line between after not_fed is goes =
 pub record MovedClauses (token : ℕ) (old new : HubState) : Type 0 where
   pub lines : (records : List Recorded) (taken given : ℕ → List ℕ) → AreLines records taken given old → GoOn records taken given new
   pub rest : IsSomeAnd (new.at token) (λ line. IsAtRest 65536 new.book.server line line.stage)
+  pub session : session_at new token ≡ session_at old token
   pub others : (other : ℕ) → other ≢ token → new.at other ≡ old.at other
   pub said : SaysOf (old.at token) old.book new.book
 
@@ -503,6 +510,7 @@ pub moved-clauses : (token : ℕ) (old new : HubState) → AreApart old → Move
 moved-clauses token old new apart moves = record {
   lines = moved-lines token old new apart moves;
   rest = moved-rest token old new moves;
+  session = changes-session token old new moves.before moves.after moves.changes;
   others = moves.changes.others;
   said = says-at (old.at token) moves.before old.book new.book moves.moves.more moves.changes.was moves.moves.adds;
 }

@@ -1,9 +1,9 @@
 pub mod ComingLemmas
-pub mod DeedLemmas
 pub mod FrameLemmas
 pub mod GoingLemmas
 pub mod HubLemmas
 pub mod JoinLemmas
+pub mod LetterLemmas
 pub mod LineLemmas
 pub mod MoveLemmas
 pub mod OwnLemmas

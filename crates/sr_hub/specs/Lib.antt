@@ -5,7 +5,6 @@ pub mod OneRequest
 pub mod Line
 pub mod Lines
 pub mod Said
-pub mod Deeds
 pub mod Traffic
 pub mod Heard
 pub mod steps

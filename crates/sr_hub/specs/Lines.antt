@@ -4,6 +4,7 @@
 
 use Rattle.std.specs.Prelude.{◌≡◌, ◌==◌, ℕ, List, [], ◌++◌, length, Option, Some, None, if◌then◌else◌}
 use Rattle.std.specs.Prelude.{◌≢◌, IsSomeAnd, slice_index_or}
+use Rattle.std.specs.Option.{option_map}
 use Rattle.sr_book.specs.{is_open, letter_of, BookState, Recorded}
 use Rattle.sr_book.specs.Server.{empty_server}
 use Rattle.sr_book.specs.Records.{Legal}
@@ -24,6 +25,10 @@ pub record HubState : Type 0 where
 -- what is at each token: the connection in the slot of that number
 abbrev pub state_of : HubParts → HubState
 state_of parts = record { book = parts.book; at = λ token. slice_index_or parts.slots token None }
+
+-- the session of the connection at a token, if there is one
+abbrev pub session_at : HubState → ℕ → Option ℕ
+session_at hub token = option_map (λ (line : ConnectionState). line.session) (hub.at token)
 
 -- all records of a book from the empty server on, those before its last checkpoint too: they lead legally to its state,
 -- and those that it keeps are the last of them

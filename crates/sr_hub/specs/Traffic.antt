@@ -1,13 +1,15 @@
 -- What passes through the sockets of an event loop: the bytes of connections that are open, and of those that were
 -- closed.
 
-use Rattle.std.specs.Prelude.{◌≡◌, ◌==◌, ℕ, Bool, true, false, List, [], ◌∷◌, ◌++◌, if◌then◌else◌, IsSome}
-use Rattle.std.specs.List.{AllByRecursion}
+use Rattle.std.specs.Prelude.{⊤, ◌≡◌, ◌⊎◌, ◌==◌, ℕ, Bool, true, false, List, [], ◌∷◌, ◌++◌, if◌then◌else◌, IsSome, Some}
+use Rattle.std.specs.List.{list_any}
 use Rattle.sr_book.specs.{Recorded}
+use Rattle.sr_book.specs.declared.event.Act.TheVariants as acts
+use Rattle.sr_book.specs.declared.event.Event.TheVariants as events
 use Rattle.sr_book.specs.Server.{Server, empty_server}
 use Rattle.sr_book.specs.Records.{Legal}
 use Rattle.sr_hub.specs.Line.{ConnectionState, IsLine}
-use Rattle.sr_hub.specs.Lines.{AreLines, HubState, with_more, with_none}
+use Rattle.sr_hub.specs.Lines.{AreLines, HubState, session_at, with_more, with_none}
 
 -- a connection that was closed: the bytes that were taken from it, and those that were given to it
 pub record Closed : Type 0 where
@@ -62,9 +64,9 @@ names token traffic = begins token (closes token traffic)
 
 -- ---- what is known of it
 
--- a connection that was closed was a line right before, in the server that the records up to then led to: what it was
--- given are the texts of its requests, in order, but for what was still to be sent to it
-pub record WasLine (records : List Recorded) (connection : Closed) : Type 0 where
+-- a connection that was closed was a line of this session right before, in the server that the records up to then led
+-- to: what it was given are the texts of its requests, in order, but for what was still to be sent to it
+pub record WasLine (records : List Recorded) (session : ℕ) (connection : Closed) : Type 0 where
   pub before : List Recorded
   pub after : List Recorded
   pub server : Server
@@ -72,10 +74,35 @@ pub record WasLine (records : List Recorded) (connection : Closed) : Type 0 wher
   pub whole : records ≡ before ++ after
   pub legal : Legal 1 (empty_server server.rules) before server
   pub was : IsLine before server connection.taken connection.given line
+  pub own : line.session ≡ session
+
+-- connections that were closed, and the session of each
+abbrev pub WereLines : List Recorded → List ℕ → List Closed → Type 0
+WereLines records [] [] = ⊤
+WereLines records (session ∷ sessions) (connection ∷ closed) =
+    WasLine records session connection × WereLines records sessions closed
+WereLines records [] (connection ∷ closed) = ⊥
+WereLines records (session ∷ sessions) [] = ⊥
+
+-- in these records a session joined
+abbrev pub HasJoined : ℕ → List Recorded → Type 0
+HasJoined session [] = ⊥
+HasJoined session (first ∷ records) =
+    ((first.act ≡ acts.Event events.Join) × (first.index ≡ session)) ⊎ HasJoined session records
+
+-- it is one of these
+abbrev pub IsAmong : ℕ → List ℕ → Type 0
+IsAmong session sessions = list_any (λ other. other == session) sessions ≡ true
 
 -- the connections of a hub and of its sockets: each that is open is in the hub; each that is in the hub is a line of
--- the bytes that were taken from it and given to it; and each that was closed was one
+-- the bytes that were taken from it and given to it, and is open, or was closed and has still to leave; each that was
+-- closed was a line; and each session that joined is that of a connection in the hub or of one that was closed
 pub record AreServed (records : List Recorded) (traffic : Traffic) (hub : HubState) : Type 0 where
+  pub gone : List ℕ
   pub opened : (token : ℕ) → traffic.opened token ≡ true → IsSome (hub.at token)
   pub lines : AreLines records traffic.taken traffic.given hub
-  pub closed : AllByRecursion (WasLine records) traffic.closed
+  pub closed : WereLines records gone traffic.closed
+  pub left : (token session : ℕ) → session_at hub token ≡ Some session
+      → (traffic.opened token ≡ true) ⊎ IsAmong session gone
+  pub joined : (session : ℕ) → HasJoined session records
+      → IsAmong session gone ⊎ ((token : ℕ) × (session_at hub token ≡ Some session))

@@ -1,3 +1,5 @@
+ghost use Rattle.std.specs.Prelude.{◌≡◌, ◌<◌, ℕ, Bool};
+ghost use Rattle.sr_book.specs.Records.{last_index};
 ghost use Rattle.sr_hub.specs.Lines.{IsLettered, state_of};
 ghost use Rattle.sr_hub.specs.steps.Serving.{Keeps};
 
@@ -453,15 +455,29 @@ impl<'a, C: Clock> Keeper<'a, C> {
         let Some(records) = self.habits.keep else {
             return;
         };
-        if self.watch.is_behind(hub.book()) {
-            return;
-        }
         let bytes = self.habits.keep_bytes;
         let bounds = Bounds { records, bytes };
-        let part = self.past.part(hub, bounds);
-        lets_go(&mut self.past, self.clock, part);
-        self.past.cut(hub, bounds);
+        forget_seen(&mut self.past, &self.watch, self.clock, hub, bounds);
     }
+}
+
+/// The same, within these bounds. While a record is there that was not looked at, nothing is let go of.
+fn forget_seen<C: Clock>(
+    past: &mut Past,
+    watch: &Watch,
+    clock: &C,
+    hub: &mut Hub,
+    bounds: Bounds,
+)
+    ensures seen { watch.now.looked < last_index hub.old.book → hub.new ≡ hub.old }
+    ensures keeps { (may_tell : ℕ → Bool) → Keeps may_tell (state_of hub.old) may_tell (state_of hub.new) }
+{
+    if watch.is_behind(hub.book()) {
+        return;
+    }
+    let part = past.part(hub, bounds);
+    lets_go(past, clock, part);
+    past.cut(hub, bounds);
 }
 
 /// Lets go of so many of the records that are kept no longer, unless that takes long.

@@ -1,8 +1,11 @@
-ghost use Rattle.std.specs.Prelude.{IfSome};
+ghost use Rattle.std.specs.Prelude.{◌≡◌, ◌≤◌, ◌<◌, ◌↔◌, [], ◌∷◌, IfNone, IfSome, IsTrue};
+ghost use Rattle.sr_book.specs.Records.{last_index};
 ghost use Rattle.sr_hub.specs.Lines.{IsLettered, state_of};
+ghost use Rattle.sr_hub.specs.steps.Letters.{unseen};
 
 use crate::Hub;
-use sr_book::{Book, Kind};
+use crate::letters::next_letter;
+use sr_book::Book;
 use std::alloc::{AllocError, Global};
 use std::mem;
 
@@ -248,7 +251,9 @@ impl Watch {
     }
 
     /// Whether there are records whose replies were not looked at yet.
-    pub(crate) fn is_behind(&self, book: &Book) -> bool {
+    pub(crate) fn is_behind(&self, book: &Book) -> bool
+        ensures { IsTrue result ↔ (self.now.looked < last_index book.now) }
+    {
         self.looked < book.last_index()
     }
 
@@ -268,27 +273,44 @@ impl Watch {
         None
     }
 
-    /// The next session that a record addresses a reply to though it did not ask in that record: it waited.
-    fn next_given(&mut self, book: &Book) -> Option<u64> {
+    /// The next session to which a record gives a letter that was not looked at yet.
+    fn next_given(&mut self, book: &Book) -> Option<u64>
+        ensures some { book.now.base.index ≤ self.old.looked → IfSome result (λ session.
+            unseen book.now self.old.looked self.old.replies
+            ≡ session ∷ unseen book.now self.new.looked self.new.replies) }
+        ensures none { book.now.base.index ≤ self.old.looked → IfNone result
+            (unseen book.now self.old.looked self.old.replies ≡ []) }
+    {
+        let last = book.last_index();
         let base = book.base().index;
+        self.begin_at(base);
+        let records = book.records();
+        // A slice, and no `skip`: that would step over each record that was seen.
+        let seen = records.len().min((self.looked - base) as usize);
+        match next_letter(&records[seen..], self.replies) {
+            None => {
+                self.looked = last;
+                self.replies = 0;
+                None
+            }
+            Some(next) => {
+                self.looked = self.looked.saturating_add(next.records as u64);
+                self.replies = next.before.saturating_add(1);
+                Some(next.session)
+            }
+        }
+    }
+
+    /// Passes over the records up to a checkpoint, which are not kept.
+    fn begin_at(&mut self, base: u64)
+        ensures from { base ≤ self.new.looked }
+        ensures looked { base ≤ self.old.looked → self.new.looked ≡ self.old.looked }
+        ensures replies { base ≤ self.old.looked → self.new.replies ≡ self.old.replies }
+    {
         if self.looked < base {
             self.looked = base;
             self.replies = 0;
         }
-        let records = book.records();
-        // A slice, and no `skip`: that would step over each record that was seen.
-        let seen = records.len().min((self.looked - base) as usize);
-        for record in &records[seen..] {
-            if gives_letters(record.kind())
-                && let Some((session, _)) = record.replies.as_slice().get(self.replies)
-            {
-                self.replies = self.replies.saturating_add(1);
-                return Some(*session);
-            }
-            self.looked = self.looked.saturating_add(1);
-            self.replies = 0;
-        }
-        None
     }
 }
 
@@ -321,9 +343,4 @@ pub(crate) fn has_unsent(hub: &Hub, token: usize) -> bool {
 /// How many bytes are to be sent to a connection.
 pub(crate) fn unsent_len(hub: &Hub, token: usize) -> usize {
     hub.unsent(token).map_or(0, |bytes| bytes.len())
-}
-
-/// Whether a record of this gives replies to sessions that wait.
-fn gives_letters(kind: Kind) -> bool {
-    matches!(kind, Kind::Serve | Kind::Expire)
 }

@@ -16,7 +16,7 @@ use Rattle.sr_live.specs.declared.said.Misread.{Misread}
 use Rattle.sr_live.specs.declared.said.Misread.TheVariants.{ErrorReply, Memory, Shape}
 use Rattle.sr_live.specs.Conclusion.{HasNoConclusion, IsCalled, IsUnanswered, SaysConcluded, digest_call, text_call}
 use Rattle.sr_live.specs.Looking.{Exchange, Talks}
-use Rattle.sr_live.specs.steps.Misread.{IsMisread, IsToldBy, fault_of}
+use Rattle.sr_live.specs.steps.Misread.{Conclude, IsMisread, IsToldBy, fault_of}
 use Rattle.sr_live.proofs.ReadingLemmas.{sends-whole}
 use Rattle.sr_live.proofs.TalkLemmas.{Talks-none, Talks-trans}
 
@@ -40,15 +40,20 @@ module _ (call : List Text) (sent got sent_then got_then : Option (List ℕ)) wh
 
   -- a reply says nothing
   unanswered-misread : (parts : List Part) (misread : Misread) → Talks sent got sent_then got_then ((call, parts) ∷ [])
-      → IsMisread parts misread → IsUnanswered call sent got sent_then got_then (fault_of misread)
+      → IsMisread (Conclude parts) parts misread → IsUnanswered call sent got sent_then got_then (fault_of misread)
   unanswered-misread parts Memory talks says =
       sends-whole sent sent_then (request_text call)
       (subst (Appends sent sent_then) (append-nil (request_text call)) talks.asked)
   unanswered-misread parts (ErrorReply text) talks says = (parts, talks, says)
-  unanswered-misread parts Shape talks says = (parts, talks)
+  unanswered-misread parts Shape talks (no_conclusion, no_error) = (
+    parts,
+    talks,
+    record { no_conclusion = λ concluded says. no_conclusion (concluded, says); no_error = no_error },
+  )
 
   pub unanswered-said : (parts : List Part) (said : Result Concluded Misread) (told : LiveFault)
-      → Talks sent got sent_then got_then ((call, parts) ∷ []) → IfErr said (IsMisread parts) → IsToldBy said told
+      → Talks sent got sent_then got_then ((call, parts) ∷ []) → IfErr said (IsMisread (Conclude parts) parts)
+      → IsToldBy said told
       → IsUnanswered call sent got sent_then got_then told
   unanswered-said parts (Ok concluded) told talks says is = absurd is
   unanswered-said parts (Err misread) told talks says is =
@@ -56,7 +61,7 @@ module _ (call : List Text) (sent got sent_then got_then : Option (List ℕ)) wh
 
   pub unanswered-result : (parts : List Part) → Talks sent got sent_then got_then ((call, parts) ∷ [])
       → (said : Result Concluded Misread) (told : Result Concluded LiveFault) → IfErr told (IsToldBy said)
-      → IfErr said (IsMisread parts) → IfErr told (IsUnanswered call sent got sent_then got_then)
+      → IfErr said (IsMisread (Conclude parts) parts) → IfErr told (IsUnanswered call sent got sent_then got_then)
   unanswered-result parts talks said told is says =
       IfErr-weaker told (IsToldBy said) _ (λ one by_said. unanswered-said parts said one talks says by_said) is
 

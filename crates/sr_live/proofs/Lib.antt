@@ -9,6 +9,7 @@ pub mod LookingLemmas
 pub mod TalkLemmas
 pub mod ReadingLemmas
 pub mod ConsumersLemmas
+pub mod DeadLemmas
 pub mod ServerLemmas
 pub mod RoundsLemmas
 pub mod ConclusionLemmas

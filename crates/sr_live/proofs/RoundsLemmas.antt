@@ -21,8 +21,8 @@ use Rattle.sr_live.specs.declared.rounds.Terms.{Terms}
 use Rattle.sr_live.specs.Conclusion.{HasNoConclusion, IsCalled, SaysConcluded}
 use Rattle.sr_live.specs.Looking.{Exchange, Talks}
 use Rattle.sr_live.specs.Reading.{BreaksOff, HasOnlyRead}
-use Rattle.sr_live.specs.Rounds.{ArePassed, BreaksAtScript, EndsAll, FitsPlan, HasBroken, HasFailed, HasMade}
-use Rattle.sr_live.specs.Rounds.{HasRun, IsConcluded, IsPassed, IsPlanned, IsReady, within_of}
+use Rattle.sr_live.specs.Rounds.{ArePassed, BreaksAtScript, EndsAll, EndsChanged, FitsPlan, HasBroken, HasChanged}
+use Rattle.sr_live.specs.Rounds.{HasFailed, HasMade, HasRun, IsConcluded, IsPassed, IsPlanned, IsReady, within_of}
 use Rattle.sr_live.specs.Words.{last_word, words_for}
 use Rattle.sr_live.proofs.TalkLemmas.{Talks-none, Talks-trans}
 
@@ -172,6 +172,14 @@ module _ (rules : Rules) (asked : Asked) (terms : Terms) where
     pub made : HasMade rules asked terms last (Some ran)
     pub talks : Talks sent got sent_then got_then (earlier ++ last)
 
+  -- what was looked up in the last of them is of no one moment, if there are any
+  pub record IsChangedAt (sent got sent_then got_then : Option (List ℕ)) (tried : ℕ) (fault : LiveFault) : Type 0 where
+    pub is : fault ≡ Changed
+    pub earlier : List Exchange
+    pub passed : ArePassed rules asked terms tried earlier
+    pub talks : Talks sent got sent_then got_then earlier
+    pub ends : EndsChanged rules asked terms tried earlier
+
   -- what a round made, taken apart
   pub made-at : (talk : List Exchange) (told : Option Ran) (one ran : Ran) → told ≡ Some one → one ≡ ran
       → HasMade rules asked terms talk told → HasMade rules asked terms talk (Some ran)
@@ -180,6 +188,9 @@ module _ (rules : Rules) (asked : Asked) (terms : Terms) where
 
   pub so-far-none : (sent got : Option (List ℕ)) → SoFar sent got sent got 0
   so-far-none sent got = ([], refl, Talks-none sent got)
+
+  pub changed-none : (sent got : Option (List ℕ)) → IsChangedAt sent got sent got 0 Changed
+  changed-none sent got = record { is = refl; earlier = []; passed = refl; talks = Talks-none sent got; ends = tt }
 
   module _ (sent got sent_then got_then sent_last got_last : Option (List ℕ)) (tried : ℕ) where
     -- one more round in which nothing was carried out
@@ -207,6 +218,19 @@ module _ (rules : Rules) (asked : Asked) (terms : Terms) where
       passed = passed;
       made = made;
       talks = Talks-trans sent got sent_then got_then sent_last got_last earlier talk one two;
+    }
+
+    pub changed-next : (talk : List Exchange) → SoFar sent got sent_then got_then tried
+        → Talks sent_then got_then sent_last got_last talk → HasChanged rules asked terms.at_most talk
+        → IsChangedAt sent got sent_last got_last (tried + 1) Changed
+    changed-next talk (earlier, passed, one) two changed = record {
+      is = refl;
+      earlier = earlier ++ talk;
+      passed = subst (λ (n : ℕ). ArePassed rules asked terms n (earlier ++ talk)) (sym (add-one tried))
+          (earlier, talk, passed, inl changed, refl);
+      talks = Talks-trans sent got sent_then got_then sent_last got_last earlier talk one two;
+      ends = subst (λ (n : ℕ). EndsChanged rules asked terms n (earlier ++ talk)) (sym (add-one tried))
+          (earlier, talk, changed, refl);
     }
 
     -- a round that made something
@@ -256,14 +280,14 @@ module _ (rules : Rules) (asked : Asked) (terms : Terms) where
       talks = at.talks;
     }
 
-    pub run-changed : (fault : LiveFault) → fault ≡ Changed → SoFar sent got sent_then got_then tried
+    pub run-changed : (fault : LiveFault) → IsChangedAt sent got sent_then got_then tried fault
         → HasFailed rules asked terms sent got sent_then got_then fault
-    run-changed fault is (earlier, passed, talks) = record {
+    run-changed fault at = record {
       tried = tried;
-      earlier = earlier;
+      earlier = at.earlier;
       sent_by_then = sent_then;
       got_by_then = got_then;
-      passed = passed;
-      talks = talks;
-      so = inr (all, is, refl, refl);
+      passed = at.passed;
+      talks = at.talks;
+      so = inr (all, at.is, at.ends, refl, refl);
     }

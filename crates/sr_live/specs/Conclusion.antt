@@ -57,8 +57,13 @@ SaysConcluded parts (Done claimed gap) =
     parts ≡ Array 3 ∷ Bulk (codes "done") ∷ Int (pos claimed) ∷ Int (pos gap) ∷ []
 SaysConcluded parts (Stale what of) = parts ≡ Array 3 ∷ Bulk (codes "stale") ∷ Bulk what ∷ Bulk of ∷ []
 
+-- the reply is neither a conclusion nor an error
+pub record SaysNothing (parts : List Part) : Type 0 where
+  pub no_conclusion : (concluded : Concluded) → SaysConcluded parts concluded → ⊥
+  pub no_error : (text : Text) → SaysError parts text → ⊥
+
 -- this call of the script brought no conclusion, for this reason: nothing of it was sent; some of it was, perhaps all,
--- and no whole reply came; or the reply is an error, or something else that was not read
+-- and no whole reply was read; or the reply is an error, or neither that nor a conclusion
 abbrev pub IsUnanswered : List Text → Option (List ℕ) → Option (List ℕ) → Option (List ℕ) → Option (List ℕ) → LiveFault
     → Type 0
 IsUnanswered call sent got sent_then got_then Memory = Talks sent got sent_then got_then []
@@ -66,7 +71,7 @@ IsUnanswered call sent got sent_then got_then (Unknown fault) = SendsPart sent s
 IsUnanswered call sent got sent_then got_then (ErrorReply Script text) =
     (parts : List Part) × Talks sent got sent_then got_then ((call, parts) ∷ []) × SaysError parts text
 IsUnanswered call sent got sent_then got_then (Shape Script) =
-    (parts : List Part) × Talks sent got sent_then got_then ((call, parts) ∷ [])
+    (parts : List Part) × Talks sent got sent_then got_then ((call, parts) ∷ []) × SaysNothing parts
 IsUnanswered call sent got sent_then got_then fault = ⊥
 
 -- the script was called with these words after none or one other call, and no conclusion came

@@ -2,6 +2,7 @@
 
 pub mod Bounds
 pub mod Conclusion
+pub mod Dead
 pub mod First
 pub mod Looked
 pub mod Looking

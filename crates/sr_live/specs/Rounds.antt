@@ -1,7 +1,7 @@
 -- What a round makes, what came of all rounds, and what is known after a fault.
 -- Source: docs/LIVE.md.
 
-use Rattle.std.specs.Prelude.{◌≡◌, ◌⊎◌, ℕ, zero, suc, ◌+◌, ◌<◌, ◌≤◌, List, [], ◌∷◌, ◌++◌, length, Option, Some, None}
+use Rattle.std.specs.Prelude.{⊤, ◌≡◌, ◌⊎◌, ℕ, zero, suc, ◌+◌, ◌<◌, ◌≤◌, List, [], ◌∷◌, ◌++◌, length, Option, Some, None}
 use Rattle.sr_ids.specs.declared.id.Id.{Id}
 use Rattle.sr_check.specs.PlanAnswer.{short}
 use Rattle.sr_policy.specs.{Text}
@@ -140,6 +140,14 @@ pub record HasRun (rules : Rules) (asked : Asked) (terms : Terms) (sent got sent
 
 -- ---- faults
 
+-- why there is no plan: looking the group up broke off, or what was looked up is of no one moment
+abbrev pub HasNoPlan : Rules → Asked → Option ℕ → Option (List ℕ) → Option (List ℕ) → Option (List ℕ)
+    → Option (List ℕ) → LiveFault → Type 0
+HasNoPlan rules asked at_most sent got sent_then got_then fault =
+    BreaksOff sent sent_then fault
+    ⊎ ((fault ≡ Changed) × ((talk : List Exchange) × Talks sent got sent_then got_then talk
+    × HasChanged rules asked at_most talk))
+
 -- a round that came as far as this call of its script, which brought no conclusion
 pub record BreaksAtScript (rules : Rules) (asked : Asked) (terms : Terms)
     (sent got sent_then got_then : Option (List ℕ)) (fault : LiveFault) : Type 0 where
@@ -172,6 +180,13 @@ HasBroken rules asked terms sent got sent_then got_then fault =
     ⊎ (BreaksAtScript rules asked terms sent got sent_then got_then fault
     ⊎ IsUnfit rules asked terms sent got sent_then got_then fault)
 
+-- what was looked up in the last of this many rounds is of no one moment, if there was one
+abbrev pub EndsChanged : Rules → Asked → Terms → ℕ → List Exchange → Type 0
+EndsChanged rules asked terms zero talk = ⊤
+EndsChanged rules asked terms (suc tried) talk =
+    (earlier : List Exchange) × (last : List Exchange) × HasChanged rules asked terms.at_most last
+    × (talk ≡ earlier ++ last)
+
 -- since these bytes: rounds in which nothing was carried out, and a fault in the next one; or all rounds that were
 -- asked for, and what was looked up last is of no one moment
 pub record HasFailed (rules : Rules) (asked : Asked) (terms : Terms) (sent got sent_then got_then : Option (List ℕ))
@@ -183,4 +198,5 @@ pub record HasFailed (rules : Rules) (asked : Asked) (terms : Terms) (sent got s
   pub passed : ArePassed rules asked terms tried earlier
   pub talks : Talks sent got sent_by_then got_by_then earlier
   pub so : ((tried < terms.tries) × HasBroken rules asked terms sent_by_then got_by_then sent_then got_then fault)
-      ⊎ ((tried ≡ terms.tries) × (fault ≡ Changed) × (sent_then ≡ sent_by_then) × (got_then ≡ got_by_then))
+      ⊎ ((tried ≡ terms.tries) × (fault ≡ Changed) × EndsChanged rules asked terms tried earlier
+      × (sent_then ≡ sent_by_then) × (got_then ≡ got_by_then))

@@ -5,6 +5,7 @@
 mod bounds;
 mod conclusion;
 mod consumers;
+mod dead;
 mod entries;
 mod fault;
 mod listing;
@@ -22,6 +23,7 @@ mod words;
 pub use bounds::{at_most_worse, fits_with_spare, holds_while_near, still_cheapest};
 pub use conclusion::{Concluded, conclude};
 pub use consumers::{look_idles, look_numbers};
+pub use dead::find_dead;
 pub use fault::{LiveCall, LiveFault};
 pub use looked::{Asked, Looked, Row};
 pub use looking::look;

@@ -4,7 +4,8 @@ ghost use Rattle.sr_live.specs.declared.fault.LiveFault.TheVariants.{Unfit};
 ghost use Rattle.sr_live.specs.declared.rounds.Ran.TheVariants.{Done};
 ghost use Rattle.sr_live.specs.Looking.{Exchange, Talks};
 ghost use Rattle.sr_live.specs.Reading.{BreaksOff, HasOnlyRead};
-ghost use Rattle.sr_live.specs.Rounds.{FitsPlan, HasBroken, HasFailed, HasMade, HasRun, IsJudged, IsPlanned, within_of};
+ghost use Rattle.sr_live.specs.Rounds.{FitsPlan, HasBroken, HasFailed, HasMade, HasNoPlan, HasRun, IsJudged, IsPlanned};
+ghost use Rattle.sr_live.specs.Rounds.{within_of};
 
 use crate::conclusion::{Concluded, conclude};
 use crate::fault::LiveFault;
@@ -81,6 +82,8 @@ pub fn plan<P: Peer>(
         × Talks (P.sent peer.old) (P.got peer.old) (P.sent peer.new) (P.got peer.new) talk
         × IsPlanned policy.now asked.now at_most talk planned) }
     ensures err { OnErr result (HasOnlyRead (P.sent peer.old) (P.sent peer.new)) }
+    ensures fault { IfErr result (HasNoPlan policy.now asked.now at_most (P.sent peer.old) (P.got peer.old)
+        (P.sent peer.new) (P.got peer.new)) }
 {
     judged(peer, alloc, policy, asked, at_most)?.ok_or(LiveFault::Changed)
 }

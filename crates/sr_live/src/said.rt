@@ -8,7 +8,8 @@ ghost use Rattle.sr_peer.specs.{Array, Bulk, Int, part_of};
 ghost use Rattle.sr_peer.specs.Reply.{items_of};
 ghost use Rattle.sr_live.specs.Conclusion.{SaysConcluded};
 ghost use Rattle.sr_live.specs.declared.said.Misread.TheVariants.{Memory};
-ghost use Rattle.sr_live.specs.steps.Misread.{IsMisread, IsNoError};
+ghost use Rattle.sr_live.specs.steps.Misread.{Conclude, ConcludeAfter, HaveInteger, HaveItems, HaveNatural, HaveText};
+ghost use Rattle.sr_live.specs.steps.Misread.{IsMisread, IsUnlike};
 ghost use Rattle.sr_live.specs.Said.{AreEntries, IsEntry, IsFront, IsPendingRow, SaysConsumer, SaysEntry, SaysIdle};
 ghost use Rattle.sr_live.specs.Said.{SaysNumbers, SaysPending, SaysRemoved, consumer_parts, fields_parts, number_parts};
 ghost use Rattle.sr_live.specs.Said.{pairs_parts};
@@ -420,7 +421,7 @@ fn pairs_said(alloc: Global, parts: &mut Parts<'_>, count: usize) -> Result<Fiel
 /// The number of items of the next array.
 fn header(alloc: Global, parts: &mut Parts<'_>) -> Result<usize, Misread>
     ensures ok { IfOk result (λ count. parts.old ≡ Array count ∷ parts.new) }
-    ensures err { IfErr result (IsMisread parts.old) }
+    ensures err { IfErr result (IsMisread (HaveItems parts.old) parts.old) }
 {
     match parts.next() {
         Some(Part::Array(count)) => Ok(count),
@@ -432,7 +433,7 @@ fn header(alloc: Global, parts: &mut Parts<'_>) -> Result<usize, Misread>
 /// The next bulk string.
 fn string<'a>(parts: &mut Parts<'a>) -> Result<&'a [u8], Misread>
     ensures ok { IfOk result (λ text. parts.old ≡ Bulk text.now ∷ parts.new) }
-    ensures err { IfErr result IsNoError }
+    ensures err { IfErr result (IsUnlike (HaveText parts.old)) }
 {
     match parts.next() {
         Some(Part::Bulk(text)) => Ok(text),
@@ -443,7 +444,7 @@ fn string<'a>(parts: &mut Parts<'a>) -> Result<&'a [u8], Misread>
 /// The next integer.
 fn integer(parts: &mut Parts<'_>) -> Result<i64, Misread>
     ensures ok { IfOk result (λ number. parts.old ≡ Int number ∷ parts.new) }
-    ensures err { IfErr result IsNoError }
+    ensures err { IfErr result (IsUnlike (HaveInteger parts.old)) }
 {
     match parts.next() {
         Some(Part::Int(number)) => Ok(number),
@@ -471,7 +472,7 @@ fn name_of(alloc: Global, text: &[u8]) -> Result<Name, AllocError>
 /// Nothing is left.
 pub(crate) fn end(parts: &mut Parts<'_>) -> Result<(), Misread>
     ensures ok { OnOk result (parts.old ≡ []) }
-    ensures err { IfErr result IsNoError }
+    ensures err { IfErr result (IsUnlike (parts.old ≡ [])) }
 {
     match parts.next() {
         None => Ok(()),
@@ -484,22 +485,25 @@ pub(crate) fn end(parts: &mut Parts<'_>) -> Result<(), Misread>
 /// Source: docs/LIVE.md.
 pub(crate) fn conclusion_said(alloc: Global, mut parts: Parts<'_>) -> Result<Concluded, Misread>
     ensures ok { IfOk result (SaysConcluded parts.entry) }
-    ensures err { IfErr result (IsMisread parts.entry) }
+    ensures err { IfErr result (IsMisread (Conclude parts.entry) parts.entry) }
 {
     if header(alloc, &mut parts)? != 3 {
         return Err(Misread::Shape);
     }
-    match string(&mut parts)? {
-        b"done" => done_said(&mut parts),
-        b"stale" => stale_said(alloc, &mut parts),
-        _ => Err(Misread::Shape),
+    let word = string(&mut parts)?;
+    if word == b"done".as_slice() {
+        return done_said(&mut parts);
     }
+    if word == b"stale".as_slice() {
+        return stale_said(alloc, &mut parts);
+    }
+    Err(Misread::Shape)
 }
 
 /// How many entries were claimed, and the gap.
 fn done_said(parts: &mut Parts<'_>) -> Result<Concluded, Misread>
     ensures ok { IfOk result (λ said. SaysConcluded (Array 3 ∷ Bulk (codes "done") ∷ parts.old) said) }
-    ensures err { IfErr result IsNoError }
+    ensures err { IfErr result (IsUnlike (ConcludeAfter (codes "done") parts.old)) }
 {
     let claimed = natural(parts)?;
     let gap = natural(parts)?;
@@ -510,7 +514,7 @@ fn done_said(parts: &mut Parts<'_>) -> Result<Concluded, Misread>
 /// What is not as it was looked up, and of what.
 fn stale_said(alloc: Global, parts: &mut Parts<'_>) -> Result<Concluded, Misread>
     ensures ok { IfOk result (λ said. SaysConcluded (Array 3 ∷ Bulk (codes "stale") ∷ parts.old) said) }
-    ensures err { IfErr result IsNoError }
+    ensures err { IfErr result (IsUnlike (ConcludeAfter (codes "stale") parts.old)) }
 {
     let what = name_of(alloc, string(parts)?)?;
     let of = name_of(alloc, string(parts)?)?;
@@ -521,7 +525,7 @@ fn stale_said(alloc: Global, parts: &mut Parts<'_>) -> Result<Concluded, Misread
 /// The next integer, if it is not below 0.
 fn natural(parts: &mut Parts<'_>) -> Result<u64, Misread>
     ensures ok { IfOk result (λ number. parts.old ≡ Int (pos number) ∷ parts.new) }
-    ensures err { IfErr result IsNoError }
+    ensures err { IfErr result (IsUnlike (HaveNatural parts.old)) }
 {
     let number = integer(parts)?;
     if number < 0 {

@@ -1,21 +1,26 @@
 //! What the program does.
-use crate::blame::policy_fault;
-use crate::board::print_board;
+use crate::advice::print_advice;
+use crate::board::{Board, board_of, print_board};
 use crate::check::print_check;
-use crate::fault::{Fault, live_fault, unreadable};
+use crate::deliveries::look_deliveries;
+use crate::fault::{Fault, live_fault};
+use crate::json_lines::{Step, print_board_line, print_plan_line, print_ran_line};
+use crate::names::{PolicyText, print_stars};
 use crate::notes::{Notes, look_members};
 use crate::options::{Action, Options};
-use crate::place::{place_named, read_place};
+use crate::place::{Place, place_named};
 use crate::print::{
-    print_done, print_gone, print_plan, print_spare, print_stale, print_step, print_sum,
+    print_done, print_gone, print_plan, print_spare, print_stale, print_step, print_sum, say,
 };
-use crate::wire::{Wire, authenticate, connect, select};
+use crate::reach::read_reach;
+use crate::watch::{Watcher, watch_groups};
+use crate::wire::Wire;
 use sr_bytes::Name;
 use sr_live::{Asked, LiveFault, Planned, Ran, Terms, look_idles, look_numbers, plan, run};
+use sr_plan::Verdict;
 use sr_policy::Policy;
 use sr_space::names_in_order;
 use std::alloc::{AllocError, Global};
-use std::{env, fs};
 
 /// How many entries a plan may have.
 const MOST: u64 = 4096;
@@ -27,13 +32,16 @@ const MAX_STEPS: u64 = 1_000_000;
 const MAX_MOVES: usize = 16;
 
 /// How many entries are read at a time at most.
-const TOGETHER: u64 = 256;
+pub(crate) const TOGETHER: u64 = 256;
 
 /// How many are read at a time at most after a reply that was too long.
 const FEWER_TOGETHER: u64 = 16;
 
 /// How many times fewer are read at a time, until it is one.
 const MAX_SHORTER: usize = 5;
+
+/// How many times it is begun at most: at each node, with each number of entries at a time, and without spare places.
+pub(crate) const MAX_ATTEMPTS: usize = MAX_MOVES + MAX_SHORTER + 2;
 
 /// How it ended.
 #[derive(Clone, Copy, PartialEq, Eq)]
@@ -44,6 +52,8 @@ pub(crate) enum Status {
     Impossible,
     /// The group changed at each try.
     Stale,
+    /// One turn of `watch` was made: the greatest of the statuses at its groups, which were told.
+    Watched(u8),
 }
 
 impl Status {
@@ -53,63 +63,94 @@ impl Status {
             Status::Done => 0,
             Status::Impossible => 3,
             Status::Stale => 4,
+            Status::Watched(code) => code,
         }
     }
 }
 
 /// Does what is asked for, at the node that has the key.
 pub(crate) fn act(rt: &HostRuntime, options: &Options<'_>) -> Result<Status, Fault> {
-    let mut place = read_place(rt.alloc(), options.redis)?;
-    let policy = read_policy(rt, options.policy)?;
-    let password = password(rt, options)?;
-    if options.user.is_some() && password.is_none() {
-        return Err(Fault::Asked(
-            "--user: it needs a password, from --password-file or REDISCLI_AUTH",
-        ));
+    let reach = read_reach(rt, options)?;
+    let policy = PolicyText::read(rt, options.policy)?;
+    if options.action == Action::Judge {
+        return Ok(Status::Done);
+    }
+    if let Some(watching) = &options.watching {
+        return watch_groups(&Watcher {
+            rt,
+            options,
+            watching,
+            policy: &policy,
+            reach: &reach,
+        });
     }
     let mut asked = asked(rt.alloc(), options)?;
+    if options.makes_plans() && asked.seen_within.is_none() && policy.has_stars() {
+        print_stars(&mut rt.stderr())?;
+    }
+    let mut place = reach.node(rt)?;
     let mut moves = 0;
-    for _ in 0..=MAX_MOVES + MAX_SHORTER + 1 {
-        let mut wire = connect(rt, &place, options.timeout)?;
-        authenticate(
-            &mut wire,
-            rt.alloc(),
-            options.user,
-            password.as_ref().map(|text| text.as_bytes()),
-        )?;
-        select(&mut wire, rt.alloc(), options.database)?;
+    for _ in 0..MAX_ATTEMPTS {
+        let mut wire = reach.connect(rt, &place)?;
         match act_at(rt, options, &policy, &asked, &mut wire) {
-            Err(Fault::Moved(to)) => {
-                if moves >= MAX_MOVES {
-                    return Err(Fault::Moves);
-                }
-                moves = moves.saturating_add(1);
-                place = place_named(rt.alloc(), &place, to.as_str())?;
-            }
-            // The rest of the reply may still come, so the next look-up has a connection of its own.
-            Err(Fault::TooLong) if asked.together > 1 => {
-                asked.together = (asked.together / 2).min(FEWER_TOGETHER);
-            }
             Err(Fault::NoSpare) if asked.spare > 0 => {
                 print_spare(&mut rt.stderr(), asked.spare)?;
                 asked.spare = 0;
             }
+            Err(fault) => go_on(rt.alloc(), fault, &mut place, &mut asked, &mut moves)?,
             ended => return ended,
         }
     }
     Err(Fault::Moves)
 }
 
+/// What is done otherwise after a fault: at the node that it names, or with fewer entries at a time. Any other fault
+/// is passed on.
+pub(crate) fn go_on(
+    alloc: Global,
+    fault: Fault,
+    place: &mut Place,
+    asked: &mut Asked,
+    moves: &mut usize,
+) -> Result<(), Fault> {
+    match fault {
+        Fault::Moved(to) => {
+            if *moves >= MAX_MOVES {
+                return Err(Fault::Moves);
+            }
+            *moves = moves.saturating_add(1);
+            *place = place_named(alloc, place, to.as_str())?;
+            Ok(())
+        }
+        // The rest of the reply may still come, so the next look-up has a connection of its own.
+        Fault::TooLong if asked.together > 1 => {
+            asked.together = (asked.together / 2).min(FEWER_TOGETHER);
+            Ok(())
+        }
+        fault => Err(fault),
+    }
+}
+
 /// Does what is asked for, at this node.
 fn act_at(
     rt: &HostRuntime,
     options: &Options<'_>,
-    policy: &Policy,
+    written: &PolicyText,
     asked: &Asked,
     wire: &mut Wire,
 ) -> Result<Status, Fault> {
+    let expanded = written.for_group(wire, rt.alloc(), asked)?;
+    let PolicyText { policy, text } = match &expanded {
+        Some(expanded) => expanded,
+        None => written,
+    };
     match options.action {
-        Action::Board => show_board(rt, policy, asked, wire),
+        Action::Judge => Ok(Status::Done),
+        Action::Policy => {
+            say(&mut rt.stdout(), text.as_bytes())?;
+            Ok(Status::Done)
+        }
+        Action::Board => show_board(rt, options, policy, asked, wire),
         Action::Plan => show_plan(rt, options, policy, asked, wire),
         Action::Run => carry_out(rt, options, policy, asked, wire),
     }
@@ -118,20 +159,24 @@ fn act_at(
 /// Shows what each consumer has.
 fn show_board(
     rt: &HostRuntime,
+    options: &Options<'_>,
     policy: &Policy,
     asked: &Asked,
     wire: &mut Wire,
 ) -> Result<Status, Fault> {
     match look_board(wire, rt.alloc(), asked) {
         Ok((idles, numbers)) => {
-            let mut out = rt.stdout();
-            print_board(
-                &mut out,
-                rt.alloc(),
-                policy,
-                idles.as_slice(),
-                numbers.as_slice(),
-            )?;
+            let board = Board {
+                idles,
+                numbers,
+                deliveries: look_deliveries(wire, rt.alloc(), asked)?,
+            };
+            let rows = board_of(rt.alloc(), policy, &board)?;
+            if options.json {
+                print_board_line(&mut rt.stdout(), rt.alloc(), rows.as_slice())?;
+            } else {
+                print_board(&mut rt.stdout(), rt.alloc(), rows.as_slice())?;
+            }
             Ok(Status::Done)
         }
         Err(fault) => Err(live_fault(rt.alloc(), fault, wire.script())),
@@ -187,13 +232,22 @@ fn print_planned(
     let mut out = rt.stdout();
     if options.check {
         print_check(&mut out, rt.alloc(), &planned.verdict, done)?;
+    } else if options.json {
+        print_plan_line(&mut out, rt.alloc(), notes.asked, &planned.verdict)?;
     } else {
         print_plan(&mut out, rt.alloc(), &planned.verdict)?;
+        // it is no fault if this cannot be told
+        let _ = print_advice(&mut rt.stderr(), rt.alloc(), &planned.verdict);
     }
-    if planned.verdict.total().is_some() {
-        Ok(Status::Done)
+    Ok(status_of(&planned.verdict))
+}
+
+/// How it ends with this verdict, if nothing goes wrong.
+pub(crate) fn status_of(verdict: &Verdict) -> Status {
+    if verdict.total().is_some() {
+        Status::Done
     } else {
-        Ok(Status::Impossible)
+        Status::Impossible
     }
 }
 
@@ -229,7 +283,16 @@ fn carry_out(
             see_spare(asked, planned)?;
         }
         let is_last = is_last(options, &ran);
-        let status = print_ran(rt, options, notes, step, &ran)?;
+        let status = if options.json {
+            let step = Step {
+                number: step,
+                is_last,
+                tries: wire.take_rounds(),
+            };
+            print_ran_line(rt, notes, &ran, step)?
+        } else {
+            print_ran(rt, options, notes, step, &ran)?
+        };
         if is_last {
             return Ok(status);
         }
@@ -238,7 +301,7 @@ fn carry_out(
 }
 
 /// Refuses a shortage while places are to be left free: there may be enough of them in all.
-fn see_spare(asked: &Asked, planned: &Planned) -> Result<(), Fault> {
+pub(crate) fn see_spare(asked: &Asked, planned: &Planned) -> Result<(), Fault> {
     if asked.spare > 0 && planned.verdict.total().is_none() {
         return Err(Fault::NoSpare);
     }
@@ -332,37 +395,6 @@ fn print_carried_out(
     Ok(status)
 }
 
-/// The policy that a file holds.
-fn read_policy(rt: &HostRuntime, path: &str) -> Result<Policy, Fault> {
-    let text = match fs::read_to_string(rt, path) {
-        Ok(text) => text,
-        Err(error) => return Err(unreadable(rt.alloc(), "policy", path, error)),
-    };
-    match Policy::read(rt.alloc(), text.as_str()) {
-        Ok(policy) => Ok(policy),
-        Err(fault) => Err(policy_fault(rt.alloc(), fault, text.as_str())),
-    }
-}
-
-/// The password: what the file holds, without a line end behind it, or what the environment has.
-fn password(rt: &HostRuntime, options: &Options<'_>) -> Result<Option<String>, Fault> {
-    let Some(path) = options.password_file else {
-        return match env::var(rt, "REDISCLI_AUTH") {
-            Ok(text) => Ok(Some(text)),
-            Err(_) => Ok(None),
-        };
-    };
-    match fs::read_to_string(rt, path) {
-        Ok(text) => Ok(Some(String::from_str(rt.alloc(), without_line_end(text.as_str()))?)),
-        Err(error) => Err(unreadable(rt.alloc(), "password", path, error)),
-    }
-}
-
-/// The text without the line ends behind it.
-fn without_line_end(text: &str) -> &str {
-    text.trim_end_matches(|one: char| one == '\n' || one == '\r')
-}
-
 /// Of which group a plan is asked.
 fn asked(alloc: Global, options: &Options<'_>) -> Result<Asked, Fault> {
     let mut dead = Vec::new(alloc);
@@ -381,6 +413,6 @@ fn asked(alloc: Global, options: &Options<'_>) -> Result<Asked, Fault> {
 }
 
 /// The text as a name.
-fn name_of(alloc: Global, text: &str) -> Result<Name, AllocError> {
+pub(crate) fn name_of(alloc: Global, text: &str) -> Result<Name, AllocError> {
     Ok(Name::new(Vec::from_slice(alloc, text.as_bytes())?))
 }

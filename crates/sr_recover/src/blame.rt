@@ -15,7 +15,7 @@ const MAX_RATE: i64 = 1 << 20;
 
 const MAX_FEE: i64 = 1 << 40;
 
-const MAX_CONSUMERS: usize = 64;
+pub(crate) const MAX_CONSUMERS: usize = 64;
 
 const MAX_CLASSES: usize = 1024;
 
@@ -73,16 +73,16 @@ impl<'a> Culprit<'a> {
     }
 }
 
-/// What is wrong with a policy file that was refused for this reason.
-pub(crate) fn policy_fault(alloc: Global, fault: PolicyFault, text: &str) -> Fault {
-    match blame(alloc, fault, text) {
+/// What is wrong with a policy that was refused for this reason. Lines are those of the file that it was made from.
+pub(crate) fn policy_fault(alloc: Global, fault: PolicyFault, text: &str, file: &str) -> Fault {
+    match blame(alloc, fault, text, file) {
         Ok(line) => Fault::Policy(line),
         Err(_) => Fault::Memory,
     }
 }
 
 /// The reason, the value and its line.
-fn blame(alloc: Global, fault: PolicyFault, text: &str) -> Result<String, AllocError> {
+fn blame(alloc: Global, fault: PolicyFault, text: &str, file: &str) -> Result<String, AllocError> {
     let mut said = String::from_str(
         alloc,
         match fault {
@@ -98,20 +98,20 @@ fn blame(alloc: Global, fault: PolicyFault, text: &str) -> Result<String, AllocE
                 push_line(&mut said, line_at(text.as_bytes(), span.start))?;
             }
         }
-        Ok(file) => {
-            if let Some(culprit) = culprit_of(&file) {
-                push_culprit(&mut said, alloc, text, &culprit)?;
+        Ok(table) => {
+            if let Some(culprit) = culprit_of(&table) {
+                push_culprit(&mut said, alloc, file, &culprit)?;
             }
         }
     }
     Ok(said)
 }
 
-/// Adds the keys that lead to a value, its line, and what is wrong with it.
+/// Adds the keys that lead to a value, its line if the file has it, and what is wrong with it.
 fn push_culprit(
     said: &mut String,
     alloc: Global,
-    text: &str,
+    file: &str,
     culprit: &Culprit<'_>,
 ) -> Result<(), AllocError> {
     let mut before = ": ";
@@ -122,7 +122,9 @@ fn push_culprit(
             before = ".";
         }
     }
-    push_line(said, line_of(alloc, text.as_bytes(), culprit)?)?;
+    if let Some(line) = line_of(alloc, file.as_bytes(), culprit)? {
+        push_line(said, line)?;
+    }
     said.push_str(": ")?;
     said.push_str(culprit.why)
 }
@@ -145,9 +147,9 @@ fn line_at(text: &[u8], place: usize) -> usize {
     line
 }
 
-/// The first line of the value in a file that has it: of the fronts of the text that are documents, the line behind the
+/// The first line of the value, if a file has it: of the fronts of the text that are documents, the line behind the
 /// longest one without the value.
-fn line_of(alloc: Global, text: &[u8], culprit: &Culprit<'_>) -> Result<usize, AllocError> {
+fn line_of(alloc: Global, text: &[u8], culprit: &Culprit<'_>) -> Result<Option<usize>, AllocError> {
     let ends = line_ends(alloc, text)?;
     let mut least = 0_usize;
     let mut most = ends.len();
@@ -162,7 +164,10 @@ fn line_of(alloc: Global, text: &[u8], culprit: &Culprit<'_>) -> Result<usize, A
             least = middle.saturating_add(1);
         }
     }
-    Ok(most.saturating_add(1))
+    if most >= ends.len() {
+        return Ok(None);
+    }
+    Ok(Some(most.saturating_add(1)))
 }
 
 /// Whether the first of the fronts with these ends that is a document has the value.

@@ -15,6 +15,8 @@ pub(crate) enum Fault {
     Words,
     #[error("error: {0}")]
     Asked(&'static str),
+    #[error("error: {0}: {1}")]
+    Named(&'static str, &'static str),
     #[error("{0}")]
     Usage(String),
     #[error("help")]
@@ -31,6 +33,8 @@ pub(crate) enum Fault {
     Connect(String, String, &'static str),
     #[error("redis: the user's name or the password is refused: {0}")]
     Auth(String),
+    #[error("sentinel {0}")]
+    Sentinel(String),
     #[error("redis: moved from node to node too often")]
     Moves,
     #[error("redis: the key is on another node: {0}")]
@@ -66,7 +70,7 @@ impl Fault {
     pub(crate) fn code(&self) -> u8 {
         match self {
             Fault::Help(_) => 0,
-            Fault::Words | Fault::Asked(_) | Fault::Usage(_) => 2,
+            Fault::Words | Fault::Asked(_) | Fault::Named(..) | Fault::Usage(_) => 2,
             Fault::Changed => 4,
             Fault::Unknown(_) | Fault::UnknownError(..) => 5,
             _ => 1,
@@ -136,7 +140,7 @@ pub(crate) fn peer_fault(fault: PeerFault) -> Fault {
 }
 
 /// What happened to the connection.
-fn peer_text(fault: PeerFault) -> &'static str {
+pub(crate) fn peer_text(fault: PeerFault) -> &'static str {
     match fault {
         PeerFault::Memory => "out of memory",
         PeerFault::Closed => "it closed the connection",

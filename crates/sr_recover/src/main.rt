@@ -1,6 +1,8 @@
 //! Plans for the groups of a Redis that already runs: `sr_recover plan` makes a cheapest plan for what dead consumers
 //! of a group have left, and prints it with the prices that show it; `sr_recover run` also has Redis carry it out, at
-//! one moment, if the group is still as the plan saw it; `sr_recover board` shows what each consumer has.
+//! one moment, if the group is still as the plan saw it; `sr_recover board` shows what each consumer has; `sr_recover
+//! watch` finds the dead of groups by a rule, and does the same for them, turn by turn; `sr_recover policy` judges a
+//! policy file.
 //!
 //! It ends with status 0 if there is a plan, or it was carried out; 1 after a fault, which is one line on standard
 //! error; 2 if the command line is refused; 3 if no plan exists; 4 if the group changed at each try; and 5 if the plan
@@ -8,17 +10,27 @@
 #![tactic(auto)]
 
 mod action;
+mod advice;
 mod blame;
 mod board;
 mod check;
+mod deliveries;
 mod errors;
 mod fault;
+mod json_lines;
+mod names;
 mod notes;
 mod options;
 mod place;
 mod print;
+mod reach;
+mod sentinel;
 mod standard;
 mod table;
+mod target;
+mod watch;
+mod watch_options;
+mod watch_print;
 mod wire;
 
 use crate::action::{Status, act};

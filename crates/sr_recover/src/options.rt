@@ -1,5 +1,7 @@
 //! The command line.
 use crate::fault::Fault;
+use crate::target::MAX_DATABASE;
+use crate::watch_options::{MOST_A_TURN, Watching, read_watching, watcher};
 use clap::error::ErrorKind;
 use clap::{Arg, ArgAction, ArgMatches, Command, Error};
 use std::alloc::{AllocError, Global};
@@ -25,18 +27,26 @@ const STATUSES: &str = "Statuses:
 pub(crate) enum Action {
     /// A plan, which is printed.
     Plan,
-    /// A plan, which is printed and carried out.
+    /// A plan, which is printed and carried out; again and again, if groups are watched.
     Run,
     /// What each consumer has.
     Board,
+    /// A policy as it is for a group.
+    Policy,
+    /// Whether a file is a policy.
+    Judge,
 }
 
 /// What the command line says.
 #[derive(Drop)]
 pub(crate) struct Options<'a> {
     pub(crate) action: Action,
-    /// Where Redis listens: a host and a port.
-    pub(crate) redis: &'a str,
+    /// Where Redis listens, if it is said.
+    pub(crate) redis: Option<&'a str>,
+    /// Where a Sentinel listens.
+    pub(crate) sentinel: Option<&'a str>,
+    /// The name that the Sentinel has for the primary.
+    pub(crate) master: Option<&'a str>,
     /// The path of the policy file.
     pub(crate) policy: &'a str,
     /// How many rounds are made at most.
@@ -59,14 +69,25 @@ pub(crate) struct Options<'a> {
     pub(crate) password_file: Option<&'a str>,
     /// How many milliseconds an answer may take.
     pub(crate) timeout: u64,
-    /// The number of the database.
-    pub(crate) database: u64,
+    /// The number of the database, if it is said.
+    pub(crate) database: Option<u64>,
     /// Whether the plan is printed as `plan_check` reads it.
     pub(crate) check: bool,
+    /// Whether what is printed is JSON.
+    pub(crate) json: bool,
     pub(crate) key: &'a str,
     pub(crate) group: &'a str,
     /// The dead consumers, as they were named.
     pub(crate) dead: Vec<&'a str>,
+    /// What is watched, if anything is: then no key, no group and no dead consumer is named.
+    pub(crate) watching: Option<Watching<'a>>,
+}
+
+impl Options<'_> {
+    /// Whether plans are made.
+    pub(crate) fn makes_plans(&self) -> bool {
+        self.action == Action::Plan || self.action == Action::Run
+    }
 }
 
 /// Reads the words of the command line, of which the first is the program's name.
@@ -80,10 +101,18 @@ pub(crate) fn read_options<'a, S: AsStr>(
         Err(error) => return Err(usage(alloc, &error)),
     };
     match matches.subcommand() {
-        Some(("plan", given)) => options_of(alloc, Action::Plan, given),
-        Some(("run", given)) => options_of(alloc, Action::Run, given),
-        Some(("board", given)) => options_of(alloc, Action::Board, given),
-        _ => Err(Fault::Asked("plan, run or board")),
+        Some(("plan", given)) => options_of(alloc, Action::Plan, given, None),
+        Some(("run", given)) => options_of(alloc, Action::Run, given, None),
+        Some(("board", given)) => options_of(alloc, Action::Board, given, None),
+        Some(("watch", given)) => {
+            let watching = read_watching(alloc, given)?;
+            options_of(alloc, Action::Run, given, Some(watching))
+        }
+        Some(("policy", given)) if given.get_str("KEY").is_some() => {
+            options_of(alloc, Action::Policy, given, None)
+        }
+        Some(("policy", given)) => options_of(alloc, Action::Judge, given, None),
+        _ => Err(Fault::Asked("plan, run, board, watch or policy")),
     }
 }
 
@@ -104,7 +133,12 @@ fn options_of<'a>(
     alloc: Global,
     action: Action,
     given: &ArgMatches<'a>,
+    watching: Option<Watching<'a>>,
 ) -> Result<Options<'a>, Fault> {
+    let (dead_after, most) = match &watching {
+        Some(watching) => (Some(watching.dead_after), Some(MOST_A_TURN)),
+        None => (None, None),
+    };
     let dead = match given.get_strs("DEAD") {
         Some(names) => Vec::from_slice(alloc, names)?,
         None => Vec::new(alloc),
@@ -114,9 +148,15 @@ fn options_of<'a>(
     if all && check {
         return Err(Fault::Asked("--all: it prints a line for each step, and no --check"));
     }
+    let json = given.get_flag("json");
+    if json && check {
+        return Err(Fault::Asked("--json: it prints JSON alone, and no --check"));
+    }
     Ok(Options {
         action,
-        redis: given.get_str("redis").unwrap_or("127.0.0.1:6379"),
+        redis: given.get_str("redis"),
+        sentinel: given.get_str("sentinel"),
+        master: given.get_str("master"),
         policy: given.get_str("policy").unwrap_or(""),
         tries: number(
             given.get_str("tries"),
@@ -132,16 +172,16 @@ fn options_of<'a>(
             u64::MAX,
             "--within: a number from 0",
         )?,
-        at_most: at_most(given.get_str("at-most"))?,
+        at_most: at_most(given.get_str("at-most"), most)?,
         all,
         idle_over: number(
             given.get_str("idle-over"),
-            0,
+            dead_after.unwrap_or(0),
             0,
             1_000_000_000_000,
             "--idle-over: a number from 0 to 1000000000000",
         )?,
-        seen_within: seen_within(given.get_str("seen-within"))?,
+        seen_within: seen_within(given.get_str("seen-within"), dead_after)?,
         spare: number(
             given.get_str("spare"),
             0,
@@ -158,22 +198,18 @@ fn options_of<'a>(
             600_000,
             "--timeout: a number from 1 to 600000",
         )?,
-        database: number(
-            given.get_str("db"),
-            0,
-            0,
-            1_000_000_000,
-            "--db: a number from 0",
-        )?,
+        database: database(given.get_str("db"))?,
         check,
+        json,
         key: given.get_str("KEY").unwrap_or(""),
         group: given.get_str("GROUP").unwrap_or(""),
         dead,
+        watching,
     })
 }
 
 /// The number that is written, within its bounds; or the one for when none is.
-fn number(
+pub(crate) fn number(
     text: Option<&str>,
     missing: u64,
     least: u64,
@@ -189,18 +225,26 @@ fn number(
     }
 }
 
-/// The most entries to move, if it is written.
-fn at_most(text: Option<&str>) -> Result<Option<u64>, Fault> {
+/// The most entries to move, if it is written; or the one for when none is.
+fn at_most(text: Option<&str>, missing: Option<u64>) -> Result<Option<u64>, Fault> {
     match text {
-        None => Ok(None),
+        None => Ok(missing),
         Some(_) => Ok(Some(number(text, 1, 1, 4096, "--at-most: a number from 1 to 4096")?)),
     }
 }
 
-/// For how long a consumer may have been idle, if it is written.
-fn seen_within(text: Option<&str>) -> Result<Option<u64>, Fault> {
+/// The number of the database, if it is written.
+fn database(text: Option<&str>) -> Result<Option<u64>, Fault> {
     match text {
         None => Ok(None),
+        Some(_) => Ok(Some(number(text, 0, 0, MAX_DATABASE, "--db: a number from 0")?)),
+    }
+}
+
+/// For how long a consumer may have been idle, if it is written; or the time for when none is.
+fn seen_within(text: Option<&str>, missing: Option<u64>) -> Result<Option<u64>, Fault> {
+    match text {
+        None => Ok(missing),
         Some(_) => Ok(Some(number(
             text,
             0,
@@ -232,13 +276,33 @@ fn command_line<'a>(alloc: Global) -> Result<Command<'a>, Fault> {
             alloc,
             "board",
             "Show what each consumer of the group has, and what the policy allows it",
+        )?)?
+        .subcommand(watcher(
+            alloc,
+            "watch",
+            "Look again and again who is dead, and run a plan for what the dead have",
+        )?)?
+        .subcommand(judge(
+            alloc,
+            "policy",
+            "Judge a policy file, or print it with names that end in * replaced by those of the group",
         )?)?;
     Ok(command)
 }
 
 /// A subcommand that makes a plan and has it carried out.
 fn runner<'a>(alloc: Global, name: &'a str, about: &'a str) -> Result<Command<'a>, AllocError> {
-    planner(alloc, name, about)?
+    rounds(alloc, planner(alloc, name, about)?)?.arg(
+        Arg::new(alloc, "all")
+            .long("all")
+            .help("Go on, N entries of --at-most at a time, until none is left [default: 4096]")
+            .action(ArgAction::SetTrue),
+    )
+}
+
+/// Adds how a plan is carried out.
+pub(crate) fn rounds<'a>(alloc: Global, command: Command<'a>) -> Result<Command<'a>, AllocError> {
+    command
         .arg(valued(
             alloc,
             "tries",
@@ -250,13 +314,7 @@ fn runner<'a>(alloc: Global, name: &'a str, about: &'a str) -> Result<Command<'a
             "within",
             "D",
             "Carry out a plan that costs at most D more than a cheapest one [default: 0]",
-        ))?
-        .arg(
-            Arg::new(alloc, "all")
-                .long("all")
-                .help("Go on, N entries of --at-most at a time, until none is left [default: 4096]")
-                .action(ArgAction::SetTrue),
-        )
+        ))
 }
 
 /// A subcommand that makes a plan.
@@ -274,18 +332,7 @@ fn planner<'a>(alloc: Global, name: &'a str, about: &'a str) -> Result<Command<'
             "MS",
             "Move those entries alone that have been idle for MS milliseconds [default: 0]",
         ))?
-        .arg(valued(
-            alloc,
-            "seen-within",
-            "MS",
-            "Give entries to those consumers alone that have been idle for at most MS milliseconds",
-        ))?
-        .arg(valued(
-            alloc,
-            "spare",
-            "N",
-            "Leave N places of each consumer free, for what others do meanwhile [default: 0]",
-        ))?
+        .arg(spare(alloc))?
         .arg(
             Arg::new(alloc, "check")
                 .long("check")
@@ -302,23 +349,113 @@ fn planner<'a>(alloc: Global, name: &'a str, about: &'a str) -> Result<Command<'
         )
 }
 
-/// A subcommand with what all of them take.
+/// How many places are left free.
+pub(crate) fn spare<'a>(alloc: Global) -> Arg<'a> {
+    valued(
+        alloc,
+        "spare",
+        "N",
+        "Leave N places of each consumer free, for what others do meanwhile [default: 0]",
+    )
+}
+
+/// A subcommand for one group.
 fn shared<'a>(alloc: Global, name: &'a str, about: &'a str) -> Result<Command<'a>, AllocError> {
-    Command::new(alloc, name)
-        .about(about)
-        .arg(valued(
-            alloc,
-            "redis",
-            "HOST:PORT",
-            "Where Redis listens [default: 127.0.0.1:6379]",
-        ))?
-        .arg(valued(
+    with_policy(alloc, name, about)?
+        .arg(seen(alloc))?
+        .arg(
+            Arg::new(alloc, "json")
+                .long("json")
+                .help("Print JSON, a line for each plan")
+                .action(ArgAction::SetTrue),
+        )?
+        .arg(
+            Arg::new(alloc, "KEY")
+                .help("The key of the stream")
+                .index(1)
+                .required(true),
+        )?
+        .arg(
+            Arg::new(alloc, "GROUP")
+                .help("The consumer group")
+                .index(2)
+                .required(true),
+        )
+}
+
+/// The subcommand that judges a policy.
+fn judge<'a>(alloc: Global, name: &'a str, about: &'a str) -> Result<Command<'a>, AllocError> {
+    connecting(alloc, name, about)?
+        .arg(seen(alloc))?
+        .arg(
+            Arg::new(alloc, "policy")
+                .value_name("FILE")
+                .help("The policy file")
+                .index(1)
+                .required(true),
+        )?
+        .arg(
+            Arg::new(alloc, "KEY")
+                .help("The key of a stream")
+                .index(2)
+                .requires_arg("GROUP")?,
+        )?
+        .arg(Arg::new(alloc, "GROUP").help("The consumer group").index(3))
+}
+
+/// A subcommand that reads a policy.
+pub(crate) fn with_policy<'a>(
+    alloc: Global,
+    name: &'a str,
+    about: &'a str,
+) -> Result<Command<'a>, AllocError> {
+    connecting(alloc, name, about)?.arg(
+        valued(
             alloc,
             "policy",
             "FILE",
             "Read who may take which entries from this file",
         )
-        .required(true))?
+        .required(true),
+    )
+}
+
+/// For how long those may have been idle who are given entries.
+fn seen<'a>(alloc: Global) -> Arg<'a> {
+    valued(
+        alloc,
+        "seen-within",
+        "MS",
+        "Give entries to those consumers alone that have been idle for at most MS milliseconds",
+    )
+}
+
+/// A subcommand with what all of them take.
+fn connecting<'a>(
+    alloc: Global,
+    name: &'a str,
+    about: &'a str,
+) -> Result<Command<'a>, AllocError> {
+    Command::new(alloc, name)
+        .about(about)
+        .arg(valued(
+            alloc,
+            "redis",
+            "PLACE",
+            "Where Redis listens: HOST:PORT, redis://USER@HOST:PORT/DB or unix:PATH [default: REDIS_URL, or 127.0.0.1:6379]",
+        ))?
+        .arg(valued(
+            alloc,
+            "sentinel",
+            "HOST:PORT",
+            "Ask this Sentinel where Redis is",
+        ))?
+        .arg(valued(
+            alloc,
+            "master",
+            "NAME",
+            "The name that the Sentinel has for the primary",
+        ))?
         .arg(valued(alloc, "db", "N", "The number of the database [default: 0]"))?
         .arg(valued(
             alloc,
@@ -337,23 +474,11 @@ fn shared<'a>(alloc: Global, name: &'a str, about: &'a str) -> Result<Command<'a
             "timeout",
             "MS",
             "Wait this long for an answer [default: 5000]",
-        ))?
-        .arg(
-            Arg::new(alloc, "KEY")
-                .help("The key of the stream")
-                .index(1)
-                .required(true),
-        )?
-        .arg(
-            Arg::new(alloc, "GROUP")
-                .help("The consumer group")
-                .index(2)
-                .required(true),
-        )
+        ))
 }
 
 /// An option with a value.
-fn valued<'a>(alloc: Global, name: &'a str, value: &'a str, help: &'a str) -> Arg<'a> {
+pub(crate) fn valued<'a>(alloc: Global, name: &'a str, value: &'a str, help: &'a str) -> Arg<'a> {
     Arg::new(alloc, name)
         .long(name)
         .value_name(value)

@@ -1,69 +1,113 @@
-//! Where Redis listens: a host and a port.
+//! Where Redis listens: at a port of a host, or at a socket of this machine.
 use crate::fault::{Fault, text_of};
 use std::alloc::{AllocError, Global};
 use std::net::Ipv6Addr;
 
-/// A host, by its name or its IP address, and a port of it.
-#[derive(Drop)]
-pub(crate) struct Place {
-    pub(crate) host: String,
-    pub(crate) port: u16,
+/// How many bytes the path of a socket has at most.
+const MAX_PATH: usize = 107;
+
+/// Where Redis listens.
+#[derive(Clone, Drop)]
+pub(crate) enum Place {
+    /// A host, by its name or its IP address, and a port of it.
+    Port(String, u16),
+    /// The path of a socket.
+    Socket(String),
 }
 
 impl Place {
     /// The place as it is written, an IPv6 address in brackets.
     pub(crate) fn shown(&self, alloc: Global) -> Result<String, AllocError> {
-        let host = text_of(alloc, self.host.as_bytes())?;
-        let port = self.port;
-        if self.host.as_str().contains(':') {
-            format!(in alloc; "[{host}]:{port}")
-        } else {
-            format!(in alloc; "{host}:{port}")
+        match self {
+            Place::Port(host, port) => {
+                let name = text_of(alloc, host.as_bytes())?;
+                if host.as_str().contains(':') {
+                    format!(in alloc; "[{name}]:{port}")
+                } else {
+                    format!(in alloc; "{name}:{port}")
+                }
+            }
+            Place::Socket(path) => {
+                let path = text_of(alloc, path.as_bytes())?;
+                format!(in alloc; "unix:{path}")
+            }
         }
     }
 }
 
-/// The place that the option `--redis` names. What is wrong with a text is said without it: a URL may have a password.
-pub(crate) fn read_place(alloc: Global, text: &str) -> Result<Place, Fault> {
-    if text.contains('/') || text.contains('@') {
-        return Err(Fault::Asked(
-            "--redis: a host and a port, as 127.0.0.1:6379, and no URL: a user, a password and a database have other options",
-        ));
-    }
-    let (host, port) = match text.rsplit_once(':') {
-        Some((host, port)) if !port.is_empty() && !port.ends_with(']') => (host, port),
-        _ => {
-            return Err(Fault::Asked(
-                "--redis: the port is missing: a host and a port, as 127.0.0.1:6379",
-            ));
-        }
-    };
-    let host = without_brackets(host)?;
+/// The host and the port that the value of an option names, or of a variable of the environment; and this port if it
+/// may be missing. What is wrong with a value is said without it, since it may have a password.
+pub(crate) fn read_port(
+    alloc: Global,
+    source: &'static str,
+    text: &str,
+    missing: Option<u16>,
+) -> Result<Place, Fault> {
+    let (host, port) = host_and_port(text);
+    let port = port_of(source, port, missing)?;
+    let host = without_brackets(source, host)?;
     if host.is_empty() {
-        return Err(Fault::Asked(
-            "--redis: the host is missing: a host and a port, as 127.0.0.1:6379",
+        return Err(Fault::Named(
+            source,
+            "the host is missing: a host and a port, as 127.0.0.1:6379",
         ));
     }
-    match port.parse::<u16>() {
-        Ok(port) if port > 0 => Ok(Place {
-            host: String::from_str(alloc, host)?,
-            port,
-        }),
-        _ => Err(Fault::Asked("--redis: the port has to be a number from 1 to 65535")),
+    Ok(Place::Port(String::from_str(alloc, host)?, port))
+}
+
+/// A host, and what comes after its colon if it has one.
+fn host_and_port(text: &str) -> (&str, Option<&str>) {
+    match text.rsplit_once(':') {
+        Some((host, port)) if !port.ends_with(']') => (host, Some(port)),
+        _ => (text, None),
+    }
+}
+
+/// The number of a port.
+fn port_of(source: &'static str, port: Option<&str>, missing: Option<u16>) -> Result<u16, Fault> {
+    let text = match (port, missing) {
+        (Some(text), _) => text,
+        (None, Some(port)) => return Ok(port),
+        (None, None) => "",
+    };
+    if text.is_empty() {
+        return Err(Fault::Named(
+            source,
+            "the port is missing: a host and a port, as 127.0.0.1:6379",
+        ));
+    }
+    match text.parse::<u16>() {
+        Ok(port) if port > 0 => Ok(port),
+        _ => Err(Fault::Named(source, "the port has to be a number from 1 to 65535")),
     }
 }
 
 /// A host without the brackets around an IPv6 address.
-fn without_brackets(host: &str) -> Result<&str, Fault> {
+fn without_brackets<'a>(source: &'static str, host: &'a str) -> Result<&'a str, Fault> {
     if let Some(inner) = host.strip_prefix('[') {
         if let Some(inner) = inner.strip_suffix(']') {
             return Ok(inner);
         }
     }
     if host.contains(':') && host.parse::<Ipv6Addr>().is_err() {
-        return Err(Fault::Asked("--redis: an IPv6 address and a port, as [::1]:6379"));
+        return Err(Fault::Named(source, "an IPv6 address and a port, as [::1]:6379"));
     }
     Ok(host)
+}
+
+/// The socket with this path.
+pub(crate) fn read_socket(alloc: Global, source: &'static str, path: &str) -> Result<Place, Fault> {
+    if path.is_empty() || path.len() > MAX_PATH {
+        return Err(Fault::Named(source, "the path after unix: has to have 1 to 107 bytes"));
+    }
+    let is_url = path.starts_with("//") && !path.starts_with("///");
+    if is_url || path.contains('?') {
+        return Err(Fault::Named(
+            source,
+            "a path alone comes after unix:, as unix:/run/redis.sock",
+        ));
+    }
+    Ok(Place::Socket(String::from_str(alloc, path)?))
 }
 
 /// Where a node is that the node at a place names. One that does not know its hosts names a port alone, and an IPv6
@@ -71,15 +115,12 @@ fn without_brackets(host: &str) -> Result<&str, Fault> {
 pub(crate) fn place_named(alloc: Global, asked: &Place, named: &str) -> Result<Place, Fault> {
     if let Some((host, port)) = named.rsplit_once(':') {
         if let Ok(port) = port.parse::<u16>() {
-            let host = if host.is_empty() {
-                asked.host.as_str()
-            } else {
-                host
+            let host = match asked {
+                _ if !host.is_empty() => host,
+                Place::Port(host, _) => host.as_str(),
+                Place::Socket(_) => "127.0.0.1",
             };
-            return Ok(Place {
-                host: String::from_str(alloc, host)?,
-                port,
-            });
+            return Ok(Place::Port(String::from_str(alloc, host)?, port));
         }
     }
     Err(Fault::Node(String::from_str(alloc, named)?))

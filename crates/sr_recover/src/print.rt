@@ -11,11 +11,11 @@ use std::io::Write;
 
 /// What a consumer gets by a plan.
 #[derive(Clone, Copy)]
-struct Share {
+pub(crate) struct Share {
     /// How many entries.
-    entries: u64,
+    pub(crate) entries: u64,
     /// What they cost, the fees beyond a soft limit with them.
-    cost: u64,
+    pub(crate) cost: u64,
 }
 
 /// How many entries that are gone are printed at most.
@@ -130,7 +130,7 @@ pub(crate) fn receives(verdict: &Verdict, consumer: &Live, place: usize) -> bool
 }
 
 /// What the consumer with this number gets, and what that costs.
-fn share_of(verdict: &Verdict, consumer: &Live, place: usize) -> Share {
+pub(crate) fn share_of(verdict: &Verdict, consumer: &Live, place: usize) -> Share {
     let mut share = Share {
         entries: 0,
         cost: 0,

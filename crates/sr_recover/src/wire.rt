@@ -8,21 +8,51 @@ use crate::place::Place;
 use sr_peer::{Part, Peer, PeerFault, append_header, append_number, append_word, ask};
 use std::alloc::{AllocError, Global};
 use std::io::{Error, ErrorKind, Read, Write};
+use std::mem;
 use std::net::{SocketAddr, TcpStream, ToSocketAddrs};
+use std::os::unix::net::UnixStream;
 use std::time::Duration;
 
 /// How many bytes one read takes at most.
 const PIECE: usize = 16_384;
 
+/// The lines of a request on which its first two words are.
+const FIRST: usize = 2;
+
+const SECOND: usize = 4;
+
+/// What carries the bytes.
+#[derive(Drop)]
+enum Stream {
+    Port(TcpStream),
+    Socket(UnixStream),
+}
+
 /// A connection, on which an answer may take so long.
 #[derive(Drop)]
 pub(crate) struct Wire {
-    stream: TcpStream,
+    stream: Stream,
     /// Whether the last request was an EVAL.
     is_eval: bool,
+    /// How many snapshots were begun: a round begins with one.
+    rounds: u64,
 }
 
 impl Wire {
+    /// A connection on which nothing was sent.
+    fn new(stream: Stream) -> Wire {
+        Wire {
+            stream,
+            is_eval: false,
+            rounds: 0,
+        }
+    }
+
+    /// How many rounds were begun since this was last asked.
+    pub(crate) fn take_rounds(&mut self) -> u64 {
+        mem::replace(&mut self.rounds, 0)
+    }
+
     /// The word by which a script was called, if it was by the last request.
     pub(crate) fn script(&self) -> &'static str {
         if self.is_eval { "EVAL" } else { "EVALSHA" }
@@ -35,8 +65,15 @@ impl Peer for Wire {
     ghost got = { λ _. None };
 
     fn send(&mut self, bytes: &[u8]) -> Result<(), PeerFault> {
-        self.is_eval = first_word(bytes) == Some(b"EVAL");
-        match self.stream.write_all(bytes) {
+        self.is_eval = word_at(bytes, FIRST) == Some(b"EVAL");
+        if word_at(bytes, FIRST) == Some(b"XINFO") && word_at(bytes, SECOND) == Some(b"STREAM") {
+            self.rounds = self.rounds.saturating_add(1);
+        }
+        let written = match &mut self.stream {
+            Stream::Port(stream) => stream.write_all(bytes),
+            Stream::Socket(stream) => stream.write_all(bytes),
+        };
+        match written {
             Ok(()) => Ok(()),
             Err(error) => Err(fault_of(error.kind())),
         }
@@ -44,7 +81,11 @@ impl Peer for Wire {
 
     fn receive(&mut self, alloc: Global) -> Result<Vec<u8>, PeerFault> {
         let mut buffer = [0; PIECE];
-        match self.stream.read(&mut buffer) {
+        let read = match &mut self.stream {
+            Stream::Port(stream) => stream.read(&mut buffer),
+            Stream::Socket(stream) => stream.read(&mut buffer),
+        };
+        match read {
             Ok(0) => Err(PeerFault::Closed),
             Ok(count) => match Vec::from_slice(alloc, &buffer[..count]) {
                 Ok(bytes) => Ok(bytes),
@@ -55,12 +96,10 @@ impl Peer for Wire {
     }
 }
 
-/// The first word of a request, which has no line end.
-fn first_word(request: &[u8]) -> Option<&[u8]> {
+/// The word on a line of a request, if it has no line end.
+fn word_at(request: &[u8], line: usize) -> Option<&[u8]> {
     let mut lines = request.split(|byte| *byte == b'\n');
-    lines.next()?;
-    lines.next()?;
-    lines.next()?.strip_suffix(b"\r")
+    lines.nth(line)?.strip_suffix(b"\r")
 }
 
 /// Why a read or a write did not succeed.
@@ -74,12 +113,28 @@ fn fault_of(kind: ErrorKind) -> PeerFault
     }
 }
 
-/// Connects to one of the addresses that a host and a port stand for.
+/// Connects to a place.
 pub(crate) fn connect(rt: &HostRuntime, place: &Place, timeout: u64) -> Result<Wire, Fault> {
     let limit = Duration::from_millis(timeout);
-    let addresses = match (place.host.as_str(), place.port).to_socket_addrs(rt) {
+    match place {
+        Place::Port(host, port) => connect_to_host(rt, place, (host.as_str(), *port), limit),
+        Place::Socket(path) => match connect_to_socket(rt, path.as_str(), limit) {
+            Ok(wire) => Ok(wire),
+            Err(error) => Err(connect_fault(rt.alloc(), place, error)),
+        },
+    }
+}
+
+/// Connects to one of the addresses that a host and a port stand for.
+fn connect_to_host(
+    rt: &HostRuntime,
+    place: &Place,
+    named: (&str, u16),
+    limit: Duration,
+) -> Result<Wire, Fault> {
+    let addresses = match named.to_socket_addrs(rt) {
         Ok(addresses) => addresses,
-        Err(error) => return Err(host_fault(rt.alloc(), place, error)),
+        Err(error) => return Err(host_fault(rt.alloc(), named.0, error)),
     };
     let mut refused = Error::from(ErrorKind::AddrNotAvailable);
     for address in addresses {
@@ -97,18 +152,24 @@ fn connect_to(rt: &HostRuntime, address: SocketAddr, limit: Duration) -> Result<
     stream.set_read_timeout(Some(limit))?;
     stream.set_write_timeout(Some(limit))?;
     let _ = stream.set_nodelay(true);
-    Ok(Wire {
-        stream,
-        is_eval: false,
-    })
+    Ok(Wire::new(Stream::Port(stream)))
+}
+
+/// A connection to a socket, on which a read and a write may take so long. Connecting waits only if Redis has left
+/// hundreds of others waiting.
+fn connect_to_socket(rt: &HostRuntime, path: &str, limit: Duration) -> Result<Wire, Error> {
+    let stream = UnixStream::connect(rt, path)?;
+    stream.set_read_timeout(Some(limit))?;
+    stream.set_write_timeout(Some(limit))?;
+    Ok(Wire::new(Stream::Socket(stream)))
 }
 
 /// What it is to the user that a host has no address.
-fn host_fault(alloc: Global, place: &Place, error: Error) -> Fault {
+fn host_fault(alloc: Global, host: &str, error: Error) -> Fault {
     if error.kind() == ErrorKind::OutOfMemory {
         return Fault::Memory;
     }
-    match (text_of(alloc, place.host.as_bytes()), why(alloc, &error)) {
+    match (text_of(alloc, host.as_bytes()), why(alloc, &error)) {
         (Ok(host), Ok(why)) => Fault::Host(host, why),
         _ => Fault::Memory,
     }
@@ -116,14 +177,22 @@ fn host_fault(alloc: Global, place: &Place, error: Error) -> Fault {
 
 /// What it is to the user that there is no connection.
 fn connect_fault(alloc: Global, place: &Place, error: Error) -> Fault {
-    let advice = match error.kind() {
-        ErrorKind::ConnectionRefused => ". Is Redis running there, and is this its port?",
-        ErrorKind::TimedOut => ". Is a firewall in between? --timeout MS is how long it waits",
-        _ => ". Can it be reached from here?",
+    let advice = match place {
+        Place::Port(..) => advice_on(error.kind()),
+        Place::Socket(_) => ". Is Redis running there, and is this its unixsocket?",
     };
     match (place.shown(alloc), why(alloc, &error)) {
         (Ok(place), Ok(why)) => Fault::Connect(place, why, advice),
         _ => Fault::Memory,
+    }
+}
+
+/// What the user can do if there is no connection to a port.
+fn advice_on(kind: ErrorKind) -> &'static str {
+    match kind {
+        ErrorKind::ConnectionRefused => ". Is Redis running there, and is this its port?",
+        ErrorKind::TimedOut => ". Is a firewall in between? --timeout MS is how long it waits",
+        _ => ". Can it be reached from here?",
     }
 }
 

@@ -170,7 +170,8 @@ impl Reader {
         ensures looked { LooksOnce self.old self.new piece.now }
     {
         let (bytes, words, requests) = (self.rest.len(), self.places.len(), self.waiting.len());
-        self.rest.extend_from_slice(piece)?;
+        let missing = missing_in(self.stage).saturating_sub(piece.len());
+        append(&mut self.rest, piece, missing)?;
         match sort_out(
             alloc,
             self.rest.as_slice(),
@@ -231,12 +232,46 @@ fn keep_rest(
     ensures err { OnErr result (rest.new.items ≡ rest.old.items) }
 {
     let reached = sorted?;
-    rest.extend_from_slice(&piece[reached.start..])?;
+    append(rest, &piece[reached.start..], missing_in(reached.stage))?;
     Ok(reached)
 }
 
-/// The greatest capacity that a buffer keeps once a request is whole.
-const MAX_KEPT: usize = 65_536;
+/// How many bytes of a word are still to come in this stage, by its header.
+fn missing_in(stage: Stage) -> usize {
+    match stage {
+        Stage::Body { missing, .. } => missing,
+        _ => 0,
+    }
+}
+
+/// Appends bytes that came to the rest. After them that many bytes of a word are still to come.
+fn append(rest: &mut Vec<u8>, came: &[u8], missing: usize) -> Result<(), AllocError>
+    ensures ok { OnOk result (rest.new.items ≡ rest.old.items ++ came.now) }
+    ensures err { OnErr result (rest.new.items ≡ rest.old.items) }
+{
+    make_room(rest, came.len(), missing);
+    rest.extend_from_slice(came)
+}
+
+/// For a word of which at most this many times the bytes that are there are still to come, room is made at once.
+const MOST_TIMES: usize = 4;
+
+/// Makes room for the whole word under way, and for as much after it as comes now, so that a long word does not have
+/// the buffer grow again and again. Where memory is refused, it grows with what comes.
+fn make_room(rest: &mut Vec<u8>, came: usize, missing: usize)
+    ensures { rest.new.items ≡ rest.old.items }
+{
+    let (len, needed) = (rest.len(), came.saturating_add(missing));
+    let is_much = missing > len.saturating_add(came).saturating_mul(MOST_TIMES);
+    let is_short = missing == 0 || needed < len || needed <= rest.capacity().saturating_sub(len);
+    if !is_much && !is_short {
+        let _ = rest.reserve_exact(needed.saturating_add(came));
+    }
+}
+
+/// The greatest capacity that a buffer keeps once a request is whole: that of a word of 64 KiB with what came with it,
+/// in reads of 16 KiB.
+const MAX_KEPT: usize = 98_304;
 
 /// Removes this many items from the front. A long rest is not moved while nothing is removed.
 fn drop_front<T: Copy>(items: &mut Vec<T>, count: usize)
@@ -247,8 +282,20 @@ fn drop_front<T: Copy>(items: &mut Vec<T>, count: usize)
         let len = items.len();
         items.as_mut_slice().copy_within(count..len, 0);
         items.truncate(len - count);
-        items.shrink_to(MAX_KEPT);
+        give_back(items);
     }
+}
+
+/// A block of at most this many bytes is given back whole, which the C library then uses again. A larger one is made
+/// smaller: it stays a mapping of its own, which grows without being copied.
+const MAX_WHOLE: usize = 2_097_152;
+
+/// Gives memory beyond `MAX_KEPT` back.
+fn give_back<T: Copy>(items: &mut Vec<T>)
+    ensures { items.new.items ≡ items.old.items }
+{
+    let is_whole = items.is_empty() && items.capacity() > MAX_KEPT && items.capacity() <= MAX_WHOLE;
+    items.shrink_to(if is_whole { 0 } else { MAX_KEPT });
 }
 
 /// Law: no spelling of a request or of an empty command begins another. Calling this has no effect.

@@ -1,11 +1,11 @@
 -- Cited by private clauses alone: an event loop goes on, by the hub alone or with the bytes of its sockets.
 
-use Rattle.std.specs.Prelude.{◌≡◌, ◌≢◌, ℕ, Bool, List, ◌++◌, IsSome}
+use Rattle.std.specs.Prelude.{◌≡◌, ◌≢◌, ℕ, Bool, List, ◌++◌, Some}
 use Rattle.sr_book.specs.{Recorded}
 use Rattle.sr_hub.specs.Heard.{AreTold, GoOnAs}
-use Rattle.sr_hub.specs.Lines.{AreLines, HubState, with_more}
+use Rattle.sr_hub.specs.Lines.{AreLines, HubState, session_at, with_more}
 use Rattle.sr_hub.specs.Said.{last_of}
-use Rattle.sr_hub.specs.Traffic.{AreServed, Traffic}
+use Rattle.sr_hub.specs.Traffic.{AreServed, HasJoined, Traffic}
 
 -- what contracts see of a keeper: its clock, and the connections that it put off
 pub record KeeperState (C : Type 0) : Type 0 where
@@ -14,20 +14,21 @@ pub record KeeperState (C : Type 0) : Type 0 where
 
 -- ---- the hub alone
 
--- records were added, at moments of the clock; each connection goes on as a line
+-- records were added, at moments of the clock, and no session joined; each connection goes on as a line
 pub record GoesOn (may_tell : ℕ → Bool) (last : ℕ) (records : List Recorded) (taken given : ℕ → List ℕ)
     (hub : HubState) : Type 0 where
   pub added : List Recorded
   pub told : AreTold may_tell last added
   pub lasts : hub.book.server.last ≡ last_of last added
+  pub silent : (session : ℕ) → HasJoined session added → ⊥
   pub lines : AreLines (records ++ added) taken given hub
 
--- no byte was taken or given, and each connection is still there
+-- no byte was taken or given, and each token has the connection of the same session
 pub record Keeps (may_tell : ℕ → Bool) (old : HubState) (tells_then : ℕ → Bool) (new : HubState) : Type 0 where
   pub same : tells_then ≡ may_tell
   pub goes_on : (records : List Recorded) (taken given : ℕ → List ℕ) → AreLines records taken given old
       → GoesOn may_tell old.book.server.last records taken given new
-  pub there : (token : ℕ) → IsSome (old.at token) → IsSome (new.at token)
+  pub at : (token : ℕ) → session_at new token ≡ session_at old token
 
 -- the same, but the connection at a token may be gone
 pub record Releases (token : ℕ) (may_tell : ℕ → Bool) (old : HubState) (tells_then : ℕ → Bool)
@@ -35,7 +36,8 @@ pub record Releases (token : ℕ) (may_tell : ℕ → Bool) (old : HubState) (te
   pub same : tells_then ≡ may_tell
   pub goes_on : (records : List Recorded) (taken given : ℕ → List ℕ) → AreLines records taken given old
       → GoesOn may_tell old.book.server.last records taken given new
-  pub there : (other : ℕ) → other ≢ token → IsSome (old.at other) → IsSome (new.at other)
+  pub at : (session : ℕ) → session_at new token ≡ Some session → session_at old token ≡ Some session
+  pub others : (other : ℕ) → other ≢ token → session_at new other ≡ session_at old other
 
 -- the same as the first, but a piece was taken from the connection at a token
 pub record TakesOn (token : ℕ) (piece : List ℕ) (may_tell : ℕ → Bool) (old : HubState) (tells_then : ℕ → Bool)
@@ -43,7 +45,7 @@ pub record TakesOn (token : ℕ) (piece : List ℕ) (may_tell : ℕ → Bool) (o
   pub same : tells_then ≡ may_tell
   pub goes_on : (records : List Recorded) (taken given : ℕ → List ℕ) → AreLines records taken given old
       → GoesOn may_tell old.book.server.last records (with_more token piece taken) given new
-  pub there : (other : ℕ) → IsSome (old.at other) → IsSome (new.at other)
+  pub at : (other : ℕ) → session_at new other ≡ session_at old other
 
 -- ---- the hub and its sockets
 

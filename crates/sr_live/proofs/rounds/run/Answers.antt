@@ -1,10 +1,10 @@
-use Rattle.std.proofs.Common.{◌≡◌, inl, inr, refl, subst}
+use Rattle.std.proofs.Common.{◌≡◌, inl, inr, subst}
 use Rattle.std.proofs.Common.{arith}
 use Rattle.std.proofs.lemmas.Result.{IfErr-weaker, IfOk-weaker}
 use Rattle.sr_live.specs.declared.rounds.Ran.TheVariants.{Done, Impossible, Stale}
 use Rattle.sr_live.specs.Rounds.{HasMade}
-use Rattle.sr_live.proofs.RoundsLemmas.{made-at, run-changed, run-failed, run-made, run-stale, so-far-next}
-use Rattle.sr_live.proofs.RoundsLemmas.{so-far-none, stale-next}
+use Rattle.sr_live.proofs.RoundsLemmas.{changed-next, changed-none, made-at, run-changed, run-failed, run-made, run-stale}
+use Rattle.sr_live.proofs.RoundsLemmas.{so-far-next, so-far-none, stale-next}
 use Rattle.sr_live.proofs.rounds.run.Goals.{in-None, in-Some-Stale}
 use Rattle.sr_live.proofs.rounds.run.Goals as goal
 
@@ -12,7 +12,7 @@ pub loop-tried-init : goal.loop-tried-init
 loop-tried-init g c = record {
   so_far = so-far-none c.args.policy.now c.args.asked.now c.args.terms _ _;
   stale = tt;
-  changed = refl;
+  changed = changed-none c.args.policy.now c.args.asked.now c.args.terms _ _;
 }
 
 pub returns-in_err-round-clause-err : goal.returns-in_err-round-clause-err
@@ -44,12 +44,15 @@ loop-tried-preserved g c =
     let now = c.in_ok-round.ensures.ok in
     let before = c.loop-tried.invariant.so_far in
     elim c.match-branch-2.branch [
-      | in-None w ↦ record {
-        so_far = so-far-next c.args.policy.now c.args.asked.now c.args.terms _ _ _ _ _ _ c.loop-tried._tried now.0
-            before now.1 (inl (subst (HasMade c.args.policy.now c.args.asked.now c.args.terms now.0) w.in-None.is now.2));
-        stale = rw w.ran-is tt;
-        changed = rw w.ran-is refl;
-      }
+      | in-None w ↦
+          let made = subst (HasMade c.args.policy.now c.args.asked.now c.args.terms now.0) w.in-None.is now.2 in
+          record {
+            so_far = so-far-next c.args.policy.now c.args.asked.now c.args.terms _ _ _ _ _ _ c.loop-tried._tried now.0
+                before now.1 (inl made);
+            stale = rw w.ran-is tt;
+            changed = rw w.ran-is (changed-next c.args.policy.now c.args.asked.now c.args.terms _ _ _ _ _ _
+                c.loop-tried._tried now.0 before now.1 made);
+          }
       | in-Some-Stale w ↦
           let one = w.in-Some-Stale in
           let made = made-at c.args.policy.now c.args.asked.now c.args.terms now.0 _ _ (Stale one.what one.of) one.is
@@ -74,6 +77,5 @@ pub returns-clause-err : goal.returns-clause-err
 returns-clause-err g c =
     let all : c.loop-tried._tried ≡ c.args.terms.tries = omega arith in
     IfErr-weaker c.loop-tried.ran _ _
-    (λ fault is. run-changed c.args.policy.now c.args.asked.now c.args.terms _ _ _ _ c.loop-tried._tried all fault is
-    c.loop-tried.invariant.so_far)
+    (run-changed c.args.policy.now c.args.asked.now c.args.terms _ _ _ _ c.loop-tried._tried all)
     c.loop-tried.invariant.changed

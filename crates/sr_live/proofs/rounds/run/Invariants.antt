@@ -1,6 +1,5 @@
-use Rattle.std.proofs.Common.{◌≡◌, IfErr, IfOk}
-use Rattle.sr_live.specs.declared.fault.LiveFault.TheVariants.{Changed}
-use Rattle.sr_live.proofs.RoundsLemmas.{IsStaleAt, SoFar}
+use Rattle.std.proofs.Common.{IfErr, IfOk}
+use Rattle.sr_live.proofs.RoundsLemmas.{IsChangedAt, IsStaleAt, SoFar}
 use Rattle.sr_live.proofs.rounds.run.Given as goal
 
 abbrev pub invariant-loop-tried : goal.invariant-loop-tried
@@ -9,5 +8,6 @@ invariant-loop-tried g l = record {
       (g.P.Peer.sent l.peer) (g.P.Peer.got l.peer) l._tried;
   stale : IfOk l.ran (IsStaleAt l.policy l.asked l.terms (g.P.Peer.sent l.initial.peer)
       (g.P.Peer.got l.initial.peer) (g.P.Peer.sent l.peer) (g.P.Peer.got l.peer) l._tried);
-  changed : IfErr l.ran (λ fault. fault ≡ Changed);
+  changed : IfErr l.ran (IsChangedAt l.policy l.asked l.terms (g.P.Peer.sent l.initial.peer)
+      (g.P.Peer.got l.initial.peer) (g.P.Peer.sent l.peer) (g.P.Peer.got l.peer) l._tried);
 }

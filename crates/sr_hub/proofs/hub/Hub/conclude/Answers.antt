@@ -27,6 +27,12 @@ returns-clause-rest c =
     let new : HubState = hub_of c.conclude_at.new.book c.conclude_at.new.connections in
     (subst (λ (p : HubParts). MovedClauses c.args.token (state_of p) new) c.self.view_is (moved-clauses c.args.token old new c.self.invariant c.conclude_at.ensures.moves)).rest
 
+pub returns-clause-session : goal.returns-clause-session
+returns-clause-session c =
+    let old : HubState = hub_of c.self.inside.book c.self.inside.connections in
+    let new : HubState = hub_of c.conclude_at.new.book c.conclude_at.new.connections in
+    (subst (λ (p : HubParts). MovedClauses c.args.token (state_of p) new) c.self.view_is (moved-clauses c.args.token old new c.self.invariant c.conclude_at.ensures.moves)).session
+
 pub returns-clause-others : goal.returns-clause-others
 returns-clause-others c =
     let old : HubState = hub_of c.self.inside.book c.self.inside.connections in

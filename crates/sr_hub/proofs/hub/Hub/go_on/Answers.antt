@@ -26,6 +26,13 @@ returns-clause-rest c =
     (subst (λ (p : HubParts). GoOnClauses c.args.token c.go_on_at.result (state_of p) new) c.self.view_is
     (go_on-clauses c.args.token c.go_on_at.result old new c.self.invariant c.go_on_at.ensures.moves (λ is. hub-same _ _ _ _ (c.go_on_at.ensures.none is).0 (c.go_on_at.ensures.none is).1))).rest
 
+pub returns-clause-session : goal.returns-clause-session
+returns-clause-session c =
+    let old : HubState = hub_of c.self.inside.book c.self.inside.connections in
+    let new : HubState = hub_of c.go_on_at.new.book c.go_on_at.new.connections in
+    (subst (λ (p : HubParts). GoOnClauses c.args.token c.go_on_at.result (state_of p) new) c.self.view_is
+    (go_on-clauses c.args.token c.go_on_at.result old new c.self.invariant c.go_on_at.ensures.moves (λ is. hub-same _ _ _ _ (c.go_on_at.ensures.none is).0 (c.go_on_at.ensures.none is).1))).session
+
 pub returns-clause-others : goal.returns-clause-others
 returns-clause-others c =
     let old : HubState = hub_of c.self.inside.book c.self.inside.connections in

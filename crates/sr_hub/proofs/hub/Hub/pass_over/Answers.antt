@@ -15,12 +15,12 @@ returns-clause-lines c = λ piece.
     (subst (λ (p : HubParts). TakeClauses c.args.token piece (Err c.pass_over_at-refused.result) (state_of p) new) c.self.view_is
     (take-clauses c.args.token piece (Err c.pass_over_at-refused.result) old new c.self.invariant tt c.pass_over_at-refused.ensures.refused)).lines
 
-pub returns-clause-there : goal.returns-clause-there
-returns-clause-there c =
+pub returns-clause-session : goal.returns-clause-session
+returns-clause-session c =
     let old : HubState = hub_of c.self.inside.book c.self.inside.connections in
     let new : HubState = hub_of c.self.inside.book c.pass_over_at-refused.new.connections in
     (subst (λ (p : HubParts). TakeClauses c.args.token [] (Err c.pass_over_at-refused.result) (state_of p) new) c.self.view_is
-    (take-clauses c.args.token [] (Err c.pass_over_at-refused.result) old new c.self.invariant tt c.pass_over_at-refused.ensures.refused)).there
+    (take-clauses c.args.token [] (Err c.pass_over_at-refused.result) old new c.self.invariant tt c.pass_over_at-refused.ensures.refused)).session
 
 pub returns-clause-others : goal.returns-clause-others
 returns-clause-others c =

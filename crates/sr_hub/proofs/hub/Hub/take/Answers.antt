@@ -23,12 +23,12 @@ returns-clause-rest c =
     (subst (λ (p : HubParts). TakeClauses c.args.token c.args.piece.now c.take_at.result (state_of p) new) c.self.view_is
     (take-clauses c.args.token c.args.piece.now c.take_at.result old new c.self.invariant c.take_at.ensures.ok c.take_at.ensures.err)).rest
 
-pub returns-clause-there : goal.returns-clause-there
-returns-clause-there c =
+pub returns-clause-session : goal.returns-clause-session
+returns-clause-session c =
     let old : HubState = hub_of c.self.inside.book c.self.inside.connections in
     let new : HubState = hub_of c.take_at.new.book c.take_at.new.connections in
     (subst (λ (p : HubParts). TakeClauses c.args.token c.args.piece.now c.take_at.result (state_of p) new) c.self.view_is
-    (take-clauses c.args.token c.args.piece.now c.take_at.result old new c.self.invariant c.take_at.ensures.ok c.take_at.ensures.err)).there
+    (take-clauses c.args.token c.args.piece.now c.take_at.result old new c.self.invariant c.take_at.ensures.ok c.take_at.ensures.err)).session
 
 pub returns-clause-others : goal.returns-clause-others
 returns-clause-others c =

@@ -4,6 +4,3 @@ use Rattle.sr_hub.proofs.keeper.Keeper.forget.Goals as goal
 
 pub returns-in_default-clause-keeps : goal.returns-in_default-clause-keeps
 returns-in_default-clause-keeps g c = λ may_tell. keeps-none may_tell (state_of c.args.hub.now)
-
-pub returns-then-is_behind-clause-keeps : goal.returns-then-is_behind-clause-keeps
-returns-then-is_behind-clause-keeps g c = λ may_tell. keeps-none may_tell (state_of c.args.hub.now)
