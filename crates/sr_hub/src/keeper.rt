@@ -462,13 +462,7 @@ impl<'a, C: Clock> Keeper<'a, C> {
 }
 
 /// The same, within these bounds. While a record is there that was not looked at, nothing is let go of.
-fn forget_seen<C: Clock>(
-    past: &mut Past,
-    watch: &Watch,
-    clock: &C,
-    hub: &mut Hub,
-    bounds: Bounds,
-)
+fn forget_seen<C: Clock>(past: &mut Past, watch: &Watch, clock: &C, hub: &mut Hub, bounds: Bounds)
     ensures seen { watch.now.looked < last_index hub.old.book → hub.new ≡ hub.old }
     ensures keeps { (may_tell : ℕ → Bool) → Keeps may_tell (state_of hub.old) may_tell (state_of hub.new) }
 {

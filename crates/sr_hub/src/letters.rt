@@ -72,11 +72,7 @@ fn gives_letters(kind: Kind) -> bool
 {
     match kind {
         Kind::Serve | Kind::Expire => true,
-        Kind::Join
-        | Kind::Call
-        | Kind::Board
-        | Kind::Snapshot
-        | Kind::Conclude
-        | Kind::Leave => false,
+        Kind::Join | Kind::Call | Kind::Board | Kind::Snapshot | Kind::Conclude | Kind::Leave =>
+            false,
     }
 }

@@ -409,15 +409,13 @@ pub(crate) fn with_policy<'a>(
     name: &'a str,
     about: &'a str,
 ) -> Result<Command<'a>, AllocError> {
-    connecting(alloc, name, about)?.arg(
-        valued(
-            alloc,
-            "policy",
-            "FILE",
-            "Read who may take which entries from this file",
-        )
-        .required(true),
+    connecting(alloc, name, about)?.arg(valued(
+        alloc,
+        "policy",
+        "FILE",
+        "Read who may take which entries from this file",
     )
+    .required(true))
 }
 
 /// For how long those may have been idle who are given entries.
@@ -431,11 +429,7 @@ fn seen<'a>(alloc: Global) -> Arg<'a> {
 }
 
 /// A subcommand with what all of them take.
-fn connecting<'a>(
-    alloc: Global,
-    name: &'a str,
-    about: &'a str,
-) -> Result<Command<'a>, AllocError> {
+fn connecting<'a>(alloc: Global, name: &'a str, about: &'a str) -> Result<Command<'a>, AllocError> {
     Command::new(alloc, name)
         .about(about)
         .arg(valued(
