@@ -70,6 +70,7 @@ class History(live_script.History):
         yield from ("--tries", self.tries, "--within", self.asked_within)
         yield from ["--spare", self.spare] if self.spare else ()
         yield from [] if self.most is None else ("--at-most", self.most)
+        yield from [] if self.deliveries is None else ("--given-up-after", self.deliveries)
         yield from [] if self.seen_within is None else ("--seen-within", self.seen_within)
         yield from ["--check"] if self.check else []
 
@@ -79,7 +80,7 @@ class Watch:
 
     def __init__(self, history, connection):
         self.history, self.connection = history, connection
-        self.told, self.faults, self.log = recover.Told(), [], []
+        self.told, self.faults, self.log = recover.Told(history.deliveries), [], []
         self.scripts, self.error, self.plan, self.is_cheapest = [], None, None, False
         self.spare = history.spare
 
@@ -226,7 +227,7 @@ def begun(connection, choice):
         history = History(choice)
         setting = [["FLUSHALL"], *history.setting(), *choice.choice([[], [], [["SCRIPT", "FLUSH"]]])]
         all_replies(connection, setting)
-        seen = seen_by(connection, history.key, history.group, history.dead)
+        seen = seen_by(connection, history.key, history.group, history.dead, deliveries=history.deliveries)
         if Plan(history.lives, seen, history.most).is_possible or choice.random() < 0.1:
             return history, setting
 

@@ -50,6 +50,7 @@ class History:
         self.within = choice.choice([0, 0, 0, 1, 5, 30, 1000, 2**64 - 1])
         self.most = choice.choice([None, None, None, 1, 2, 4])
         self.above = choice.choice([None, None, 0, 3, 50])
+        self.deliveries = choice.choice([None, None, 1, 1, 2])
 
     def somebody(self, dead=1, live=1, others=1):
         """The name of a consumer, by these weights of its kind."""
@@ -77,6 +78,8 @@ class History:
             yield self.add()
             self.given += [] if name in self.dead else [b"%d-1" % self.last]
             yield self.read(name)
+        if self.deliveries is not None:
+            yield from (self.read(name, 0, self.choice.randint(1, 4)) for name in self.dead if self.choice.random() < 0.5)
         for _ in range(self.choice.choice([0, 0, 1, 2])):
             yield ["XDEL", self.key, self.some_id()]
 
@@ -136,7 +139,7 @@ def reasons(plan, group, now, within):
 
 def faults_of(plan, history, answer, before, after):
     """What is wrong with an answer."""
-    now = before.seen(history.group, history.dead)
+    now = before.seen(history.group, history.dead, history.deliveries)
     expected = reasons(plan, history.group, now, history.within)
     if expected:
         yield from ([] if answer in expected else [f"expected one of {expected}"])
@@ -155,7 +158,7 @@ def faults_of(plan, history, answer, before, after):
 
 def is_still_cheapest(plan, history, before):
     """Whether a plan would be a cheapest one of this moment, at whatever total."""
-    now = before.seen(history.group, history.dead)
+    now = before.seen(history.group, history.dead, history.deliveries)
     if now.rows is None or list(changed_rows(plan, now)):
         return False
     _, problem = problem_of(plan.lives, now, plan.last)
@@ -167,8 +170,9 @@ def play(connection, script, choice):
     history = History(choice)
     setting = [["FLUSHALL"], *history.setting()]
     all_replies(connection, setting)
-    seen = seen_by(connection, history.key, history.group, history.dead)
+    seen = seen_by(connection, history.key, history.group, history.dead, deliveries=history.deliveries)
     plan = Plan(history.lives, seen, history.most, history.above)
+    plan.deliveries = history.deliveries
     if not plan.is_possible:
         return None
     acts = [command for _ in range(choice.randint(0, 4)) for command in history.act()]

@@ -40,12 +40,17 @@ def all_replies(connection, commands):
     return [connection.reply() for _ in commands]
 
 
-def seen_by(connection, key, group, dead, idle=0):
-    """What ordinary commands tell, which are not of one moment."""
+def seen_by(connection, key, group, dead, idle=0, deliveries=None):
+    """What ordinary commands tell, which are not of one moment. Of the dead only what was delivered at most so often, if that is asked for."""
     removed = removed_from(connection.call("XINFO", "STREAM", key))
     consumers = map(texts, connection.call("XINFO", "CONSUMERS", key, group))
     numbers = {consumer[b"name"]: consumer[b"pending"] for consumer in consumers}
-    return Seen({name: rows_of(connection, key, group, name, idle) for name in sorted(dead)}, numbers, removed)
+    return Seen({name: rows_of(connection, key, group, name, idle, deliveries) for name in sorted(dead)}, numbers, removed)
+
+
+def is_within(deliveries, count):
+    """Whether an entry that was delivered so often may be moved."""
+    return deliveries is None or count <= deliveries
 
 
 def removed_from(stream):
@@ -53,13 +58,13 @@ def removed_from(stream):
     return texts(stream)[b"entries-added"] - texts(stream)[b"length"]
 
 
-def rows_of(connection, key, group, name, idle):
+def rows_of(connection, key, group, name, idle, deliveries):
     """The rows of a dead consumer that have been idle for so many milliseconds, in pages, and the fields of each."""
     ids, start, page = [], "-", [None] * PAGE
     while len(page) == PAGE:
         page = connection.call("XPENDING", key, group, "IDLE", idle, start, "+", PAGE, name)
-        ids += [row[0] for row in page]
-        start = b"(" + ids[-1] if ids else start
+        ids += [entry_id for entry_id, _, _, count in page if is_within(deliveries, count)]
+        start = b"(" + page[-1][0] if page else start
     entries = all_replies(connection, (["XRANGE", key, entry_id, entry_id] for entry_id in ids))
     return [(entry_id, entry[0][1] if entry else None) for entry_id, entry in zip(ids, entries)]
 
@@ -85,14 +90,14 @@ class Dump:
         own = {name: part for name, part in self.groups[group].items() if name not in moving}
         return own, [other for name, other in self.groups.items() if name != group]
 
-    def seen(self, group, dead):
+    def seen(self, group, dead, deliveries=None):
         """What a plan depends on at this moment, without one of the commands by which a client finds it out."""
         if group not in self.groups:
             return Seen(None, {})
         rows, numbers = {name: [] for name in dead}, collections.Counter()
-        for entry_id, (owner, *_) in self.pending(group).items():
+        for entry_id, (owner, count, _) in self.pending(group).items():
             numbers[owner] += 1
-            if owner in rows:
+            if owner in rows and is_within(deliveries, count):
                 rows[owner].append((entry_id, self.entries.get(entry_id)))
         return Seen(rows, numbers)
 
@@ -143,6 +148,8 @@ def after_acks(seen, acks):
 class Plan:
     """A cheapest plan for what was seen, or for the first entries of it (`most`), and the prices that show it."""
 
+    deliveries = None  # how often an entry may have been delivered, if that is asked for
+
     def __init__(self, lives, seen, most=None, above=None):
         self.lives, self.seen, self.last, self.idle = lives, seen, "+", 0
         self.ids, problem = problem_of(lives, seen, self.last)
@@ -162,7 +169,8 @@ class Plan:
 
     def words(self, group, within):
         """What the script gets after the key."""
-        yield from (group, within, self.last, self.idle, self.seen.removed, len(self.seen.rows))
+        most = "-" if self.deliveries is None else self.deliveries
+        yield from (group, within, self.last, self.idle, most, self.seen.removed, len(self.seen.rows))
         for name, rows in self.seen.rows.items():
             compared = up_to(rows, self.last)
             yield from (name, len(compared))

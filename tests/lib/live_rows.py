@@ -137,6 +137,21 @@ IDLE_ROWS = [
     ("the idle one is deleted", "XDEL s 1-1", stale(b"entry", b"1-1")),
 ]
 
+# Entries that were delivered more than twice are left out: 1-1 was delivered three times, 2-1 twice.
+DELIVERIES = 2
+OFTEN = [*TWO, *lines("XREADGROUP GROUP g D COUNT 2 STREAMS s 0\nXREADGROUP GROUP g D COUNT 1 STREAMS s 0")]
+OFTEN_ROWS = [
+    ("nothing changed, and one was delivered too often", "", done(1)),
+    ("that one is acknowledged", "XACK s g 1-1", done(1)),
+    ("that one is delivered once more", "XREADGROUP GROUP g D COUNT 1 STREAMS s 0", done(1)),
+    ("the other one is delivered once more", "XREADGROUP GROUP g D COUNT 2 STREAMS s 0", stale(b"pending", b"D")),
+    ("the other one is acknowledged", "XACK s g 2-1", stale(b"pending", b"D")),
+    ("a new one is delivered", "XADD s 3-1 c x\nXREADGROUP GROUP g D STREAMS s >", stale(b"pending", b"D")),
+    ("an earlier one is pending for it, delivered twice", "XCLAIM s g D 0 0-2", stale(b"pending", b"D")),
+    ("an earlier one is pending for it, delivered too often", "XCLAIM s g D 0 0-2 RETRYCOUNT 3 JUSTID", done(1)),
+    ("the count of the first is set back", "XCLAIM s g D 0 1-1 RETRYCOUNT 2 JUSTID", stale(b"pending", b"D")),
+]
+
 # With the first entry alone (--at-most 1) the plan gives it to A, at 2, and the least prices are 0.
 FIRST_ROWS = [
     ("the entry behind the first is acknowledged", "XACK s g 2-1", done(1)),
@@ -198,9 +213,9 @@ class Board:
         if faults:
             raise SystemExit(f"a setting was refused: {faults[0]}")
 
-    def plan(self, lives, most=None, key="s", group="g", dead=(b"D",), idle=0):
-        plan = Plan(lives, seen_by(self.connection, key, group, dead, idle), most)
-        plan.idle = idle
+    def plan(self, lives, most=None, key="s", group="g", dead=(b"D",), idle=0, deliveries=None):
+        plan = Plan(lives, seen_by(self.connection, key, group, dead, idle, deliveries), most)
+        plan.idle, plan.deliveries = idle, deliveries
         return plan
 
     def conclude(self, what, plan, wanted, within=0, key="s", group="g"):
@@ -217,10 +232,10 @@ class Board:
             self.check(f"{what}: nothing has changed", before.text, after.text)
         return took
 
-    def table(self, setting, lives, rows, most=None, idle=0):
+    def table(self, setting, lives, rows, **asked):
         for what, changes, wanted in rows:
             self.begin(setting)
-            plan = self.plan(lives, most, idle=idle)
+            plan = self.plan(lives, **asked)
             all_replies(self.connection, lines(changes))
             self.conclude(what, plan, wanted)
 
@@ -422,6 +437,7 @@ def compared(connection, last=large):
     board.table(TWO, TWO_LIVE, FIRST_ROWS, most=1)
     board.table(GONE, TWO_LIVE, GONE_ROWS)
     board.table(IDLE_TWO, TWO_LIVE, IDLE_ROWS, idle=IDLE)
+    board.table(OFTEN, TWO_LIVE, OFTEN_ROWS, deliveries=DELIVERIES)
     for part in (gaps, errors, permissions, leftovers, names, pages, gone, removed, last):
         part(board)
     return board.rows, board.wrong

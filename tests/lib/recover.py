@@ -15,7 +15,7 @@ import threading
 import time
 import traceback
 
-from .live import CLASS, Plan, Seen, number_of, removed_from, texts
+from .live import CLASS, Plan, Seen, is_within, number_of, removed_from, texts
 from .resp import Ended, ErrorReply, Fault, Replies, text_of_reply
 from .servers import HOST, Connection
 
@@ -210,7 +210,8 @@ def plan_of(words, lives):
     plan = Plan.__new__(Plan)
     plan.lives, group, within, plan.last, plan.idle = lives, next(left), int(next(left)), next(left), int(next(left))
     plan.last = "+" if plan.last == b"+" else plan.last
-    removed = int(next(left))
+    deliveries, removed = next(left), int(next(left))
+    plan.deliveries = None if deliveries == b"-" else int(deliveries)
     rows = {}
     for _ in range(int(next(left))):
         name = next(left)
@@ -234,7 +235,8 @@ def plan_of(words, lives):
 class Told:
     """What the replies of Redis told the program in its last round: what a plan has to be made of."""
 
-    def __init__(self):
+    def __init__(self, deliveries=None):
+        self.deliveries = deliveries
         self.numbers, self.idles, self.rows, self.removed, self.is_whole = {}, {}, {}, None, False
 
     def add(self, words, reply):
@@ -242,16 +244,16 @@ class Told:
         if isinstance(reply, ErrorReply):
             return
         if words[:2] == [b"XINFO", b"STREAM"]:
-            self.removed = removed_from(reply)
+            self.removed, self.rows = removed_from(reply), {}  # a look-up begins with it
         elif words[0] == b"XINFO":
             self.idles = {texts(one)[b"name"]: texts(one)[b"idle"] for one in reply}
         elif words[0] == b"XPENDING" and len(words) == 3:
             self.numbers = {name: int(number) for name, number in reply[3] or []}
             self.is_whole = True
         elif words[0] == b"XPENDING":
-            self.rows = {} if self.is_whole else self.rows
             self.is_whole = False
-            self.rows.setdefault(words[-1], []).extend([row[0], UNREAD] for row in reply)
+            within = [row[0] for row in reply if is_within(self.deliveries, row[3])]
+            self.rows.setdefault(words[-1], []).extend([entry_id, UNREAD] for entry_id in within)
         elif words[0] == b"XRANGE":
             self.add_range(*map(number_of, words[2:4]), int(words[5]) if len(words) > 4 else None, reply)
 

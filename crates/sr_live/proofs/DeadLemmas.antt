@@ -4,12 +4,11 @@ use Rattle.std.proofs.Common.{Option, arith, refl, sym, ap, ◌∙◌, subst, in
 use Rattle.std.proofs.lemmas.Bool.{le-leb}
 use Rattle.std.proofs.lemmas.List.{take_all, take_more}
 use Rattle.std.specs.Prelude.{if◌then◌else◌}
-use Rattle.sr_ids.specs.declared.id.Id.{Id}
 use Rattle.sr_policy.specs.{Text}
 use Rattle.sr_peer.specs.{Part}
 use Rattle.sr_live.specs.Dead.{FindsDead, FindsEach, LooksOld, is_dead, name_of_dead, old_call}
 use Rattle.sr_live.specs.Looking.{Exchange, Talks, consumers_call}
-use Rattle.sr_live.specs.Said.{SaysIdle, SaysPending}
+use Rattle.sr_live.specs.Said.{Delivered, SaysIdle, SaysPending}
 use Rattle.sr_live.proofs.ReadingLemmas.{AreReading, reading-append}
 use Rattle.sr_live.proofs.TalkLemmas.{Talks-none, Talks-trans}
 
@@ -19,12 +18,12 @@ use Rattle.sr_live.proofs.TalkLemmas.{Talks-none, Talks-trans}
 abbrev pub FindsOne : Text → Text → ℕ → Text × ℕ → Option (List ℕ) → Option (List ℕ) → Option (List ℕ)
     → Option (List ℕ) → List Text → List Text → Type 0
 FindsOne key group after consumer sent got sent_then got_then dead now =
-    (talk : List Exchange) × (old : List Id) × Talks sent got sent_then got_then talk
+    (talk : List Exchange) × (old : List Delivered) × Talks sent got sent_then got_then talk
     × LooksOld key group after consumer old talk × (now ≡ dead ++ name_of_dead after consumer old)
 
 -- the call for one that was not seen for so long, with its reply
 abbrev pub IsAsked : Text → Text → ℕ → Text → Option (List ℕ) → Option (List ℕ) → Option (List ℕ)
-    → Option (List ℕ) → List Id → Type 0
+    → Option (List ℕ) → List Delivered → Type 0
 IsAsked key group after name sent got sent_then got_then old =
     (parts : List Part) × Talks sent got sent_then got_then ((old_call key group after name, parts) ∷ [])
     × SaysPending parts name old
@@ -35,7 +34,7 @@ module _ (key group : Text) (after : ℕ) (consumer : Text × ℕ) where
   seen-lately sent got dead lately =
       ([], [], Talks-none sent got, inl (lately, refl, refl), sym (append-nil dead))
 
-  pub has-none : (sent got sent_then got_then : Option (List ℕ)) (dead : List Text) (old : List Id)
+  pub has-none : (sent got sent_then got_then : Option (List ℕ)) (dead : List Text) (old : List Delivered)
       → after ≤ consumer.1 → old ≡ [] → IsAsked key group after consumer.0 sent got sent_then got_then old
       → FindsOne key group after consumer sent got sent_then got_then dead dead
   has-none sent got sent_then got_then dead old long none (parts, talks, says) =
@@ -48,12 +47,12 @@ module _ (key group : Text) (after : ℕ) (consumer : Text × ℕ) where
         sym (append-nil dead) ∙ ap (λ (l : List Text). dead ++ l) none_named,
       )
 
-  named : (old : List Id) → after ≤ consumer.1 → 0 < length old → consumer.0 ∷ [] ≡ name_of_dead after consumer old
+  named : (old : List Delivered) → after ≤ consumer.1 → 0 < length old → consumer.0 ∷ [] ≡ name_of_dead after consumer old
   named [] long some = absurd (omega (arith, some))
   named (id ∷ ids) long some =
       ap (λ (b : Bool). if b then consumer.0 ∷ [] else []) (sym (le-leb after consumer.1 long))
 
-  pub has-some : (sent got sent_then got_then : Option (List ℕ)) (dead now : List Text) (old : List Id)
+  pub has-some : (sent got sent_then got_then : Option (List ℕ)) (dead now : List Text) (old : List Delivered)
       → after ≤ consumer.1 → 0 < length old → now ≡ dead ++ consumer.0 ∷ []
       → IsAsked key group after consumer.0 sent got sent_then got_then old
       → FindsOne key group after consumer sent got sent_then got_then dead now
@@ -67,7 +66,7 @@ module _ (key group : Text) (after : ℕ) (consumer : Text × ℕ) where
 
 -- ---- all of them
 
-FindsEach-push : (key group : Text) (after : ℕ) (consumers : List (Text × ℕ)) (consumer : Text × ℕ) (old : List Id)
+FindsEach-push : (key group : Text) (after : ℕ) (consumers : List (Text × ℕ)) (consumer : Text × ℕ) (old : List Delivered)
     (talk own : List Exchange) (dead : List Text) → FindsEach key group after consumers talk dead
     → LooksOld key group after consumer old own
     → FindsEach key group after (consumers ++ consumer ∷ []) (talk ++ own) (dead ++ name_of_dead after consumer old)
@@ -153,7 +152,7 @@ module _ (key group : Text) (after : ℕ) (sent got : Option (List ℕ)) where
 
 -- ---- these calls only read
 
-LooksOld-reads : (key group : Text) (after : ℕ) (consumer : Text × ℕ) (old : List Id) (talk : List Exchange)
+LooksOld-reads : (key group : Text) (after : ℕ) (consumer : Text × ℕ) (old : List Delivered) (talk : List Exchange)
     → LooksOld key group after consumer old talk → AreReading talk
 LooksOld-reads key group after consumer old talk (inl (lately, none, empty)) = subst AreReading (sym empty) tt
 LooksOld-reads key group after consumer old talk (inr (long, parts, says, one)) =

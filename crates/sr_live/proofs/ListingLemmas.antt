@@ -14,12 +14,13 @@ use Rattle.sr_ids.specs.{is_below}
 use Rattle.sr_policy.specs.{Text}
 use Rattle.sr_peer.specs.{Part, Array}
 use Rattle.sr_live.specs.declared.listing.Listing.{Listing}
+use Rattle.sr_live.specs.declared.looked.Claimable.{Claimable}
 use Rattle.sr_live.specs.declared.looked.Row.{Row}
 use Rattle.sr_live.specs.declared.looking.Seen.{Seen}
 use Rattle.sr_live.specs.First.{kept_rows}
-use Rattle.sr_live.specs.Looking.{Exchange, ListsDead, ListsPages, LooksEntries, LooksRows, is_past, last_of}
-use Rattle.sr_live.specs.Looking.{listed_as, page, pending_call, start_after}
-use Rattle.sr_live.specs.Said.{SaysPending}
+use Rattle.sr_live.specs.Looking.{Exchange, ListsDead, ListsPages, LooksEntries, LooksRows, ids_in, ids_within, is_past}
+use Rattle.sr_live.specs.Looking.{last_of, listed_as, page, pending_call, start_after}
+use Rattle.sr_live.specs.Said.{Delivered, SaysPending}
 use Rattle.sr_live.specs.steps.Listing.{AreListed, Finds, Follow, ListsAs, ListsOn, Passes, Widens}
 use Rattle.sr_live.specs.steps.Listing.{are_sure, is_sure, unlisted_of}
 use Rattle.sr_live.proofs.FirstLemmas.{Finds-more, Finds-none, kept-found, kept-whole, wanted_at_first}
@@ -53,81 +54,67 @@ by-full P full long short = by (leb 1000 full) refl
     by true is = long (leb-true 1000 full is)
     by false is = short (leb-false 1000 full is)
 
-module _ (key group : Text) (idle : ℕ) where
+module _ (key group : Text) (claimable : Claimable) where
   -- one more page behind full ones
-  lists-next : (name : Text) (own : List Exchange) (ids more : List Id) (parts : List Part)
-      → ListsAs true key group idle name (last_of ids None) own ids → SaysPending parts name more
-      → ListsAs (leb page (length more)) key group idle name (last_of more (last_of ids None))
-      (own ++ (pending_call key group idle (start_after (last_of ids None)) name, parts) ∷ []) (ids ++ more)
-  lists-next name own ids more parts so_far says =
-      let call : Exchange = (pending_call key group idle (start_after (last_of ids None)) name, parts) in
-      by-full (λ (full : Bool). ListsAs full key group idle name (last_of more (last_of ids None)) (own ++ call ∷ [])
-      (ids ++ more))
+  lists-next : (name : Text) (after : Option Id) (own : List Exchange) (ids : List Id) (more : List Delivered)
+      (parts : List Part) → ListsAs true key group claimable name after own ids → SaysPending parts name more
+      → ListsAs (leb page (length more)) key group claimable name (last_of (ids_in more) after)
+      (own ++ (pending_call key group claimable.idle (start_after after) name, parts) ∷ [])
+      (ids ++ ids_within claimable.most_deliveries more)
+  lists-next name after own ids more parts so_far says =
+      let call : Exchange = (pending_call key group claimable.idle (start_after after) name, parts) in
+      let kept = ids_within claimable.most_deliveries more in
+      by-full (λ (full : Bool). ListsAs full key group claimable name (last_of (ids_in more) after) (own ++ call ∷ [])
+      (ids ++ kept))
       (length more)
-      (λ (long : page ≤ length more). (
-        (λ (last : Option Id) (others : List Exchange) (rest : List Id)
-            (pages : ListsPages key group idle name last (last_of (ids ++ more) None) others rest).
-            subst (λ (both : List Exchange). ListsPages key group idle name last None both ((ids ++ more) ++ rest))
-            (sym (append_assoc own (call ∷ []) others))
-            (subst (ListsPages key group idle name last None (own ++ call ∷ others)) (sym (append_assoc ids more rest))
-            (so_far.0 last (call ∷ others) (more ++ rest) (
-              more,
-              rest,
-              refl,
-              says,
-              inr (
-                long,
-                subst (λ (at : Option Id). ListsPages key group idle name last at others rest)
-                    (last_of-append ids more None) pages,
-              ),
-              refl,
-            )))),
-        sym (last_of-append ids more None),
-      ))
+      (λ (long : page ≤ length more) (last : Option Id) (others : List Exchange) (rest : List Id)
+      (pages : ListsPages key group claimable name last (last_of (ids_in more) after) others rest).
+      subst (λ (both : List Exchange). ListsPages key group claimable name last None both ((ids ++ kept) ++ rest))
+      (sym (append_assoc own (call ∷ []) others))
+      (subst (ListsPages key group claimable name last None (own ++ call ∷ others)) (sym (append_assoc ids kept rest))
+      (so_far last (call ∷ others) (kept ++ rest) (more, rest, refl, says, inr (long, pages), refl))))
       (λ (short : length more < page) (last : Option Id).
-      so_far.0 last (call ∷ []) more (more, [], refl, says, inl (short, refl, refl), sym (append-nil more)))
+      so_far last (call ∷ []) kept (more, [], refl, says, inl (short, refl, refl), sym (append-nil kept)))
 
   -- a consumer was listed further, or not
   lists-on : (one now : Listing) (own calls : List Exchange) (ids more : List Id)
-      → ListsAs one.goes_on key group idle one.name one.last own ids → ListsOn key group idle one now calls more
-      → ListsAs now.goes_on key group idle one.name now.last (own ++ calls) (ids ++ more)
+      → ListsAs one.goes_on key group claimable one.name one.last own ids → ListsOn key group claimable one now calls more
+      → ListsAs now.goes_on key group claimable one.name now.last (own ++ calls) (ids ++ more)
   lists-on one now own calls ids more lists (same, inl none) =
-      subst (λ (goes_on : Bool). ListsAs goes_on key group idle one.name now.last (own ++ calls) (ids ++ more)) (sym none.goes_on)
-      (subst (λ (last : Option Id). ListsAs one.goes_on key group idle one.name last (own ++ calls) (ids ++ more))
+      subst (λ (goes_on : Bool). ListsAs goes_on key group claimable one.name now.last (own ++ calls) (ids ++ more)) (sym none.goes_on)
+      (subst (λ (last : Option Id). ListsAs one.goes_on key group claimable one.name last (own ++ calls) (ids ++ more))
       (sym none.last)
-      (subst (λ (l : List Exchange). ListsAs one.goes_on key group idle one.name one.last l (ids ++ more))
+      (subst (λ (l : List Exchange). ListsAs one.goes_on key group claimable one.name one.last l (ids ++ more))
       (sym (append-nil own) ∙ ap (λ (l : List Exchange). own ++ l) (sym none.calls))
-      (subst (ListsAs one.goes_on key group idle one.name one.last own)
+      (subst (ListsAs one.goes_on key group claimable one.name one.last own)
       (sym (append-nil ids) ∙ ap (λ (l : List Id). ids ++ l) (sym none.none)) lists)))
   lists-on one now own calls ids more lists (same, inr next) =
-      let before : ListsAs true key group idle one.name one.last own ids =
-      subst (λ (goes_on : Bool). ListsAs goes_on key group idle one.name one.last own ids) next.was_open lists in
-      let after : one.last ≡ last_of ids None = before.1 in
-      let whole = lists-next one.name own ids more next.parts
-      (subst (λ (last : Option Id). ListsAs true key group idle one.name last own ids) after before) next.says in
-      subst (λ (goes_on : Bool). ListsAs goes_on key group idle one.name now.last (own ++ calls) (ids ++ more)) (sym next.goes_on)
-      (subst (λ (last : Option Id). ListsAs (leb page (length more)) key group idle one.name last (own ++ calls)
+      let before : ListsAs true key group claimable one.name one.last own ids =
+      subst (λ (goes_on : Bool). ListsAs goes_on key group claimable one.name one.last own ids) next.was_open lists in
+      let whole = lists-next one.name one.last own ids next.entries next.parts before next.says in
+      subst (λ (goes_on : Bool). ListsAs goes_on key group claimable one.name now.last (own ++ calls) (ids ++ more)) (sym next.goes_on)
+      (subst (λ (last : Option Id). ListsAs (leb page (length next.entries)) key group claimable one.name last (own ++ calls)
       (ids ++ more))
-      (ap (last_of more) (sym after) ∙ sym next.last)
-      (subst (λ (l : List Exchange). ListsAs (leb page (length more)) key group idle one.name
-      (last_of more (last_of ids None)) (own ++ l) (ids ++ more))
-      (ap (λ (last : Option Id). (pending_call key group idle (start_after last) one.name, next.parts) ∷ []) (sym after)
-      ∙ sym next.calls) whole))
+      (sym next.last)
+      (subst (λ (l : List Exchange). ListsAs (leb page (length next.entries)) key group claimable one.name
+      (last_of (ids_in next.entries) one.last) (own ++ l) (ids ++ more))
+      (sym next.calls)
+      (subst (λ (l : List Id). ListsAs (leb page (length next.entries)) key group claimable one.name
+      (last_of (ids_in next.entries) one.last)
+      (own ++ (pending_call key group claimable.idle (start_after one.last) one.name, next.parts) ∷ []) (ids ++ l))
+      (sym next.within) whole)))
 
   -- ---- several consumers
 
-  pub AreListed-none : (dead : List Text) → AreListed key group idle (map unlisted_of dead) [] []
+  pub AreListed-none : (dead : List Text) → AreListed key group claimable (map unlisted_of dead) [] []
   AreListed-none [] = (refl, refl)
   AreListed-none (name ∷ dead) = (
     [],
     [],
     [],
     [],
-    (
-      (λ (last : Option Id) (others : List Exchange) (rest : List Id)
-          (pages : ListsPages key group idle name last None others rest). pages),
-      refl,
-    ),
+    (λ (last : Option Id) (others : List Exchange) (rest : List Id)
+        (pages : ListsPages key group claimable name last None others rest). pages),
     AreListed-none dead,
     refl,
     refl,
@@ -148,10 +135,10 @@ module _ (key group : Text) (idle : ℕ) where
 
   -- one of them was listed further
   pub listed-on : (wider : List Listing) (one now : Listing) (others : List Listing) (talk calls : List Exchange)
-      (listed : List (Id × Text)) (ids : List Id) → ListsOn key group idle one now calls ids
-      → AreListed key group idle (wider ++ one ∷ others) talk listed
+      (listed : List (Id × Text)) (ids : List Id) → ListsOn key group claimable one now calls ids
+      → AreListed key group claimable (wider ++ one ∷ others) talk listed
       → (talk_then : List Exchange) × (listed_then : List (Id × Text))
-      × AreListed key group idle (wider ++ now ∷ others) talk_then listed_then
+      × AreListed key group claimable (wider ++ now ∷ others) talk_then listed_then
       × IsPermutation (talk ++ calls) talk_then
       × IsPermutation (listed ++ map (λ id. (id, one.name)) ids) listed_then
   listed-on [] one now others talk calls listed ids on (own, rest, mine, left, lists, are, talk_is, listed_is) =
@@ -164,7 +151,7 @@ module _ (key group : Text) (idle : ℕ) where
           rest,
           mine ++ ids,
           left,
-          subst (λ (name : Text). ListsAs now.goes_on key group idle name now.last (own ++ calls) (mine ++ ids)) (sym on.0)
+          subst (λ (name : Text). ListsAs now.goes_on key group claimable name now.last (own ++ calls) (mine ++ ids)) (sym on.0)
               (lists-on one now own calls mine ids lists on),
           are,
           refl,
@@ -200,15 +187,15 @@ module _ (key group : Text) (idle : ℕ) where
   names-next (first ∷ wider) one now others same =
       ap (λ (names : List Text). first.name ∷ names) (names-next wider one now others same)
 
-  pub on-reads : (one now : Listing) (calls : List Exchange) (ids : List Id) → ListsOn key group idle one now calls ids
+  pub on-reads : (one now : Listing) (calls : List Exchange) (ids : List Id) → ListsOn key group claimable one now calls ids
       → AreReading calls
   on-reads one now calls ids (same, inl none) = subst AreReading (sym none.calls) tt
   on-reads one now calls ids (same, inr next) = subst AreReading (sym next.calls) (inr (inl refl), tt)
 
   pub widens-none : (listings wider : List Listing) → wider ≡ []
-      → Widens key group idle listings (wider ++ drop 0 listings) [] []
+      → Widens key group claimable listings (wider ++ drop 0 listings) [] []
   widens-none listings wider none =
-      subst (λ (l : List Listing). Widens key group idle listings (l ++ listings) [] []) (sym none)
+      subst (λ (l : List Listing). Widens key group claimable listings (l ++ listings) [] []) (sym none)
       (record {
         names = refl;
         reads = tt;
@@ -230,17 +217,17 @@ module _ (key group : Text) (idle : ℕ) where
 
   pub widens-next : (listings wider now_wider : List Listing) (i : ℕ) (one now : Listing) (talk calls : List Exchange)
       (more : List (Id × Text)) (ids : List Id) → i < length listings → one ≡ get_or listings i one
-      → now_wider ≡ wider ++ now ∷ [] → Widens key group idle listings (wider ++ drop i listings) talk more
-      → ListsOn key group idle one now calls ids
-      → Widens key group idle listings (now_wider ++ drop (i + 1) listings) (talk ++ calls)
+      → now_wider ≡ wider ++ now ∷ [] → Widens key group claimable listings (wider ++ drop i listings) talk more
+      → ListsOn key group claimable one now calls ids
+      → Widens key group claimable listings (now_wider ++ drop (i + 1) listings) (talk ++ calls)
       (more ++ map (λ id. (id, one.name)) ids)
   widens-next listings wider now_wider i one now talk calls more ids within read pushed was on =
       let rest = drop (i + 1) listings in
       let split : drop i listings ≡ one ∷ rest =
       drop_more listings i one within ∙ ap (λ (l : Listing). l ∷ rest) (sym read) in
-      let before : Widens key group idle listings (wider ++ one ∷ rest) talk more =
-      subst (λ (l : List Listing). Widens key group idle listings (wider ++ l) talk more) split was in
-      subst (λ (l : List Listing). Widens key group idle listings l (talk ++ calls)
+      let before : Widens key group claimable listings (wider ++ one ∷ rest) talk more =
+      subst (λ (l : List Listing). Widens key group claimable listings (wider ++ l) talk more) split was in
+      subst (λ (l : List Listing). Widens key group claimable listings l (talk ++ calls)
       (more ++ map (λ id. (id, one.name)) ids))
       (sym (append_assoc wider (now ∷ []) rest) ∙ ap (λ (l : List Listing). l ++ rest) (sym pushed))
       (record {
@@ -258,22 +245,22 @@ module _ (key group : Text) (idle : ℕ) where
       })
 
   pub widens-all : (listings wider : List Listing) (i : ℕ) (talk : List Exchange) (more : List (Id × Text))
-      → length listings ≤ i → Widens key group idle listings (wider ++ drop i listings) talk more
-      → Widens key group idle listings wider talk more
+      → length listings ≤ i → Widens key group claimable listings (wider ++ drop i listings) talk more
+      → Widens key group claimable listings wider talk more
   widens-all listings wider i talk more past was =
-      subst (λ (l : List Listing). Widens key group idle listings l talk more)
+      subst (λ (l : List Listing). Widens key group claimable listings l talk more)
       (ap (λ (l : List Listing). wider ++ l) (drop_all i listings past) ∙ append-nil wider) was
 
   -- ---- the end of a listing
 
   lists-end : (goes_on : Bool) (name : Text) (after last : Option Id) (own : List Exchange) (ids : List Id)
-      → (not goes_on || is_past after last) ≡ true → ListsAs goes_on key group idle name after own ids
-      → ListsPages key group idle name last None own ids
+      → (not goes_on || is_past after last) ≡ true → ListsAs goes_on key group claimable name after own ids
+      → ListsPages key group claimable name last None own ids
   lists-end false name after last own ids sure lists = lists last
   lists-end true name after last own ids sure lists =
-      subst (λ (l : List Exchange). ListsPages key group idle name last None l ids) (append-nil own)
-      (subst (ListsPages key group idle name last None (own ++ [])) (append-nil ids)
-      (lists.0 last [] [] (subst (λ (at : Option Id). is_past at last ≡ true) lists.1 sure, refl)))
+      subst (λ (l : List Exchange). ListsPages key group claimable name last None l ids) (append-nil own)
+      (subst (ListsPages key group claimable name last None (own ++ [])) (append-nil ids)
+      (lists last [] [] (sure, refl)))
 
   both-true : (a b : Bool) → (a && b) ≡ true → (a ≡ true) × (b ≡ true)
   both-true true b is = (refl, is)
@@ -281,8 +268,8 @@ module _ (key group : Text) (idle : ℕ) where
 
   -- of each consumer all is listed, up to this entry
   pub dead-listed : (listings : List Listing) (last : Option Id) (talk : List Exchange) (listed : List (Id × Text))
-      → are_sure listings last ≡ true → AreListed key group idle listings talk listed
-      → ListsDead key group idle last (map (λ (one : Listing). one.name) listings) talk listed
+      → are_sure listings last ≡ true → AreListed key group claimable listings talk listed
+      → ListsDead key group claimable last (map (λ (one : Listing). one.name) listings) talk listed
   dead-listed [] last talk listed sure lists = lists
   dead-listed (one ∷ listings) last talk listed sure (own, others, ids, rest, lists, are, talk_is, listed_is) =
       let both = both-true (is_sure last one) (are_sure listings last) sure in (
@@ -299,19 +286,19 @@ module _ (key group : Text) (idle : ℕ) where
   -- ---- all of it only reads
 
   ListsAs-reads : (goes_on : Bool) (name : Text) (after : Option Id) (own : List Exchange) (ids : List Id)
-      → ListsAs goes_on key group idle name after own ids → AreReading own
+      → ListsAs goes_on key group claimable name after own ids → AreReading own
   ListsAs-reads false name after own ids lists =
-      ListsPages-reads key group idle name None None own ids (lists None)
+      ListsPages-reads key group claimable name None None own ids (lists None)
   ListsAs-reads true name after own ids lists =
       let parts : List Part = Array 0 ∷ [] in
-      let call : Exchange = (pending_call key group idle (start_after (last_of ids None)) name, parts) in
+      let call : Exchange = (pending_call key group claimable.idle (start_after after) name, parts) in
       reading-front own (call ∷ [])
-      (ListsPages-reads key group idle name None None (own ++ call ∷ []) (ids ++ [])
-      (lists.0 None (call ∷ []) []
+      (ListsPages-reads key group claimable name None None (own ++ call ∷ []) (ids ++ [])
+      (lists None (call ∷ []) []
       ([], [], refl, record { body = []; spelled = refl; rows = refl }, inl (omega arith, refl, refl), refl)))
 
   pub AreListed-reads : (listings : List Listing) (talk : List Exchange) (listed : List (Id × Text))
-      → AreListed key group idle listings talk listed → AreReading talk
+      → AreListed key group claimable listings talk listed → AreReading talk
   AreListed-reads [] talk listed lists = subst AreReading (sym lists.0) tt
   AreListed-reads (one ∷ listings) talk listed (own, others, ids, rest, lists, are, talk_is, listed_is) =
       subst AreReading (sym talk_is)
@@ -368,12 +355,12 @@ abbrev ids_of : List Row → List Id
 ids_of rows = map (λ (row : Row). row.id) rows
 
 -- how far a look-up has come by these calls
-pub record IsUnderWay (key group : Text) (idle : ℕ) (dead : List Text) (at_most : Option ℕ) (talk : List Exchange)
+pub record IsUnderWay (key group : Text) (claimable : Claimable) (dead : List Text) (at_most : Option ℕ) (talk : List Exchange)
     (seen : Seen) : Type 0 where
   pub own : List Exchange
   pub entries : List Exchange
   pub listed : List (Id × Text)
-  pub lists : AreListed key group idle seen.listings.items own listed
+  pub lists : AreListed key group claimable seen.listings.items own listed
   pub names : map (λ (one : Listing). one.name) seen.listings.items ≡ dead
   pub looks : LooksEntries key seen.found.rows.items entries
   pub order : IsPermutation (own ++ entries) talk
@@ -387,17 +374,17 @@ names-of : (dead : List Text) → map (λ (one : Listing). one.name) (map unlist
 names-of [] = refl
 names-of (name ∷ dead) = ap (λ (names : List Text). name ∷ names) (names-of dead)
 
-module _ (key group : Text) (idle : ℕ) (dead : List Text) (at_most : Option ℕ) where
+module _ (key group : Text) (claimable : Claimable) (dead : List Text) (at_most : Option ℕ) where
   pub under-way-first : (seen : Seen) → seen.listings.items ≡ map unlisted_of dead → seen.ahead.items ≡ []
       → seen.found.rows.items ≡ [] → seen.found.wanted ≡ wanted_at_first at_most
-      → IsUnderWay key group idle dead at_most [] seen
+      → IsUnderWay key group claimable dead at_most [] seen
   under-way-first seen listings ahead rows wanted =
       let some : 0 < wanted_at_first at_most = least (unwrap_or at_most 4097) in record {
         own = [];
         entries = [];
         listed = [];
-        lists = subst (λ (l : List Listing). AreListed key group idle l [] []) (sym listings)
-            (AreListed-none key group idle dead);
+        lists = subst (λ (l : List Listing). AreListed key group claimable l [] []) (sym listings)
+            (AreListed-none key group claimable dead);
         names = ap (map (λ (one : Listing). one.name)) listings ∙ names-of dead;
         looks = subst (λ (l : List Row). LooksEntries key l []) (sym rows) refl;
         order = IsPermutation-refl [];
@@ -420,7 +407,7 @@ module _ (key group : Text) (idle : ℕ) (dead : List Text) (at_most : Option �
   four a b c d =
       subst (λ (l : List _). IsPermutation ((a ++ b) ++ (c ++ d)) l) (append_assoc (a ++ c) b d)
       (subst (λ (l : List _). IsPermutation l (((a ++ c) ++ b) ++ d)) (append_assoc (a ++ b) c d)
-      (IsPermutation-append_left d ((a ++ b) ++ c) ((a ++ c) ++ b) (one-behind key group idle a b c)))
+      (IsPermutation-append_left d ((a ++ b) ++ c) ((a ++ c) ++ b) (one-behind key group claimable a b c)))
 
   moved : (rows new now : List Row) (ahead sorted : List (Id × Text)) → map listed_as new ++ ahead ≡ sorted
       → now ≡ rows ++ new → map listed_as now ++ ahead ≡ map listed_as rows ++ sorted
@@ -457,8 +444,8 @@ module _ (key group : Text) (idle : ℕ) (dead : List Text) (at_most : Option �
 
   -- one more pass
   pub under-way-next : (talk calls : List Exchange) (seen now : Seen) → 0 < seen.found.wanted
-      → IsUnderWay key group idle dead at_most talk seen → Passes key group idle calls seen now
-      → IsUnderWay key group idle dead at_most (talk ++ calls) now
+      → IsUnderWay key group claimable dead at_most talk seen → Passes key group claimable calls seen now
+      → IsUnderWay key group claimable dead at_most (talk ++ calls) now
   under-way-next talk calls seen now some was pass =
       let rows = seen.found.rows.items in
       let wide = pass.widens.lists was.own was.listed was.lists in
@@ -502,33 +489,33 @@ module _ (key group : Text) (idle : ℕ) (dead : List Text) (at_most : Option �
             (subst (All (λ (row : Row). are_sure now.listings.items (Some row.id) ≡ true)) found.2 pass.sure);
       }
 
-  pub under-way-reads : (talk : List Exchange) (seen : Seen) → IsUnderWay key group idle dead at_most talk seen
+  pub under-way-reads : (talk : List Exchange) (seen : Seen) → IsUnderWay key group claimable dead at_most talk seen
       → AreReading talk
   under-way-reads talk seen was =
       reading-permutation (was.own ++ was.entries) talk was.order
-      (reading-append was.own was.entries (AreListed-reads key group idle seen.listings.items was.own was.listed was.lists)
+      (reading-append was.own was.entries (AreListed-reads key group claimable seen.listings.items was.own was.listed was.lists)
       (LooksEntries-reads key seen.found.rows.items was.entries was.looks))
 
   -- as many as were asked for are found
   pub looked-found : (talk : List Exchange) (seen : Seen) (rows : List Row) (last : Option Id)
-      → IsUnderWay key group idle dead at_most talk seen → seen.found.wanted ≡ 0 → is_some at_most ≡ true
+      → IsUnderWay key group claimable dead at_most talk seen → seen.found.wanted ≡ 0 → is_some at_most ≡ true
       → rows ≡ seen.found.rows.items → last ≡ last_of (ids_of seen.found.rows.items) None
-      → LooksRows key group idle dead at_most talk rows last
+      → LooksRows key group claimable dead at_most talk rows last
   looked-found talk seen rows last was none given is last_is =
       let now = seen.found.rows.items in
       let found = kept-found at_most now given (subst (Finds (wanted_at_first at_most) now) none was.finds) in
       let end : last_of (ids_of now) None ≡ Some found.1.id = last-row now found.0 found.1 found.2 in
       let kept : kept_rows at_most now ≡ (now, Some found.1.id) = found.3 in
-      subst (λ (l : List Row). LooksRows key group idle dead at_most talk l last) (sym is)
-      (subst (LooksRows key group idle dead at_most talk now) (sym (last_is ∙ end))
+      subst (λ (l : List Row). LooksRows key group claimable dead at_most talk l last) (sym is)
+      (subst (LooksRows key group claimable dead at_most talk now) (sym (last_is ∙ end))
       (record {
         pending = was.own;
         entries = was.entries;
         listed = was.listed;
         left = seen.ahead.items;
-        lists = subst (λ (names : List Text). ListsDead key group idle (Some found.1.id) names was.own was.listed)
+        lists = subst (λ (names : List Text). ListsDead key group claimable (Some found.1.id) names was.own was.listed)
             was.names
-            (dead-listed key group idle seen.listings.items (Some found.1.id) was.own was.listed
+            (dead-listed key group claimable seen.listings.items (Some found.1.id) was.own was.listed
             (ap (are_sure seen.listings.items) (sym end) ∙ was.sure none) was.lists);
         same = was.same;
         rising = was.rising;
@@ -540,18 +527,18 @@ module _ (key group : Text) (idle : ℕ) (dead : List Text) (at_most : Option �
 
   -- all are looked at
   pub looked-whole : (talk : List Exchange) (seen : Seen) (rows : List Row)
-      → IsUnderWay key group idle dead at_most talk seen → 0 < seen.found.wanted → seen.ahead.items ≡ []
+      → IsUnderWay key group claimable dead at_most talk seen → 0 < seen.found.wanted → seen.ahead.items ≡ []
       → are_sure seen.listings.items None ≡ true → rows ≡ seen.found.rows.items
-      → LooksRows key group idle dead at_most talk rows None
+      → LooksRows key group claimable dead at_most talk rows None
   looked-whole talk seen rows was some none sure is =
-      subst (λ (l : List Row). LooksRows key group idle dead at_most talk l None) (sym is)
+      subst (λ (l : List Row). LooksRows key group claimable dead at_most talk l None) (sym is)
       (record {
         pending = was.own;
         entries = was.entries;
         listed = was.listed;
         left = seen.ahead.items;
-        lists = subst (λ (names : List Text). ListsDead key group idle None names was.own was.listed) was.names
-            (dead-listed key group idle seen.listings.items None was.own was.listed sure was.lists);
+        lists = subst (λ (names : List Text). ListsDead key group claimable None names was.own was.listed) was.names
+            (dead-listed key group claimable seen.listings.items None was.own was.listed sure was.lists);
         same = was.same;
         rising = was.rising;
         looks = was.looks;
@@ -597,17 +584,17 @@ pass-within rows rest front sorted old now n at is are joined count =
     let sum : length now ≡ length old + length rows = ap length joined ∙ length-append old rows in
     omega (arith, total, sum, count, length-map rows listed_as)
 
-pub passes-from : (key group : Text) (idle : ℕ) (seen now : Seen) (listing looking : List Exchange)
+pub passes-from : (key group : Text) (claimable : Claimable) (seen now : Seen) (listing looking : List Exchange)
     (more joined sorted front : List (Id × Text)) (n at : ℕ) (rows : List Row) (rest : List (Id × Text))
-    → Widens key group idle seen.listings.items now.listings.items listing more
+    → Widens key group claimable seen.listings.items now.listings.items listing more
     → joined ≡ seen.ahead.items ++ more → IsPermutation joined sorted → IsSortedBy is_earlier sorted
     → Follow seen.found.rows.items sorted
     → All (λ one. are_sure now.listings.items (Some one.0) ≡ true) (take n sorted) → front ≡ take n sorted
     → LooksEntries key rows looking → map listed_as rows ++ rest ≡ front
     → now.found.rows.items ≡ seen.found.rows.items ++ rows → Finds seen.found.wanted rows now.found.wanted
     → at + length seen.found.rows.items ≡ length now.found.rows.items → now.ahead.items ≡ drop at sorted
-    → Passes key group idle (listing ++ looking) seen now
-passes-from key group idle seen now listing looking more joined sorted front n at rows rest widens joins same rising follow
+    → Passes key group claimable (listing ++ looking) seen now
+passes-from key group claimable seen now listing looking more joined sorted front n at rows rest widens joins same rising follow
     sure is looks are found finds count dropped =
     let sum : length now.found.rows.items ≡ length seen.found.rows.items + length rows =
     ap length found ∙ length-append seen.found.rows.items rows in

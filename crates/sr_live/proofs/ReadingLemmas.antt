@@ -17,10 +17,11 @@ use Rattle.sr_peer.specs.Exchange.{SendsPart}
 use Rattle.sr_live.specs.declared.fault.LiveFault.{LiveFault}
 use Rattle.sr_live.specs.declared.fault.LiveFault.TheVariants.{Memory}
 use Rattle.sr_live.specs.declared.looked.Asked.{Asked}
+use Rattle.sr_live.specs.declared.looked.Claimable.{Claimable}
 use Rattle.sr_live.specs.declared.looked.Row.{Row}
 use Rattle.sr_live.specs.Looking.{Exchange, IsLooked, ListsDead, ListsPages, LooksEntries, LooksIdle, LooksLive, LooksRows}
-use Rattle.sr_live.specs.Looking.{ReadsOne, ReadsRange, Talks, asked_of, entry_call, last_of, numbers_call, pending_call}
-use Rattle.sr_live.specs.Looking.{range_call, start_after}
+use Rattle.sr_live.specs.Looking.{ReadsOne, ReadsRange, Talks, asked_of, entry_call, ids_in, last_of, numbers_call}
+use Rattle.sr_live.specs.Looking.{pending_call, range_call, start_after}
 use Rattle.sr_live.specs.Reading.{BreaksOff, HasOnlyRead, IsOfLooking, Reads}
 
 -- ---- what was sent
@@ -152,27 +153,27 @@ entry-reads key id = inr (inr refl)
 reads-as : (call other : List Text) → call ≡ other → Reads other → Reads call
 reads-as call other is reads = subst Reads (sym is) reads
 
-pub ListsPages-reads : (key group : Text) (idle : ℕ) (name : Text) (last after : Option Id) (talk : List Exchange)
-    (ids : List Id) → ListsPages key group idle name last after talk ids → AreReading talk
-ListsPages-reads key group idle name last after [] ids lists = tt
-ListsPages-reads key group idle name last after (exchange ∷ talk) ids (front, behind, is, says, inl short, joined) = (
-  reads-as exchange.0 (pending_call key group idle (start_after after) name) is
-      (pending-reads key group idle (start_after after) name),
+pub ListsPages-reads : (key group : Text) (claimable : Claimable) (name : Text) (last after : Option Id) (talk : List Exchange)
+    (ids : List Id) → ListsPages key group claimable name last after talk ids → AreReading talk
+ListsPages-reads key group claimable name last after [] ids lists = tt
+ListsPages-reads key group claimable name last after (exchange ∷ talk) ids (front, behind, is, says, inl short, joined) = (
+  reads-as exchange.0 (pending_call key group claimable.idle (start_after after) name) is
+      (pending-reads key group claimable.idle (start_after after) name),
   subst AreReading (sym short.1) tt,
 )
-ListsPages-reads key group idle name last after (exchange ∷ talk) ids (front, behind, is, says, inr full, joined) = (
-  reads-as exchange.0 (pending_call key group idle (start_after after) name) is
-      (pending-reads key group idle (start_after after) name),
-  ListsPages-reads key group idle name last (last_of front after) talk behind full.1,
+ListsPages-reads key group claimable name last after (exchange ∷ talk) ids (front, behind, is, says, inr full, joined) = (
+  reads-as exchange.0 (pending_call key group claimable.idle (start_after after) name) is
+      (pending-reads key group claimable.idle (start_after after) name),
+  ListsPages-reads key group claimable name last (last_of (ids_in front) after) talk behind full.1,
 )
 
-pub ListsDead-reads : (key group : Text) (idle : ℕ) (last : Option Id) (dead : List Text) (talk : List Exchange)
-    (listed : List (Id × Text)) → ListsDead key group idle last dead talk listed → AreReading talk
-ListsDead-reads key group idle last [] talk listed lists = subst AreReading (sym lists.0) tt
-ListsDead-reads key group idle last (name ∷ dead) talk listed (own, others, ids, rest, pages, lists, talk_is, listed_is) =
+pub ListsDead-reads : (key group : Text) (claimable : Claimable) (last : Option Id) (dead : List Text) (talk : List Exchange)
+    (listed : List (Id × Text)) → ListsDead key group claimable last dead talk listed → AreReading talk
+ListsDead-reads key group claimable last [] talk listed lists = subst AreReading (sym lists.0) tt
+ListsDead-reads key group claimable last (name ∷ dead) talk listed (own, others, ids, rest, pages, lists, talk_is, listed_is) =
     subst AreReading (sym talk_is)
-    (reading-append own others (ListsPages-reads key group idle name last None own ids pages)
-    (ListsDead-reads key group idle last dead others rest lists))
+    (reading-append own others (ListsPages-reads key group claimable name last None own ids pages)
+    (ListsDead-reads key group claimable last dead others rest lists))
 
 ReadsRows-reads : (key : Text) (rows : List Row) (exchange : Exchange)
     → ReadsOne key rows exchange ⊎ ReadsRange key rows exchange → Reads exchange.0
@@ -195,12 +196,12 @@ reading-permutation xs ys same reading =
     (IsPermutation-map (λ (exchange : Exchange). exchange.0) xs ys same)
     (All-from_recursion Reads (calls_of xs) reading))
 
-pub LooksRows-reads : (key group : Text) (idle : ℕ) (dead : List Text) (at_most : Option ℕ) (talk : List Exchange)
-    (rows : List Row) (last : Option Id) → LooksRows key group idle dead at_most talk rows last → AreReading talk
-LooksRows-reads key group idle dead at_most talk rows last looks =
+pub LooksRows-reads : (key group : Text) (claimable : Claimable) (dead : List Text) (at_most : Option ℕ) (talk : List Exchange)
+    (rows : List Row) (last : Option Id) → LooksRows key group claimable dead at_most talk rows last → AreReading talk
+LooksRows-reads key group claimable dead at_most talk rows last looks =
     reading-permutation (looks.pending ++ looks.entries) talk looks.spelled
     (reading-append looks.pending looks.entries
-    (ListsDead-reads key group idle last dead looks.pending looks.listed looks.lists)
+    (ListsDead-reads key group claimable last dead looks.pending looks.listed looks.lists)
     (LooksEntries-reads key rows looks.entries looks.looks))
 
 pub LooksIdle-reads : (key group : Text) (within : Option ℕ) (talk : List Exchange) (idles : List (Text × ℕ))
@@ -222,7 +223,7 @@ IsLooked-reads asked at_most talk idles numbers rows last removed looked =
     subst AreReading (sym looked.spelled) (
       inl refl,
       reading-append looked.looking looked.asking
-          (LooksRows-reads asked.key asked.group asked.idle asked.dead.items at_most looked.looking rows last looked.looks)
+          (LooksRows-reads asked.key asked.group asked.claimable asked.dead.items at_most looked.looking rows last looked.looks)
           (LooksLive-reads asked.key asked.group asked.seen_within looked.asking idles numbers looked.live),
     )
 

@@ -13,6 +13,7 @@ use Rattle.sr_live.specs.declared.conclusion.Concluded.TheVariants as concluded
 use Rattle.sr_live.specs.declared.fault.LiveFault.{LiveFault}
 use Rattle.sr_live.specs.declared.fault.LiveFault.TheVariants.{Changed, Memory, Unfit}
 use Rattle.sr_live.specs.declared.looked.Asked.{Asked}
+use Rattle.sr_live.specs.declared.looked.Claimable.{Claimable}
 use Rattle.sr_live.specs.declared.looked.Row.{Row}
 use Rattle.sr_live.specs.declared.rounds.Planned.{Planned}
 use Rattle.sr_live.specs.declared.rounds.Ran.{Ran}
@@ -27,16 +28,16 @@ use Rattle.sr_live.specs.Words.{last_word, words_for}
 use Rattle.sr_live.proofs.TalkLemmas.{Talks-none, Talks-trans}
 
 -- there are no words only for a shortage
-pub short-from-none : (group : Text) (within : ℕ) (last : Text) (idle removed : ℕ) (rows : List Row)
+pub short-from-none : (group : Text) (within : ℕ) (last : Text) (claimable : Claimable) (removed : ℕ) (rows : List Row)
     (live : List Live) (shown : SnapshotState) (answer : PlanAnswer)
-    → words_for group within last idle removed rows live shown answer ≡ None → (set : List ℕ) × (answer ≡ short set)
-short-from-none group within last idle removed rows live shown (best assign prices total) is = absurd cc
-short-from-none group within last idle removed rows live shown (short set) is = (set, refl)
+    → words_for group within last claimable removed rows live shown answer ≡ None → (set : List ℕ) × (answer ≡ short set)
+short-from-none group within last claimable removed rows live shown (best assign prices total) is = absurd cc
+short-from-none group within last claimable removed rows live shown (short set) is = (set, refl)
 
 module _ (rules : Rules) (asked : Asked) (terms : Terms) where
   abbrev AreWords : Planned → List Text → Type 0
   AreWords planned words =
-      words_for planned.verdict.snapshot.group (within_of terms planned) (last_word planned.looked.last) asked.idle
+      words_for planned.verdict.snapshot.group (within_of terms planned) (last_word planned.looked.last) asked.claimable
       planned.looked.removed planned.looked.rows.items planned.live.items planned.verdict.snapshot
       planned.verdict.answer ≡ Some words
 

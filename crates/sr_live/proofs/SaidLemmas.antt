@@ -12,8 +12,9 @@ use Rattle.sr_policy.specs.{Text}
 use Rattle.sr_policy.specs.Rules.{value_at}
 use Rattle.sr_peer.specs.{Part, Array, Bulk, Int}
 use Rattle.sr_peer.specs.Reply.{NullArray, NullBulk, items_of}
-use Rattle.sr_live.specs.Said.{AreEntries, ArePendingRows, IsEntry, IsFront, IsPendingRow, Listed, SayConsumers, SaysConsumer}
-use Rattle.sr_live.specs.Said.{SaysEntry, SaysNumbers, SaysRemoved, consumer_parts, fields_parts, number_parts, pairs_parts}
+use Rattle.sr_live.specs.Said.{AreEntries, ArePendingRows, Delivered, IsEntry, IsFront, IsPendingRow, Listed}
+use Rattle.sr_live.specs.Said.{SayConsumers, SaysConsumer, SaysEntry, SaysNumbers, SaysRemoved, consumer_parts}
+use Rattle.sr_live.specs.Said.{fields_parts, number_parts, pairs_parts}
 
 -- ---- the first field with a name, after one more field
 
@@ -140,38 +141,40 @@ consumers-next all left rest numbers now number n pushed (consumers, before, cou
 -- ---- pending entries
 
 -- a row, read part by part
-pub IsPendingRow-from : (id : Id) (owner named text : Text) (places : ℕ) (idle count : ℤ)
+pub IsPendingRow-from : (id : Id) (owner named text : Text) (places : ℕ) (idle : ℤ) (deliveries : ℕ)
     → (all a b c d rest : List Part) → SpellsId 0 text id → named ≡ owner → places ≡ 4 → all ≡ Array places ∷ a
-    → a ≡ Bulk text ∷ b → b ≡ Bulk named ∷ c → c ≡ Int idle ∷ d → d ≡ Int count ∷ rest
-    → (front : List Part) × IsPendingRow front id owner × (all ≡ front ++ rest)
-IsPendingRow-from id owner named text places idle count all a b c d rest spells same four one two three next last = (
-  Array 4 ∷ Bulk text ∷ Bulk owner ∷ Int idle ∷ Int count ∷ [],
-  record { text = text; idle = idle; count = count; spells = spells; spelled = refl },
+    → a ≡ Bulk text ∷ b → b ≡ Bulk named ∷ c → c ≡ Int idle ∷ d → d ≡ Int (pos deliveries) ∷ rest
+    → (front : List Part) × IsPendingRow front (id, deliveries) owner × (all ≡ front ++ rest)
+IsPendingRow-from id owner named text places idle deliveries all a b c d rest spells same four one two three next last = (
+  Array 4 ∷ Bulk text ∷ Bulk owner ∷ Int idle ∷ Int (pos deliveries) ∷ [],
+  record { text = text; idle = idle; spells = spells; spelled = refl },
   (cc),
 )
 
-pub ArePendingRows-push : (parts : List Part) (owner : Text) (ids : List Id) (front : List Part) (id : Id)
-    → ArePendingRows parts owner ids → IsPendingRow front id owner
-    → ArePendingRows (parts ++ front) owner (ids ++ id ∷ [])
-ArePendingRows-push parts owner [] front id before row =
+pub ArePendingRows-push : (parts : List Part) (owner : Text) (entries : List Delivered) (front : List Part)
+    (entry : Delivered) → ArePendingRows parts owner entries → IsPendingRow front entry owner
+    → ArePendingRows (parts ++ front) owner (entries ++ entry ∷ [])
+ArePendingRows-push parts owner [] front entry before row =
     (front, [], row, refl, ap (λ l. l ++ front) before ∙ sym (append-nil front))
-ArePendingRows-push parts owner (x ∷ ids) front id (one, others, is, rows, spelled) row = (
+ArePendingRows-push parts owner (x ∷ entries) front entry (one, others, is, rows, spelled) row = (
   one,
   others ++ front,
   is,
-  ArePendingRows-push others owner ids front id rows row,
+  ArePendingRows-push others owner entries front entry rows row,
   ap (λ l. l ++ front) spelled ∙ append_assoc one others front,
 )
 
 -- the rows so far, and one more
-pub rows-next : (all left rest : List Part) (owner : Text) (ids now : List Id) (id : Id) (n : ℕ) → now ≡ ids ++ id ∷ []
-    → (rows : List Part) × ArePendingRows rows owner ids × (length ids ≡ n) × (all ≡ rows ++ left)
-    → (front : List Part) × IsPendingRow front id owner × (left ≡ front ++ rest)
+pub rows-next : (all left rest : List Part) (owner : Text) (entries now : List Delivered) (entry : Delivered) (n : ℕ)
+    → now ≡ entries ++ entry ∷ []
+    → (rows : List Part) × ArePendingRows rows owner entries × (length entries ≡ n) × (all ≡ rows ++ left)
+    → (front : List Part) × IsPendingRow front entry owner × (left ≡ front ++ rest)
     → (rows : List Part) × ArePendingRows rows owner now × (length now ≡ n + 1) × (all ≡ rows ++ rest)
-rows-next all left rest owner ids now id n pushed (rows, before, count, spelled) (front, row, next) = (
+rows-next all left rest owner entries now entry n pushed (rows, before, count, spelled) (front, row, next) = (
   rows ++ front,
-  subst (ArePendingRows (rows ++ front) owner) (sym pushed) (ArePendingRows-push rows owner ids front id before row),
-  ap length pushed ∙ length-push ids id n count,
+  subst (ArePendingRows (rows ++ front) owner) (sym pushed)
+      (ArePendingRows-push rows owner entries front entry before row),
+  ap length pushed ∙ length-push entries entry n count,
   spelled ∙ ap (λ l. rows ++ l) next ∙ sym (append_assoc rows front rest),
 )
 

@@ -49,7 +49,7 @@ pub looked-from : (sent got sent_two got_two sent_three got_three sent_last got_
     → (parts : List Part) × Talks sent got sent_two got_two ((stream_call asked.key, parts) ∷ [])
     × SaysRemoved parts removed
     → (talk : List Exchange) × Talks sent_two got_two sent_three got_three talk
-    × LooksRows asked.key asked.group asked.idle asked.dead.items at_most talk rows last
+    × LooksRows asked.key asked.group asked.claimable asked.dead.items at_most talk rows last
     → (talk : List Exchange) × Talks sent_three got_three sent_last got_last talk
     × LooksLive asked.key asked.group asked.seen_within talk idles numbers
     → (talk : List Exchange) × Talks sent got sent_last got_last talk

@@ -4,25 +4,24 @@
 
 use Rattle.std.specs.Prelude.{◌≡◌, ◌⊎◌, ℕ, ◌<◌, ◌≤◌, nat_le, Bool, true, false, ◌&&◌, List, [], ◌∷◌, ◌++◌, codes}
 use Rattle.std.specs.Prelude.{decimal, if◌then◌else◌}
-use Rattle.sr_ids.specs.declared.id.Id.{Id}
 use Rattle.sr_policy.specs.{Text}
 use Rattle.sr_peer.specs.{Part}
 use Rattle.sr_live.specs.Looking.{Exchange, consumers_call}
-use Rattle.sr_live.specs.Said.{SaysIdle, SaysPending}
+use Rattle.sr_live.specs.Said.{Delivered, SaysIdle, SaysPending}
 
 -- ---- the rule
 
-abbrev pub has_any : List Id → Bool
+abbrev pub has_any : List Delivered → Bool
 has_any [] = false
-has_any (id ∷ ids) = true
+has_any (entry ∷ entries) = true
 
 -- a consumer is dead if entries are pending for it that have been idle for at least so many milliseconds, and it has
 -- itself been idle for at least as long
-abbrev pub is_dead : ℕ → ℕ → List Id → Bool
+abbrev pub is_dead : ℕ → ℕ → List Delivered → Bool
 is_dead after idle old = has_any old && nat_le after idle
 
 -- its name, if it is dead
-abbrev pub name_of_dead : ℕ → Text × ℕ → List Id → List Text
+abbrev pub name_of_dead : ℕ → Text × ℕ → List Delivered → List Text
 name_of_dead after consumer old = if is_dead after consumer.1 old then consumer.0 ∷ [] else []
 
 -- ---- how it is found out
@@ -36,7 +35,7 @@ abbrev pub old_call : Text → Text → ℕ → Text → List Text
 old_call key group after name = old_words key group (decimal after) name
 
 -- a consumer that was seen lately is asked for nothing; of any other one the reply says which such entries there are
-abbrev pub LooksOld : Text → Text → ℕ → Text × ℕ → List Id → List Exchange → Type 0
+abbrev pub LooksOld : Text → Text → ℕ → Text × ℕ → List Delivered → List Exchange → Type 0
 LooksOld key group after consumer old talk =
     ((consumer.1 < after) × (old ≡ []) × (talk ≡ []))
     ⊎ ((after ≤ consumer.1) × (parts : List Part) × SaysPending parts consumer.0 old
@@ -46,7 +45,7 @@ LooksOld key group after consumer old talk =
 abbrev pub FindsEach : Text → Text → ℕ → List (Text × ℕ) → List Exchange → List Text → Type 0
 FindsEach key group after [] talk dead = (talk ≡ []) × (dead ≡ [])
 FindsEach key group after (consumer ∷ consumers) talk dead =
-    (old : List Id) × (own : List Exchange) × (others : List Exchange) × (rest : List Text)
+    (old : List Delivered) × (own : List Exchange) × (others : List Exchange) × (rest : List Text)
     × LooksOld key group after consumer old own × FindsEach key group after consumers others rest
     × (talk ≡ own ++ others) × (dead ≡ name_of_dead after consumer old ++ rest)
 

@@ -1,8 +1,8 @@
 -- How a group is looked up: which calls are made, and what their replies say.
 -- Source: Redis documentation, commands XINFO STREAM, XINFO CONSUMERS, XPENDING and XRANGE.
 
-use Rattle.std.specs.Prelude.{◌≡◌, ◌⊎◌, ⊤, ℕ, ◌<◌, ◌≤◌, Bool, true, false, not, List, [], ◌∷◌, ◌++◌, length, map, codes}
-use Rattle.std.specs.Prelude.{decimal, Option, Some, None}
+use Rattle.std.specs.Prelude.{◌≡◌, ◌⊎◌, ⊤, ℕ, ◌<◌, ◌≤◌, Bool, true, false, not, List, [], ◌∷◌, ◌++◌, length, map, filter, nat_le}
+use Rattle.std.specs.Prelude.{codes, decimal, Option, Some, None}
 use Rattle.std.specs.Io.KnownBytes.{Appends}
 use Rattle.std.specs.List.{AllByRecursion, flat_map}
 use Rattle.std.specs.List.Sorted.{IsPermutation, IsSortedBy}
@@ -11,9 +11,11 @@ use Rattle.sr_ids.specs.{is_below, spelling}
 use Rattle.sr_policy.specs.{Text}
 use Rattle.sr_peer.specs.{Part, part_text, request_text}
 use Rattle.sr_live.specs.declared.looked.Asked.{Asked}
+use Rattle.sr_live.specs.declared.looked.Claimable.{Claimable}
 use Rattle.sr_live.specs.declared.looked.Row.{Row}
 use Rattle.sr_live.specs.First.{kept_rows}
-use Rattle.sr_live.specs.Said.{IsTold, Listed, SaysEntry, SaysIdle, SaysNumbers, SaysPending, SaysRange, SaysRemoved}
+use Rattle.sr_live.specs.Said.{Delivered, IsTold, Listed, SaysEntry, SaysIdle, SaysNumbers, SaysPending, SaysRange}
+use Rattle.sr_live.specs.Said.{SaysRemoved}
 
 -- a call in words, and the parts of its reply
 abbrev pub Exchange : Type 0
@@ -81,23 +83,35 @@ is_past None last = false
 is_past (Some after) None = false
 is_past (Some after) (Some last) = not (is_below after last)
 
+-- the entry has been delivered at most so often; any one, if no number is asked for
+abbrev pub is_within : Option ℕ → Delivered → Bool
+is_within None entry = true
+is_within (Some most) entry = nat_le entry.1 most
+
+abbrev pub ids_in : List Delivered → List Id
+ids_in entries = map (λ entry. entry.0) entries
+
+-- those of the entries that have been delivered at most so often
+abbrev pub ids_within : Option ℕ → List Delivered → List Id
+ids_within most entries = ids_in (filter (is_within most) entries)
+
 -- the entries that are pending for the consumer behind this one, page by page: up to a page that is not full, or past
--- the last entry that is looked at
-abbrev pub ListsPages : Text → Text → ℕ → Text → Option Id → Option Id → List Exchange → List Id → Type 0
-ListsPages key group idle name last after [] ids = (is_past after last ≡ true) × (ids ≡ [])
-ListsPages key group idle name last after (exchange ∷ talk) ids =
-    (front : List Id) × (behind : List Id)
-    × (exchange.0 ≡ pending_call key group idle (start_after after) name) × SaysPending exchange.1 name front
+-- the last entry that is looked at. Those that have been delivered too often are left out
+abbrev pub ListsPages : Text → Text → Claimable → Text → Option Id → Option Id → List Exchange → List Id → Type 0
+ListsPages key group claimable name last after [] ids = (is_past after last ≡ true) × (ids ≡ [])
+ListsPages key group claimable name last after (exchange ∷ talk) ids =
+    (front : List Delivered) × (behind : List Id)
+    × (exchange.0 ≡ pending_call key group claimable.idle (start_after after) name) × SaysPending exchange.1 name front
     × (((length front < page) × (talk ≡ []) × (behind ≡ []))
-    ⊎ ((page ≤ length front) × ListsPages key group idle name last (last_of front after) talk behind))
-    × (ids ≡ front ++ behind)
+    ⊎ ((page ≤ length front) × ListsPages key group claimable name last (last_of (ids_in front) after) talk behind))
+    × (ids ≡ ids_within claimable.most_deliveries front ++ behind)
 
 -- the same of several consumers from the first entry on, one after another, each entry with its owner
-abbrev pub ListsDead : Text → Text → ℕ → Option Id → List Text → List Exchange → List (Id × Text) → Type 0
-ListsDead key group idle last [] talk listed = (talk ≡ []) × (listed ≡ [])
-ListsDead key group idle last (name ∷ dead) talk listed =
+abbrev pub ListsDead : Text → Text → Claimable → Option Id → List Text → List Exchange → List (Id × Text) → Type 0
+ListsDead key group claimable last [] talk listed = (talk ≡ []) × (listed ≡ [])
+ListsDead key group claimable last (name ∷ dead) talk listed =
     (own : List Exchange) × (others : List Exchange) × (ids : List Id) × (rest : List (Id × Text))
-    × ListsPages key group idle name last None own ids × ListsDead key group idle last dead others rest
+    × ListsPages key group claimable name last None own ids × ListsDead key group claimable last dead others rest
     × (talk ≡ own ++ others) × (listed ≡ map (λ id. (id, name)) ids ++ rest)
 
 -- one row was read: its entry as it is in the stream
@@ -133,14 +147,15 @@ IsLeft (Some last) left = ⊤
 
 -- these calls, in some order, looked at those entries of the dead that come first by id: at all of them, or no further
 -- than the last one, with which as many are stranded as were asked for. Of each dead consumer they list all that is
--- pending for it, up to that entry at least. Entries that have not been idle for so long are left out
-pub record LooksRows (key group : Text) (idle : ℕ) (dead : List Text) (at_most : Option ℕ) (talk : List Exchange)
-    (rows : List Row) (last : Option Id) : Type 0 where
+-- pending for it, up to that entry at least. Entries that have not been idle for so long are left out, and those that
+-- have been delivered too often
+pub record LooksRows (key group : Text) (claimable : Claimable) (dead : List Text) (at_most : Option ℕ)
+    (talk : List Exchange) (rows : List Row) (last : Option Id) : Type 0 where
   pub pending : List Exchange
   pub entries : List Exchange
   pub listed : List (Id × Text)
   pub left : List (Id × Text)
-  pub lists : ListsDead key group idle last dead pending listed
+  pub lists : ListsDead key group claimable last dead pending listed
   pub same : IsPermutation listed (map listed_as rows ++ left)
   pub rising : IsSortedBy (λ a b. is_below a.0 b.0) (map listed_as rows ++ left)
   pub looks : LooksEntries key rows entries
@@ -171,6 +186,6 @@ pub record IsLooked (asked : Asked) (at_most : Option ℕ) (talk : List Exchange
   pub looking : List Exchange
   pub asking : List Exchange
   pub says_removed : SaysRemoved counts removed
-  pub looks : LooksRows asked.key asked.group asked.idle asked.dead.items at_most looking rows last
+  pub looks : LooksRows asked.key asked.group asked.claimable asked.dead.items at_most looking rows last
   pub live : LooksLive asked.key asked.group asked.seen_within asking idles numbers
   pub spelled : talk ≡ (stream_call asked.key, counts) ∷ looking ++ asking

@@ -64,7 +64,7 @@ pub record IsReady (rules : Rules) (asked : Asked) (terms : Terms) (talk : List 
   pub words : List Text
   pub planned_so : IsPlanned rules asked terms.at_most look planned
   pub are_words : words_for planned.verdict.snapshot.group (within_of terms planned) (last_word planned.looked.last)
-      asked.idle planned.looked.removed planned.looked.rows.items planned.live.items planned.verdict.snapshot
+      asked.claimable planned.looked.removed planned.looked.rows.items planned.live.items planned.verdict.snapshot
       planned.verdict.answer ≡ Some words
   pub called : IsCalled asked.key words before call
   pub spelled : talk ≡ look ++ before

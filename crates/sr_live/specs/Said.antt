@@ -78,25 +78,28 @@ pub record SaysRemoved (parts : List Part) (removed : ℕ) : Type 0 where
 
 -- ---- XPENDING with a consumer: an array of entries, each with its id, owner, idle time and delivery count
 
-pub record IsPendingRow (parts : List Part) (id : Id) (owner : Text) : Type 0 where
+-- an entry, with how often it has been delivered
+abbrev pub Delivered : Type 0
+Delivered = Id × ℕ
+
+pub record IsPendingRow (parts : List Part) (entry : Delivered) (owner : Text) : Type 0 where
   pub text : List ℕ
   pub idle : ℤ
-  pub count : ℤ
-  pub spells : SpellsId 0 text id
-  pub spelled : parts ≡ Array 4 ∷ Bulk text ∷ Bulk owner ∷ Int idle ∷ Int count ∷ []
+  pub spells : SpellsId 0 text entry.0
+  pub spelled : parts ≡ Array 4 ∷ Bulk text ∷ Bulk owner ∷ Int idle ∷ Int (pos entry.1) ∷ []
 
 -- the parts are such entries, one after another, all of this owner
-abbrev pub ArePendingRows : List Part → Text → List Id → Type 0
+abbrev pub ArePendingRows : List Part → Text → List Delivered → Type 0
 ArePendingRows parts owner [] = parts ≡ []
-ArePendingRows parts owner (id ∷ ids) =
-    (front : List Part) × (behind : List Part) × IsPendingRow front id owner × ArePendingRows behind owner ids
+ArePendingRows parts owner (entry ∷ entries) =
+    (front : List Part) × (behind : List Part) × IsPendingRow front entry owner × ArePendingRows behind owner entries
     × (parts ≡ front ++ behind)
 
 -- the reply says which entries are pending for the owner, as far as it was asked
-pub record SaysPending (parts : List Part) (owner : Text) (ids : List Id) : Type 0 where
+pub record SaysPending (parts : List Part) (owner : Text) (entries : List Delivered) : Type 0 where
   pub body : List Part
-  pub spelled : parts ≡ Array (length ids) ∷ body
-  pub rows : ArePendingRows body owner ids
+  pub spelled : parts ≡ Array (length entries) ∷ body
+  pub rows : ArePendingRows body owner entries
 
 -- ---- XRANGE from an id to the same id: no entry, or this one with its fields
 

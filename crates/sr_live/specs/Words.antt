@@ -13,6 +13,7 @@ use Rattle.sr_check.specs.PlanAnswer.{PlanAnswer, short, moves_of, prices_by}
 use Rattle.sr_policy.specs.declared.live.Live.{Live}
 use Rattle.sr_policy.specs.Problem.{free_room}
 use Rattle.sr_policy.specs.{Text, SnapshotState}
+use Rattle.sr_live.specs.declared.looked.Claimable.{Claimable}
 use Rattle.sr_live.specs.declared.looked.Row.{Row}
 
 -- an entry that is pending for a dead consumer: its id, and whether it is in the stream
@@ -55,21 +56,27 @@ abbrev pub last_word : Option Id → Text
 last_word None = codes "+"
 last_word (Some id) = spelling id
 
+-- how often an entry has been delivered at most: any number of times, if no number is asked for
+abbrev pub most_word : Option ℕ → Text
+most_word None = codes "-"
+most_word (Some most) = decimal most
+
 -- all words behind the key: the group, by how much the plan may cost more than a cheapest one, up to which id is
--- compared, for how many milliseconds each entry has to have been idle, how many entries had been removed from the
--- stream, the dead, and the live
-abbrev pub plan_words : Text → ℕ → Text → ℕ → ℕ → List Text → List Row → List (Id × Text) → List Live
+-- compared, for how many milliseconds each entry has to have been idle and how often it has been delivered at most, how
+-- many entries had been removed from the stream, the dead, and the live
+abbrev pub plan_words : Text → ℕ → Text → Claimable → ℕ → List Text → List Row → List (Id × Text) → List Live
     → List (Text × List ℕ) → List Text
-plan_words group within last idle removed dead rows moves live prices =
-    group ∷ decimal within ∷ last ∷ decimal idle ∷ decimal removed ∷ decimal (length dead) ∷ []
+plan_words group within last claimable removed dead rows moves live prices =
+    group ∷ decimal within ∷ last ∷ decimal claimable.idle ∷ most_word claimable.most_deliveries ∷ decimal removed
+    ∷ decimal (length dead) ∷ []
     ++ flat_map (dead_words rows) dead
     ++ decimal (length live) ∷ []
     ++ lives_words moves live prices
 
 -- the words for a plan, with the live consumers as they are bounded; none for a shortage
-abbrev pub words_for : Text → ℕ → Text → ℕ → ℕ → List Row → List Live → SnapshotState → PlanAnswer
+abbrev pub words_for : Text → ℕ → Text → Claimable → ℕ → List Row → List Live → SnapshotState → PlanAnswer
     → Option (List Text)
-words_for group within last idle removed rows live shown (best assign prices total) =
-    Some (plan_words group within last idle removed shown.dead rows (moves_of shown assign) live
+words_for group within last claimable removed rows live shown (best assign prices total) =
+    Some (plan_words group within last claimable removed shown.dead rows (moves_of shown assign) live
     (prices_by shown.live prices))
-words_for group within last idle removed rows live shown (short set) = None
+words_for group within last claimable removed rows live shown (short set) = None

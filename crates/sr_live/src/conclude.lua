@@ -4,13 +4,14 @@
 --   group, within (decimal)
 --   last    `+`, or an id: what is pending for the dead above it is not compared
 --   idle    for how many milliseconds an entry has to have been idle (decimal); any, if it is 0
+--   most    how often an entry has been delivered at most (decimal); any number of times, if it is `-`
 --   removed how many entries had been removed from the stream when it was looked up (decimal)
 --   dead    for each its name, and a list of rows: an id, and `1` if the entry is in the stream, `0` if it is gone
 --   live    for each its name, its limit, its soft limit or `-`, how many entries the plan gives it, how many of these
 --           without a fee, the price of its first tier, that of its second (0 if it has none), and their ids
 --
--- Compared: these rows are pending for the dead, as idle as asked for, and no others (but those that have become as
--- idle since then, if any time is asked for), and none of their entries is deleted: if as many entries were removed as
+-- Compared: these rows are pending for the dead, as idle as asked for and delivered at most as often, and no others (but
+-- those that have become as idle since then, if any time is asked for), and none of their entries is deleted: if as many entries were removed as
 -- had been, none was since, and none is read. What was gone does not matter, since no plan moves it; nor does what is
 -- pending before the first entry of the stream, which is gone. Each live consumer has room for what it is given, and as
 -- many of its entries are without a fee. Then the plan is still an assignment at the total that it had. No plan of this
@@ -99,20 +100,22 @@ local function behind_gone(rows, at, id)
   return at
 end
 
--- Whether these rows are pending for the consumer from this id on, and no others. It asks for one more than these. If
--- entries have to be idle, others may have become so since then.
-local function are_pending(group, start, last, idle, dead)
+-- Whether these rows are pending for the consumer from this id on, and no others. It asks for one more than these, if
+-- none is left out. If entries have to be idle, others may have become so since then.
+local function are_pending(group, start, last, claimable, dead)
   local rows, at = dead.rows, 1
-  local is_any = idle == '0'
+  local is_any, most = claimable.idle == '0', claimable.most
   repeat
-    local count = is_any and math.min(MOST_ROWS, #rows + 2 - at) or MOST_ROWS
-    local found = redis.call('XPENDING', key, group, 'IDLE', idle, start, last, count, dead.name)
+    local count = is_any and not most and math.min(MOST_ROWS, #rows + 2 - at) or MOST_ROWS
+    local found = redis.call('XPENDING', key, group, 'IDLE', claimable.idle, start, last, count, dead.name)
     for _, pending in ipairs(found) do
-      at = behind_gone(rows, at, pending[1])
-      if rows[at] and rows[at].id == pending[1] then
-        at = at + 1
-      elseif is_any then
-        return false
+      if not most or pending[4] <= most then
+        at = behind_gone(rows, at, pending[1])
+        if rows[at] and rows[at].id == pending[1] then
+          at = at + 1
+        elseif is_any then
+          return false
+        end
       end
       start = '(' .. pending[1]
     end
@@ -134,8 +137,8 @@ end
 -- What is not as it was with a dead consumer, as two words, or nil. What is pending before the first entry of the
 -- stream is gone, and there may be much of it, so it is asked for only if the rest is not as it was: then for what has
 -- changed.
-local function change_of(group, last, idle, stream, dead)
-  local is_same = are_pending(group, stream.first, last, idle, dead) or are_pending(group, '-', last, idle, dead)
+local function change_of(group, last, claimable, stream, dead)
+  local is_same = are_pending(group, stream.first, last, claimable, dead) or are_pending(group, '-', last, claimable, dead)
   if not is_same then
     return 'pending', dead.name
   end
@@ -175,7 +178,8 @@ local function carry_out(group, one)
 end
 
 local function conclude()
-  local group, within, last, idle, removed = word(), number(), word(), word(), number()
+  local group, within, last, idle, most, removed = word(), number(), word(), word(), number(), number()
+  local claimable = { idle = idle, most = most } -- most is nil if it is `-`
   local dead, live = list(read_dead), list(read_live)
   local numbers, fault = pending_numbers(group)
   if fault then
@@ -183,7 +187,7 @@ local function conclude()
   end
   local stream = read_stream(removed)
   for _, one in ipairs(dead) do
-    local what, which = change_of(group, last, idle, stream, one)
+    local what, which = change_of(group, last, claimable, stream, one)
     if what then
       return { 'stale', what, which }
     end

@@ -1,13 +1,12 @@
 //! The dead of a group are found: whoever was not seen for some time, if an entry that is pending for it has been idle
 //! for as long.
 ghost use Rattle.std.specs.Prelude.{◌≡◌, ◌++◌, ◌∷◌, [], List, IfErr, IfOk};
-ghost use Rattle.sr_ids.specs.declared.id.Id.{Id};
 ghost use Rattle.sr_peer.specs.Reply as wire;
 ghost use Rattle.sr_peer.specs.{request_text};
 ghost use Rattle.sr_live.specs.Dead.{FindsDead, FindsEach, LooksOld, name_of_dead, old_call, old_words};
 ghost use Rattle.sr_live.specs.Looking.{Exchange, Talks};
 ghost use Rattle.sr_live.specs.Reading.{BreaksOff};
-ghost use Rattle.sr_live.specs.Said.{SaysPending};
+ghost use Rattle.sr_live.specs.Said.{Delivered, SaysPending};
 
 use crate::consumers::look_idles;
 use crate::fault::{LiveCall, LiveFault};
@@ -79,7 +78,7 @@ fn push_dead<P: Peer>(
     sought: &Sought<'_>,
     one: &(Name, u64),
 ) -> Result<(), LiveFault>
-    ensures ok { IfOk result (λ _. (talk : List Exchange) × (old : List Id)
+    ensures ok { IfOk result (λ _. (talk : List Exchange) × (old : List Delivered)
         × Talks (P.sent peer.old) (P.got peer.old) (P.sent peer.new) (P.got peer.new) talk
         × LooksOld sought.now.key.now sought.now.group.now sought.now.after one.now old talk
         × (dead.new.items ≡ dead.old.items ++ name_of_dead sought.now.after one.now old)) }
@@ -102,7 +101,7 @@ fn look_old<P: Peer>(
     alloc: Global,
     sought: &Sought<'_>,
     name: &Name,
-) -> Result<Vec<Id>, LiveFault>
+) -> Result<Vec<(Id, u64)>, LiveFault>
     ensures ok { IfOk result (λ old. (parts : List wire.Part)
         × Talks (P.sent peer.old) (P.got peer.old) (P.sent peer.new) (P.got peer.new)
         ((old_call sought.now.key.now sought.now.group.now sought.now.after name.now, parts) ∷ [])

@@ -25,7 +25,7 @@ pub use conclusion::{Concluded, conclude};
 pub use consumers::{look_idles, look_numbers};
 pub use dead::find_dead;
 pub use fault::{LiveCall, LiveFault};
-pub use looked::{Asked, Looked, Row};
+pub use looked::{Asked, Claimable, Looked, Row};
 pub use looking::look;
 pub use rounds::{Planned, Ran, Terms, plan, run};
 pub use server::shows_as_the_server;

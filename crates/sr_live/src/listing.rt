@@ -6,7 +6,9 @@ ghost use Rattle.sr_ids.specs.declared.id.Id.{Id};
 ghost use Rattle.sr_policy.specs.{Text};
 ghost use Rattle.sr_peer.specs.Reply as wire;
 ghost use Rattle.sr_peer.specs.{request_text};
-ghost use Rattle.sr_live.specs.Looking.{Exchange, Talks, last_of, pending_call, pending_words, start_after};
+ghost use Rattle.sr_live.specs.Looking as looking;
+ghost use Rattle.sr_live.specs.Looking.{Exchange, Talks, ids_in, ids_within, last_of, pending_call, pending_words};
+ghost use Rattle.sr_live.specs.Looking.{start_after};
 ghost use Rattle.sr_live.specs.Reading.{BreaksOff};
 ghost use Rattle.sr_live.specs.Said.{SaysPending};
 ghost use Rattle.sr_live.specs.steps.Listing.{ListsOn, Widens, are_sure, is_sure, unlisted_of};
@@ -97,7 +99,7 @@ pub(crate) fn list_on<P: Peer>(
 ) -> Result<Vec<Listing>, LiveFault>
     ensures ok { IfOk result (λ wider. (talk : List Exchange) × (more : List (Id × Text))
         × Talks (P.sent peer.old) (P.got peer.old) (P.sent peer.new) (P.got peer.new) talk
-        × Widens asked.now.key asked.now.group asked.now.idle listings.now wider.items talk more
+        × Widens asked.now.key asked.now.group asked.now.claimable listings.now wider.items talk more
         × (ahead.new.items ≡ ahead.old.items ++ more)) }
     ensures err { IfErr result (BreaksOff (P.sent peer.old) (P.sent peer.new)) }
 {
@@ -118,7 +120,7 @@ fn list_one<P: Peer>(
 ) -> Result<Listing, LiveFault>
     ensures ok { IfOk result (λ now. (talk : List Exchange) × (ids : List Id)
         × Talks (P.sent peer.old) (P.got peer.old) (P.sent peer.new) (P.got peer.new) talk
-        × ListsOn asked.now.key asked.now.group asked.now.idle one.now now talk ids
+        × ListsOn asked.now.key asked.now.group asked.now.claimable one.now now talk ids
         × (ahead.new.items ≡ ahead.old.items ++ map (λ id. (id, one.now.name)) ids)) }
     ensures err { IfErr result (BreaksOff (P.sent peer.old) (P.sent peer.new)) }
 {
@@ -132,10 +134,16 @@ fn list_one<P: Peer>(
             goes_on,
         });
     }
-    let ids = look_page(peer, alloc, asked, &name, last)?;
-    push_owned(ahead, alloc, ids.as_slice(), &name)?;
-    let last = last_after(ids.as_slice(), last);
-    let goes_on = ids.len() >= PAGE;
+    let page = look_page(peer, alloc, asked, &name, last)?;
+    push_owned(
+        ahead,
+        alloc,
+        page.as_slice(),
+        &name,
+        asked.claimable.most_deliveries,
+    )?;
+    let last = last_after(page.as_slice(), last);
+    let goes_on = page.len() >= PAGE;
     Ok(Listing {
         name,
         last,
@@ -152,41 +160,56 @@ fn is_needed(one: &Listing, ahead: &[(Id, Name)]) -> bool {
 }
 
 /// The last of the entries, or the one before them.
-fn last_after(ids: &[Id], before: Option<Id>) -> Option<Id>
-    ensures { result ≡ last_of ids.now before }
+fn last_after(page: &[(Id, u64)], before: Option<Id>) -> Option<Id>
+    ensures { result ≡ last_of (ids_in page.now) before }
 {
-    match ids.last() {
-        Some(id) => Some(*id),
+    match page.last() {
+        Some(entry) => Some(entry.0),
         None => before,
     }
 }
 
-/// Adds the entries, each with its owner.
+/// Adds those of the entries that have been delivered at most so often, each with its owner.
 fn push_owned(
     listed: &mut Vec<(Id, Name)>,
     alloc: Global,
-    ids: &[Id],
+    page: &[(Id, u64)],
     owner: &Name,
+    most: Option<u64>,
 ) -> Result<(), AllocError>
-    ensures { OnOk result (listed.new.items ≡ listed.old.items ++ map (λ id. (id, owner.now)) ids.now) }
+    ensures { OnOk result (listed.new.items
+        ≡ listed.old.items ++ map (λ id. (id, owner.now)) (ids_within most page.now)) }
 {
-    for id in ids {
-        listed.push((*id, owner.copy(alloc)?))?;
+    for entry in page {
+        if is_within(most, entry) {
+            listed.push((entry.0, owner.copy(alloc)?))?;
+        }
     }
     Ok(())
 }
 
-/// Looks up the entries that are pending for a consumer behind this one, as many as one call lists.
+/// Whether an entry has been delivered at most so often.
+fn is_within(most: Option<u64>, entry: &(Id, u64)) -> bool
+    ensures { result ≡ looking.is_within most entry.now }
+{
+    match most {
+        Some(most) => entry.1 <= most,
+        None => true,
+    }
+}
+
+/// Looks up the entries that are pending for a consumer behind this one, as many as one call lists, each with how often
+/// it has been delivered.
 fn look_page<P: Peer>(
     peer: &mut P,
     alloc: Global,
     asked: &Asked,
     name: &Name,
     after: Option<Id>,
-) -> Result<Vec<Id>, LiveFault>
+) -> Result<Vec<(Id, u64)>, LiveFault>
     ensures ok { IfOk result (λ listed. (parts : List wire.Part)
         × Talks (P.sent peer.old) (P.got peer.old) (P.sent peer.new) (P.got peer.new)
-        ((pending_call asked.now.key asked.now.group asked.now.idle (start_after after) name.now, parts) ∷ [])
+        ((pending_call asked.now.key asked.now.group asked.now.claimable.idle (start_after after) name.now, parts) ∷ [])
         × SaysPending parts name.now listed.items) }
     ensures err { IfErr result (BreaksOff (P.sent peer.old) (P.sent peer.new)) }
 {
@@ -197,7 +220,7 @@ fn look_page<P: Peer>(
         asked,
         name,
         start.as_slice(),
-        idle.format(asked.idle).as_bytes(),
+        idle.format(asked.claimable.idle).as_bytes(),
     )?;
     match ask(peer, alloc, request.as_slice(), 1) {
         Ok(answers) => understood(

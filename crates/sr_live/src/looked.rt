@@ -10,8 +10,8 @@ pub struct Asked {
     pub group: Name,
     /// The consumers that are dead, in byte order, each once.
     pub dead: Vec<Name>,
-    /// For how many milliseconds an entry has to have been idle, or it is left with the dead.
-    pub idle: u64,
+    /// Which of the entries that are pending for them may be moved. The others are left with the dead.
+    pub claimable: Claimable,
     /// For how many milliseconds a consumer of the group may have been idle, or it is given nothing. `None`: any
     /// consumer of the policy that is not dead is given entries.
     pub seen_within: Option<u64>,
@@ -19,6 +19,15 @@ pub struct Asked {
     pub spare: u64,
     /// How many entries are read at a time at most, one or more: few of long ones.
     pub together: u64,
+}
+
+/// Which entries may be moved.
+#[derive(Clone, Copy)]
+pub struct Claimable {
+    /// For how many milliseconds an entry has been idle at least.
+    pub idle: u64,
+    /// How often it has been delivered at most. `None`: any number of times.
+    pub most_deliveries: Option<u64>,
 }
 
 /// An entry that is pending for a dead consumer.

@@ -100,7 +100,7 @@ fn look_rows<P: Peer>(
 ) -> Result<(Vec<Row>, Option<Id>), LiveFault>
     ensures ok { IfOk result (λ seen. (talk : List Exchange)
         × Talks (P.sent peer.old) (P.got peer.old) (P.sent peer.new) (P.got peer.new) talk
-        × LooksRows asked.now.key asked.now.group asked.now.idle asked.now.dead.items at_most talk seen.0.items
+        × LooksRows asked.now.key asked.now.group asked.now.claimable asked.now.dead.items at_most talk seen.0.items
         seen.1) }
     ensures err { IfErr result (BreaksOff (P.sent peer.old) (P.sent peer.new)) }
 {
@@ -159,7 +159,7 @@ fn look_pass<P: Peer>(
     requires some { 0 < seen.found.wanted }
     ensures ok { IfOk result (λ now. (talk : List Exchange)
         × Talks (P.sent peer.old) (P.got peer.old) (P.sent peer.new) (P.got peer.new) talk
-        × Passes asked.now.key asked.now.group asked.now.idle talk seen now) }
+        × Passes asked.now.key asked.now.group asked.now.claimable talk seen now) }
     ensures err { IfErr result (BreaksOff (P.sent peer.old) (P.sent peer.new)) }
 {
     let Seen {

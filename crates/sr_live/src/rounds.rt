@@ -179,7 +179,7 @@ fn round<P: Peer>(
     let limits = Limits {
         within: allowed(terms, &planned),
         last: planned.looked.last,
-        idle: asked.idle,
+        claimable: asked.claimable,
         removed: planned.looked.removed,
     };
     let rows = planned.looked.rows.as_slice();

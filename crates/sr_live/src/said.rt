@@ -304,28 +304,29 @@ fn difference(kept: i64, added: i64) -> Result<u64, Misread>
     Ok((added - kept) as u64)
 }
 
-/// The entries that are pending for the owner, as XPENDING replies with a consumer.
+/// The entries that are pending for the owner, as XPENDING replies with a consumer, each with how often it has been
+/// delivered.
 ///
 /// Source: Redis documentation, command XPENDING.
 pub(crate) fn pending_said(
     alloc: Global,
     mut parts: Parts<'_>,
     owner: &Name,
-) -> Result<Vec<Id>, Misread>
-    ensures { IfOk result (λ ids. SaysPending parts.entry owner.now ids.items) }
+) -> Result<Vec<(Id, u64)>, Misread>
+    ensures { IfOk result (λ entries. SaysPending parts.entry owner.now entries.items) }
 {
     let count = header(alloc, &mut parts)?;
-    let mut ids = Vec::new(alloc);
+    let mut entries = Vec::new(alloc);
     for _ in 0..count {
-        ids.push(row_said(alloc, &mut parts, owner)?)?;
+        entries.push(row_said(alloc, &mut parts, owner)?)?;
     }
     end(&mut parts)?;
-    Ok(ids)
+    Ok(entries)
 }
 
-/// The id of the next entry that is pending, if it is for the owner.
-fn row_said(alloc: Global, parts: &mut Parts<'_>, owner: &Name) -> Result<Id, Misread>
-    ensures { IfOk result (λ id. (front : List wire.Part) × IsPendingRow front id owner.now
+/// The next entry that is pending, if it is for the owner: its id, and how often it has been delivered.
+fn row_said(alloc: Global, parts: &mut Parts<'_>, owner: &Name) -> Result<(Id, u64), Misread>
+    ensures { IfOk result (λ entry. (front : List wire.Part) × IsPendingRow front entry owner.now
         × (parts.old ≡ front ++ parts.new)) }
 {
     if header(alloc, parts)? != 4 {
@@ -336,8 +337,8 @@ fn row_said(alloc: Global, parts: &mut Parts<'_>, owner: &Name) -> Result<Id, Mi
         return Err(Misread::Shape);
     }
     integer(parts)?;
-    integer(parts)?;
-    Ok(id)
+    let deliveries = natural(parts)?;
+    Ok((id, deliveries))
 }
 
 /// The fields of the entry with this id, as XRANGE from it to it replies. `None` if there is none.

@@ -3,9 +3,9 @@ ghost use Rattle.std.specs.Prelude.{map, option_map, slice_index_or};
 ghost use Rattle.std.specs.List.{flat_map};
 ghost use Rattle.sr_ids.specs.{spelling};
 ghost use Rattle.sr_live.specs.Words.{dead_words, ids_to, live_words, last_word, lives_words};
-ghost use Rattle.sr_live.specs.Words.{row_words, rows_of, soft_word, words_for};
+ghost use Rattle.sr_live.specs.Words.{most_word, row_words, rows_of, soft_word, words_for};
 
-use crate::looked::Row;
+use crate::looked::{Claimable, Row};
 use itoa::Buffer;
 use sr_bytes::Name;
 use sr_ids::{Id, write_id};
@@ -20,8 +20,8 @@ pub struct Limits {
     pub within: u64,
     /// The last entry that it moves, if it moves the first ones alone: what is behind it is not compared.
     pub last: Option<Id>,
-    /// For how many milliseconds each of its entries has to have been idle.
-    pub idle: u64,
+    /// Which entries may be moved.
+    pub claimable: Claimable,
     /// How many entries had been removed from the stream: if as many are then, none was meanwhile.
     pub removed: u64,
 }
@@ -40,8 +40,8 @@ pub fn script_words(
     limits: Limits,
 ) -> Result<Option<Vec<Name>>, AllocError>
     ensures { IfOk result (λ words. option_map (λ list. list.items) words
-        ≡ words_for verdict.now.snapshot.group limits.within (last_word limits.last) limits.idle limits.removed rows.now
-        live.now verdict.now.snapshot verdict.now.answer) }
+        ≡ words_for verdict.now.snapshot.group limits.within (last_word limits.last) limits.claimable limits.removed
+        rows.now live.now verdict.now.snapshot verdict.now.answer) }
 {
     let Some(prices) = verdict.prices() else {
         return Ok(None);
@@ -60,7 +60,7 @@ pub fn script_words(
     Ok(Some(words))
 }
 
-/// Adds the group, by how much the plan may cost more, up to which id is compared, how idle entries have to be, and how
+/// Adds the group, by how much the plan may cost more, up to which id is compared, which entries may be moved, and how
 /// many had been removed.
 fn push_asked(
     words: &mut Vec<Name>,
@@ -69,13 +69,14 @@ fn push_asked(
     limits: Limits,
 ) -> Result<(), AllocError>
     ensures { OnOk result (words.new.items
-        ≡ words.old.items ++ group.now ∷ decimal limits.within ∷ last_word limits.last ∷ decimal limits.idle
-        ∷ decimal limits.removed ∷ []) }
+        ≡ words.old.items ++ group.now ∷ decimal limits.within ∷ last_word limits.last ∷ decimal limits.claimable.idle
+        ∷ most_word limits.claimable.most_deliveries ∷ decimal limits.removed ∷ []) }
 {
     words.push(group.copy(alloc)?)?;
     push_number(words, alloc, limits.within)?;
     push_last(words, alloc, limits.last)?;
-    push_number(words, alloc, limits.idle)?;
+    push_number(words, alloc, limits.claimable.idle)?;
+    push_most(words, alloc, limits.claimable.most_deliveries)?;
     push_number(words, alloc, limits.removed)
 }
 
@@ -86,6 +87,16 @@ fn push_last(words: &mut Vec<Name>, alloc: Global, last: Option<Id>) -> Result<(
     match last {
         Some(id) => push_id(words, alloc, id),
         None => push_text(words, alloc, b"+"),
+    }
+}
+
+/// Adds the number, or `-` if there is none.
+fn push_most(words: &mut Vec<Name>, alloc: Global, most: Option<u64>) -> Result<(), AllocError>
+    ensures { OnOk result (words.new.items ≡ words.old.items ++ most_word most ∷ []) }
+{
+    match most {
+        Some(most) => push_number(words, alloc, most),
+        None => push_text(words, alloc, b"-"),
     }
 }
 

@@ -2,7 +2,7 @@
 use crate::advice::print_advice;
 use crate::board::{Board, board_of, print_board};
 use crate::check::print_check;
-use crate::deliveries::look_deliveries;
+use crate::deliveries::{look_deliveries, look_given_up};
 use crate::fault::{Fault, live_fault};
 use crate::json_lines::{Step, print_board_line, print_plan_line, print_ran_line};
 use crate::names::{PolicyText, print_stars};
@@ -16,7 +16,9 @@ use crate::reach::read_reach;
 use crate::watch::{Watcher, watch_groups};
 use crate::wire::Wire;
 use sr_bytes::Name;
-use sr_live::{Asked, LiveFault, Planned, Ran, Terms, look_idles, look_numbers, plan, run};
+use sr_live::{
+    Asked, Claimable, LiveFault, Planned, Ran, Terms, look_idles, look_numbers, plan, run,
+};
 use sr_plan::Verdict;
 use sr_policy::Policy;
 use sr_space::names_in_order;
@@ -206,10 +208,12 @@ fn show_plan(
         Ok(members) => members,
         Err(fault) => return Err(live_fault(rt.alloc(), fault, wire.script())),
     };
+    let given_up = look_given_up(wire, rt.alloc(), asked)?;
     let notes = Notes {
         policy,
         asked,
         members: &members,
+        given_up: &given_up,
     };
     match plan(wire, rt.alloc(), policy, asked, options.at_most) {
         Ok(planned) => {
@@ -233,7 +237,7 @@ fn print_planned(
     if options.check {
         print_check(&mut out, rt.alloc(), &planned.verdict, done)?;
     } else if options.json {
-        print_plan_line(&mut out, rt.alloc(), notes.asked, &planned.verdict)?;
+        print_plan_line(&mut out, rt.alloc(), notes, &planned.verdict)?;
     } else {
         print_plan(&mut out, rt.alloc(), &planned.verdict)?;
         // it is no fault if this cannot be told
@@ -264,10 +268,12 @@ fn carry_out(
         Ok(members) => members,
         Err(fault) => return Err(live_fault(rt.alloc(), fault, wire.script())),
     };
+    let given_up = look_given_up(wire, rt.alloc(), asked)?;
     let notes = Notes {
         policy,
         asked,
         members: &members,
+        given_up: &given_up,
     };
     let terms = Terms {
         tries: options.tries,
@@ -405,11 +411,19 @@ fn asked(alloc: Global, options: &Options<'_>) -> Result<Asked, Fault> {
         key: name_of(alloc, options.key)?,
         group: name_of(alloc, options.group)?,
         dead: names_in_order(alloc, dead.as_slice())?,
-        idle: options.idle_over,
+        claimable: claimable(options),
         seen_within: options.seen_within,
         spare: options.spare,
         together: TOGETHER,
     })
+}
+
+/// Which entries of the dead may be moved.
+pub(crate) fn claimable(options: &Options<'_>) -> Claimable {
+    Claimable {
+        idle: options.idle_over,
+        most_deliveries: options.given_up_after,
+    }
 }
 
 /// The text as a name.

@@ -1,6 +1,7 @@
 //! What is printed for programs: JSON, an object a line for each plan, and an array for the board.
 use crate::action::{Status, status_of};
 use crate::board::Held;
+use crate::deliveries::GivenUp;
 use crate::fault::Fault;
 use crate::notes::Notes;
 use crate::print::{print_sum, say, share_of};
@@ -19,10 +20,10 @@ type Members = Map<String, Value>;
 pub(crate) fn print_plan_line<W: Write>(
     out: &mut W,
     alloc: Global,
-    asked: &Asked,
+    notes: Notes<'_>,
     verdict: &Verdict,
 ) -> Result<(), Fault> {
-    let members = members_of(alloc, asked, verdict)?;
+    let members = members_of(alloc, notes, verdict)?;
     print_line(out, alloc, &Value::Object(members))
 }
 
@@ -70,7 +71,7 @@ fn print_ran(rt: &HostRuntime, notes: Notes<'_>, ran: &Ran, step: Step) -> Resul
     if step.number > 0 && is_empty(ran) {
         return Ok(());
     }
-    let mut members = members_of_ran(rt.alloc(), notes.asked, ran)?;
+    let mut members = members_of_ran(rt.alloc(), notes, ran)?;
     put(&mut members, rt.alloc(), "tries", Value::from(step.tries))?;
     print_line(&mut rt.stdout(), rt.alloc(), &Value::Object(members))
 }
@@ -84,21 +85,21 @@ fn is_empty(ran: &Ran) -> bool {
 }
 
 /// What is told of a plan that was made and sent.
-fn members_of_ran(alloc: Global, asked: &Asked, ran: &Ran) -> Result<Members, AllocError> {
+fn members_of_ran(alloc: Global, notes: Notes<'_>, ran: &Ran) -> Result<Members, AllocError> {
     match ran {
         Ran::Done {
             planned,
             claimed,
             gap,
         } => {
-            let mut members = members_of(alloc, asked, &planned.verdict)?;
+            let mut members = members_of(alloc, notes, &planned.verdict)?;
             put(&mut members, alloc, "claimed", Value::from(*claimed))?;
             put(&mut members, alloc, "gap", Value::from(*gap))?;
             Ok(members)
         }
-        Ran::Impossible(planned) => members_of(alloc, asked, &planned.verdict),
+        Ran::Impossible(planned) => members_of(alloc, notes, &planned.verdict),
         Ran::Stale { what, of } => {
-            let mut members = begun(alloc, asked, Status::Stale)?;
+            let mut members = begun(alloc, notes.asked, Status::Stale)?;
             put(&mut members, alloc, "stale", text_of(alloc, what)?)?;
             put(&mut members, alloc, "of", text_of(alloc, of)?)?;
             Ok(members)
@@ -121,18 +122,40 @@ fn begun(alloc: Global, asked: &Asked, status: Status) -> Result<Members, AllocE
 }
 
 /// What is told of a plan: who gets what at which prices, or for which entries there are too few places.
-fn members_of(alloc: Global, asked: &Asked, verdict: &Verdict) -> Result<Members, AllocError> {
-    let mut members = begun(alloc, asked, status_of(verdict))?;
+fn members_of(alloc: Global, notes: Notes<'_>, verdict: &Verdict) -> Result<Members, AllocError> {
+    let mut members = begun(alloc, notes.asked, status_of(verdict))?;
     let (consumers, entries) = consumers_of(alloc, verdict)?;
     let gone = verdict.gone().len() as u64;
     put(&mut members, alloc, "consumers", Value::Array(consumers))?;
     put(&mut members, alloc, "entries", Value::from(entries))?;
     put(&mut members, alloc, "gone", Value::from(gone))?;
+    if let Some(given_up) = notes.given_up {
+        put(
+            &mut members,
+            alloc,
+            "given_up",
+            given_up_of(alloc, given_up)?,
+        )?;
+    }
     put(&mut members, alloc, "total", Value::from(verdict.total()))?;
     if let Some(short) = short_of(alloc, verdict)? {
         put(&mut members, alloc, "short", short)?;
     }
     Ok(members)
+}
+
+/// How many entries were delivered too often, and the first of them.
+fn given_up_of(alloc: Global, given_up: &GivenUp) -> Result<Value, AllocError> {
+    let mut first = Vec::new(alloc);
+    for entry in &given_up.first {
+        let id = Value::String(String::from_utf8_lossy(alloc, entry.id.as_slice())?);
+        let owner = text_of(alloc, &entry.owner)?;
+        push(
+            &mut first,
+            json!(in alloc; { "id": id, "name": owner, "delivered": entry.count })?,
+        )?;
+    }
+    json!(in alloc; { "entries": given_up.all, "first": (Value::Array(first)) })
 }
 
 /// What each live consumer gets, and how many entries they get together.

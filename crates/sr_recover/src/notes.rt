@@ -1,4 +1,5 @@
 //! Notes on standard error: names that the group does not have, and consumers that are left out of a plan.
+use crate::deliveries::GivenUp;
 use crate::fault::Fault;
 use crate::print::{print_name, print_number, receives, say};
 use crate::wire::Wire;
@@ -18,6 +19,8 @@ pub(crate) struct Notes<'a> {
     pub(crate) policy: &'a Policy,
     pub(crate) asked: &'a Asked,
     pub(crate) members: &'a Members,
+    /// What was delivered too often, if that is asked for.
+    pub(crate) given_up: &'a Option<GivenUp>,
 }
 
 /// Looks up which of the consumers of the policy, and of the dead, the group has. Most have pending entries, and only
@@ -57,6 +60,9 @@ impl Notes<'_> {
         alloc: Global,
         planned: &Planned,
     ) -> Result<(), Fault> {
+        if let Some(given_up) = self.given_up {
+            print_given_up(out, alloc, given_up)?;
+        }
         if self.asked.seen_within.is_some() {
             let idles = planned.looked.idles.as_slice();
             self.print_unknown(out, alloc, idles)?;
@@ -127,6 +133,29 @@ impl Notes<'_> {
         }
         Ok(())
     }
+}
+
+/// Notes how many entries were delivered too often, and the first of them.
+fn print_given_up<W: Write>(out: &mut W, alloc: Global, given_up: &GivenUp) -> Result<(), Fault> {
+    if given_up.all == 0 {
+        return Ok(());
+    }
+    print_number(
+        out,
+        b"note: given up, since they were delivered more than ",
+        given_up.most,
+    )?;
+    print_number(out, b" times: ", given_up.all)?;
+    say(out, b"\n")?;
+    for entry in &given_up.first {
+        say(out, b"note: given up ")?;
+        say(out, entry.id.as_slice())?;
+        say(out, b" of ")?;
+        print_name(out, alloc, entry.owner.as_slice())?;
+        print_number(out, b", delivered ", entry.count)?;
+        say(out, b" times\n")?;
+    }
+    Ok(())
 }
 
 /// Prints why the consumer is given nothing.

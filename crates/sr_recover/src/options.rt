@@ -59,6 +59,8 @@ pub(crate) struct Options<'a> {
     pub(crate) all: bool,
     /// For how many milliseconds an entry has to have been idle.
     pub(crate) idle_over: u64,
+    /// How often an entry may have been delivered, or it is left where it is.
+    pub(crate) given_up_after: Option<u64>,
     /// For how many milliseconds a consumer may have been idle, or it is given nothing.
     pub(crate) seen_within: Option<u64>,
     /// How many places of each live consumer are left free.
@@ -181,6 +183,7 @@ fn options_of<'a>(
             1_000_000_000_000,
             "--idle-over: a number from 0 to 1000000000000",
         )?,
+        given_up_after: given_up_after(given.get_str("given-up-after"))?,
         seen_within: seen_within(given.get_str("seen-within"), dead_after)?,
         spare: number(
             given.get_str("spare"),
@@ -230,6 +233,20 @@ fn at_most(text: Option<&str>, missing: Option<u64>) -> Result<Option<u64>, Faul
     match text {
         None => Ok(missing),
         Some(_) => Ok(Some(number(text, 1, 1, 4096, "--at-most: a number from 1 to 4096")?)),
+    }
+}
+
+/// How often an entry may have been delivered, if it is written.
+fn given_up_after(text: Option<&str>) -> Result<Option<u64>, Fault> {
+    match text {
+        None => Ok(None),
+        Some(_) => Ok(Some(number(
+            text,
+            1,
+            1,
+            1_000_000_000,
+            "--given-up-after: a number from 1 to 1000000000",
+        )?)),
     }
 }
 
@@ -332,6 +349,7 @@ fn planner<'a>(alloc: Global, name: &'a str, about: &'a str) -> Result<Command<'
             "MS",
             "Move those entries alone that have been idle for MS milliseconds [default: 0]",
         ))?
+        .arg(giving_up(alloc))?
         .arg(spare(alloc))?
         .arg(
             Arg::new(alloc, "check")
@@ -416,6 +434,16 @@ pub(crate) fn with_policy<'a>(
         "Read who may take which entries from this file",
     )
     .required(true))
+}
+
+/// How often entries may have been delivered.
+pub(crate) fn giving_up<'a>(alloc: Global) -> Arg<'a> {
+    valued(
+        alloc,
+        "given-up-after",
+        "N",
+        "Leave those entries where they are that have been delivered more than N times",
+    )
 }
 
 /// For how long those may have been idle who are given entries.

@@ -1,5 +1,5 @@
 //! Groups are watched: turn by turn their dead are found, and what these have left is given to others.
-use crate::action::{MAX_ATTEMPTS, Status, TOGETHER, go_on, name_of, see_spare};
+use crate::action::{MAX_ATTEMPTS, Status, TOGETHER, claimable, go_on, name_of, see_spare};
 use crate::fault::{Fault, live_fault};
 use crate::names::PolicyText;
 use crate::options::Options;
@@ -149,7 +149,7 @@ fn asked_of(alloc: Global, options: &Options<'_>, group: &Watched) -> Result<Ask
         key: group.key.copy(alloc)?,
         group: group.group.copy(alloc)?,
         dead: Vec::new(alloc),
-        idle: options.idle_over,
+        claimable: claimable(options),
         seen_within: options.seen_within,
         spare: options.spare,
         together: TOGETHER,
@@ -196,7 +196,7 @@ fn with_dead(alloc: Global, asked: &Asked, dead: &[Name]) -> Result<Asked, Alloc
         key: asked.key.copy(alloc)?,
         group: asked.group.copy(alloc)?,
         dead: names_in_order(alloc, dead)?,
-        idle: asked.idle,
+        claimable: asked.claimable,
         seen_within: asked.seen_within,
         spare: asked.spare,
         together: asked.together,

@@ -1,6 +1,6 @@
 //! What the command line says of `watch`, beside what it says of `run`.
 use crate::fault::Fault;
-use crate::options::{number, rounds, spare, valued, with_policy};
+use crate::options::{giving_up, number, rounds, spare, valued, with_policy};
 use clap::{Arg, ArgAction, ArgMatches, Command};
 use std::alloc::{AllocError, Global};
 
@@ -100,6 +100,7 @@ pub(crate) fn watcher<'a>(
             "MS",
             "Give entries to those alone that have been idle for at most MS milliseconds [default: as --dead-after]",
         ))?
+        .arg(giving_up(alloc))?
         .arg(spare(alloc))?
         .arg(
             Arg::new(alloc, "GROUPS")

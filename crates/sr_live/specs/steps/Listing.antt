@@ -9,13 +9,14 @@ use Rattle.sr_ids.specs.{is_below}
 use Rattle.sr_policy.specs.{Text}
 use Rattle.sr_peer.specs.{Part}
 use Rattle.sr_live.specs.declared.listing.Listing.{Listing}
+use Rattle.sr_live.specs.declared.looked.Claimable.{Claimable}
 use Rattle.sr_live.specs.declared.looked.Row.{Row}
 use Rattle.sr_live.specs.declared.looking.Seen.{Seen}
 use Rattle.sr_live.specs.First.{first_rows}
-use Rattle.sr_live.specs.Looking.{Exchange, ListsPages, LooksEntries, is_past, last_of, listed_as, page, pending_call}
-use Rattle.sr_live.specs.Looking.{start_after}
+use Rattle.sr_live.specs.Looking.{Exchange, ListsPages, LooksEntries, ids_in, ids_within, is_past, last_of, listed_as}
+use Rattle.sr_live.specs.Looking.{page, pending_call, start_after}
 use Rattle.sr_live.specs.Reading.{Reads}
-use Rattle.sr_live.specs.Said.{SaysPending}
+use Rattle.sr_live.specs.Said.{Delivered, SaysPending}
 
 abbrev pub unlisted_of : Text → Listing
 unlisted_of name = record { name = name; last = None; goes_on = true }
@@ -28,31 +29,33 @@ abbrev pub are_sure : List Listing → Option Id → Bool
 are_sure listings last = list_all (is_sure last) listings
 
 -- these pages list this much: whole pages, whatever was looked at last; or full ones, which others can follow
-abbrev pub ListsAs : Bool → Text → Text → ℕ → Text → Option Id → List Exchange → List Id → Type 0
-ListsAs true key group idle name after talk ids =
-    ((last : Option Id) → (others : List Exchange) → (rest : List Id)
-    → ListsPages key group idle name last (last_of ids None) others rest
-    → ListsPages key group idle name last None (talk ++ others) (ids ++ rest)) × (after ≡ last_of ids None)
-ListsAs false key group idle name after talk ids =
-    (last : Option Id) → ListsPages key group idle name last None talk ids
+abbrev pub ListsAs : Bool → Text → Text → Claimable → Text → Option Id → List Exchange → List Id → Type 0
+ListsAs true key group claimable name after talk ids =
+    (last : Option Id) → (others : List Exchange) → (rest : List Id)
+    → ListsPages key group claimable name last after others rest
+    → ListsPages key group claimable name last None (talk ++ others) (ids ++ rest)
+ListsAs false key group claimable name after talk ids =
+    (last : Option Id) → ListsPages key group claimable name last None talk ids
 
 -- the same of several consumers, one after another, each entry with its owner
-abbrev pub AreListed : Text → Text → ℕ → List Listing → List Exchange → List (Id × Text) → Type 0
-AreListed key group idle [] talk listed = (talk ≡ []) × (listed ≡ [])
-AreListed key group idle (one ∷ listings) talk listed =
+abbrev pub AreListed : Text → Text → Claimable → List Listing → List Exchange → List (Id × Text) → Type 0
+AreListed key group claimable [] talk listed = (talk ≡ []) × (listed ≡ [])
+AreListed key group claimable (one ∷ listings) talk listed =
     (own : List Exchange) × (others : List Exchange) × (ids : List Id) × (rest : List (Id × Text))
-    × ListsAs one.goes_on key group idle one.name one.last own ids × AreListed key group idle listings others rest
+    × ListsAs one.goes_on key group claimable one.name one.last own ids × AreListed key group claimable listings others rest
     × (talk ≡ own ++ others) × (listed ≡ map (λ id. (id, one.name)) ids ++ rest)
 
 -- one more page was listed
-pub record ListsNext (key group : Text) (idle : ℕ) (one now : Listing) (talk : List Exchange) (ids : List Id)
+pub record ListsNext (key group : Text) (claimable : Claimable) (one now : Listing) (talk : List Exchange) (ids : List Id)
     : Type 0 where
   pub parts : List Part
+  pub entries : List Delivered
   pub was_open : one.goes_on ≡ true
-  pub calls : talk ≡ (pending_call key group idle (start_after one.last) one.name, parts) ∷ []
-  pub says : SaysPending parts one.name ids
-  pub goes_on : now.goes_on ≡ leb page (length ids)
-  pub last : now.last ≡ last_of ids one.last
+  pub calls : talk ≡ (pending_call key group claimable.idle (start_after one.last) one.name, parts) ∷ []
+  pub says : SaysPending parts one.name entries
+  pub within : ids ≡ ids_within claimable.most_deliveries entries
+  pub goes_on : now.goes_on ≡ leb page (length entries)
+  pub last : now.last ≡ last_of (ids_in entries) one.last
 
 pub record ListsNone (one now : Listing) (talk : List Exchange) (ids : List Id) : Type 0 where
   pub calls : talk ≡ []
@@ -61,18 +64,18 @@ pub record ListsNone (one now : Listing) (talk : List Exchange) (ids : List Id) 
   pub last : now.last ≡ one.last
 
 -- the consumer was listed further, or not
-abbrev pub ListsOn : Text → Text → ℕ → Listing → Listing → List Exchange → List Id → Type 0
-ListsOn key group idle one now talk ids =
-    (now.name ≡ one.name) × (ListsNone one now talk ids ⊎ ListsNext key group idle one now talk ids)
+abbrev pub ListsOn : Text → Text → Claimable → Listing → Listing → List Exchange → List Id → Type 0
+ListsOn key group claimable one now talk ids =
+    (now.name ≡ one.name) × (ListsNone one now talk ids ⊎ ListsNext key group claimable one now talk ids)
 
 -- each of these consumers was listed further, or not: whatever listed them before, these calls went on
-pub record Widens (key group : Text) (idle : ℕ) (listings wider : List Listing) (talk : List Exchange)
+pub record Widens (key group : Text) (claimable : Claimable) (listings wider : List Listing) (talk : List Exchange)
     (more : List (Id × Text)) : Type 0 where
   pub names : map (λ (one : Listing). one.name) wider ≡ map (λ (one : Listing). one.name) listings
   pub reads : AllByRecursion Reads (map (λ (exchange : Exchange). exchange.0) talk)
-  pub lists : (own : List Exchange) → (listed : List (Id × Text)) → AreListed key group idle listings own listed
+  pub lists : (own : List Exchange) → (listed : List (Id × Text)) → AreListed key group claimable listings own listed
       → (own_then : List Exchange) × (listed_then : List (Id × Text))
-      × AreListed key group idle wider own_then listed_then
+      × AreListed key group claimable wider own_then listed_then
       × IsPermutation (own ++ talk) own_then × IsPermutation (listed ++ more) listed_then
 
 -- none of the entries comes before the last of the rows
@@ -90,14 +93,14 @@ Finds wanted rows (suc more) =
     ≡ (rows ++ (first_rows (suc more) later).0, (first_rows (suc more) later).1)
 
 -- one pass: some pages, and then those entries before which nothing can be missing
-pub record Passes (key group : Text) (idle : ℕ) (talk : List Exchange) (seen now : Seen) : Type 0 where
+pub record Passes (key group : Text) (claimable : Claimable) (talk : List Exchange) (seen now : Seen) : Type 0 where
   pub listing : List Exchange
   pub looking : List Exchange
   pub more : List (Id × Text)
   pub sorted : List (Id × Text)
   pub rows : List Row
   pub calls : talk ≡ listing ++ looking
-  pub widens : Widens key group idle seen.listings.items now.listings.items listing more
+  pub widens : Widens key group claimable seen.listings.items now.listings.items listing more
   pub same : IsPermutation (seen.ahead.items ++ more) sorted
   pub rising : IsSortedBy (λ a b. is_below a.0 b.0) sorted
   pub follow : Follow seen.found.rows.items sorted

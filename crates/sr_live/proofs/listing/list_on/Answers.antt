@@ -11,7 +11,7 @@ loop-one-init g c = (
   [],
   [],
   Talks-none _ _,
-  widens-none c.args.asked.now.key c.args.asked.now.group c.args.asked.now.idle c.args.listings.now c.in_ok-wider.wider.items
+  widens-none c.args.asked.now.key c.args.asked.now.group c.args.asked.now.claimable c.args.listings.now c.in_ok-wider.wider.items
       c.in_ok-wider.ensures.items,
   sym (append-nil c.args.ahead.now.items),
 )
@@ -28,7 +28,7 @@ loop-one-preserved g c =
       Talks-trans (g.P.Peer.sent c.args.peer.now) (g.P.Peer.got c.args.peer.now) (g.P.Peer.sent c.loop-one.peer)
           (g.P.Peer.got c.loop-one.peer) (g.P.Peer.sent c.list_one.new.peer) (g.P.Peer.got c.list_one.new.peer) was.0
           on.0 was.2 on.2,
-      widens-next c.args.asked.now.key c.args.asked.now.group c.args.asked.now.idle c.args.listings.now
+      widens-next c.args.asked.now.key c.args.asked.now.group c.args.asked.now.claimable c.args.listings.now
           c.loop-one.wider.items c.push.new.self.items c.loop-one.one-index one c.in_ok-list_one.field-0 was.0 on.0 was.1
           on.1 c.loop-one-test.true read pushed was.3 on.3,
       on.4 ∙ ap (λ (l : List (Id × Text)). l ++ map (λ id. (id, one.name)) on.1) was.4
@@ -42,7 +42,7 @@ returns-in_err-push-clause-err g c =
     breaks-memory c.from_residual-in_err-push.result _ _ c.from_residual-in_err-push.ensures.1
     (reads-later _ _ _ _ _ was.0 was.2 was.3.reads
     (reads-whole _ _ _ _ on.0 on.2
-    (on-reads c.args.asked.now.key c.args.asked.now.group c.args.asked.now.idle c.one-item.result
+    (on-reads c.args.asked.now.key c.args.asked.now.group c.args.asked.now.claimable c.one-item.result
     c.in_ok-list_one.field-0 on.0 on.1 on.3)))
 
 pub returns-in_err-list_one-clause-err : goal.returns-in_err-list_one-clause-err
@@ -58,7 +58,7 @@ returns-clause-ok g c =
       was.0,
       was.1,
       was.2,
-      widens-all c.args.asked.now.key c.args.asked.now.group c.args.asked.now.idle c.args.listings.now
+      widens-all c.args.asked.now.key c.args.asked.now.group c.args.asked.now.claimable c.args.listings.now
           c.loop-one.wider.items c.loop-one.one-index was.0 was.1 c.loop-one-test.false was.3,
       was.4,
     )

@@ -19,12 +19,12 @@ returns-in_err-request-clause-err g c =
 pub returns-in-Ok-clause-ok : goal.returns-in-Ok-clause-ok
 returns-in-Ok-clause-ok g c =
     let asked = c.args.asked.now in
-    let call : List Text = pending_call asked.key asked.group asked.idle (start_after c.args.after) c.args.name.now in
+    let call : List Text = pending_call asked.key asked.group asked.claimable.idle (start_after c.args.after) c.args.name.now in
     let start : c.as_slice.result.now ≡ start_after c.args.after = search rules in
-    let idle : c.as_bytes.result.now ≡ decimal asked.idle = search rules in
+    let idle : c.as_bytes.result.now ≡ decimal asked.claimable.idle = search rules in
     let is = c.as_slice-2.ensures.value ∙ c.in_ok-request.ensures
     ∙ ap (λ (text : Text). request_text (pending_words asked.key asked.group text c.as_slice.result.now c.args.name.now)) idle
-    ∙ ap (λ (text : Text). request_text (pending_words asked.key asked.group (decimal asked.idle) text c.args.name.now))
+    ∙ ap (λ (text : Text). request_text (pending_words asked.key asked.group (decimal asked.claimable.idle) text c.args.name.now))
     start in
     let talk = Talks-one _ _ _ _ call c.parts.result c.as_slice-2.result.now c.in-Ok.answers.text is
     c.parts.ensures.spelled c.in-Ok.ensures.sent c.in-Ok.ensures.got in
@@ -34,12 +34,12 @@ returns-in-Ok-clause-ok g c =
 pub returns-in-Ok-clause-err : goal.returns-in-Ok-clause-err
 returns-in-Ok-clause-err g c =
     let asked = c.args.asked.now in
-    let call : List Text = pending_call asked.key asked.group asked.idle (start_after c.args.after) c.args.name.now in
+    let call : List Text = pending_call asked.key asked.group asked.claimable.idle (start_after c.args.after) c.args.name.now in
     let start : c.as_slice.result.now ≡ start_after c.args.after = search rules in
-    let idle : c.as_bytes.result.now ≡ decimal asked.idle = search rules in
+    let idle : c.as_bytes.result.now ≡ decimal asked.claimable.idle = search rules in
     let is = c.as_slice-2.ensures.value ∙ c.in_ok-request.ensures
     ∙ ap (λ (text : Text). request_text (pending_words asked.key asked.group text c.as_slice.result.now c.args.name.now)) idle
-    ∙ ap (λ (text : Text). request_text (pending_words asked.key asked.group (decimal asked.idle) text c.args.name.now))
+    ∙ ap (λ (text : Text). request_text (pending_words asked.key asked.group (decimal asked.claimable.idle) text c.args.name.now))
     start in
     breaks-understood c.understood.result _ _ (c.understood.ensures.err tt)
     (reads-part _ _ call c.as_slice-2.result.now is (inr (inl refl)) (sends-whole _ _ _ c.in-Ok.ensures.sent))
@@ -47,11 +47,11 @@ returns-in-Ok-clause-err g c =
 pub returns-clause-err : goal.returns-clause-err
 returns-clause-err g c =
     let asked = c.args.asked.now in
-    let call : List Text = pending_call asked.key asked.group asked.idle (start_after c.args.after) c.args.name.now in
+    let call : List Text = pending_call asked.key asked.group asked.claimable.idle (start_after c.args.after) c.args.name.now in
     let start : c.as_slice.result.now ≡ start_after c.args.after = search rules in
-    let idle : c.as_bytes.result.now ≡ decimal asked.idle = search rules in
+    let idle : c.as_bytes.result.now ≡ decimal asked.claimable.idle = search rules in
     let is = c.as_slice-2.ensures.value ∙ c.in_ok-request.ensures
     ∙ ap (λ (text : Text). request_text (pending_words asked.key asked.group text c.as_slice.result.now c.args.name.now)) idle
-    ∙ ap (λ (text : Text). request_text (pending_words asked.key asked.group (decimal asked.idle) text c.args.name.now))
+    ∙ ap (λ (text : Text). request_text (pending_words asked.key asked.group (decimal asked.claimable.idle) text c.args.name.now))
     start in
     record { looking = tt; read = reads-part _ _ call c.as_slice-2.result.now is (inr (inl refl)) c.in-Err.ensures.err }

@@ -23,7 +23,7 @@ returns-in_err-idles-clause-err g c =
     breaks-passed c.from_residual-in_err-idles.result _ _ _ c.from_residual-in_err-idles.ensures.1 broken.looking
     (reads-later _ _ _ _ _ _ removed.1 (inl refl, tt)
     (reads-later _ _ _ _ _ rows.0 rows.1
-    (LooksRows-reads c.args.asked.now.key c.args.asked.now.group c.args.asked.now.idle c.args.asked.now.dead.items
+    (LooksRows-reads c.args.asked.now.key c.args.asked.now.group c.args.asked.now.claimable c.args.asked.now.dead.items
     c.args.at_most _ _ _ rows.2)
     broken.read))
 

@@ -51,7 +51,7 @@ returns-clause-ok g c =
       ahead = c.in_ok-ahead-2.ahead;
       found = c.look_first.new.found;
     } in
-    let widens = subst (λ (l : List Listing). Widens asked.key asked.group asked.idle l listings wide.0 wide.1)
+    let widens = subst (λ (l : List Listing). Widens asked.key asked.group asked.claimable l listings wide.0 wide.1)
     c.as_slice.ensures.value wide.3 in
     let follow : Follow old sorted = search rules in
     let sure = subst (λ (l : List Listing). All (λ one. are_sure l (Some one.0) ≡ true) (take n sorted))
@@ -68,7 +68,7 @@ returns-clause-ok g c =
       Talks-trans (g.P.Peer.sent c.args.peer.now) (g.P.Peer.got c.args.peer.now) (g.P.Peer.sent c.list_on.new.peer)
           (g.P.Peer.got c.list_on.new.peer) (g.P.Peer.sent c.look_first.new.peer) (g.P.Peer.got c.look_first.new.peer)
           wide.0 first.0 wide.2 first.3,
-      passes-from asked.key asked.group asked.idle c.args.seen now wide.0 first.0 wide.1 c.list_on.new.ahead.items sorted
+      passes-from asked.key asked.group asked.claimable c.args.seen now wide.0 first.0 wide.1 c.list_on.new.ahead.items sorted
           c.split_at.result.0.now n (c.len.result - c.len-before.result) first.1 first.2 widens wide.4
           c.in_ok-ahead.ensures.same c.in_ok-ahead.ensures.rising follow sure front first.4 first.5 first.6 first.7 count
           c.in_ok-ahead-2.ensures.tail,

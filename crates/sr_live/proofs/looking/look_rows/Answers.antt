@@ -25,7 +25,7 @@ loop-init g c =
     let some : 0 < c.max.result = search rules in (
       [],
       Talks-none _ _,
-      under-way-first asked.key asked.group asked.idle asked.dead.items c.args.at_most seen listings c.new.ensures.items
+      under-way-first asked.key asked.group asked.claimable asked.dead.items c.args.at_most seen listings c.new.ensures.items
           c.new-2.ensures.items wanted,
       some,
     )
@@ -37,7 +37,7 @@ returns-in_err-seen-clause-err g c =
     let broken = c.in_err-seen.ensures.err in
     breaks-passed c.from_residual-in_err-seen.result _ _ _ c.from_residual-in_err-seen.ensures.1 broken.looking
     (reads-later _ _ _ _ _ before.0 before.1
-    (under-way-reads asked.key asked.group asked.idle asked.dead.items c.args.at_most before.0 c.loop.seen before.2)
+    (under-way-reads asked.key asked.group asked.claimable asked.dead.items c.args.at_most before.0 c.loop.seen before.2)
     broken.read)
 
 pub returns-then-seen-eq0-clause-ok : goal.returns-then-seen-eq0-clause-ok
@@ -45,7 +45,7 @@ returns-then-seen-eq0-clause-ok g c =
     let asked = c.args.asked.now in
     let before = c.loop.invariant in
     let pass = c.in_ok-seen.ensures.ok in
-    let way = under-way-next asked.key asked.group asked.idle asked.dead.items c.args.at_most before.0 pass.0 c.loop.seen
+    let way = under-way-next asked.key asked.group asked.claimable asked.dead.items c.args.at_most before.0 pass.0 c.loop.seen
     c.in_ok-seen.seen before.3 before.2 pass.2 in
     let talks = Talks-trans (g.P.Peer.sent c.args.peer.now) (g.P.Peer.got c.args.peer.now) (g.P.Peer.sent c.loop.peer)
     (g.P.Peer.got c.loop.peer) (g.P.Peer.sent c.look_pass.new.peer) (g.P.Peer.got c.look_pass.new.peer) before.0 pass.0
@@ -53,7 +53,7 @@ returns-then-seen-eq0-clause-ok g c =
     IfOk-weaker c.up_to_last.result _ _ (λ seen (rows, given, last). (
       before.0 ++ pass.0,
       talks,
-      looked-found asked.key asked.group asked.idle asked.dead.items c.args.at_most (before.0 ++ pass.0) c.in_ok-seen.seen
+      looked-found asked.key asked.group asked.claimable asked.dead.items c.args.at_most (before.0 ++ pass.0) c.in_ok-seen.seen
           seen.0.items seen.1 way c.if-seen-eq0.true given rows last,
     ))
     c.up_to_last.ensures.ok
@@ -63,7 +63,7 @@ returns-then-seen-eq0-clause-err g c =
     let asked = c.args.asked.now in
     let before = c.loop.invariant in
     let pass = c.in_ok-seen.ensures.ok in
-    let way = under-way-next asked.key asked.group asked.idle asked.dead.items c.args.at_most before.0 pass.0 c.loop.seen
+    let way = under-way-next asked.key asked.group asked.claimable asked.dead.items c.args.at_most before.0 pass.0 c.loop.seen
     c.in_ok-seen.seen before.3 before.2 pass.2 in
     let talks = Talks-trans (g.P.Peer.sent c.args.peer.now) (g.P.Peer.got c.args.peer.now) (g.P.Peer.sent c.loop.peer)
     (g.P.Peer.got c.loop.peer) (g.P.Peer.sent c.look_pass.new.peer) (g.P.Peer.got c.look_pass.new.peer) before.0 pass.0
@@ -74,7 +74,7 @@ returns-then-seen-eq0-clause-err g c =
     (record {
       looking = tt;
       read = reads-whole _ _ _ _ (before.0 ++ pass.0) talks
-          (under-way-reads asked.key asked.group asked.idle asked.dead.items c.args.at_most (before.0 ++ pass.0)
+          (under-way-reads asked.key asked.group asked.claimable asked.dead.items c.args.at_most (before.0 ++ pass.0)
           c.in_ok-seen.seen way);
     }))
     c.up_to_last.ensures.err
@@ -84,7 +84,7 @@ returns-then-are_listed-clause-ok g c =
     let asked = c.args.asked.now in
     let before = c.loop.invariant in
     let pass = c.in_ok-seen.ensures.ok in
-    let way = under-way-next asked.key asked.group asked.idle asked.dead.items c.args.at_most before.0 pass.0 c.loop.seen
+    let way = under-way-next asked.key asked.group asked.claimable asked.dead.items c.args.at_most before.0 pass.0 c.loop.seen
     c.in_ok-seen.seen before.3 before.2 pass.2 in
     let some : 0 < c.in_ok-seen.seen.found.wanted = search rules in
     let empty : length c.in_ok-seen.seen.ahead.items ≡ 0 = search rules in
@@ -94,7 +94,7 @@ returns-then-are_listed-clause-ok g c =
       Talks-trans (g.P.Peer.sent c.args.peer.now) (g.P.Peer.got c.args.peer.now) (g.P.Peer.sent c.loop.peer)
           (g.P.Peer.got c.loop.peer) (g.P.Peer.sent c.look_pass.new.peer) (g.P.Peer.got c.look_pass.new.peer) before.0
           pass.0 before.1 pass.1,
-      looked-whole asked.key asked.group asked.idle asked.dead.items c.args.at_most (before.0 ++ pass.0) c.in_ok-seen.seen
+      looked-whole asked.key asked.group asked.claimable asked.dead.items c.args.at_most (before.0 ++ pass.0) c.in_ok-seen.seen
           c.in_ok-seen.seen.found.rows.items way some none sure refl,
     )
 
@@ -108,7 +108,7 @@ loop-preserved g c =
       Talks-trans (g.P.Peer.sent c.args.peer.now) (g.P.Peer.got c.args.peer.now) (g.P.Peer.sent c.loop.peer)
           (g.P.Peer.got c.loop.peer) (g.P.Peer.sent c.look_pass.new.peer) (g.P.Peer.got c.look_pass.new.peer) before.0
           pass.0 before.1 pass.1,
-      under-way-next asked.key asked.group asked.idle asked.dead.items c.args.at_most before.0 pass.0 c.loop.seen
+      under-way-next asked.key asked.group asked.claimable asked.dead.items c.args.at_most before.0 pass.0 c.loop.seen
           c.in_ok-seen.seen before.3 before.2 pass.2,
       some,
     )
@@ -120,5 +120,5 @@ returns-clause-err g c =
     record {
       looking = tt;
       read = reads-whole _ _ _ _ before.0 before.1
-          (under-way-reads asked.key asked.group asked.idle asked.dead.items c.args.at_most before.0 c.loop.seen before.2);
+          (under-way-reads asked.key asked.group asked.claimable asked.dead.items c.args.at_most before.0 c.loop.seen before.2);
     }

@@ -7,5 +7,5 @@ abbrev pub invariant-loop : goal.invariant-loop
 invariant-loop g l =
     (talk : List Exchange)
     × Talks (g.P.Peer.sent l.fn.peer) (g.P.Peer.got l.fn.peer) (g.P.Peer.sent l.peer) (g.P.Peer.got l.peer) talk
-    × IsUnderWay l.asked.key l.asked.group l.asked.idle l.asked.dead.items l.at_most talk l.seen
+    × IsUnderWay l.asked.key l.asked.group l.asked.claimable l.asked.dead.items l.at_most talk l.seen
     × (0 < l.seen.found.wanted)

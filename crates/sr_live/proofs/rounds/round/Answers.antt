@@ -32,10 +32,10 @@ returns-in_default-2-clause-ok g c =
     let is : IsPlanned c.args.policy.now c.args.asked.now c.args.terms.at_most seen.0 planned =
     subst (IsJudged c.args.policy.now c.args.asked.now c.args.terms.at_most seen.0) c.in-Some.is seen.2 in
     let none : words_for planned.verdict.snapshot.group (within_of c.args.terms planned) (last_word planned.looked.last)
-    c.args.asked.now.idle planned.looked.removed planned.looked.rows.items planned.live.items planned.verdict.snapshot planned.verdict.answer ≡ None =
+    c.args.asked.now.claimable planned.looked.removed planned.looked.rows.items planned.live.items planned.verdict.snapshot planned.verdict.answer ≡ None =
     search rules in
     let shortage = short-from-none planned.verdict.snapshot.group (within_of c.args.terms planned) (last_word planned.looked.last)
-    c.args.asked.now.idle planned.looked.removed planned.looked.rows.items planned.live.items planned.verdict.snapshot planned.verdict.answer none in
+    c.args.asked.now.claimable planned.looked.removed planned.looked.rows.items planned.live.items planned.verdict.snapshot planned.verdict.answer none in
     (seen.0, seen.1, record { planned_so = is; set = shortage.0; shortage = shortage.1 })
 
 pub returns-in_err-claimed-clause-err : goal.returns-in_err-claimed-clause-err
@@ -45,7 +45,7 @@ returns-in_err-claimed-clause-err g c =
     let is : IsPlanned c.args.policy.now c.args.asked.now c.args.terms.at_most seen.0 planned =
     subst (IsJudged c.args.policy.now c.args.asked.now c.args.terms.at_most seen.0) c.in-Some.is seen.2 in
     let are_words : words_for planned.verdict.snapshot.group (within_of c.args.terms planned) (last_word planned.looked.last)
-    c.args.asked.now.idle planned.looked.removed planned.looked.rows.items planned.live.items planned.verdict.snapshot planned.verdict.answer
+    c.args.asked.now.claimable planned.looked.removed planned.looked.rows.items planned.live.items planned.verdict.snapshot planned.verdict.answer
     ≡ Some c.as_slice.result.now = search rules in
     broken-at-script c.args.policy.now c.args.asked.now c.args.terms _ _ _ _ _ _ c.from_residual-in_err-claimed.result _ planned
     seen.0 c.as_slice.result.now c.from_residual-in_err-claimed.ensures.1 seen.1 is are_words c.in_err-claimed.ensures.err
@@ -58,7 +58,7 @@ returns-in-Stale-clause-ok g c =
     let is : IsPlanned c.args.policy.now c.args.asked.now c.args.terms.at_most seen.0 planned =
     subst (IsJudged c.args.policy.now c.args.asked.now c.args.terms.at_most seen.0) c.in-Some.is seen.2 in
     let are_words : words_for planned.verdict.snapshot.group (within_of c.args.terms planned) (last_word planned.looked.last)
-    c.args.asked.now.idle planned.looked.removed planned.looked.rows.items planned.live.items planned.verdict.snapshot planned.verdict.answer
+    c.args.asked.now.claimable planned.looked.removed planned.looked.rows.items planned.live.items planned.verdict.snapshot planned.verdict.answer
     ≡ Some c.as_slice.result.now = search rules in
     let so = concluded-from c.args.policy.now c.args.asked.now c.args.terms _ _ _ _ _ _ planned
     (concluded.Stale c.in-Stale.what c.in-Stale.of) seen.0 c.as_slice.result.now seen.1 is are_words
@@ -73,7 +73,7 @@ returns-in-Done-clause-ok g c =
     let is : IsPlanned c.args.policy.now c.args.asked.now c.args.terms.at_most seen.0 planned =
     subst (IsJudged c.args.policy.now c.args.asked.now c.args.terms.at_most seen.0) c.in-Some.is seen.2 in
     let are_words : words_for planned.verdict.snapshot.group (within_of c.args.terms planned) (last_word planned.looked.last)
-    c.args.asked.now.idle planned.looked.removed planned.looked.rows.items planned.live.items planned.verdict.snapshot planned.verdict.answer
+    c.args.asked.now.claimable planned.looked.removed planned.looked.rows.items planned.live.items planned.verdict.snapshot planned.verdict.answer
     ≡ Some c.as_slice.result.now = search rules in
     done-made c.args.policy.now c.args.asked.now c.args.terms _ _
     (g.P.Peer.sent c.args.peer.now) (g.P.Peer.got c.args.peer.now) _ _ c.done.result planned c.in-Done.claimed
@@ -90,7 +90,7 @@ returns-in-Done-clause-err g c =
     let is : IsPlanned c.args.policy.now c.args.asked.now c.args.terms.at_most seen.0 planned =
     subst (IsJudged c.args.policy.now c.args.asked.now c.args.terms.at_most seen.0) c.in-Some.is seen.2 in
     let are_words : words_for planned.verdict.snapshot.group (within_of c.args.terms planned) (last_word planned.looked.last)
-    c.args.asked.now.idle planned.looked.removed planned.looked.rows.items planned.live.items planned.verdict.snapshot planned.verdict.answer
+    c.args.asked.now.claimable planned.looked.removed planned.looked.rows.items planned.live.items planned.verdict.snapshot planned.verdict.answer
     ≡ Some c.as_slice.result.now = search rules in
     done-unfit c.args.policy.now c.args.asked.now c.args.terms _ _
     (g.P.Peer.sent c.args.peer.now) (g.P.Peer.got c.args.peer.now) _ _ c.done.result planned c.in-Done.claimed

@@ -5,5 +5,5 @@ use Rattle.sr_live.proofs.said.pending_said.Given as goal
 
 abbrev pub invariant-loop : goal.invariant-loop
 invariant-loop l =
-    (rows : List wire.Part) × ArePendingRows rows l.owner l.ids.items × (length l.ids.items ≡ l.counter)
+    (rows : List wire.Part) × ArePendingRows rows l.owner l.entries.items × (length l.entries.items ≡ l.counter)
     × (l.initial.parts ≡ rows ++ l.parts)
