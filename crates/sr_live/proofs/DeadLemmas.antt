@@ -1,12 +1,12 @@
 -- Who is dead: what one more consumer adds to what was found.
-use Rattle.std.proofs.Common.{◌≡◌, ◌⊎◌, ℕ, ◌+◌, ◌<◌, ◌≤◌, Bool, true, false, nat_le, List, [], ◌∷◌, ◌++◌, length, get_or, take}
+use Rattle.std.proofs.Common.{◌≡◌, ℕ, ◌+◌, ◌<◌, ◌≤◌, Bool, List, [], ◌∷◌, ◌++◌, length, get_or, take}
 use Rattle.std.proofs.Common.{Option, arith, refl, sym, ap, ◌∙◌, subst, inl, inr, append-nil, append_assoc}
 use Rattle.std.proofs.lemmas.Bool.{le-leb}
 use Rattle.std.proofs.lemmas.List.{take_all, take_more}
 use Rattle.std.specs.Prelude.{if◌then◌else◌}
 use Rattle.sr_policy.specs.{Text}
 use Rattle.sr_peer.specs.{Part}
-use Rattle.sr_live.specs.Dead.{FindsDead, FindsEach, LooksOld, is_dead, name_of_dead, old_call}
+use Rattle.sr_live.specs.Dead.{FindsDead, FindsEach, LooksOld, name_of_dead, old_call}
 use Rattle.sr_live.specs.Looking.{Exchange, Talks, consumers_call}
 use Rattle.sr_live.specs.Said.{Delivered, SaysIdle, SaysPending}
 use Rattle.sr_live.proofs.ReadingLemmas.{AreReading, reading-append}

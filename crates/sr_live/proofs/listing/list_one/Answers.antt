@@ -1,5 +1,4 @@
-use Rattle.std.proofs.Common.{rules, ◌≡◌, ◌++◌, ◌∷◌, ◌∙◌, [], List, ap, append-nil, inl, inr, leb, length, map, refl, subst, sym, true}
-use Rattle.sr_ids.specs.declared.id.Id.{Id}
+use Rattle.std.proofs.Common.{rules, ◌≡◌, ◌++◌, ◌∷◌, [], List, ap, append-nil, inl, inr, leb, length, map, refl, subst, sym, true}
 use Rattle.sr_policy.specs.{Text}
 use Rattle.sr_live.specs.Looking.{Exchange, ids_in, ids_within, last_of, pending_call, start_after}
 use Rattle.sr_live.specs.Said.{Delivered, SaysPending}
