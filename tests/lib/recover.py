@@ -24,9 +24,9 @@ PROGRAM = os.environ.get("SR_RECOVER", os.path.join(ROOT, "crates", "sr_recover"
 SECONDS = 120  # that the program has
 UNREAD = object()  # in place of the fields of an entry that was listed, and not asked for
 
-# What the program printed, how it ended, and after how long. Its last notes, on what would help, are not among the errors.
+# What the program printed, how it ended, and after how long. Notes on what would help, and on what was given up, are not among the errors.
 Run = collections.namedtuple("Run", "status out errors seconds advice", defaults=[b""])
-ADVICE = re.compile(rb"^note: (?:one more place|these may go to|nobody who is live) .*\n", re.MULTILINE)
+ADVICE = re.compile(rb"^note: (?:one more place|these may go to|nobody who is live|given up,?) .*\n", re.MULTILINE)
 
 # What goes to the program in place of a reply, and what the proxy does then: None, "close" or "hang".
 Sent = collections.namedtuple("Sent", "text then", defaults=[None])

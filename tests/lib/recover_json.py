@@ -5,7 +5,7 @@ import subprocess
 import tempfile
 
 from .live import Live, all_replies
-from .live_rows import SOFT, SOFT_LIVE, TWO, TWO_LIVE, lines
+from .live_rows import DELIVERIES, OFTEN, SOFT, SOFT_LIVE, TWO, TWO_LIVE, lines
 from .recover import Proxy, policy_text, run, words_of
 from .recover_rows import GROUP, before_script
 
@@ -67,6 +67,11 @@ def plans(tally, port, connection):
     tally.check("no plan", (3, [short], b""), printed(port, "plan", names=["s", "g", "D", "A"]))
     begun(connection, TWO, ["XDEL", "s", "2-1"])
     tally.check("one is gone", (0, [ONE | {"gone": 1}], b""), printed(port, "plan", lives=ROOMY))
+    begun(connection, OFTEN)
+    left = {"given_up": {"entries": 1, "first": [{"id": "1-1", "name": "D", "delivered": 3}]}}
+    tally.check("one is given up", (0, [ONE | left], b""), printed(port, "plan", "--given-up-after", DELIVERIES, lives=ROOMY))
+    none = {"given_up": {"entries": 0, "first": []}}
+    tally.check("none is given up", (0, [PLAN | none], b""), printed(port, "plan", "--given-up-after", 3))
     begun(connection, SOFT)
     both = A | {"entries": 2, "cost": 2 + 2 + 5, "price": 5, "beyond": 0}
     tally.check("a soft limit", (0, [PLAN | {"total": 9, "consumers": [both, NO_B]}], b""), printed(port, "plan", lives=SOFT_LIVE))

@@ -113,6 +113,8 @@ def between(bench, proxy):
     rows += [(SPARE_TWO, SPARE_LIVE, f"--spare 1: {what}", changes, ["--spare", 1, *options], wanted) for what, changes, options, wanted in SPARE_ROWS]
     idle = ["--idle-over", script_rows.IDLE]
     rows += [(script_rows.IDLE_TWO, TWO_LIVE, what, changes, idle, wanted) for what, changes, wanted in IDLE_ROWS]
+    often = ["--given-up-after", script_rows.DELIVERIES]
+    rows += [(script_rows.OFTEN, TWO_LIVE, f"delivered often: {what}", changes, often, wanted) for what, changes, wanted in script_rows.OFTEN_ROWS]
     for setting, lives, what, changes, options, wanted in rows:
         bench.begin(setting)
         proxy.begin(before_script(bench.connection, changes))
@@ -238,6 +240,9 @@ OPTIONS = [
     "--idle-over -1",
     "--idle-over 1000000000001",
     "--idle-over x",
+    "--given-up-after 0",
+    "--given-up-after 1000000001",
+    "--given-up-after x",
     "--tries 0",
     "--tries 17",
     "--tries x",
@@ -642,6 +647,28 @@ def idle(bench, _):
     bench.check("the other one stays", [b"A", b"D"], owners)
 
 
+def given_up(bench, _):
+    """--given-up-after: what was delivered more often is left and told, 20 of it at most, also if there are more pages than one."""
+    bench.begin(script_rows.OFTEN)
+    told = b"note: given up, as --given-up-after %d asks: %d\n"
+    first, second = b"note: given up 1-1 of D, deliveries 3\n", b"note: given up 2-1 of D, deliveries 2\n"
+    for most, ids, notes in ((3, [b"1-1", b"2-1"], b""), (2, [b"2-1"], told % (2, 1) + first), (1, [], told % (1, 2) + first + second)):
+        found = bench.plan("--check", "--given-up-after", most)
+        listed = [line.split()[1] for line in found.out.split(b"\n") if line.startswith(b"entry ")]
+        bench.check(f"delivered at most {most} times", (ids, notes), (listed, found.advice))
+    found = bench.plan("--given-up-after", 2, action="run")
+    bench.check("the other one is moved", (0, (1, 0), told % (2, 1) + first), (found.status, Printed(found.out).done, found.advice))
+    rows = bench.connection.call("XPENDING", "s", "g", "1-1", "2-1", 9)
+    bench.check("the first one stays", [(b"1-1", b"D", 3), (b"2-1", b"A", 2)], [(row[0], row[1], row[3]) for row in rows])
+    added = "\n".join(f"XADD s {at}-1 c x" for at in range(3, 1203))
+    again = "XREADGROUP GROUP g D COUNT 1199 STREAMS s 1-1"
+    bench.begin([*TWO, *lines(f"{added}\nXREADGROUP GROUP g D COUNT 1200 STREAMS s >\n{again}")])
+    found = bench.plan("--given-up-after", 1, "--check", lives=[Live(b"B", 9, None, {b"x": 1, b"y": 1})])
+    listed = [line.split()[1] for line in found.out.split(b"\n") if line.startswith(b"entry ")]
+    bench.check("more than a page", ([b"1-1", b"1201-1", b"1202-1"], True), (listed, found.advice.startswith(told % (1, 1199))))
+    bench.check("twenty are told", 21, found.advice.count(b"\n"))
+
+
 def newcomers(bench, _):
     """A note for each consumer that is given entries and that the group does not have; none for one that is given none."""
     bench.begin([*TWO, *lines("XGROUP DELCONSUMER s g A\nXGROUP DELCONSUMER s g B")])
@@ -813,7 +840,7 @@ def compare(tally, connection):
     """Compares all rows."""
     bench = Bench(tally, connection)
     looks = between, statuses, other_names, policies, command_lines, places, passwords, echoing, rights
-    reads = firsts, no_further, many, everything, hidden, too_long, gone, spare, idle, newcomers, seen_within, leftovers
+    reads = firsts, no_further, many, everything, hidden, too_long, gone, spare, idle, given_up, newcomers, seen_within, leftovers
     parts = *looks, *reads, rounds, within_snapshot, checked, silence, large
     with Proxy(bench.port) as proxy:
         for part in parts:

@@ -140,20 +140,16 @@ fn print_given_up<W: Write>(out: &mut W, alloc: Global, given_up: &GivenUp) -> R
     if given_up.all == 0 {
         return Ok(());
     }
-    print_number(
-        out,
-        b"note: given up, since they were delivered more than ",
-        given_up.most,
-    )?;
-    print_number(out, b" times: ", given_up.all)?;
+    print_number(out, b"note: given up, as --given-up-after ", given_up.most)?;
+    print_number(out, b" asks: ", given_up.all)?;
     say(out, b"\n")?;
     for entry in &given_up.first {
         say(out, b"note: given up ")?;
         say(out, entry.id.as_slice())?;
         say(out, b" of ")?;
         print_name(out, alloc, entry.owner.as_slice())?;
-        print_number(out, b", delivered ", entry.count)?;
-        say(out, b" times\n")?;
+        print_number(out, b", deliveries ", entry.count)?;
+        say(out, b"\n")?;
     }
     Ok(())
 }
