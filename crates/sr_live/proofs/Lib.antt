@@ -1,3 +1,4 @@
+pub mod MisreadLemmas
 pub mod SaidLemmas
 pub mod AlikeLemmas
 pub mod BoundsLemmas

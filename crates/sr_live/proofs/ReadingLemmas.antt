@@ -12,17 +12,23 @@ use Rattle.std.specs.List.Sorted.{IsPermutation}
 use Rattle.std.specs.Result.{IfErr, IsErrAnd}
 use Rattle.sr_ids.specs.declared.id.Id.{Id}
 use Rattle.sr_policy.specs.{Text}
-use Rattle.sr_peer.specs.{request_text}
+use Rattle.sr_peer.specs.{Part, part_text, request_text}
 use Rattle.sr_peer.specs.Exchange.{SendsPart}
+use Rattle.sr_peer.specs.Reply.{Error}
+use Rattle.sr_live.specs.declared.fault.LiveCall.{LiveCall}
 use Rattle.sr_live.specs.declared.fault.LiveFault.{LiveFault}
-use Rattle.sr_live.specs.declared.fault.LiveFault.TheVariants.{Memory}
+use Rattle.sr_live.specs.declared.fault.LiveFault.TheVariants.{Changed, ErrorReply, Memory, Peer, Shape, TooMany, Unfit}
+use Rattle.sr_live.specs.declared.fault.LiveFault.TheVariants.{Unknown}
 use Rattle.sr_live.specs.declared.looked.Asked.{Asked}
 use Rattle.sr_live.specs.declared.looked.Claimable.{Claimable}
 use Rattle.sr_live.specs.declared.looked.Row.{Row}
+use Rattle.sr_live.specs.declared.said.Misread.{Misread}
+use Rattle.sr_live.specs.declared.said.Misread.TheVariants as misreads
 use Rattle.sr_live.specs.Looking.{Exchange, IsLooked, ListsDead, ListsPages, LooksEntries, LooksIdle, LooksLive, LooksRows}
-use Rattle.sr_live.specs.Looking.{ReadsOne, ReadsRange, Talks, asked_of, entry_call, ids_in, last_of, numbers_call}
-use Rattle.sr_live.specs.Looking.{pending_call, range_call, start_after}
-use Rattle.sr_live.specs.Reading.{BreaksOff, HasOnlyRead, IsOfLooking, Reads}
+use Rattle.sr_live.specs.Looking.{ReadsOne, ReadsRange, Talks, answered_of, asked_of, entry_call, ids_in, last_of}
+use Rattle.sr_live.specs.Looking.{numbers_call, pending_call, range_call, start_after}
+use Rattle.sr_live.specs.Reading.{BreaksOff, CameError, HasOnlyRead, IsOfLooking, IsReplied, Reads}
+use Rattle.sr_live.specs.steps.Misread.{IsToldAs, Tells, told_as}
 
 -- ---- what was sent
 
@@ -227,30 +233,108 @@ IsLooked-reads asked at_most talk idles numbers rows last removed looked =
           (LooksLive-reads asked.key asked.group asked.seen_within looked.asking idles numbers looked.live),
     )
 
+-- ---- an error that came
+
+-- the parts of the replies
+abbrev parts_of : List Exchange → List Part
+parts_of talk = flat_map (λ (exchange : Exchange). exchange.1) talk
+
+answered-parts : (talk : List Exchange) → answered_of talk ≡ flat_map part_text (parts_of talk)
+answered-parts [] = refl
+answered-parts (exchange ∷ talk) =
+    ap (λ (text : List ℕ). flat_map part_text exchange.1 ++ text) (answered-parts talk)
+    ∙ sym (flat_map-append part_text exchange.1 (parts_of talk))
+
+came-later : (got got_then got_last : Option (List ℕ)) (talk : List Exchange) (text : Text)
+    → Appends got got_then (answered_of talk) → CameError got_then got_last text → CameError got got_last text
+came-later got got_then got_last talk text answered then =
+    let first : List Part = parts_of talk in
+    let error : List Part = Error text ∷ then.behind in
+    let rest : List ℕ = flat_map part_text (then.before ++ error) in
+    let is : answered_of talk ++ rest ≡ flat_map part_text ((first ++ then.before) ++ error) =
+    ap (λ (front : List ℕ). front ++ rest) (answered-parts talk)
+    ∙ sym (flat_map-append part_text first (then.before ++ error))
+    ∙ ap (flat_map part_text) (sym (append_assoc first then.before error)) in
+    record {
+      before = first ++ then.before;
+      behind = then.behind;
+      came = subst (Appends got got_last) is
+          (Appends-trans got got_then got_last (answered_of talk) rest answered then.came);
+    }
+
+-- the error that is told came, if not before these replies
+replied-later : (got got_then got_last : Option (List ℕ)) (talk : List Exchange) (fault : LiveFault)
+    → Appends got got_then (answered_of talk) → IsReplied got_then got_last fault → IsReplied got got_last fault
+replied-later got got_then got_last talk Memory answered told = tt
+replied-later got got_then got_last talk (Peer why) answered told = tt
+replied-later got got_then got_last talk (ErrorReply call text) answered told =
+    came-later got got_then got_last talk text answered told
+replied-later got got_then got_last talk (Shape call) answered told = tt
+replied-later got got_then got_last talk TooMany answered told = tt
+replied-later got got_then got_last talk Changed answered told = tt
+replied-later got got_then got_last talk Unfit answered told = tt
+replied-later got got_then got_last talk (Unknown why) answered told = tt
+
+-- it is one of the parts that came
+module _ (got got_then : Option (List ℕ)) (call : LiveCall) (parts : List Part) where
+  replied-misread : (misread : Misread) → Appends got got_then (flat_map part_text parts) → Tells parts misread
+      → IsReplied got got_then (told_as call misread)
+  replied-misread misreads.Memory came tells = tt
+  replied-misread (misreads.ErrorReply text) came (before, behind, is) = record {
+    before = before;
+    behind = behind;
+    came = subst (λ (l : List Part). Appends got got_then (flat_map part_text l)) is came;
+  }
+  replied-misread misreads.Shape came tells = tt
+
+  replied-from : {S : Type 0} (said : Result S Misread) (fault : LiveFault)
+      → Appends got got_then (flat_map part_text parts) → IsToldAs call said fault → IfErr said (Tells parts)
+      → IsReplied got got_then fault
+  replied-from (Ok value) fault came is tells = absurd is
+  replied-from (Err misread) fault came is tells =
+      subst (IsReplied got got_then) (sym is) (replied-misread misread came tells)
+
 -- ---- faults
 
-module _ {T : Type 0} (result : Result T LiveFault) (sent sent_then : Option (List ℕ)) where
+-- calls that only read, and then a look-up that breaks off
+pub breaks-later : (sent got sent_then got_then sent_last got_last : Option (List ℕ)) (talk : List Exchange)
+    (fault : LiveFault) → Talks sent got sent_then got_then talk → AreReading talk
+    → BreaksOff sent_then got_then sent_last got_last fault → BreaksOff sent got sent_last got_last fault
+breaks-later sent got sent_then got_then sent_last got_last talk fault talks reading broken = record {
+  looking = broken.looking;
+  read = reads-later sent got sent_then got_then sent_last talk talks reading broken.read;
+  told = replied-later got got_then got_last talk fault talks.answered broken.told;
+}
+
+module _ {T : Type 0} (result : Result T LiveFault) (sent got sent_then got_then : Option (List ℕ)) where
   -- memory was refused
   pub breaks-memory : IsErrAnd result (λ fault. fault ≡ Memory) → HasOnlyRead sent sent_then
-      → IfErr result (BreaksOff sent sent_then)
+      → IfErr result (BreaksOff sent got sent_then got_then)
   breaks-memory is read =
       let told = err_from_is_err_and result is in
-      subst (λ (r : Result T LiveFault). IfErr r (BreaksOff sent sent_then)) (sym told.1)
-      (record { looking = subst IsOfLooking (sym told.2) tt; read = read })
+      subst (λ (r : Result T LiveFault). IfErr r (BreaksOff sent got sent_then got_then)) (sym told.1)
+      (subst (BreaksOff sent got sent_then got_then) (sym told.2) (record { looking = tt; read = read; told = tt }))
 
   -- a fault is passed on
-  pub breaks-passed : (fault : LiveFault) → IsErrAnd result (λ passed. passed ≡ fault) → IsOfLooking fault
-      → HasOnlyRead sent sent_then → IfErr result (BreaksOff sent sent_then)
-  breaks-passed fault is looking read =
+  pub breaks-passed : (fault : LiveFault) → IsErrAnd result (λ passed. passed ≡ fault)
+      → BreaksOff sent got sent_then got_then fault → IfErr result (BreaksOff sent got sent_then got_then)
+  breaks-passed fault is broken =
       let told = err_from_is_err_and result is in
-      subst (λ (r : Result T LiveFault). IfErr r (BreaksOff sent sent_then)) (sym told.1)
-      (record { looking = subst IsOfLooking (sym told.2) looking; read = read })
+      subst (λ (r : Result T LiveFault). IfErr r (BreaksOff sent got sent_then got_then)) (sym told.1)
+      (subst (BreaksOff sent got sent_then got_then) (sym told.2) broken)
 
   -- what was read says nothing
-  pub breaks-understood : IfErr result IsOfLooking → HasOnlyRead sent sent_then → IfErr result (BreaksOff sent sent_then)
-  breaks-understood = by result
+  pub breaks-understood : {S : Type 0} (call : LiveCall) (said : Result S Misread) (text : List ℕ) (parts : List Part)
+      → IfErr result IsOfLooking → IfErr result (IsToldAs call said) → IfErr said (Tells parts)
+      → Appends got got_then text → text ≡ flat_map part_text parts → HasOnlyRead sent sent_then
+      → IfErr result (BreaksOff sent got sent_then got_then)
+  breaks-understood {S} call said text parts looking told tells came spelled read = by result looking told
     where
-      by : (r : Result T LiveFault) → IfErr r IsOfLooking → HasOnlyRead sent sent_then
-          → IfErr r (BreaksOff sent sent_then)
-      by (Ok value) looking read = tt
-      by (Err fault) looking read = record { looking = looking; read = read }
+      by : (r : Result T LiveFault) → IfErr r IsOfLooking → IfErr r (IsToldAs call said)
+          → IfErr r (BreaksOff sent got sent_then got_then)
+      by (Ok value) looking told = tt
+      by (Err fault) looking told = record {
+        looking = looking;
+        read = read;
+        told = replied-from got got_then call parts said fault (subst (Appends got got_then) spelled came) told tells;
+      }

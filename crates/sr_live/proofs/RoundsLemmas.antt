@@ -96,7 +96,7 @@ module _ (rules : Rules) (asked : Asked) (terms : Terms) where
 
     -- looking the group up broke off
     pub broken-off : {T : Type 0} (result : Result T LiveFault) (fault : LiveFault)
-        → IsErrAnd result (λ passed. passed ≡ fault) → BreaksOff sent sent_last fault
+        → IsErrAnd result (λ passed. passed ≡ fault) → BreaksOff sent got sent_last got_last fault
         → IfErr result (HasBroken rules asked terms sent got sent_last got_last)
     broken-off {T} result fault is broken =
         let told = err_from_is_err_and result is in
@@ -106,7 +106,7 @@ module _ (rules : Rules) (asked : Asked) (terms : Terms) where
     -- memory was refused before the script was called
     pub broken-memory : {T : Type 0} (result : Result T LiveFault) → IsErrAnd result (λ fault. fault ≡ Memory)
         → HasOnlyRead sent sent_last → IfErr result (HasBroken rules asked terms sent got sent_last got_last)
-    broken-memory result is read = broken-off result Memory is (record { looking = tt; read = read })
+    broken-memory result is read = broken-off result Memory is (record { looking = tt; read = read; told = tt })
 
     -- the script brought no conclusion
     pub broken-at-script : {T : Type 0} (result : Result T LiveFault) (fault : LiveFault) (planned : Planned)

@@ -144,7 +144,7 @@ pub record HasRun (rules : Rules) (asked : Asked) (terms : Terms) (sent got sent
 abbrev pub HasNoPlan : Rules → Asked → Option ℕ → Option (List ℕ) → Option (List ℕ) → Option (List ℕ)
     → Option (List ℕ) → LiveFault → Type 0
 HasNoPlan rules asked at_most sent got sent_then got_then fault =
-    BreaksOff sent sent_then fault
+    BreaksOff sent got sent_then got_then fault
     ⊎ ((fault ≡ Changed) × ((talk : List Exchange) × Talks sent got sent_then got_then talk
     × HasChanged rules asked at_most talk))
 
@@ -176,7 +176,7 @@ pub record IsUnfit (rules : Rules) (asked : Asked) (terms : Terms) (sent got sen
 abbrev pub HasBroken : Rules → Asked → Terms → Option (List ℕ) → Option (List ℕ) → Option (List ℕ) → Option (List ℕ)
     → LiveFault → Type 0
 HasBroken rules asked terms sent got sent_then got_then fault =
-    BreaksOff sent sent_then fault
+    BreaksOff sent got sent_then got_then fault
     ⊎ (BreaksAtScript rules asked terms sent got sent_then got_then fault
     ⊎ IsUnfit rules asked terms sent got sent_then got_then fault)
 

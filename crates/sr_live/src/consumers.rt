@@ -23,7 +23,7 @@ pub(crate) fn look_live<P: Peer>(
     ensures ok { IfOk result (λ live. (talk : List Exchange)
         × Talks (P.sent peer.old) (P.got peer.old) (P.sent peer.new) (P.got peer.new) talk
         × LooksLive asked.now.key asked.now.group asked.now.seen_within talk live.0.items live.1.items) }
-    ensures err { IfErr result (BreaksOff (P.sent peer.old) (P.sent peer.new)) }
+    ensures err { IfErr result (BreaksOff (P.sent peer.old) (P.got peer.old) (P.sent peer.new) (P.got peer.new)) }
 {
     let idles = look_seen(peer, alloc, asked)?;
     let numbers = look_numbers(peer, alloc, &asked.key, &asked.group)?;
@@ -39,7 +39,7 @@ fn look_seen<P: Peer>(
     ensures ok { IfOk result (λ idles. (talk : List Exchange)
         × Talks (P.sent peer.old) (P.got peer.old) (P.sent peer.new) (P.got peer.new) talk
         × LooksIdle asked.now.key asked.now.group asked.now.seen_within talk idles.items) }
-    ensures err { IfErr result (BreaksOff (P.sent peer.old) (P.sent peer.new)) }
+    ensures err { IfErr result (BreaksOff (P.sent peer.old) (P.got peer.old) (P.sent peer.new) (P.got peer.new)) }
 {
     match asked.seen_within {
         Some(_within) => look_idles(peer, alloc, &asked.key, &asked.group),
@@ -60,7 +60,7 @@ pub fn look_numbers<P: Peer>(
         × Talks (P.sent peer.old) (P.got peer.old) (P.sent peer.new) (P.got peer.new)
         ((numbers_call key.now group.now, parts) ∷ [])
         × SaysNumbers parts numbers.items) }
-    ensures err { IfErr result (BreaksOff (P.sent peer.old) (P.sent peer.new)) }
+    ensures err { IfErr result (BreaksOff (P.sent peer.old) (P.got peer.old) (P.sent peer.new) (P.got peer.new)) }
 {
     let request = numbers_request(alloc, key, group)?;
     match ask(peer, alloc, request.as_slice(), 1) {
@@ -89,7 +89,7 @@ pub fn look_idles<P: Peer>(
         × Talks (P.sent peer.old) (P.got peer.old) (P.sent peer.new) (P.got peer.new)
         ((consumers_call key.now group.now, parts) ∷ [])
         × SaysIdle parts idles.items) }
-    ensures err { IfErr result (BreaksOff (P.sent peer.old) (P.sent peer.new)) }
+    ensures err { IfErr result (BreaksOff (P.sent peer.old) (P.got peer.old) (P.sent peer.new) (P.got peer.new)) }
 {
     let request = consumers_request(alloc, key, group)?;
     match ask(peer, alloc, request.as_slice(), 1) {

@@ -35,7 +35,7 @@ pub fn find_dead<P: Peer>(
     ensures ok { IfOk result (λ dead. (talk : List Exchange)
         × Talks (P.sent peer.old) (P.got peer.old) (P.sent peer.new) (P.got peer.new) talk
         × FindsDead key.now group.now after talk dead.items) }
-    ensures err { IfErr result (BreaksOff (P.sent peer.old) (P.sent peer.new)) }
+    ensures err { IfErr result (BreaksOff (P.sent peer.old) (P.got peer.old) (P.sent peer.new) (P.got peer.new)) }
 {
     let idles = look_idles(peer, alloc, key, group)?;
     let sought = Sought { key, group, after };
@@ -61,7 +61,7 @@ fn find_each<P: Peer>(
     ensures ok { IfOk result (λ dead. (talk : List Exchange)
         × Talks (P.sent peer.old) (P.got peer.old) (P.sent peer.new) (P.got peer.new) talk
         × FindsEach sought.now.key.now sought.now.group.now sought.now.after consumers.now talk dead.items) }
-    ensures err { IfErr result (BreaksOff (P.sent peer.old) (P.sent peer.new)) }
+    ensures err { IfErr result (BreaksOff (P.sent peer.old) (P.got peer.old) (P.sent peer.new) (P.got peer.new)) }
 {
     let mut dead = Vec::new(alloc);
     for one in consumers {
@@ -82,7 +82,7 @@ fn push_dead<P: Peer>(
         × Talks (P.sent peer.old) (P.got peer.old) (P.sent peer.new) (P.got peer.new) talk
         × LooksOld sought.now.key.now sought.now.group.now sought.now.after one.now old talk
         × (dead.new.items ≡ dead.old.items ++ name_of_dead sought.now.after one.now old)) }
-    ensures err { IfErr result (BreaksOff (P.sent peer.old) (P.sent peer.new)) }
+    ensures err { IfErr result (BreaksOff (P.sent peer.old) (P.got peer.old) (P.sent peer.new) (P.got peer.new)) }
 {
     if one.1 < sought.after {
         return Ok(());
@@ -106,7 +106,7 @@ fn look_old<P: Peer>(
         × Talks (P.sent peer.old) (P.got peer.old) (P.sent peer.new) (P.got peer.new)
         ((old_call sought.now.key.now sought.now.group.now sought.now.after name.now, parts) ∷ [])
         × SaysPending parts name.now old.items) }
-    ensures err { IfErr result (BreaksOff (P.sent peer.old) (P.sent peer.new)) }
+    ensures err { IfErr result (BreaksOff (P.sent peer.old) (P.got peer.old) (P.sent peer.new) (P.got peer.new)) }
 {
     let mut after = Buffer::new();
     let request = old_request(alloc, sought, name, after.format(sought.after).as_bytes())?;

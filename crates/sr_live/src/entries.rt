@@ -10,6 +10,7 @@ ghost use Rattle.sr_live.specs.Looking.{Exchange, LooksEntries, Talks, entry_cal
 ghost use Rattle.sr_live.specs.Reading.{BreaksOff};
 ghost use Rattle.sr_live.specs.Said.{SayEntries};
 ghost use Rattle.sr_live.specs.steps.Listing.{Finds};
+ghost use Rattle.sr_live.specs.steps.Misread.{Tells};
 
 use crate::fault::{LiveCall, LiveFault};
 use crate::looked::{Asked, Row};
@@ -49,7 +50,7 @@ pub(crate) fn look_first<P: Peer>(
         × LooksEntries asked.now.key more talk × (map listed_as more ++ rest ≡ listed.now)
         × (found.new.rows.items ≡ found.old.rows.items ++ more)
         × Finds found.old.wanted more found.new.wanted) }
-    ensures err { IfErr result (BreaksOff (P.sent peer.old) (P.sent peer.new)) }
+    ensures err { IfErr result (BreaksOff (P.sent peer.old) (P.got peer.old) (P.sent peer.new) (P.got peer.new)) }
 {
     let mut left = listed;
     while !left.is_empty() && found.wanted > 0 {
@@ -80,7 +81,7 @@ fn look_next<P: Peer>(
         × LooksEntries asked.now.key more talk × (map listed_as more ≡ take count listed.now)
         × (found.new.rows.items ≡ found.old.rows.items ++ more)
         × Finds found.old.wanted more found.new.wanted) }
-    ensures err { IfErr result (BreaksOff (P.sent peer.old) (P.sent peer.new)) }
+    ensures err { IfErr result (BreaksOff (P.sent peer.old) (P.got peer.old) (P.sent peer.new) (P.got peer.new)) }
 {
     let most = found
         .pace
@@ -113,7 +114,7 @@ fn look_some<P: Peer>(
         × LooksEntries asked.now.key more talk × (map listed_as more ≡ listed.now)
         × (found.new.rows.items ≡ found.old.rows.items ++ more)
         × Finds found.old.wanted more found.new.wanted) }
-    ensures err { IfErr result (BreaksOff (P.sent peer.old) (P.sent peer.new)) }
+    ensures err { IfErr result (BreaksOff (P.sent peer.old) (P.got peer.old) (P.sent peer.new) (P.got peer.new)) }
 {
     let mut more = Vec::with_capacity(alloc, listed.len())?;
     look_together(peer, alloc, &asked.key, listed, &mut more)?;
@@ -142,7 +143,7 @@ fn look_together<P: Peer>(
         × Talks (P.sent peer.old) (P.got peer.old) (P.sent peer.new) (P.got peer.new) talk
         × LooksEntries key.now more talk × (map (λ row. (row.id, row.owner)) more ≡ listed.now)
         × (rows.new.items ≡ rows.old.items ++ more)) }
-    ensures err { IfErr result (BreaksOff (P.sent peer.old) (P.sent peer.new)) }
+    ensures err { IfErr result (BreaksOff (P.sent peer.old) (P.got peer.old) (P.sent peer.new) (P.got peer.new)) }
 {
     let requests = entry_requests(alloc, key, listed)?;
     match ask(peer, alloc, requests.as_slice(), listed.len()) {
@@ -161,9 +162,10 @@ fn rows_said(
     listed: &[(Id, Name)],
     rows: &mut Vec<Row>,
 ) -> Result<(), Misread>
-    ensures { OnOk result ((replies : List (List wire.Part)) × (more : List Row)
+    ensures ok { OnOk result ((replies : List (List wire.Part)) × (more : List Row)
         × SayEntries replies more × (parts.entry ≡ flat_map (λ reply. reply) replies)
         × (map (λ row. (row.id, row.owner)) more ≡ listed.now) × (rows.new.items ≡ rows.old.items ++ more)) }
+    ensures err { IfErr result (Tells parts.entry) }
 {
     for (id, owner) in listed {
         let fields = entry_said(alloc, &mut parts, *id)?;

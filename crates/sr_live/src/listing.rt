@@ -101,7 +101,7 @@ pub(crate) fn list_on<P: Peer>(
         × Talks (P.sent peer.old) (P.got peer.old) (P.sent peer.new) (P.got peer.new) talk
         × Widens asked.now.key asked.now.group asked.now.claimable listings.now wider.items talk more
         × (ahead.new.items ≡ ahead.old.items ++ more)) }
-    ensures err { IfErr result (BreaksOff (P.sent peer.old) (P.sent peer.new)) }
+    ensures err { IfErr result (BreaksOff (P.sent peer.old) (P.got peer.old) (P.sent peer.new) (P.got peer.new)) }
 {
     let mut wider = Vec::with_capacity(alloc, listings.len())?;
     for one in listings {
@@ -122,7 +122,7 @@ fn list_one<P: Peer>(
         × Talks (P.sent peer.old) (P.got peer.old) (P.sent peer.new) (P.got peer.new) talk
         × ListsOn asked.now.key asked.now.group asked.now.claimable one.now now talk ids
         × (ahead.new.items ≡ ahead.old.items ++ map (λ id. (id, one.now.name)) ids)) }
-    ensures err { IfErr result (BreaksOff (P.sent peer.old) (P.sent peer.new)) }
+    ensures err { IfErr result (BreaksOff (P.sent peer.old) (P.got peer.old) (P.sent peer.new) (P.got peer.new)) }
 {
     let name = one.name.copy(alloc)?;
     let last = one.last;
@@ -211,7 +211,7 @@ fn look_page<P: Peer>(
         × Talks (P.sent peer.old) (P.got peer.old) (P.sent peer.new) (P.got peer.new)
         ((pending_call asked.now.key asked.now.group asked.now.claimable.idle (start_after after) name.now, parts) ∷ [])
         × SaysPending parts name.now listed.items) }
-    ensures err { IfErr result (BreaksOff (P.sent peer.old) (P.sent peer.new)) }
+    ensures err { IfErr result (BreaksOff (P.sent peer.old) (P.got peer.old) (P.sent peer.new) (P.got peer.new)) }
 {
     let start = start_text(alloc, after)?;
     let mut idle = Buffer::new();

@@ -10,6 +10,7 @@ ghost use Rattle.sr_live.specs.Looking.{Exchange, IsLooked, LooksRows, Talks, la
 ghost use Rattle.sr_live.specs.Reading.{BreaksOff, IsOfLooking, IsReading};
 ghost use Rattle.sr_live.specs.Said.{SaysRemoved};
 ghost use Rattle.sr_live.specs.steps.Listing.{Follow, Passes};
+ghost use Rattle.sr_live.specs.steps.Misread.{IsToldAs};
 
 use crate::consumers::look_live;
 use crate::entries::{Found, MAX_ROWS, look_first};
@@ -41,7 +42,7 @@ pub fn look<P: Peer>(
         × Talks (P.sent peer.old) (P.got peer.old) (P.sent peer.new) (P.got peer.new) talk
         × IsLooked asked.now at_most talk looked.idles.items looked.numbers.items looked.rows.items looked.last
         looked.removed) }
-    ensures err { IfErr result (BreaksOff (P.sent peer.old) (P.sent peer.new)) }
+    ensures err { IfErr result (BreaksOff (P.sent peer.old) (P.got peer.old) (P.sent peer.new) (P.got peer.new)) }
 {
     // Before any entry is read: what was removed by then is read as gone, and what is removed later alters the number.
     let removed = look_removed(peer, alloc, &asked.key)?;
@@ -64,7 +65,7 @@ fn look_removed<P: Peer>(peer: &mut P, alloc: Global, key: &Name) -> Result<u64,
     ensures ok { IfOk result (λ removed. (parts : List wire.Part)
         × Talks (P.sent peer.old) (P.got peer.old) (P.sent peer.new) (P.got peer.new)
         ((stream_call key.now, parts) ∷ []) × SaysRemoved parts removed) }
-    ensures err { IfErr result (BreaksOff (P.sent peer.old) (P.sent peer.new)) }
+    ensures err { IfErr result (BreaksOff (P.sent peer.old) (P.got peer.old) (P.sent peer.new) (P.got peer.new)) }
 {
     let request = stream_request(alloc, key)?;
     match ask(peer, alloc, request.as_slice(), 1) {
@@ -102,7 +103,7 @@ fn look_rows<P: Peer>(
         × Talks (P.sent peer.old) (P.got peer.old) (P.sent peer.new) (P.got peer.new) talk
         × LooksRows asked.now.key asked.now.group asked.now.claimable asked.now.dead.items at_most talk seen.0.items
         seen.1) }
-    ensures err { IfErr result (BreaksOff (P.sent peer.old) (P.sent peer.new)) }
+    ensures err { IfErr result (BreaksOff (P.sent peer.old) (P.got peer.old) (P.sent peer.new) (P.got peer.new)) }
 {
     let mut seen = Seen {
         listings: unlisted(alloc, asked.dead.as_slice())?,
@@ -160,7 +161,7 @@ fn look_pass<P: Peer>(
     ensures ok { IfOk result (λ now. (talk : List Exchange)
         × Talks (P.sent peer.old) (P.got peer.old) (P.sent peer.new) (P.got peer.new) talk
         × Passes asked.now.key asked.now.group asked.now.claimable talk seen now) }
-    ensures err { IfErr result (BreaksOff (P.sent peer.old) (P.sent peer.new)) }
+    ensures err { IfErr result (BreaksOff (P.sent peer.old) (P.got peer.old) (P.sent peer.new) (P.got peer.new)) }
 {
     let Seen {
         listings,
@@ -227,6 +228,7 @@ pub(crate) fn append_request(out: &mut Vec<u8>, words: &[&[u8]]) -> Result<(), A
 pub(crate) fn understood<T>(call: LiveCall, said: Result<T, Misread>) -> Result<T, LiveFault>
     ensures ok { IfOk result (λ value. said ≡ Ok value) }
     ensures err { IsReading call → IfErr result IsOfLooking }
+    ensures told { IfErr result (IsToldAs call said) }
 {
     match said {
         Ok(value) => Ok(value),

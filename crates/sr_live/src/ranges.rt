@@ -10,6 +10,7 @@ ghost use Rattle.sr_live.specs.Reading.{BreaksOff};
 ghost use Rattle.sr_live.specs.Said.{IsTold, Listed, SaysRange};
 ghost use Rattle.sr_live.specs.Said.{fields_at as at, is_between as between, reaches as reach};
 ghost use Rattle.sr_live.specs.steps.Listing.{Finds};
+ghost use Rattle.sr_live.specs.steps.Misread.{Tells};
 
 use crate::entries::Found;
 use crate::fault::{LiveCall, LiveFault};
@@ -111,7 +112,7 @@ pub(crate) fn look_range<P: Peer>(
         × LooksEntries asked.now.key more talk × (map listed_as more ≡ take count listed.now)
         × (found.new.rows.items ≡ found.old.rows.items ++ more)
         × Finds found.old.wanted more found.new.wanted) }
-    ensures err { IfErr result (BreaksOff (P.sent peer.old) (P.sent peer.new)) }
+    ensures err { IfErr result (BreaksOff (P.sent peer.old) (P.got peer.old) (P.sent peer.new) (P.got peer.new)) }
 {
     let range = Range {
         first: listed[0].0,
@@ -180,6 +181,7 @@ fn rows_told(
         × AllByRecursion (IsTold range.first range.last range.count entries) more
         × (map listed_as more ≡ take count listed.now) × (found.new.rows.items ≡ found.old.rows.items ++ more)
         × Finds found.old.wanted more found.new.wanted) }
+    ensures err { IfErr result (Tells parts.entry) }
 {
     let entries = entries_said(alloc, parts)?;
     if !are_of(range, entries.as_slice()) {

@@ -99,7 +99,7 @@ fn judged<P: Peer>(
     ensures ok { IfOk result (λ judged. (talk : List Exchange)
         × Talks (P.sent peer.old) (P.got peer.old) (P.sent peer.new) (P.got peer.new) talk
         × IsJudged policy.now asked.now at_most talk judged) }
-    ensures err { IfErr result (BreaksOff (P.sent peer.old) (P.sent peer.new)) }
+    ensures err { IfErr result (BreaksOff (P.sent peer.old) (P.got peer.old) (P.sent peer.new) (P.got peer.new)) }
 {
     let looked = look(peer, alloc, asked, at_most)?;
     let live = live_consumers(alloc, policy, asked, &looked)?;

@@ -9,7 +9,7 @@ ghost use Rattle.sr_peer.specs.Reply.{items_of};
 ghost use Rattle.sr_live.specs.Conclusion.{SaysConcluded};
 ghost use Rattle.sr_live.specs.declared.said.Misread.TheVariants.{Memory};
 ghost use Rattle.sr_live.specs.steps.Misread.{Conclude, ConcludeAfter, HaveInteger, HaveItems, HaveNatural, HaveText};
-ghost use Rattle.sr_live.specs.steps.Misread.{IsMisread, IsUnlike};
+ghost use Rattle.sr_live.specs.steps.Misread.{IsMisread, IsUnlike, Tells, TellsNone};
 ghost use Rattle.sr_live.specs.Said.{AreEntries, IsEntry, IsFront, IsPendingRow, SaysConsumer, SaysEntry, SaysIdle};
 ghost use Rattle.sr_live.specs.Said.{SaysNumbers, SaysPending, SaysRemoved, consumer_parts, fields_parts, number_parts};
 ghost use Rattle.sr_live.specs.Said.{pairs_parts};
@@ -52,7 +52,8 @@ impl<T: Drop> From<AllocFailed<T>> for Misread {
 ///
 /// Source: Redis documentation, command XPENDING.
 pub(crate) fn numbers_said(alloc: Global, mut parts: Parts<'_>) -> Result<Vec<(Name, u64)>, Misread>
-    ensures { IfOk result (λ numbers. SaysNumbers parts.entry numbers.items) }
+    ensures ok { IfOk result (λ numbers. SaysNumbers parts.entry numbers.items) }
+    ensures err { IfErr result (Tells parts.entry) }
 {
     let count = front_said(alloc, &mut parts)?;
     let mut numbers = Vec::new(alloc);
@@ -65,8 +66,9 @@ pub(crate) fn numbers_said(alloc: Global, mut parts: Parts<'_>) -> Result<Vec<(N
 
 /// How many consumers follow what is said of the whole group.
 fn front_said(alloc: Global, parts: &mut Parts<'_>) -> Result<usize, Misread>
-    ensures { IfOk result (λ count. (front : List wire.Part) × IsFront front count
+    ensures ok { IfOk result (λ count. (front : List wire.Part) × IsFront front count
         × (parts.old ≡ front ++ parts.new)) }
+    ensures err { IfErr result (Tells parts.old) }
 {
     if header(alloc, parts)? != 4 {
         return Err(Misread::Shape);
@@ -84,7 +86,8 @@ fn front_said(alloc: Global, parts: &mut Parts<'_>) -> Result<usize, Misread>
 
 /// No greatest id either, and no consumers.
 fn none_said(parts: &mut Parts<'_>) -> Result<usize, Misread>
-    ensures { IfOk result (λ count. (count ≡ 0) × (parts.old ≡ wire.NullBulk ∷ wire.NullArray ∷ parts.new)) }
+    ensures ok { IfOk result (λ count. (count ≡ 0) × (parts.old ≡ wire.NullBulk ∷ wire.NullArray ∷ parts.new)) }
+    ensures err { IfErr result TellsNone }
 {
     let greatest = parts.next();
     match (greatest, parts.next()) {
@@ -95,7 +98,8 @@ fn none_said(parts: &mut Parts<'_>) -> Result<usize, Misread>
 
 /// The name of the next consumer, and how many entries are pending for it.
 fn number_said(alloc: Global, parts: &mut Parts<'_>) -> Result<(Name, u64), Misread>
-    ensures { IfOk result (λ number. parts.old ≡ number_parts number ++ parts.new) }
+    ensures ok { IfOk result (λ number. parts.old ≡ number_parts number ++ parts.new) }
+    ensures err { IfErr result (Tells parts.old) }
 {
     if header(alloc, parts)? != 2 {
         return Err(Misread::Shape);
@@ -124,7 +128,8 @@ fn written(digits: &[u8]) -> Option<u64>
 ///
 /// Source: Redis documentation, command XINFO CONSUMERS.
 pub(crate) fn idles_said(alloc: Global, mut parts: Parts<'_>) -> Result<Vec<(Name, u64)>, Misread>
-    ensures { IfOk result (λ idles. SaysIdle parts.entry idles.items) }
+    ensures ok { IfOk result (λ idles. SaysIdle parts.entry idles.items) }
+    ensures err { IfErr result (Tells parts.entry) }
 {
     let count = header(alloc, &mut parts)?;
     let mut idles = Vec::new(alloc);
@@ -137,8 +142,9 @@ pub(crate) fn idles_said(alloc: Global, mut parts: Parts<'_>) -> Result<Vec<(Nam
 
 /// The name of the next consumer, and for how long it has been idle.
 fn consumer_said(alloc: Global, parts: &mut Parts<'_>) -> Result<(Name, u64), Misread>
-    ensures { IfOk result (λ consumer. (fields : List (List ℕ × wire.Part)) × SaysConsumer fields consumer
+    ensures ok { IfOk result (λ consumer. (fields : List (List ℕ × wire.Part)) × SaysConsumer fields consumer
         × (parts.old ≡ consumer_parts fields ++ parts.new)) }
+    ensures err { IfErr result (Tells parts.old) }
 {
     let places = header(alloc, parts)?;
     if places % 2 != 0 {
@@ -153,7 +159,8 @@ fn consumer_said(alloc: Global, parts: &mut Parts<'_>) -> Result<(Name, u64), Mi
 
 /// The consumer with this idle time, if that is not below 0.
 fn idle_of(name: Name, idle: i64) -> Result<(Name, u64), Misread>
-    ensures { IfOk result (λ consumer. (consumer.0 ≡ name) × (pos consumer.1 ≡ idle)) }
+    ensures ok { IfOk result (λ consumer. (consumer.0 ≡ name) × (pos consumer.1 ≡ idle)) }
+    ensures err { IfErr result TellsNone }
 {
     if idle < 0 {
         return Err(Misread::Shape);
@@ -172,10 +179,11 @@ struct Found<'a> {
 
 /// What the next fields say, which are so many.
 fn fields_found<'a>(parts: &mut Parts<'a>, count: usize) -> Result<Found<'a>, Misread>
-    ensures { IfOk result (λ found. (fields : List (List ℕ × wire.Part)) × (length fields ≡ count)
+    ensures ok { IfOk result (λ found. (fields : List (List ℕ × wire.Part)) × (length fields ≡ count)
         × (option_map part_of found.name ≡ value_at (codes "name") fields)
         × (option_map part_of found.idle ≡ value_at (codes "idle") fields)
         × (parts.old ≡ fields_parts fields ++ parts.new)) }
+    ensures err { IfErr result TellsNone }
 {
     let mut found = Found {
         name: None,
@@ -225,7 +233,8 @@ fn first_of<'a>(
 
 /// The next field with its value, which is one part.
 fn field_said<'a>(parts: &mut Parts<'a>) -> Result<(&'a [u8], Part<'a>), Misread>
-    ensures { IfOk result (λ field. parts.old ≡ Bulk field.0.now ∷ part_of field.1 ∷ parts.new) }
+    ensures ok { IfOk result (λ field. parts.old ≡ Bulk field.0.now ∷ part_of field.1 ∷ parts.new) }
+    ensures err { IfErr result TellsNone }
 {
     let field = string(parts)?;
     match parts.next() {
@@ -248,7 +257,8 @@ struct Counts<'a> {
 ///
 /// Source: Redis documentation, command XINFO STREAM.
 pub(crate) fn removed_said(alloc: Global, mut parts: Parts<'_>) -> Result<u64, Misread>
-    ensures { IfOk result (SaysRemoved parts.entry) }
+    ensures ok { IfOk result (SaysRemoved parts.entry) }
+    ensures err { IfErr result (Tells parts.entry) }
 {
     let places = header(alloc, &mut parts)?;
     let mut counts = Counts {
@@ -269,6 +279,7 @@ pub(crate) fn removed_said(alloc: Global, mut parts: Parts<'_>) -> Result<u64, M
 fn plain_said<'a>(parts: &mut Parts<'a>) -> Result<(&'a [u8], Part<'a>), Misread>
     ensures next { IfOk result (λ field. parts.old ≡ Bulk field.0.now ∷ part_of field.1 ∷ parts.new) }
     ensures plain { IfOk result (λ field. items_of (part_of field.1) ≡ 0) }
+    ensures err { IfErr result TellsNone }
 {
     let (field, value) = field_said(parts)?;
     match value {
@@ -295,8 +306,9 @@ fn with_count<'a>(counts: Counts<'a>, field: &[u8], value: Part<'a>) -> Counts<'
 
 /// How many more were added than there are.
 fn difference(kept: i64, added: i64) -> Result<u64, Misread>
-    ensures { IfOk result (λ removed. (there : ℕ) × (all : ℕ) × (pos there ≡ kept) × (pos all ≡ added)
+    ensures ok { IfOk result (λ removed. (there : ℕ) × (all : ℕ) × (pos there ≡ kept) × (pos all ≡ added)
         × (there + removed ≡ all)) }
+    ensures err { IfErr result TellsNone }
 {
     if kept < 0 || added < kept {
         return Err(Misread::Shape);
@@ -313,7 +325,8 @@ pub(crate) fn pending_said(
     mut parts: Parts<'_>,
     owner: &Name,
 ) -> Result<Vec<(Id, u64)>, Misread>
-    ensures { IfOk result (λ entries. SaysPending parts.entry owner.now entries.items) }
+    ensures ok { IfOk result (λ entries. SaysPending parts.entry owner.now entries.items) }
+    ensures err { IfErr result (Tells parts.entry) }
 {
     let count = header(alloc, &mut parts)?;
     let mut entries = Vec::new(alloc);
@@ -326,8 +339,9 @@ pub(crate) fn pending_said(
 
 /// The next entry that is pending, if it is for the owner: its id, and how often it has been delivered.
 fn row_said(alloc: Global, parts: &mut Parts<'_>, owner: &Name) -> Result<(Id, u64), Misread>
-    ensures { IfOk result (λ entry. (front : List wire.Part) × IsPendingRow front entry owner.now
+    ensures ok { IfOk result (λ entry. (front : List wire.Part) × IsPendingRow front entry owner.now
         × (parts.old ≡ front ++ parts.new)) }
+    ensures err { IfErr result (Tells parts.old) }
 {
     if header(alloc, parts)? != 4 {
         return Err(Misread::Shape);
@@ -349,8 +363,9 @@ pub(crate) fn entry_said(
     parts: &mut Parts<'_>,
     id: Id,
 ) -> Result<Option<Fields>, Misread>
-    ensures { IfOk result (λ fields. (front : List wire.Part) × SaysEntry front id fields
+    ensures ok { IfOk result (λ fields. (front : List wire.Part) × SaysEntry front id fields
         × (parts.old ≡ front ++ parts.new)) }
+    ensures err { IfErr result (Tells parts.old) }
 {
     match header(alloc, parts)? {
         0 => Ok(None),
@@ -361,8 +376,9 @@ pub(crate) fn entry_said(
 
 /// The fields of the next entry, if it has this id.
 fn fields_said(alloc: Global, parts: &mut Parts<'_>, id: Id) -> Result<Fields, Misread>
-    ensures { IfOk result (λ fields. (text : List ℕ) × SpellsId 0 text id
+    ensures ok { IfOk result (λ fields. (text : List ℕ) × SpellsId 0 text id
         × (parts.old ≡ Array 2 ∷ Bulk text ∷ Array (2 * length fields) ∷ pairs_parts fields ++ parts.new)) }
+    ensures err { IfErr result (Tells parts.old) }
 {
     let (found, fields) = listed_said(alloc, parts)?;
     if found != id {
@@ -378,8 +394,9 @@ pub(crate) fn entries_said(
     alloc: Global,
     mut parts: Parts<'_>,
 ) -> Result<Vec<(Id, Fields)>, Misread>
-    ensures { IfOk result (λ entries. (body : List wire.Part) × AreEntries body entries.items
+    ensures ok { IfOk result (λ entries. (body : List wire.Part) × AreEntries body entries.items
         × (parts.entry ≡ Array (length entries.items) ∷ body)) }
+    ensures err { IfErr result (Tells parts.entry) }
 {
     let count = header(alloc, &mut parts)?;
     let mut entries = Vec::new(alloc);
@@ -392,8 +409,9 @@ pub(crate) fn entries_said(
 
 /// The next entry, with its fields.
 fn listed_said(alloc: Global, parts: &mut Parts<'_>) -> Result<(Id, Fields), Misread>
-    ensures { IfOk result (λ entry. (front : List wire.Part) × IsEntry front entry
+    ensures ok { IfOk result (λ entry. (front : List wire.Part) × IsEntry front entry
         × (parts.old ≡ front ++ parts.new)) }
+    ensures err { IfErr result (Tells parts.old) }
 {
     if header(alloc, parts)? != 2 {
         return Err(Misread::Shape);
@@ -408,7 +426,8 @@ fn listed_said(alloc: Global, parts: &mut Parts<'_>) -> Result<(Id, Fields), Mis
 
 /// The next fields with their values, which are so many.
 fn pairs_said(alloc: Global, parts: &mut Parts<'_>, count: usize) -> Result<Fields, Misread>
-    ensures { IfOk result (λ fields. (length fields ≡ count) × (parts.old ≡ pairs_parts fields ++ parts.new)) }
+    ensures ok { IfOk result (λ fields. (length fields ≡ count) × (parts.old ≡ pairs_parts fields ++ parts.new)) }
+    ensures err { IfErr result TellsNone }
 {
     let mut fields = Fields::new(alloc);
     for _ in 0..count {
@@ -423,6 +442,7 @@ fn pairs_said(alloc: Global, parts: &mut Parts<'_>, count: usize) -> Result<Fiel
 fn header(alloc: Global, parts: &mut Parts<'_>) -> Result<usize, Misread>
     ensures ok { IfOk result (λ count. parts.old ≡ Array count ∷ parts.new) }
     ensures err { IfErr result (IsMisread (HaveItems parts.old) parts.old) }
+    ensures told { IfErr result (Tells parts.old) }
 {
     match parts.next() {
         Some(Part::Array(count)) => Ok(count),
@@ -455,7 +475,8 @@ fn integer(parts: &mut Parts<'_>) -> Result<i64, Misread>
 
 /// The next id.
 fn id_said(parts: &mut Parts<'_>) -> Result<Id, Misread>
-    ensures { IfOk result (λ id. (text : List ℕ) × SpellsId 0 text id × (parts.old ≡ Bulk text ∷ parts.new)) }
+    ensures ok { IfOk result (λ id. (text : List ℕ) × SpellsId 0 text id × (parts.old ≡ Bulk text ∷ parts.new)) }
+    ensures err { IfErr result TellsNone }
 {
     match parse_strict(string(parts)?) {
         Some(id) => Ok(id),

@@ -1,10 +1,12 @@
 -- Why a reply says nothing. No public clause cites it.
 
-use Rattle.std.specs.Prelude.{⊤, ◌≡◌, ℕ, ℤ, pos, Result, Ok, Err, List, ◌∷◌}
+use Rattle.std.specs.Prelude.{⊤, ◌≡◌, ℕ, ℤ, pos, Result, Ok, Err, List, ◌∷◌, ◌++◌}
 use Rattle.sr_policy.specs.{Text}
 use Rattle.sr_peer.specs.{Part, Array, Bulk, Int}
+use Rattle.sr_peer.specs.Reply.{Error}
 use Rattle.sr_peer.specs.declared.peer.PeerFault.TheVariants as peer
 use Rattle.sr_live.specs.declared.conclusion.Concluded.{Concluded}
+use Rattle.sr_live.specs.declared.fault.LiveCall.{LiveCall}
 use Rattle.sr_live.specs.declared.fault.LiveCall.TheVariants.{Script}
 use Rattle.sr_live.specs.declared.fault.LiveFault.{LiveFault}
 use Rattle.sr_live.specs.declared.fault.LiveFault.TheVariants as fault
@@ -44,6 +46,28 @@ abbrev pub IsMisread : Type 0 → List Part → Misread → Type 0
 IsMisread so parts Memory = ⊤
 IsMisread so parts (ErrorReply text) = SaysError parts text
 IsMisread so parts Shape = (so → ⊥) × ((text : Text) → SaysError parts text → ⊥)
+
+-- an error that is told is one of these parts
+abbrev pub Tells : List Part → Misread → Type 0
+Tells parts Memory = ⊤
+Tells parts (ErrorReply text) = (before : List Part) × (behind : List Part) × (parts ≡ before ++ Error text ∷ behind)
+Tells parts Shape = ⊤
+
+-- no error is told
+abbrev pub TellsNone : Misread → Type 0
+TellsNone Memory = ⊤
+TellsNone (ErrorReply text) = ⊥
+TellsNone Shape = ⊤
+
+-- how a reply to this call that says nothing is told
+abbrev pub told_as : LiveCall → Misread → LiveFault
+told_as call Memory = fault.Memory
+told_as call (ErrorReply text) = fault.ErrorReply call text
+told_as call Shape = fault.Shape call
+
+abbrev pub IsToldAs : {T : Type 0} → LiveCall → Result T Misread → LiveFault → Type 0
+IsToldAs call (Ok value) told = ⊥
+IsToldAs call (Err misread) told = told ≡ told_as call misread
 
 -- how a reply of the script that says nothing is told
 abbrev pub fault_of : Misread → LiveFault

@@ -1,20 +1,20 @@
 use Rattle.sr_live.proofs.ConsumersLemmas.{live-from}
-use Rattle.sr_live.proofs.ReadingLemmas.{LooksIdle-reads, breaks-passed, reads-later}
+use Rattle.sr_live.proofs.ReadingLemmas.{LooksIdle-reads, breaks-later, breaks-passed}
 use Rattle.sr_live.proofs.consumers.look_live.Goals as goal
 
 pub returns-in_err-idles-clause-err : goal.returns-in_err-idles-clause-err
 returns-in_err-idles-clause-err g c =
     let broken = c.in_err-idles.ensures.err in
-    breaks-passed c.from_residual.result _ _ _ c.from_residual.ensures.1 broken.looking broken.read
+    breaks-passed c.from_residual.result _ _ _ _ _ c.from_residual.ensures.1 broken
 
 pub returns-in_err-numbers-clause-err : goal.returns-in_err-numbers-clause-err
 returns-in_err-numbers-clause-err g c =
     let asked = c.args.asked.now in
     let seen = c.in_ok-idles.ensures.ok in
     let broken = c.in_err-numbers.ensures.err in
-    breaks-passed c.from_residual-in_err-numbers.result _ _ _ c.from_residual-in_err-numbers.ensures.1 broken.looking
-    (reads-later _ _ _ _ _ seen.0 seen.1 (LooksIdle-reads asked.key asked.group asked.seen_within _ _ seen.2)
-    broken.read)
+    breaks-passed c.from_residual-in_err-numbers.result _ _ _ _ _ c.from_residual-in_err-numbers.ensures.1
+    (breaks-later _ _ _ _ _ _ seen.0 _ seen.1 (LooksIdle-reads asked.key asked.group asked.seen_within _ _ seen.2)
+    broken)
 
 pub returns-clause-ok : goal.returns-clause-ok
 returns-clause-ok g c =

@@ -1,13 +1,13 @@
 use Rattle.std.proofs.lemmas.Result.{IfErr-weaker, IfOk-weaker}
 use Rattle.std.proofs.Common.{inl, refl}
 use Rattle.sr_live.proofs.DeadLemmas.{found-from}
-use Rattle.sr_live.proofs.ReadingLemmas.{breaks-passed, reads-later}
+use Rattle.sr_live.proofs.ReadingLemmas.{breaks-later, breaks-passed}
 use Rattle.sr_live.proofs.dead.find_dead.Goals as goal
 
 pub returns-in_err-idles-clause-err : goal.returns-in_err-idles-clause-err
 returns-in_err-idles-clause-err g c =
     let broken = c.in_err-idles.ensures.err in
-    breaks-passed c.from_residual.result _ _ _ c.from_residual.ensures.1 broken.looking broken.read
+    breaks-passed c.from_residual.result _ _ _ _ _ c.from_residual.ensures.1 broken
 
 pub returns-clause-ok : goal.returns-clause-ok
 returns-clause-ok g c =
@@ -20,8 +20,5 @@ returns-clause-ok g c =
 pub returns-clause-err : goal.returns-clause-err
 returns-clause-err g c =
     let first = c.in_ok-idles.ensures.ok in
-    IfErr-weaker c.find_each.result _ _ (λ fault broken. record {
-      looking = broken.looking;
-      read = reads-later _ _ _ _ _ _ first.1 (inl refl, tt) broken.read;
-    })
-    c.find_each.ensures.err
+    IfErr-weaker c.find_each.result _ _
+    (λ fault broken. breaks-later _ _ _ _ _ _ _ fault first.1 (inl refl, tt) broken) c.find_each.ensures.err

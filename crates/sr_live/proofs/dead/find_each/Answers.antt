@@ -1,6 +1,6 @@
 use Rattle.std.proofs.Common.{rules, ◌≡◌, get_or}
 use Rattle.sr_live.proofs.DeadLemmas.{FindsEach-reads, finds-all, finds-next, finds-none}
-use Rattle.sr_live.proofs.ReadingLemmas.{breaks-passed, reads-later}
+use Rattle.sr_live.proofs.ReadingLemmas.{breaks-later, breaks-passed}
 use Rattle.sr_live.proofs.dead.find_each.Goals as goal
 
 pub loop-one-init : goal.loop-one-init
@@ -23,9 +23,9 @@ returns-in_err-push_dead-clause-err g c =
     let sought = c.args.sought.now in
     let was = c.loop-one.invariant in
     let broken = c.in_err-push_dead.ensures.err in
-    breaks-passed c.from_residual.result _ _ _ c.from_residual.ensures.1 broken.looking
-    (reads-later _ _ _ _ _ was.0 was.1 (FindsEach-reads sought.key.now sought.group.now sought.after _ _ _ was.2)
-    broken.read)
+    breaks-passed c.from_residual.result _ _ _ _ _ c.from_residual.ensures.1
+    (breaks-later _ _ _ _ _ _ was.0 _ was.1 (FindsEach-reads sought.key.now sought.group.now sought.after _ _ _ was.2)
+    broken)
 
 pub returns-clause-ok : goal.returns-clause-ok
 returns-clause-ok g c =

@@ -2,6 +2,7 @@ use Rattle.std.proofs.Common.{rules, ◌≡◌, ◌∙◌, List, ap, decimal, in
 use Rattle.std.proofs.lemmas.Result.{IfOk-weaker}
 use Rattle.sr_policy.specs.{Text}
 use Rattle.sr_peer.specs.{request_text}
+use Rattle.sr_live.specs.declared.fault.LiveCall.TheVariants.{Pending}
 use Rattle.sr_live.specs.Dead.{old_call, old_words}
 use Rattle.sr_live.proofs.LookingLemmas.{understood-says}
 use Rattle.sr_live.proofs.ReadingLemmas.{breaks-memory, breaks-understood, reads-none, reads-part, sends-whole}
@@ -10,7 +11,7 @@ use Rattle.sr_live.proofs.dead.look_old.Goals as goal
 
 pub returns-in_err-request-clause-err : goal.returns-in_err-request-clause-err
 returns-in_err-request-clause-err g c =
-    breaks-memory c.from_residual.result _ _ c.from_residual.ensures.1 (reads-none _)
+    breaks-memory c.from_residual.result _ _ _ _ c.from_residual.ensures.1 (reads-none _)
 
 pub returns-in-Ok-clause-ok : goal.returns-in-Ok-clause-ok
 returns-in-Ok-clause-ok g c =
@@ -22,7 +23,7 @@ returns-in-Ok-clause-ok g c =
     let talk = Talks-one _ _ _ _ call c.parts.result c.as_slice.result.now c.in-Ok.answers.text is
     c.parts.ensures.spelled c.in-Ok.ensures.sent c.in-Ok.ensures.got in
     understood-says c.pending_said.result c.understood.result _ c.understood.ensures.ok
-    (IfOk-weaker c.pending_said.result _ _ (λ ids said. (c.parts.result, talk, said)) c.pending_said.ensures)
+    (IfOk-weaker c.pending_said.result _ _ (λ ids said. (c.parts.result, talk, said)) c.pending_said.ensures.ok)
 
 pub returns-in-Ok-clause-err : goal.returns-in-Ok-clause-err
 returns-in-Ok-clause-err g c =
@@ -31,7 +32,9 @@ returns-in-Ok-clause-err g c =
     let after : c.as_bytes.result.now ≡ decimal sought.after = search rules in
     let is = c.as_slice.ensures.value ∙ c.in_ok-request.ensures
     ∙ ap (λ (text : Text). request_text (old_words sought.key.now sought.group.now text c.args.name.now)) after in
-    breaks-understood c.understood.result _ _ (c.understood.ensures.err tt)
+    breaks-understood c.understood.result _ _ _ _ Pending c.pending_said.result c.in-Ok.answers.text c.parts.result
+    (c.understood.ensures.err tt) c.understood.ensures.told c.pending_said.ensures.err c.in-Ok.ensures.got
+    c.parts.ensures.spelled
     (reads-part _ _ call c.as_slice.result.now is (inr (inl refl)) (sends-whole _ _ _ c.in-Ok.ensures.sent))
 
 pub returns-clause-err : goal.returns-clause-err
@@ -41,4 +44,4 @@ returns-clause-err g c =
     let after : c.as_bytes.result.now ≡ decimal sought.after = search rules in
     let is = c.as_slice.ensures.value ∙ c.in_ok-request.ensures
     ∙ ap (λ (text : Text). request_text (old_words sought.key.now sought.group.now text c.args.name.now)) after in
-    record { looking = tt; read = reads-part _ _ call c.as_slice.result.now is (inr (inl refl)) c.in-Err.ensures.err }
+    record { looking = tt; read = reads-part _ _ call c.as_slice.result.now is (inr (inl refl)) c.in-Err.ensures.err; told = tt }

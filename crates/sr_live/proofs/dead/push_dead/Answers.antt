@@ -31,11 +31,11 @@ returns-clause-ok g c =
 pub returns-in_err-copy-clause-err : goal.returns-in_err-copy-clause-err
 returns-in_err-copy-clause-err g c =
     let asked = c.in_ok-old.ensures.ok in
-    breaks-memory c.from_residual-in_err-copy.result _ _ c.from_residual-in_err-copy.ensures.1
+    breaks-memory c.from_residual-in_err-copy.result _ _ _ _ c.from_residual-in_err-copy.ensures.1
     (reads-whole _ _ _ _ _ asked.1 (inr (inl refl), tt))
 
 pub returns-in_err-push-clause-err : goal.returns-in_err-push-clause-err
 returns-in_err-push-clause-err g c =
     let asked = c.in_ok-old.ensures.ok in
-    breaks-memory c.from_residual-in_err-push.result _ _ c.from_residual-in_err-push.ensures.1
+    breaks-memory c.from_residual-in_err-push.result _ _ _ _ c.from_residual-in_err-push.ensures.1
     (reads-whole _ _ _ _ _ asked.1 (inr (inl refl), tt))

@@ -2,7 +2,7 @@ use Rattle.std.proofs.Common.{rules, List, refl, take}
 use Rattle.sr_ids.specs.declared.id.Id.{Id}
 use Rattle.sr_policy.specs.{Text}
 use Rattle.sr_live.proofs.LookingLemmas.{AreFound-next, AreFound-none, parted-at}
-use Rattle.sr_live.proofs.ReadingLemmas.{LooksEntries-reads, breaks-passed, reads-later, reads-whole}
+use Rattle.sr_live.proofs.ReadingLemmas.{LooksEntries-reads, breaks-later, breaks-passed, reads-whole}
 use Rattle.sr_live.proofs.entries.look_first.Goals as goal
 
 pub loop-left-init : goal.loop-left-init
@@ -25,8 +25,8 @@ pub returns-in_err-count-clause-err : goal.returns-in_err-count-clause-err
 returns-in_err-count-clause-err g c =
     let before = c.loop-left.invariant in
     let broken = c.in_err-count.ensures.err in
-    breaks-passed c.from_residual.result _ _ _ c.from_residual.ensures.1 broken.looking
-    (reads-later _ _ _ _ _ before.0 before.2 (LooksEntries-reads c.args.asked.now.key _ _ before.3) broken.read)
+    breaks-passed c.from_residual.result _ _ _ _ _ c.from_residual.ensures.1
+    (breaks-later _ _ _ _ _ _ before.0 _ before.2 (LooksEntries-reads c.args.asked.now.key _ _ before.3) broken)
 
 pub returns-then-len-ge-MAX_ROWS-clause-err : goal.returns-then-len-ge-MAX_ROWS-clause-err
 returns-then-len-ge-MAX_ROWS-clause-err g c =
@@ -34,4 +34,5 @@ returns-then-len-ge-MAX_ROWS-clause-err g c =
     record {
       looking = tt;
       read = reads-whole _ _ _ _ before.0 before.2 (LooksEntries-reads c.args.asked.now.key _ _ before.3);
+      told = tt;
     }

@@ -52,7 +52,7 @@ returns-then-found-eq0-clause-ok g c =
 pub returns-in_err-look_some-clause-err : goal.returns-in_err-look_some-clause-err
 returns-in_err-look_some-clause-err g c =
     let broken = c.in_err-look_some.ensures.err in
-    breaks-passed c.from_residual.result _ _ _ c.from_residual.ensures.1 broken.looking broken.read
+    breaks-passed c.from_residual.result _ _ _ _ _ c.from_residual.ensures.1 broken
 
 pub returns-clause-ok : goal.returns-clause-ok
 returns-clause-ok g c =

@@ -7,7 +7,7 @@ use Rattle.sr_live.proofs.entries.look_some.Goals as goal
 pub returns-in_err-append-clause-err : goal.returns-in_err-append-clause-err
 returns-in_err-append-clause-err g c =
     let seen = c.in_ok-look_together.ensures.ok in
-    breaks-memory c.from_residual-in_err-append.result _ _ c.from_residual-in_err-append.ensures.1
+    breaks-memory c.from_residual-in_err-append.result _ _ _ _ c.from_residual-in_err-append.ensures.1
     (reads-whole _ _ _ _ seen.0 seen.2 (LooksEntries-reads c.args.asked.now.key _ _ seen.3))
 
 pub returns-clause-ok : goal.returns-clause-ok

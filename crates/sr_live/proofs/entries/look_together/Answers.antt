@@ -1,16 +1,19 @@
 use Rattle.std.proofs.Common.{◌∙◌}
 use Rattle.std.proofs.lemmas.Result.{IfOk-weaker}
+use Rattle.sr_live.specs.declared.fault.LiveCall.TheVariants.{Entry}
 use Rattle.sr_live.proofs.LookingLemmas.{looks-together, understood-says}
 use Rattle.sr_live.proofs.ReadingLemmas.{breaks-memory, breaks-understood, reads-entries, reads-none, sends-whole}
 use Rattle.sr_live.proofs.entries.look_together.Goals as goal
 
 pub returns-in_err-requests-clause-err : goal.returns-in_err-requests-clause-err
 returns-in_err-requests-clause-err g c =
-    breaks-memory c.from_residual.result _ _ c.from_residual.ensures.1 (reads-none _)
+    breaks-memory c.from_residual.result _ _ _ _ c.from_residual.ensures.1 (reads-none _)
 
 pub returns-in-Ok-clause-err : goal.returns-in-Ok-clause-err
 returns-in-Ok-clause-err g c =
-    breaks-understood c.understood.result _ _ (c.understood.ensures.err tt)
+    breaks-understood c.understood.result _ _ _ _ Entry c.rows_said.result c.in-Ok.answers.text c.parts.result
+    (c.understood.ensures.err tt) c.understood.ensures.told c.rows_said.ensures.err c.in-Ok.ensures.got
+    c.parts.ensures.spelled
     (reads-entries _ _ c.args.key.now c.args.listed.now c.as_slice.result.now
     (c.as_slice.ensures.value ∙ c.in_ok-requests.ensures) (sends-whole _ _ _ c.in-Ok.ensures.sent))
 
@@ -19,6 +22,7 @@ returns-clause-err g c = record {
   looking = tt;
   read = reads-entries _ _ c.args.key.now c.args.listed.now c.as_slice.result.now
       (c.as_slice.ensures.value ∙ c.in_ok-requests.ensures) c.in-Err.ensures.err;
+  told = tt;
 }
 
 pub returns-in-Ok-clause-ok : goal.returns-in-Ok-clause-ok
@@ -29,4 +33,4 @@ returns-in-Ok-clause-ok g c =
     (g.P.Peer.sent c.ask.new.peer) (g.P.Peer.got c.ask.new.peer) c.as_slice.result.now c.in-Ok.answers.text
     c.parts.result c.args.listed.now c.args.rows.now.items c.rows_said.new.rows.items
     (c.as_slice.ensures.value ∙ c.in_ok-requests.ensures) c.in-Ok.ensures.sent c.in-Ok.ensures.got
-    c.parts.ensures.spelled said) c.rows_said.ensures)
+    c.parts.ensures.spelled said) c.rows_said.ensures.ok)

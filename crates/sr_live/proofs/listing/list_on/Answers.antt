@@ -2,7 +2,7 @@ use Rattle.std.proofs.Common.{rules, ◌≡◌, ◌++◌, ◌∷◌, ◌∙◌, 
 use Rattle.sr_ids.specs.declared.id.Id.{Id}
 use Rattle.sr_policy.specs.{Text}
 use Rattle.sr_live.proofs.ListingLemmas.{on-reads, widens-all, widens-next, widens-none}
-use Rattle.sr_live.proofs.ReadingLemmas.{breaks-memory, breaks-passed, reads-later, reads-whole}
+use Rattle.sr_live.proofs.ReadingLemmas.{breaks-later, breaks-memory, breaks-passed, reads-later, reads-whole}
 use Rattle.sr_live.proofs.TalkLemmas.{Talks-none, Talks-trans}
 use Rattle.sr_live.proofs.listing.list_on.Goals as goal
 
@@ -39,7 +39,7 @@ pub returns-in_err-push-clause-err : goal.returns-in_err-push-clause-err
 returns-in_err-push-clause-err g c =
     let was = c.loop-one.invariant in
     let on = c.in_ok-list_one.ensures.ok in
-    breaks-memory c.from_residual-in_err-push.result _ _ c.from_residual-in_err-push.ensures.1
+    breaks-memory c.from_residual-in_err-push.result _ _ _ _ c.from_residual-in_err-push.ensures.1
     (reads-later _ _ _ _ _ was.0 was.2 was.3.reads
     (reads-whole _ _ _ _ on.0 on.2
     (on-reads c.args.asked.now.key c.args.asked.now.group c.args.asked.now.claimable c.one-item.result
@@ -49,8 +49,8 @@ pub returns-in_err-list_one-clause-err : goal.returns-in_err-list_one-clause-err
 returns-in_err-list_one-clause-err g c =
     let was = c.loop-one.invariant in
     let broken = c.in_err-list_one.ensures.err in
-    breaks-passed c.from_residual-in_err-list_one.result _ _ _ c.from_residual-in_err-list_one.ensures.1 broken.looking
-    (reads-later _ _ _ _ _ was.0 was.2 was.3.reads broken.read)
+    breaks-passed c.from_residual-in_err-list_one.result _ _ _ _ _ c.from_residual-in_err-list_one.ensures.1
+    (breaks-later _ _ _ _ _ _ was.0 _ was.2 was.3.reads broken)
 
 pub returns-clause-ok : goal.returns-clause-ok
 returns-clause-ok g c =

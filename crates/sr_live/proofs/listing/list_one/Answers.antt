@@ -18,7 +18,7 @@ returns-then-not-one-clause-ok g c = (
 pub returns-in_err-push_owned-clause-err : goal.returns-in_err-push_owned-clause-err
 returns-in_err-push_owned-clause-err g c =
     let page = c.in_ok-page.ensures.ok in
-    breaks-memory c.from_residual-in_err-push_owned.result _ _ c.from_residual-in_err-push_owned.ensures.1
+    breaks-memory c.from_residual-in_err-push_owned.result _ _ _ _ c.from_residual-in_err-push_owned.ensures.1
     (reads-whole _ _ _ _ _ page.1 (inr (inl refl), tt))
 
 pub returns-clause-ok : goal.returns-clause-ok

@@ -7,33 +7,34 @@ use Rattle.sr_live.specs.declared.looked.Row.{Row}
 use Rattle.sr_live.specs.declared.looking.Seen.{Seen}
 use Rattle.sr_live.specs.steps.Listing.{Follow, Widens, are_sure}
 use Rattle.sr_live.proofs.ListingLemmas.{passes-from}
-use Rattle.sr_live.proofs.ReadingLemmas.{LooksEntries-reads, breaks-memory, breaks-passed, reads-later, reads-whole}
+use Rattle.sr_live.proofs.ReadingLemmas.{LooksEntries-reads, breaks-later, breaks-memory, breaks-passed, reads-later}
+use Rattle.sr_live.proofs.ReadingLemmas.{reads-whole}
 use Rattle.sr_live.proofs.TalkLemmas.{Talks-trans}
 use Rattle.sr_live.proofs.looking.look_pass.Goals as goal
 
 pub returns-in_err-ahead-clause-err : goal.returns-in_err-ahead-clause-err
 returns-in_err-ahead-clause-err g c =
     let wide = c.in_ok-listings.ensures.ok in
-    breaks-memory c.from_residual-in_err-ahead.result _ _ c.from_residual-in_err-ahead.ensures.1
+    breaks-memory c.from_residual-in_err-ahead.result _ _ _ _ c.from_residual-in_err-ahead.ensures.1
     (reads-whole _ _ _ _ wide.0 wide.2 wide.3.reads)
 
 pub returns-then-not-follow-clause-err : goal.returns-then-not-follow-clause-err
 returns-then-not-follow-clause-err g c =
     let wide = c.in_ok-listings.ensures.ok in
-    record { looking = tt; read = reads-whole _ _ _ _ wide.0 wide.2 wide.3.reads }
+    record { looking = tt; read = reads-whole _ _ _ _ wide.0 wide.2 wide.3.reads; told = tt }
 
 pub returns-in_err-look_first-clause-err : goal.returns-in_err-look_first-clause-err
 returns-in_err-look_first-clause-err g c =
     let wide = c.in_ok-listings.ensures.ok in
     let broken = c.in_err-look_first.ensures.err in
-    breaks-passed c.from_residual-in_err-look_first.result _ _ _ c.from_residual-in_err-look_first.ensures.1 broken.looking
-    (reads-later _ _ _ _ _ wide.0 wide.2 wide.3.reads broken.read)
+    breaks-passed c.from_residual-in_err-look_first.result _ _ _ _ _ c.from_residual-in_err-look_first.ensures.1
+    (breaks-later _ _ _ _ _ _ wide.0 _ wide.2 wide.3.reads broken)
 
 pub returns-in_err-ahead-2-clause-err : goal.returns-in_err-ahead-2-clause-err
 returns-in_err-ahead-2-clause-err g c =
     let wide = c.in_ok-listings.ensures.ok in
     let first = c.in_ok-look_first.ensures.ok in
-    breaks-memory c.from_residual-in_err-ahead-2.result _ _ c.from_residual-in_err-ahead-2.ensures.1
+    breaks-memory c.from_residual-in_err-ahead-2.result _ _ _ _ c.from_residual-in_err-ahead-2.ensures.1
     (reads-later _ _ _ _ _ wide.0 wide.2 wide.3.reads
     (reads-whole _ _ _ _ first.0 first.3 (LooksEntries-reads c.args.asked.now.key _ _ first.4)))
 

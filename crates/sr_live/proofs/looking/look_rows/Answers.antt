@@ -7,7 +7,7 @@ use Rattle.sr_live.specs.Reading.{BreaksOff}
 use Rattle.sr_live.specs.steps.Listing.{are_sure, unlisted_of}
 use Rattle.sr_live.proofs.FirstLemmas.{wanted_at_first}
 use Rattle.sr_live.proofs.ListingLemmas.{looked-found, looked-whole, under-way-first, under-way-next, under-way-reads}
-use Rattle.sr_live.proofs.ReadingLemmas.{breaks-passed, reads-later, reads-whole}
+use Rattle.sr_live.proofs.ReadingLemmas.{breaks-later, breaks-passed, reads-whole}
 use Rattle.sr_live.proofs.TalkLemmas.{Talks-none, Talks-trans}
 use Rattle.sr_live.proofs.looking.look_rows.Goals as goal
 
@@ -35,10 +35,10 @@ returns-in_err-seen-clause-err g c =
     let asked = c.args.asked.now in
     let before = c.loop.invariant in
     let broken = c.in_err-seen.ensures.err in
-    breaks-passed c.from_residual-in_err-seen.result _ _ _ c.from_residual-in_err-seen.ensures.1 broken.looking
-    (reads-later _ _ _ _ _ before.0 before.1
+    breaks-passed c.from_residual-in_err-seen.result _ _ _ _ _ c.from_residual-in_err-seen.ensures.1
+    (breaks-later _ _ _ _ _ _ before.0 _ before.1
     (under-way-reads asked.key asked.group asked.claimable asked.dead.items c.args.at_most before.0 c.loop.seen before.2)
-    broken.read)
+    broken)
 
 pub returns-then-seen-eq0-clause-ok : goal.returns-then-seen-eq0-clause-ok
 returns-then-seen-eq0-clause-ok g c =
@@ -69,13 +69,15 @@ returns-then-seen-eq0-clause-err g c =
     (g.P.Peer.got c.loop.peer) (g.P.Peer.sent c.look_pass.new.peer) (g.P.Peer.got c.look_pass.new.peer) before.0 pass.0
     before.1 pass.1 in
     IfErr-weaker c.up_to_last.result _ _
-    (λ fault is. subst (λ (f : LiveFault). BreaksOff (g.P.Peer.sent c.args.peer.now) (g.P.Peer.sent c.look_pass.new.peer) f)
+    (λ fault is. subst (λ (f : LiveFault). BreaksOff (g.P.Peer.sent c.args.peer.now) (g.P.Peer.got c.args.peer.now)
+    (g.P.Peer.sent c.look_pass.new.peer) (g.P.Peer.got c.look_pass.new.peer) f)
     (sym is)
     (record {
       looking = tt;
       read = reads-whole _ _ _ _ (before.0 ++ pass.0) talks
           (under-way-reads asked.key asked.group asked.claimable asked.dead.items c.args.at_most (before.0 ++ pass.0)
           c.in_ok-seen.seen way);
+      told = tt;
     }))
     c.up_to_last.ensures.err
 
@@ -121,4 +123,5 @@ returns-clause-err g c =
       looking = tt;
       read = reads-whole _ _ _ _ before.0 before.1
           (under-way-reads asked.key asked.group asked.claimable asked.dead.items c.args.at_most before.0 c.loop.seen before.2);
+      told = tt;
     }

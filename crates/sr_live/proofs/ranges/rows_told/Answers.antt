@@ -13,7 +13,7 @@ returns-clause-told c =
       entries,
       told.0,
       says-range range.first range.last range.count c.args.parts entries c.as_slice.result.now c.as_slice.ensures.value
-          c.in_ok-entries.ensures (c.if-not-are_of.ensures.few refl) (c.if-not-are_of.ensures.inside refl)
+          c.in_ok-entries.ensures.ok (c.if-not-are_of.ensures.few refl) (c.if-not-are_of.ensures.inside refl)
           (c.if-not-are_of.ensures.rising refl),
       told.1,
       told.2,

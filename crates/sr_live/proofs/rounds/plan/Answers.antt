@@ -33,10 +33,10 @@ module _ (rules : Rules) (asked : Asked) (at_most : Option ℕ) (sent got sent_t
   IsNone result = IfErr result (HasNoPlan rules asked at_most sent got sent_then got_then)
 
   none-passed : (result : Result Planned LiveFault) (fault : LiveFault) → IsErrAnd result (λ passed. passed ≡ fault)
-      → BreaksOff sent sent_then fault → IsNone result
+      → BreaksOff sent got sent_then got_then fault → IsNone result
   none-passed result fault is broken =
       let told = err_from_is_err_and result is in
-      subst IsNone (sym told.1) (inl (subst (BreaksOff sent sent_then) (sym told.2) broken))
+      subst IsNone (sym told.1) (inl (subst (BreaksOff sent got sent_then got_then) (sym told.2) broken))
 
   none-judged : (talk : List Exchange) (judged : Option Planned) (result : Result Planned LiveFault)
       → result ≡ ok_or judged Changed → Talks sent got sent_then got_then talk

@@ -4,8 +4,8 @@ use Rattle.sr_peer.specs.{Int, part_of}
 use Rattle.sr_live.proofs.SaidLemmas.{SaysRemoved-read, counts-next}
 use Rattle.sr_live.proofs.said.removed_said.Goals as goal
 
-pub returns-in-Some-Int-Some-Int : goal.returns-in-Some-Int-Some-Int
-returns-in-Some-Int-Some-Int c =
+pub returns-in-Some-Int-Some-Int-clause-ok : goal.returns-in-Some-Int-Some-Int-clause-ok
+returns-in-Some-Int-Some-Int-clause-ok c =
     let counts = c.with_count-counts in
     let read = counts-next c.header.new.parts c.loop.parts c.plain_said.new.parts (option_map part_of c.loop.counts.kept)
     (option_map part_of c.loop.counts.added) (option_map part_of counts.result.kept)
@@ -19,7 +19,7 @@ returns-in-Some-Int-Some-Int c =
     SaysRemoved-read c.args.parts c.header.new.parts c.plain_said.new.parts c.in_ok-places.places
     (option_map part_of counts.result.kept) (option_map part_of counts.result.added) _ _ removed c.in_ok-places.ensures.ok read
     (kept ∙ ap (λ (n : ℤ). Some (Int n)) (sym few)) (added ∙ ap (λ (n : ℤ). Some (Int n)) (sym many)) has)
-    c.difference.ensures
+    c.difference.ensures.ok
 
 pub loop-preserved : goal.loop-preserved
 loop-preserved c =
