@@ -6,8 +6,9 @@ use Rattle.std.specs.Prelude.{◌≡◌, ◌⊎◌, ℕ, ◌<◌, ◌≤◌, nat
 use Rattle.std.specs.Prelude.{decimal, if◌then◌else◌}
 use Rattle.sr_policy.specs.{Text}
 use Rattle.sr_peer.specs.{Part}
-use Rattle.sr_live.specs.Looking.{Exchange, consumers_call}
-use Rattle.sr_live.specs.Said.{Delivered, SaysIdle, SaysPending}
+use Rattle.sr_live.specs.Looked.{number_of}
+use Rattle.sr_live.specs.Looking.{Exchange, consumers_call, numbers_call}
+use Rattle.sr_live.specs.Said.{Delivered, SaysIdle, SaysNumbers, SaysPending}
 
 -- ---- the rule
 
@@ -34,26 +35,31 @@ old_words key group after name =
 abbrev pub old_call : Text → Text → ℕ → Text → List Text
 old_call key group after name = old_words key group (decimal after) name
 
--- a consumer that was seen lately is asked for nothing; of any other one the reply says which such entries there are
-abbrev pub LooksOld : Text → Text → ℕ → Text × ℕ → List Delivered → List Exchange → Type 0
-LooksOld key group after consumer old talk =
-    ((consumer.1 < after) × (old ≡ []) × (talk ≡ []))
-    ⊎ ((after ≤ consumer.1) × (parts : List Part) × SaysPending parts consumer.0 old
-    × (talk ≡ (old_call key group after consumer.0, parts) ∷ []))
+-- a consumer that was seen lately, or for which nothing is pending, is not asked for; of any other one the reply says
+-- which such entries there are
+abbrev pub LooksOld : Text → Text → ℕ → List (Text × ℕ) → Text × ℕ → List Delivered → List Exchange → Type 0
+LooksOld key group after numbers consumer old talk =
+    (((consumer.1 < after) ⊎ (number_of numbers consumer.0 ≡ 0)) × (old ≡ []) × (talk ≡ []))
+    ⊎ ((after ≤ consumer.1) × (0 < number_of numbers consumer.0) × (parts : List Part)
+    × SaysPending parts consumer.0 old × (talk ≡ (old_call key group after consumer.0, parts) ∷ []))
 
 -- these consumers were looked at, one after another, and these of them are dead, and no others
-abbrev pub FindsEach : Text → Text → ℕ → List (Text × ℕ) → List Exchange → List Text → Type 0
-FindsEach key group after [] talk dead = (talk ≡ []) × (dead ≡ [])
-FindsEach key group after (consumer ∷ consumers) talk dead =
+abbrev pub FindsEach : Text → Text → ℕ → List (Text × ℕ) → List (Text × ℕ) → List Exchange → List Text → Type 0
+FindsEach key group after numbers [] talk dead = (talk ≡ []) × (dead ≡ [])
+FindsEach key group after numbers (consumer ∷ consumers) talk dead =
     (old : List Delivered) × (own : List Exchange) × (others : List Exchange) × (rest : List Text)
-    × LooksOld key group after consumer old own × FindsEach key group after consumers others rest
+    × LooksOld key group after numbers consumer old own × FindsEach key group after numbers consumers others rest
     × (talk ≡ own ++ others) × (dead ≡ name_of_dead after consumer old ++ rest)
 
--- all consumers of the group were looked at, each for as long as the first reply says that it has been idle
+-- all consumers of the group were looked at, each for as long as the first reply says that it has been idle, and with
+-- as many entries as the second one says
 pub record FindsDead (key group : Text) (after : ℕ) (talk : List Exchange) (dead : List Text) : Type 0 where
   pub parts : List Part
+  pub counts : List Part
   pub consumers : List (Text × ℕ)
+  pub numbers : List (Text × ℕ)
   pub asking : List Exchange
   pub says : SaysIdle parts consumers
-  pub finds : FindsEach key group after consumers asking dead
-  pub spelled : talk ≡ (consumers_call key group, parts) ∷ asking
+  pub says_numbers : SaysNumbers counts numbers
+  pub finds : FindsEach key group after numbers consumers asking dead
+  pub spelled : talk ≡ (consumers_call key group, parts) ∷ (numbers_call key group, counts) ∷ asking

@@ -8,10 +8,11 @@ ghost use Rattle.sr_live.specs.Looking.{Exchange, Talks};
 ghost use Rattle.sr_live.specs.Reading.{BreaksOff};
 ghost use Rattle.sr_live.specs.Said.{Delivered, SaysPending};
 
-use crate::consumers::look_idles;
+use crate::consumers::{look_idles, look_numbers};
 use crate::fault::{LiveCall, LiveFault};
 use crate::looking::{request_of, understood};
 use crate::said::pending_said;
+use crate::snapshot::number_for;
 use itoa::Buffer;
 use sr_bytes::Name;
 use sr_ids::Id;
@@ -21,8 +22,8 @@ use std::alloc::{AllocError, Global};
 /// Finds the consumers of a group that are dead, in the order in which Redis lists them: each that has been idle for
 /// at least `after` milliseconds, and for which entries are pending that have been idle for as long.
 ///
-/// It asks for all consumers, and then for one entry of each that has been idle for so long. Between the calls the
-/// group may change.
+/// It asks for all consumers, for how many entries are pending for each, and then for one entry of each that has been
+/// idle for so long and has any. Between the calls the group may change.
 ///
 /// Source: Redis documentation, commands XINFO CONSUMERS and XPENDING.
 pub fn find_dead<P: Peer>(
@@ -38,7 +39,13 @@ pub fn find_dead<P: Peer>(
     ensures err { IfErr result (BreaksOff (P.sent peer.old) (P.got peer.old) (P.sent peer.new) (P.got peer.new)) }
 {
     let idles = look_idles(peer, alloc, key, group)?;
-    let sought = Sought { key, group, after };
+    let numbers = look_numbers(peer, alloc, key, group)?;
+    let sought = Sought {
+        key,
+        group,
+        after,
+        numbers: numbers.as_slice(),
+    };
     find_each(peer, alloc, &sought, idles.as_slice())
 }
 
@@ -49,6 +56,8 @@ struct Sought<'a> {
     group: &'a Name,
     /// In milliseconds, at least.
     after: u64,
+    /// How many entries are pending for each consumer that has any.
+    numbers: &'a [(Name, u64)],
 }
 
 /// Finds those of the consumers that are dead, each with its idle time in milliseconds.
@@ -60,7 +69,8 @@ fn find_each<P: Peer>(
 ) -> Result<Vec<Name>, LiveFault>
     ensures ok { IfOk result (λ dead. (talk : List Exchange)
         × Talks (P.sent peer.old) (P.got peer.old) (P.sent peer.new) (P.got peer.new) talk
-        × FindsEach sought.now.key.now sought.now.group.now sought.now.after consumers.now talk dead.items) }
+        × FindsEach sought.now.key.now sought.now.group.now sought.now.after sought.now.numbers.now consumers.now talk
+        dead.items) }
     ensures err { IfErr result (BreaksOff (P.sent peer.old) (P.got peer.old) (P.sent peer.new) (P.got peer.new)) }
 {
     let mut dead = Vec::new(alloc);
@@ -80,11 +90,14 @@ fn push_dead<P: Peer>(
 ) -> Result<(), LiveFault>
     ensures ok { IfOk result (λ _. (talk : List Exchange) × (old : List Delivered)
         × Talks (P.sent peer.old) (P.got peer.old) (P.sent peer.new) (P.got peer.new) talk
-        × LooksOld sought.now.key.now sought.now.group.now sought.now.after one.now old talk
+        × LooksOld sought.now.key.now sought.now.group.now sought.now.after sought.now.numbers.now one.now old talk
         × (dead.new.items ≡ dead.old.items ++ name_of_dead sought.now.after one.now old)) }
     ensures err { IfErr result (BreaksOff (P.sent peer.old) (P.got peer.old) (P.sent peer.new) (P.got peer.new)) }
 {
     if one.1 < sought.after {
+        return Ok(());
+    }
+    if number_for(sought.numbers, &one.0) == 0 {
         return Ok(());
     }
     let old = look_old(peer, alloc, sought, &one.0)?;

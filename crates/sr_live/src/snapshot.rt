@@ -274,7 +274,7 @@ fn is_among(names: &[Name], name: &Name) -> bool
 }
 
 /// How many entries are pending for the consumer.
-fn number_for(numbers: &[(Name, u64)], name: &Name) -> u64
+pub(crate) fn number_for(numbers: &[(Name, u64)], name: &Name) -> u64
     ensures { result ≡ number_of numbers.now name.now }
 {
     number_in(numbers, name).unwrap_or(0)
