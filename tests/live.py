@@ -13,9 +13,10 @@ the rest   there is no plan for what the replies told; or Redis replied an error
 
 Before that come rows worked out by hand (lib/recover_rows.py, lib/recover_names.py), standard input, output or error
 that is closed (lib/recover_closed.py), JSON (lib/recover_json.py), URLs, sockets and Sentinels (lib/recover_reach.py),
-replies that are cut or wrong (lib/recover_cuts.py), errors (lib/recover_errors.py), and groups that are watched (lib/recover_watch.py);
-afterwards a busy group (lib/recover_busy.py) and a cluster (lib/recover_cluster.py). Prints what is wrong, a tally, and
-one last line; the status is 1 if something is wrong. It needs redis-server. For a slow build of the program
+replies that are cut or wrong (lib/recover_cuts.py), errors (lib/recover_errors.py), groups that are watched
+(lib/recover_watch.py), and counts of what was done (lib/recover_metrics.py); afterwards a busy group
+(lib/recover_busy.py) and a cluster (lib/recover_cluster.py). Prints what is wrong, a tally, and one last line; the
+status is 1 if something is wrong. It needs redis-server. For a slow build of the program
 BUSY_ENTRIES=512 in the environment makes the busy group smaller.
 """
 
@@ -28,7 +29,7 @@ import time
 
 import live_script
 from lib import recover, recover_busy, recover_closed, recover_cluster, recover_cuts, recover_errors, recover_json, recover_names
-from lib import recover_reach, recover_rows, recover_watch, servers
+from lib import recover_metrics, recover_reach, recover_rows, recover_watch, servers
 from lib.live import Dump, Plan, after_acks, all_replies, number_of, problem_of, seen_by, spared, up_to
 from lib.resp import ErrorReply, encoded, value_of
 
@@ -296,6 +297,7 @@ def main():
         timed("cuts", recover_cuts.compare, tally)
         timed("errors", recover_errors.compare, tally)
         timed("watch", recover_watch.compare, tally, connection)
+        timed("metrics", recover_metrics.compare, tally, connection)
         ends, wrong = timed("histories", played, connection, histories, seed)
     timed("busy", recover_busy.compare, tally)
     timed("cluster", recover_cluster.compare, tally)

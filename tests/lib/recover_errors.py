@@ -12,8 +12,8 @@ UNKNOWN = b"redis: the plan was sent, and what came of it is not known: %s is an
 RIGHT = b" (the user lacks a right: docs/LIVE.md has the line for ACL SETUSER)"
 LATER = b" (the key is being moved to another node: try again later)"
 
-# Errors of Redis 7.0.15 that a script has in reply only if nothing was carried out, each with what the user can do. Some are told in a
-# script, which adds its digest and a line.
+# Errors that a script has in reply only if nothing was carried out, each with what the user can do: of Redis 7.0.15, but for the last, which
+# is of Redis from 7.2 on and of Valkey. Some are told in a script, which adds its digest and a line.
 OF_SCRIPT = b" script: e56f0b7a92f688ed4e817ac03c5aa8c80728a1df, on @user_script:140."
 WITHOUT_A_WRITE = [
     (b"NOSCRIPT No matching script. Please use EVAL.", b""),
@@ -47,6 +47,7 @@ WITHOUT_A_WRITE = [
     (b"OOM command not allowed when used memory > 'maxmemory'." + OF_SCRIPT, b" (its memory is full: see maxmemory)"),
     (b"WRONGTYPE Operation against a key holding the wrong kind of value", b" (the key does not hold a stream: see TYPE)"),
     (b"ERR The user executing the script can't run this command or subcommand" + OF_SCRIPT, RIGHT),
+    (b"ERR ACL failure in script: User recover has no permissions to run the 'xclaim' command" + OF_SCRIPT, RIGHT),
 ]
 
 # Errors that a script may have in reply although it was carried out: of proxies, and whatever begins like one of those above.
@@ -63,6 +64,8 @@ OTHERS = [
     b"ERR max number of clients",
     b"ERR unknown",
     b"ERR Error running script",
+    b"ERR ACL failure",
+    b"ERR ACL failure in scripts:",
     b"ERR Protocol error: invalid bulk length",
     b" LOADING",
     b"loading",

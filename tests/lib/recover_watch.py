@@ -10,6 +10,7 @@ import time
 from .live import all_replies
 from .live_rows import TWO, TWO_LIVE, lines
 from .recover import Proxy, Sent, policy_text, words_of
+from .recover_json import DONE as RUN, NONE as NOTHING, PLAN, SHORT, STALE, values_of
 from .recover_rows import ONE_LIVE, Bench, SECRET, before_script, has_idle, pending_for, users
 from .servers import HOST, Redis, free_port
 
@@ -29,6 +30,9 @@ DEAD, QUICK = {b"A": 0, b"B": 0, b"D": AFTER}, {b"A": 0, b"B": 0, b"D": AFTER - 
 BOTH = {b"A": AFTER, b"B": 0, b"D": 10**12}
 DONE = b"s g: dead D, claimed 2, cost 6, gap 0, tries 1"
 NONE = b"s g: dead A D, none: too few places for 3 entries"
+NO_GROUP = "redis: XINFO CONSUMERS is answered with an error: NOGROUP No such consumer group 'h' for key name 's' (look for its name: XINFO GROUPS)"
+NOT_KNOWN = "redis: the plan was sent, and what came of it is not known: it closed the connection. Plan again to see what is left"
+REFUSED = "redis: cannot connect to %s:%d: Connection refused (os error 111). Is Redis running there, and is this its port?"
 ROWS = [
     ("a worker died", OLD_TWO, DEAD, [], (0, DONE, b"ABA")),
     ("it was seen a millisecond later", OLD_TWO, QUICK, [], (0, b"", b"ADD")),
@@ -195,16 +199,69 @@ def faults(bench, proxy):
     idle = has_idle(DEAD)
     proxy.begin(lambda call: Sent(call.forward()) if b"h" in call.words else idle(call))
     found = once(bench, groups=["s", "h", *PAIR], port=proxy.port)
-    told = b"s h: redis: XINFO CONSUMERS is answered with an error: NOGROUP No such consumer group 'h' for key name 's' (look for its name: XINFO GROUPS)"
-    bench.check("no such group beside one", (1, DONE, told), (found.status, untimed(found.out), untimed(found.errors)))
+    text = b"s h: " + NO_GROUP.encode()
+    bench.check("no such group beside one", (1, DONE, text), (found.status, untimed(found.out), untimed(found.errors)))
     bench.begin(OLD_TWO)
     told = has_idle(DEAD)
     proxy.begin(lambda call: Sent(b"", "close") if call.is_script() else told(call))
     found = once(bench, port=proxy.port)
-    text = b"s g: redis: the plan was sent, and what came of it is not known: it closed the connection. Plan again to see what is left"
+    text = b"s g: " + NOT_KNOWN.encode()
     bench.check("no answer", (5, b"", text), (found.status, found.out, untimed(found.errors)))
     found = once(bench, port=1)
     bench.expect("nobody listens", (1, b"", b"redis: cannot connect to 127.0.0.1:1: Connection refused"), found)
+
+
+def untimed_values(out):
+    """The objects, one a line, without their time if that is now, and without the milliseconds if these are a number."""
+    values = values_of(out)
+    for one in values:
+        if abs(one.get("time", 0) - time.time()) < 2 * SECONDS:
+            del one["time"]
+        if isinstance(one.get("ms"), int):
+            del one["ms"]
+    return values
+
+
+def as_json(bench, proxy):
+    """The same as objects: of a turn that moves entries, of what hinders one, and of faults. Of a turn of nothing there is none."""
+    short = SHORT | {"dead": ["A", "D"], "short": ["0-1", "1-1", "2-1"], "tries": 1}
+    gone = NOTHING | RUN | {"gone": 2, "claimed": 0}
+    lost = {"status": 5, "key": "s", "group": "g", "fault": NOT_KNOWN}
+    other = {"status": 1, "key": "s", "group": "h", "fault": NO_GROUP}
+    told, late = has_idle(DEAD), has_idle(BOTH)
+    cut = lambda call: Sent(b"", "close") if call.is_script() else told(call)
+    passed = lambda call: Sent(call.forward()) if b"h" in call.words else told(call)
+    act = before_script(bench.connection, "XREADGROUP GROUP g D STREAMS s 0")
+    back = lambda call: (act if call.is_script() else told)(call)
+    rows = [
+        ("a worker died", OLD_TWO, told, PAIR, 0, [PLAN | RUN]),
+        ("it was seen", OLD_TWO, has_idle(QUICK), PAIR, 0, []),
+        ("there are too few places", OLD_TWO, late, PAIR, 3, [short]),
+        ("all are gone", [*OLD_TWO, *lines("XDEL s 1-1 2-1")], told, PAIR, 0, [gone]),
+        ("it comes back", OLD_TWO, back, PAIR, 4, [STALE]),
+        ("no answer", OLD_TWO, cut, PAIR, 5, [lost]),
+        ("no such group beside one", OLD_TWO, passed, ["s", "h", *PAIR], 1, [other, PLAN | RUN]),
+    ]
+    for what, setting, act_of, groups, status, wanted in rows:
+        bench.begin(setting)
+        proxy.begin(act_of)
+        found = once(bench, "--json", "--tries", 1, groups=groups, port=proxy.port)
+        bench.check(f"{what}, as JSON", (status, wanted), (found.status, untimed_values(found.out)))
+
+
+def way_as_json(tally):
+    """Redis is away at first, and comes: both are objects, and so is the turn after that."""
+    port = free_port()
+    with Running(port, TWO_LIVE, "--json") as program:
+        program.out.wait_for(1)
+        with Redis(port=port) as server, server.connect() as connection:
+            all_replies(connection, TWO)
+            until = time.monotonic() + SECONDS
+            while len(program.out.lines) < 3 and time.monotonic() < until:
+                all_replies(connection, OLD[1:])
+                time.sleep(0.1)
+            values = untimed_values(b"".join(program.out.lines))
+    tally.check("Redis comes, as JSON", [{"redis": "away", "fault": REFUSED % (HOST, port)}, {"redis": "back"}, PLAN | RUN], values)
 
 
 def of_a_user(bench, proxy):
@@ -261,8 +318,7 @@ def restarted(tally):
     """Redis is away at first, comes, goes and comes again: each is told once, and each time a dead one is found."""
     port = free_port()
     with Running(port, TWO_LIVE) as program:
-        text = b"redis: cannot connect to %s:%d: Connection refused (os error 111). Is Redis running there, and is this its port?"
-        tally.check("Redis is away", [text % (HOST.encode(), port)], program.errors.wait_for(1))
+        tally.check("Redis is away", [(REFUSED % (HOST, port)).encode()], program.errors.wait_for(1))
         for number in (1, 2):
             time.sleep(3)
             wanted = ["away", "back"] * number
@@ -282,10 +338,11 @@ def restarted(tally):
 def compare(tally, connection):
     """Compares all rows."""
     bench = Bench(tally, connection)
-    parts = found_dead, asked_calls, comes_back, by_rounds, in_turns, faults, of_a_user, command_lines
+    parts = found_dead, asked_calls, comes_back, by_rounds, in_turns, faults, as_json, of_a_user, command_lines
     with Proxy(bench.port) as proxy:
         for part in parts:
             part(bench, proxy)
     with Redis() as server:
         really_dead(tally, server)
     restarted(tally)
+    way_as_json(tally)

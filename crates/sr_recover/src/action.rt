@@ -2,9 +2,11 @@
 use crate::advice::print_advice;
 use crate::board::{Board, board_of, print_board};
 use crate::check::print_check;
+use crate::clock::millis;
 use crate::deliveries::{look_deliveries, look_given_up};
-use crate::fault::{Fault, live_fault};
+use crate::fault::Fault;
 use crate::json_lines::{Step, print_board_line, print_plan_line, print_ran_line};
+use crate::metrics::{Counts, MetricsFile, metrics_text};
 use crate::names::{PolicyText, print_stars};
 use crate::notes::{Notes, look_members};
 use crate::options::{Action, Options};
@@ -12,7 +14,7 @@ use crate::place::{Place, place_named};
 use crate::print::{
     print_done, print_gone, print_plan, print_spare, print_stale, print_step, print_sum, say,
 };
-use crate::reach::read_reach;
+use crate::reach::{Reach, read_reach};
 use crate::watch::{Watcher, watch_groups};
 use crate::wire::Wire;
 use sr_bytes::Name;
@@ -34,7 +36,7 @@ const MAX_STEPS: u64 = 1_000_000;
 const MAX_MOVES: usize = 16;
 
 /// How many entries are read at a time at most.
-pub(crate) const TOGETHER: u64 = 256;
+const TOGETHER: u64 = 256;
 
 /// How many are read at a time at most after a reply that was too long.
 const FEWER_TOGETHER: u64 = 16;
@@ -77,24 +79,73 @@ pub(crate) fn act(rt: &HostRuntime, options: &Options<'_>) -> Result<Status, Fau
     if options.action == Action::Judge {
         return Ok(Status::Done);
     }
+    let file = match options.metrics {
+        Some(path) => Some(MetricsFile::new(rt, path)?),
+        None => None,
+    };
     if let Some(watching) = &options.watching {
-        return watch_groups(&Watcher {
+        let watcher = Watcher {
             rt,
             options,
             watching,
             policy: &policy,
             reach: &reach,
-        });
+        };
+        return watch_groups(&watcher, file);
     }
-    let mut asked = asked(rt.alloc(), options)?;
-    if options.makes_plans() && asked.seen_within.is_none() && policy.has_stars() {
+    let task = Task {
+        rt,
+        options,
+        written: &policy,
+    };
+    let began = millis(rt);
+    let mut counts = Counts::new(rt.alloc(), options.key, options.group)?;
+    let ended = act_somewhere(task, &reach, &mut counts);
+    if let Some(file) = file {
+        counts.end_run(rt, code_of(&ended), began);
+        write_counts(rt, file, &counts);
+    }
+    ended
+}
+
+/// What is done, whichever node has the key.
+#[derive(Clone, Copy)]
+struct Task<'a> {
+    rt: &'a HostRuntime,
+    options: &'a Options<'a>,
+    /// The policy, as it is written.
+    written: &'a PolicyText,
+}
+
+/// The status that the program ends with.
+fn code_of(ended: &Result<Status, Fault>) -> u8 {
+    match ended {
+        Ok(status) => status.code(),
+        Err(fault) => fault.code(),
+    }
+}
+
+/// Writes what was done. If that fails it is told, and nothing else comes of it.
+fn write_counts(rt: &HostRuntime, file: MetricsFile<'_>, counts: &Counts) {
+    let mut file = file;
+    if let Some(fault) = file.write(rt, metrics_text(rt.alloc(), &[counts])) {
+        let _ = eprintln!(rt; "{fault}");
+    }
+}
+
+/// Does what is asked for, at whichever node has the key.
+fn act_somewhere(task: Task<'_>, reach: &Reach<'_>, counts: &mut Counts) -> Result<Status, Fault> {
+    let rt = task.rt;
+    let mut asked = asked(rt.alloc(), task.options)?;
+    let makes_plans = task.options.makes_plans();
+    if makes_plans && asked.seen_within.is_none() && task.written.has_stars() {
         print_stars(&mut rt.stderr())?;
     }
     let mut place = reach.node(rt)?;
     let mut moves = 0;
     for _ in 0..MAX_ATTEMPTS {
         let mut wire = reach.connect(rt, &place)?;
-        match act_at(rt, options, &policy, &asked, &mut wire) {
+        match act_at(task, &asked, &mut wire, counts) {
             Err(Fault::NoSpare) if asked.spare > 0 => {
                 print_spare(&mut rt.stderr(), asked.spare)?;
                 asked.spare = 0;
@@ -135,12 +186,16 @@ pub(crate) fn go_on(
 
 /// Does what is asked for, at this node.
 fn act_at(
-    rt: &HostRuntime,
-    options: &Options<'_>,
-    written: &PolicyText,
+    task: Task<'_>,
     asked: &Asked,
     wire: &mut Wire,
+    counts: &mut Counts,
 ) -> Result<Status, Fault> {
+    let Task {
+        rt,
+        options,
+        written,
+    } = task;
     let expanded = written.for_group(wire, rt.alloc(), asked)?;
     let PolicyText { policy, text } = match &expanded {
         Some(expanded) => expanded,
@@ -153,8 +208,32 @@ fn act_at(
             Ok(Status::Done)
         }
         Action::Board => show_board(rt, options, policy, asked, wire),
-        Action::Plan => show_plan(rt, options, policy, asked, wire),
-        Action::Run => carry_out(rt, options, policy, asked, wire),
+        Action::Plan | Action::Run => make_plans(task, policy, asked, wire, counts),
+    }
+}
+
+/// Makes a plan, and has it carried out if that is asked for. Who is in the group is looked up before: a plan that is
+/// carried out makes the consumers that it gives entries.
+fn make_plans(
+    task: Task<'_>,
+    policy: &Policy,
+    asked: &Asked,
+    wire: &mut Wire,
+    counts: &mut Counts,
+) -> Result<Status, Fault> {
+    let looked = look_members(wire, task.rt.alloc(), policy, asked);
+    let members = wire.told(task.rt.alloc(), looked)?;
+    let given_up = look_given_up(wire, task.rt.alloc(), asked)?;
+    let notes = Notes {
+        policy,
+        asked,
+        members: &members,
+        given_up: &given_up,
+    };
+    if task.options.action == Action::Run {
+        carry_out(task, notes, wire, counts)
+    } else {
+        show_plan(task, notes, wire)
     }
 }
 
@@ -166,23 +245,20 @@ fn show_board(
     asked: &Asked,
     wire: &mut Wire,
 ) -> Result<Status, Fault> {
-    match look_board(wire, rt.alloc(), asked) {
-        Ok((idles, numbers)) => {
-            let board = Board {
-                idles,
-                numbers,
-                deliveries: look_deliveries(wire, rt.alloc(), asked)?,
-            };
-            let rows = board_of(rt.alloc(), policy, &board)?;
-            if options.json {
-                print_board_line(&mut rt.stdout(), rt.alloc(), rows.as_slice())?;
-            } else {
-                print_board(&mut rt.stdout(), rt.alloc(), rows.as_slice())?;
-            }
-            Ok(Status::Done)
-        }
-        Err(fault) => Err(live_fault(rt.alloc(), fault, wire.script())),
+    let looked = look_board(wire, rt.alloc(), asked);
+    let (idles, numbers) = wire.told(rt.alloc(), looked)?;
+    let board = Board {
+        idles,
+        numbers,
+        deliveries: look_deliveries(wire, rt.alloc(), asked)?,
+    };
+    let rows = board_of(rt.alloc(), policy, &board)?;
+    if options.json {
+        print_board_line(&mut rt.stdout(), rt.alloc(), rows.as_slice())?;
+    } else {
+        print_board(&mut rt.stdout(), rt.alloc(), rows.as_slice())?;
     }
+    Ok(Status::Done)
 }
 
 /// The consumers of the group, each with its idle time, and how many entries are pending for each that has any.
@@ -197,31 +273,14 @@ fn look_board(
 }
 
 /// Makes a plan, and prints it.
-fn show_plan(
-    rt: &HostRuntime,
-    options: &Options<'_>,
-    policy: &Policy,
-    asked: &Asked,
-    wire: &mut Wire,
-) -> Result<Status, Fault> {
-    let members = match look_members(wire, rt.alloc(), policy, asked) {
-        Ok(members) => members,
-        Err(fault) => return Err(live_fault(rt.alloc(), fault, wire.script())),
-    };
-    let given_up = look_given_up(wire, rt.alloc(), asked)?;
-    let notes = Notes {
-        policy,
-        asked,
-        members: &members,
-        given_up: &given_up,
-    };
-    match plan(wire, rt.alloc(), policy, asked, options.at_most) {
-        Ok(planned) => {
-            see_spare(asked, &planned)?;
-            print_planned(rt, options, notes, &planned, false)
-        }
-        Err(fault) => Err(live_fault(rt.alloc(), fault, wire.script())),
-    }
+fn show_plan(task: Task<'_>, notes: Notes<'_>, wire: &mut Wire) -> Result<Status, Fault> {
+    let Task { rt, options, .. } = task;
+    let Notes { policy, asked, .. } = notes;
+    let made = plan(wire, rt.alloc(), policy, asked, options.at_most);
+    let planned = wire.told(rt.alloc(), made)?;
+    see_spare(asked, &planned)?;
+    print_planned(rt, options, notes, &planned, false)?;
+    Ok(status_of(&planned.verdict))
 }
 
 /// Prints a plan, or that there is none.
@@ -231,7 +290,7 @@ fn print_planned(
     notes: Notes<'_>,
     planned: &Planned,
     done: bool,
-) -> Result<Status, Fault> {
+) -> Result<(), Fault> {
     notes.print(&mut rt.stderr(), rt.alloc(), planned)?;
     let mut out = rt.stdout();
     if options.check {
@@ -243,7 +302,7 @@ fn print_planned(
         // it is no fault if this cannot be told
         let _ = print_advice(&mut rt.stderr(), rt.alloc(), &planned.verdict);
     }
-    Ok(status_of(&planned.verdict))
+    Ok(())
 }
 
 /// How it ends with this verdict, if nothing goes wrong.
@@ -255,52 +314,66 @@ pub(crate) fn status_of(verdict: &Verdict) -> Status {
     }
 }
 
-/// Makes a plan, and has Redis carry it out; with --all again and again, until nothing is left. Who is in the group is
-/// looked up before: a plan that is carried out makes the consumers that it gives entries.
+/// How it ends with a plan of which this came, if nothing goes wrong.
+pub(crate) fn status_of_ran(ran: &Ran) -> Status {
+    match ran {
+        Ran::Done { .. } => Status::Done,
+        Ran::Impossible(_) => Status::Impossible,
+        Ran::Stale { .. } => Status::Stale,
+    }
+}
+
+/// What came of printing this. If a write fails after a plan was carried out, the fault says so.
+pub(crate) fn printed_of(ran: &Ran, printed: Result<(), Fault>) -> Result<(), Fault> {
+    match printed {
+        Err(Fault::Output | Fault::Memory) if is_done(ran) => Err(Fault::OutputOfDone),
+        printed => printed,
+    }
+}
+
+/// Whether a plan was carried out.
+fn is_done(ran: &Ran) -> bool {
+    match ran {
+        Ran::Done { .. } => true,
+        Ran::Impossible(_) | Ran::Stale { .. } => false,
+    }
+}
+
+/// Makes a plan, and has Redis carry it out; with --all again and again, until nothing is left.
 fn carry_out(
-    rt: &HostRuntime,
-    options: &Options<'_>,
-    policy: &Policy,
-    asked: &Asked,
+    task: Task<'_>,
+    notes: Notes<'_>,
     wire: &mut Wire,
+    counts: &mut Counts,
 ) -> Result<Status, Fault> {
-    let members = match look_members(wire, rt.alloc(), policy, asked) {
-        Ok(members) => members,
-        Err(fault) => return Err(live_fault(rt.alloc(), fault, wire.script())),
-    };
-    let given_up = look_given_up(wire, rt.alloc(), asked)?;
-    let notes = Notes {
-        policy,
-        asked,
-        members: &members,
-        given_up: &given_up,
-    };
+    let Task { rt, options, .. } = task;
+    let Notes { policy, asked, .. } = notes;
     let terms = Terms {
         tries: options.tries,
         within: options.within,
         at_most: most_of(options),
     };
     for step in 0..MAX_STEPS {
-        let ran = match run(wire, rt.alloc(), policy, asked, terms) {
-            Ok(ran) => ran,
-            Err(fault) => return Err(live_fault(rt.alloc(), fault, wire.script())),
-        };
+        let made = run(wire, rt.alloc(), policy, asked, terms);
+        let ran = wire.told(rt.alloc(), made)?;
+        counts.add_claimed(&ran);
         if let Ran::Impossible(planned) = &ran {
             see_spare(asked, planned)?;
         }
         let is_last = is_last(options, &ran);
-        let status = if options.json {
+        let printed = if options.json {
             let step = Step {
                 number: step,
                 is_last,
                 tries: wire.take_rounds(),
             };
-            print_ran_line(rt, notes, &ran, step)?
+            print_ran_line(rt, notes, &ran, step)
         } else {
-            print_ran(rt, options, notes, step, &ran)?
+            print_ran(rt, options, notes, step, &ran)
         };
+        printed_of(&ran, printed)?;
         if is_last {
-            return Ok(status);
+            return Ok(status_of_ran(&ran));
         }
     }
     Ok(Status::Done)
@@ -337,7 +410,7 @@ fn print_ran(
     notes: Notes<'_>,
     step: u64,
     ran: &Ran,
-) -> Result<Status, Fault> {
+) -> Result<(), Fault> {
     match ran {
         Ran::Done {
             planned,
@@ -345,20 +418,15 @@ fn print_ran(
             gap,
         } => {
             let done = (*claimed, *gap);
-            let printed = if options.all {
+            if options.all {
                 print_carried_on(rt, notes, planned, done, step)
             } else {
                 print_carried_out(rt, options, notes, planned, done)
-            };
-            match printed {
-                Err(Fault::Output | Fault::Memory) => Err(Fault::OutputOfDone),
-                printed => printed,
             }
         }
         Ran::Impossible(planned) => print_planned(rt, options, notes, planned, false),
         Ran::Stale { what, of } => {
-            print_stale(&mut rt.stdout(), rt.alloc(), what.as_slice(), of.as_slice())?;
-            Ok(Status::Stale)
+            print_stale(&mut rt.stdout(), rt.alloc(), what.as_slice(), of.as_slice())
         }
     }
 }
@@ -370,7 +438,7 @@ fn print_carried_on(
     planned: &Planned,
     done: (u64, u64),
     step: u64,
-) -> Result<Status, Fault> {
+) -> Result<(), Fault> {
     if step == 0 {
         notes.print(&mut rt.stderr(), rt.alloc(), planned)?;
     }
@@ -382,7 +450,7 @@ fn print_carried_on(
     } else if step == 0 {
         print_sum(&mut rt.stderr())?;
     }
-    Ok(Status::Done)
+    Ok(())
 }
 
 /// Prints a plan that was carried out: how many entries were claimed, and at which gap.
@@ -392,13 +460,13 @@ fn print_carried_out(
     notes: Notes<'_>,
     planned: &Planned,
     done: (u64, u64),
-) -> Result<Status, Fault> {
+) -> Result<(), Fault> {
     let (claimed, gap) = done;
-    let status = print_planned(rt, options, notes, planned, true)?;
+    print_planned(rt, options, notes, planned, true)?;
     if !options.check {
         print_done(&mut rt.stdout(), claimed, gap)?;
     }
-    Ok(status)
+    Ok(())
 }
 
 /// Of which group a plan is asked.
@@ -407,19 +475,27 @@ fn asked(alloc: Global, options: &Options<'_>) -> Result<Asked, Fault> {
     for name in &options.dead {
         dead.push(name_of(alloc, name)?)?;
     }
-    Ok(Asked {
-        key: name_of(alloc, options.key)?,
-        group: name_of(alloc, options.group)?,
-        dead: names_in_order(alloc, dead.as_slice())?,
+    let key = name_of(alloc, options.key)?;
+    let group = name_of(alloc, options.group)?;
+    let dead = names_in_order(alloc, dead.as_slice())?;
+    Ok(asked_by(options, key, group, dead))
+}
+
+/// What the options ask of a group in which these are dead.
+pub(crate) fn asked_by(options: &Options<'_>, key: Name, group: Name, dead: Vec<Name>) -> Asked {
+    Asked {
+        key,
+        group,
+        dead,
         claimable: claimable(options),
         seen_within: options.seen_within,
         spare: options.spare,
         together: TOGETHER,
-    })
+    }
 }
 
 /// Which entries of the dead may be moved.
-pub(crate) fn claimable(options: &Options<'_>) -> Claimable {
+fn claimable(options: &Options<'_>) -> Claimable {
     Claimable {
         idle: options.idle_over,
         most_deliveries: options.given_up_after,

@@ -3,8 +3,8 @@ use crate::fault::{Fault, text_of};
 use sr_live::LiveCall;
 use std::alloc::{AllocError, Global};
 
-/// What an error of Redis 7.0 begins with, in reply to a script, if nothing was carried out. Any other one, as a proxy
-/// may reply in place of Redis, says nothing of that.
+/// What an error of Redis, from 7.0 on, or of Valkey begins with, in reply to a script, if nothing was carried out. Any
+/// other one, as a proxy may reply in place of Redis, says nothing of that.
 const WITHOUT_A_WRITE: &[&[u8]] = &[
     // it has not begun to run the script
     b"NOSCRIPT",
@@ -26,9 +26,14 @@ const WITHOUT_A_WRITE: &[&[u8]] = &[
     b"NOREPLICAS",
     b"MISCONF",
     b"OOM",
-    // the script looks at the key before it writes, and its user may do all writes or none
+    // the script looks at the key before it writes
     b"WRONGTYPE",
+    // A user may not do what the script does: the first in Redis 7.0, the second from 7.2 on and in Valkey. Its only
+    // command that changes anything is XCLAIM, which comes after all others, each time with the same key. Whether it is
+    // allowed depends on the user, the command and the key, and no rights change while a script runs: so the first
+    // XCLAIM is refused, or none is.
     b"ERR The user executing the script",
+    b"ERR ACL failure in script:",
 ];
 
 const RIGHT: &str = " (the user lacks a right: docs/LIVE.md has the line for ACL SETUSER)";
@@ -120,6 +125,7 @@ const ADVICE: &[(&[u8], &str)] = &[
     (b"NOAUTH", " (give a password: --password-file FILE)"),
     (b"NOPERM", RIGHT),
     (b"ERR The user executing the script", RIGHT),
+    (b"ERR ACL failure in script:", RIGHT),
     (b"NOGROUP", " (look for its name: XINFO GROUPS)"),
     (b"ERR no such key", " (look for its name: SCAN)"),
     (b"WRONGTYPE", " (the key does not hold a stream: see TYPE)"),

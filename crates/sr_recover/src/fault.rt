@@ -25,6 +25,8 @@ pub(crate) enum Fault {
     Standard(String),
     #[error("{0}: cannot read the file {1}: {2}")]
     Unreadable(&'static str, String, String),
+    #[error("{0}: cannot write the file {1}: {2}")]
+    Unwritable(&'static str, String, String),
     #[error("policy: {0}")]
     Policy(String),
     #[error("redis: cannot find the host {0}: {1}. Is its name right?")]
@@ -71,6 +73,7 @@ impl Fault {
         match self {
             Fault::Help(_) => 0,
             Fault::Words | Fault::Asked(_) | Fault::Named(..) | Fault::Usage(_) => 2,
+            Fault::Unwritable(..) => 2,
             Fault::Changed => 4,
             Fault::Unknown(_) | Fault::UnknownError(..) => 5,
             _ => 1,
@@ -100,13 +103,27 @@ pub(crate) fn standard_fault(alloc: Global, error: io::Error) -> Fault {
 
 /// What it is to the user that a file at this path cannot be read.
 pub(crate) fn unreadable(alloc: Global, what: &'static str, path: &str, error: io::Error) -> Fault {
+    match told_of_file(alloc, path, error) {
+        Ok((path, why)) => Fault::Unreadable(what, path, why),
+        Err(fault) => fault,
+    }
+}
+
+/// What it is to the user that a file at this path cannot be written.
+pub(crate) fn unwritable(alloc: Global, what: &'static str, path: &str, error: io::Error) -> Fault {
+    match told_of_file(alloc, path, error) {
+        Ok((path, why)) => Fault::Unwritable(what, path, why),
+        Err(fault) => fault,
+    }
+}
+
+/// What is told of a file: its path, and why it cannot be used.
+fn told_of_file(alloc: Global, path: &str, error: io::Error) -> Result<(String, String), Fault> {
     if error.kind() == ErrorKind::OutOfMemory {
-        return Fault::Memory;
+        return Err(Fault::Memory);
     }
-    match (text_of(alloc, path.as_bytes()), why(alloc, &error)) {
-        (Ok(path), Ok(why)) => Fault::Unreadable(what, path, why),
-        _ => Fault::Memory,
-    }
+    let why = why(alloc, &error)?;
+    Ok((text_of(alloc, path.as_bytes())?, why))
 }
 
 /// Why the system refused something, in its words.

@@ -5,6 +5,7 @@ use crate::deliveries::GivenUp;
 use crate::fault::Fault;
 use crate::notes::Notes;
 use crate::print::{print_sum, say, share_of};
+use crate::watch_print::Turn;
 use serde_json::{Map, Value, json, push, put};
 use sr_bytes::Name;
 use sr_ids::{Id, write_id};
@@ -14,7 +15,7 @@ use std::alloc::{AllocError, Global};
 use std::io::Write;
 
 /// The members of an object, in the order of their names.
-type Members = Map<String, Value>;
+pub(crate) type Members = Map<String, Value>;
 
 /// Prints a plan, or that there is none.
 pub(crate) fn print_plan_line<W: Write>(
@@ -23,7 +24,7 @@ pub(crate) fn print_plan_line<W: Write>(
     notes: Notes<'_>,
     verdict: &Verdict,
 ) -> Result<(), Fault> {
-    let members = members_of(alloc, notes, verdict)?;
+    let members = members_of(alloc, notes.asked, notes.given_up, verdict)?;
     print_line(out, alloc, &Value::Object(members))
 }
 
@@ -43,18 +44,7 @@ pub(crate) fn print_ran_line(
     notes: Notes<'_>,
     ran: &Ran,
     step: Step,
-) -> Result<Status, Fault> {
-    match (ran, print_ran(rt, notes, ran, step)) {
-        (Ran::Done { .. }, Err(Fault::Output | Fault::Memory)) => Err(Fault::OutputOfDone),
-        (_, Err(fault)) => Err(fault),
-        (Ran::Done { .. }, Ok(())) => Ok(Status::Done),
-        (Ran::Impossible(_), Ok(())) => Ok(Status::Impossible),
-        (Ran::Stale { .. }, Ok(())) => Ok(Status::Stale),
-    }
-}
-
-/// Prints the same, whatever a write that fails means.
-fn print_ran(rt: &HostRuntime, notes: Notes<'_>, ran: &Ran, step: Step) -> Result<(), Fault> {
+) -> Result<(), Fault> {
     let planned = match ran {
         Ran::Done { planned, .. } => Some(planned),
         Ran::Impossible(planned) => Some(planned),
@@ -71,7 +61,7 @@ fn print_ran(rt: &HostRuntime, notes: Notes<'_>, ran: &Ran, step: Step) -> Resul
     if step.number > 0 && is_empty(ran) {
         return Ok(());
     }
-    let mut members = members_of_ran(rt.alloc(), notes, ran)?;
+    let mut members = members_of_ran(rt.alloc(), notes.asked, notes.given_up, ran)?;
     put(&mut members, rt.alloc(), "tries", Value::from(step.tries))?;
     print_line(&mut rt.stdout(), rt.alloc(), &Value::Object(members))
 }
@@ -85,21 +75,26 @@ fn is_empty(ran: &Ran) -> bool {
 }
 
 /// What is told of a plan that was made and sent.
-fn members_of_ran(alloc: Global, notes: Notes<'_>, ran: &Ran) -> Result<Members, AllocError> {
+fn members_of_ran(
+    alloc: Global,
+    asked: &Asked,
+    given_up: &Option<GivenUp>,
+    ran: &Ran,
+) -> Result<Members, AllocError> {
     match ran {
         Ran::Done {
             planned,
             claimed,
             gap,
         } => {
-            let mut members = members_of(alloc, notes, &planned.verdict)?;
+            let mut members = members_of(alloc, asked, given_up, &planned.verdict)?;
             put(&mut members, alloc, "claimed", Value::from(*claimed))?;
             put(&mut members, alloc, "gap", Value::from(*gap))?;
             Ok(members)
         }
-        Ran::Impossible(planned) => members_of(alloc, notes, &planned.verdict),
+        Ran::Impossible(planned) => members_of(alloc, asked, given_up, &planned.verdict),
         Ran::Stale { what, of } => {
-            let mut members = begun(alloc, notes.asked, Status::Stale)?;
+            let mut members = begun_of(alloc, asked, Status::Stale)?;
             put(&mut members, alloc, "stale", text_of(alloc, what)?)?;
             put(&mut members, alloc, "of", text_of(alloc, of)?)?;
             Ok(members)
@@ -108,28 +103,91 @@ fn members_of_ran(alloc: Global, notes: Notes<'_>, ran: &Ran) -> Result<Members,
 }
 
 /// What is told of each plan: the status, and of whom.
-fn begun(alloc: Global, asked: &Asked, status: Status) -> Result<Members, AllocError> {
+fn begun_of(alloc: Global, asked: &Asked, status: Status) -> Result<Members, AllocError> {
     let mut dead = Vec::new(alloc);
     for name in &asked.dead {
         push(&mut dead, text_of(alloc, name)?)?;
     }
-    let mut members = Map::new(alloc);
-    put(&mut members, alloc, "status", Value::from(status.code()))?;
-    put(&mut members, alloc, "key", text_of(alloc, &asked.key)?)?;
-    put(&mut members, alloc, "group", text_of(alloc, &asked.group)?)?;
+    let mut members = begun(alloc, &asked.key, &asked.group, status.code())?;
     put(&mut members, alloc, "dead", Value::Array(dead))?;
     Ok(members)
 }
 
+/// What is told of all that is done at a group: the status, and of which one.
+fn begun(alloc: Global, key: &Name, group: &Name, code: u8) -> Result<Members, AllocError> {
+    let mut members = Map::new(alloc);
+    put(&mut members, alloc, "status", Value::from(code))?;
+    put(&mut members, alloc, "key", text_of(alloc, key)?)?;
+    put(&mut members, alloc, "group", text_of(alloc, group)?)?;
+    Ok(members)
+}
+
+/// What is told of a turn of `watch` in which somebody was dead.
+pub(crate) fn members_of_turn(alloc: Global, turn: &Turn) -> Result<Members, AllocError> {
+    let mut members = members_of_ran(alloc, &turn.asked, &None, &turn.ran)?;
+    put(&mut members, alloc, "tries", Value::from(turn.tries))?;
+    put(&mut members, alloc, "ms", Value::from(turn.millis))?;
+    Ok(members)
+}
+
+/// What is told of a turn of `watch` that had a fault.
+pub(crate) fn members_of_fault(
+    alloc: Global,
+    key: &Name,
+    group: &Name,
+    fault: &Fault,
+) -> Result<Members, AllocError> {
+    let mut members = begun(alloc, key, group, fault.code())?;
+    put_fault(&mut members, alloc, fault)?;
+    Ok(members)
+}
+
+/// What is told of Redis: that it is away, and by which fault; or that it is back.
+pub(crate) fn members_of_redis(
+    alloc: Global,
+    fault: Option<&Fault>,
+) -> Result<Members, AllocError> {
+    let mut members = Map::new(alloc);
+    let Some(fault) = fault else {
+        put_text(&mut members, alloc, "redis", "back")?;
+        return Ok(members);
+    };
+    put_text(&mut members, alloc, "redis", "away")?;
+    put_fault(&mut members, alloc, fault)?;
+    Ok(members)
+}
+
+/// Adds what a fault is to the user.
+fn put_fault(members: &mut Members, alloc: Global, fault: &Fault) -> Result<(), AllocError> {
+    let text = format!(in alloc; "{fault}")?;
+    put_text(members, alloc, "fault", text.as_str())
+}
+
+/// Adds a member with this text.
+fn put_text(
+    members: &mut Members,
+    alloc: Global,
+    name: &'static str,
+    text: &str,
+) -> Result<(), AllocError> {
+    let text = String::from_str(alloc, text)?;
+    put(members, alloc, name, Value::String(text))
+}
+
 /// What is told of a plan: who gets what at which prices, or for which entries there are too few places.
-fn members_of(alloc: Global, notes: Notes<'_>, verdict: &Verdict) -> Result<Members, AllocError> {
-    let mut members = begun(alloc, notes.asked, status_of(verdict))?;
+fn members_of(
+    alloc: Global,
+    asked: &Asked,
+    given_up: &Option<GivenUp>,
+    verdict: &Verdict,
+) -> Result<Members, AllocError> {
+    let mut members = begun_of(alloc, asked, status_of(verdict))?;
     let (consumers, entries) = consumers_of(alloc, verdict)?;
     let gone = verdict.gone().len() as u64;
     put(&mut members, alloc, "consumers", Value::Array(consumers))?;
     put(&mut members, alloc, "entries", Value::from(entries))?;
     put(&mut members, alloc, "gone", Value::from(gone))?;
-    if let Some(given_up) = notes.given_up {
+    if let Some(given_up) = given_up {
         put(
             &mut members,
             alloc,
@@ -237,6 +295,18 @@ fn id_of(alloc: Global, id: Id) -> Result<Value, AllocError> {
     let mut text = [0; 41];
     let len = write_id(id, &mut text);
     Ok(Value::String(String::from_utf8_lossy(alloc, &text[..len])?))
+}
+
+/// Prints an object of `watch`, with the time.
+pub(crate) fn print_at<W: Write>(
+    out: &mut W,
+    alloc: Global,
+    time: u64,
+    members: Members,
+) -> Result<(), Fault> {
+    let mut members = members;
+    put(&mut members, alloc, "time", Value::from(time))?;
+    print_line(out, alloc, &Value::Object(members))
 }
 
 /// Prints a value and a line end, by one write.

@@ -1,6 +1,6 @@
 //! A policy file, and names in it that end in `*`: each stands for the consumers of a group with that beginning.
 use crate::blame::{MAX_CONSUMERS, policy_fault};
-use crate::fault::{Fault, live_fault, unreadable};
+use crate::fault::{Fault, unreadable};
 use crate::print::say;
 use crate::wire::Wire;
 use sr_bytes::Name;
@@ -53,10 +53,8 @@ impl PolicyText {
         if !self.has_stars() {
             return Ok(None);
         }
-        let idles = match look_idles(wire, alloc, &asked.key, &asked.group) {
-            Ok(idles) => idles,
-            Err(fault) => return Err(live_fault(alloc, fault, wire.script())),
-        };
+        let looked = look_idles(wire, alloc, &asked.key, &asked.group);
+        let idles = wire.told(alloc, looked)?;
         let text = expanded_text(alloc, self.text.as_str(), asked, idles.as_slice())?;
         match Policy::read(alloc, text.as_str()) {
             Ok(policy) => Ok(Some(PolicyText { policy, text })),

@@ -81,6 +81,8 @@ pub(crate) struct Options<'a> {
     pub(crate) group: &'a str,
     /// The dead consumers, as they were named.
     pub(crate) dead: Vec<&'a str>,
+    /// The path of the file that tells what was done.
+    pub(crate) metrics: Option<&'a str>,
     /// What is watched, if anything is: then no key, no group and no dead consumer is named.
     pub(crate) watching: Option<Watching<'a>>,
 }
@@ -207,6 +209,7 @@ fn options_of<'a>(
         key: given.get_str("KEY").unwrap_or(""),
         group: given.get_str("GROUP").unwrap_or(""),
         dead,
+        metrics: given.get_str("metrics"),
         watching,
     })
 }
@@ -317,7 +320,7 @@ fn runner<'a>(alloc: Global, name: &'a str, about: &'a str) -> Result<Command<'a
     )
 }
 
-/// Adds how a plan is carried out.
+/// Adds how a plan is carried out, and where that is counted.
 pub(crate) fn rounds<'a>(alloc: Global, command: Command<'a>) -> Result<Command<'a>, AllocError> {
     command
         .arg(valued(
@@ -331,6 +334,12 @@ pub(crate) fn rounds<'a>(alloc: Global, command: Command<'a>) -> Result<Command<
             "within",
             "D",
             "Carry out a plan that costs at most D more than a cheapest one [default: 0]",
+        ))?
+        .arg(valued(
+            alloc,
+            "metrics",
+            "FILE",
+            "Write counts to FILE, in the text form of Prometheus, after the run or each turn",
         ))
 }
 

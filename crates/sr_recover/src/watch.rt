@@ -1,19 +1,20 @@
 //! Groups are watched: turn by turn their dead are found, and what these have left is given to others.
-use crate::action::{MAX_ATTEMPTS, Status, TOGETHER, claimable, go_on, name_of, see_spare};
-use crate::fault::{Fault, live_fault};
+use crate::action::{MAX_ATTEMPTS, Status, asked_by, go_on, see_spare};
+use crate::clock::millis;
+use crate::fault::Fault;
+use crate::metrics::{MetricsFile, metrics_text};
 use crate::names::PolicyText;
 use crate::options::Options;
 use crate::print::print_spare;
 use crate::reach::Reach;
 use crate::watch_options::Watching;
-use crate::watch_print::{Turn, Watched, print_away, print_back};
+use crate::watch_print::{Turn, Watched, print_away, print_back, print_fault};
 use crate::wire::Wire;
 use sr_bytes::Name;
 use sr_live::{Asked, LiveFault, Ran, Terms, find_dead, run};
 use sr_policy::Policy;
 use sr_space::names_in_order;
 use std::alloc::{AllocError, Global};
-use std::rt::Clock;
 use std::thread;
 use std::time::Duration;
 
@@ -32,18 +33,26 @@ pub(crate) struct Watcher<'a> {
 
 /// Watches the groups, until a signal ends the process, or a fault that another turn would have too; or for one turn.
 ///
-/// While Redis is away it waits longer before each turn.
-pub(crate) fn watch_groups(watcher: &Watcher<'_>) -> Result<Status, Fault> {
+/// While Redis is away it waits longer before each turn. After each turn the file tells what was done.
+pub(crate) fn watch_groups(
+    watcher: &Watcher<'_>,
+    file: Option<MetricsFile<'_>>,
+) -> Result<Status, Fault> {
+    let mut file = file;
     let mut groups = groups_of(watcher)?;
     let mut pause = 0;
     for _ in 0..u64::MAX {
-        match look_at_all(watcher, &mut groups, &mut pause) {
+        let looked = look_at_all(watcher, &mut groups, &mut pause);
+        if let Some(file) = &mut file {
+            write_counts(watcher.rt, file, groups.as_slice());
+        }
+        match looked {
             Ok(code) if watcher.watching.once => return Ok(Status::Watched(code)),
             Ok(_code) => sleep(watcher.rt, watcher.watching.every),
             Err(fault) if watcher.watching.once || !is_away(&fault) => return Err(fault),
             Err(fault) => {
                 if pause == 0 {
-                    print_away(watcher.rt, &fault)?;
+                    print_away(watcher.rt, &fault, watcher.options.json)?;
                 }
                 pause = pause_after(pause);
                 sleep(watcher.rt, pause);
@@ -58,11 +67,25 @@ fn groups_of(watcher: &Watcher<'_>) -> Result<Vec<Watched>, AllocError> {
     let alloc = watcher.rt.alloc();
     let mut groups = Vec::new(alloc);
     for (key, group) in &watcher.watching.groups {
-        let key = name_of(alloc, key)?;
-        let group = name_of(alloc, group)?;
-        groups.push(Watched::new(alloc, key, group))?;
+        groups.push(Watched::new(alloc, key, group, watcher.options.json)?)?;
     }
     Ok(groups)
+}
+
+/// Writes what was done at each group. If that fails it is told, and nothing else comes of it.
+fn write_counts(rt: &HostRuntime, file: &mut MetricsFile<'_>, groups: &[Watched]) {
+    if let Some(fault) = file.write(rt, counts_text(rt.alloc(), groups)) {
+        let _ = print_fault(rt, &fault);
+    }
+}
+
+/// The text of the file that tells of these groups.
+fn counts_text(alloc: Global, groups: &[Watched]) -> Result<Vec<u8>, Fault> {
+    let mut counts = Vec::new(alloc);
+    for group in groups {
+        counts.push(&group.counts)?;
+    }
+    metrics_text(alloc, counts.as_slice())
 }
 
 /// Sleeps for so many seconds.
@@ -83,23 +106,46 @@ fn look_at_all(
 ) -> Result<u8, Fault> {
     let mut code = 0;
     for group in groups.iter_mut() {
-        let made = match look_after(watcher, group) {
-            Ok(turn) => Ok(turn),
-            Err(fault) => {
-                if is_away(&fault) || is_own(&fault) {
-                    return Err(fault);
-                }
-                Err(fault)
-            }
-        };
-        if *pause > 0 {
-            print_back(watcher.rt)?;
-            *pause = 0;
-        }
-        let told = group.tell(watcher.rt, &watcher.policy.policy, made)?;
-        code = told.max(code);
+        let began = millis(watcher.rt);
+        let looked = look_at(watcher, group, pause, began);
+        group.counts.end_run(watcher.rt, code_of(&looked), began);
+        code = looked?.max(code);
     }
     Ok(code)
+}
+
+/// The status of a turn at a group.
+fn code_of(looked: &Result<u8, Fault>) -> u8 {
+    match looked {
+        Ok(code) => *code,
+        Err(fault) => fault.code(),
+    }
+}
+
+/// Looks at a group, and tells what came of it. The status; or a fault because of which no other group is looked at.
+fn look_at(
+    watcher: &Watcher<'_>,
+    group: &mut Watched,
+    pause: &mut u64,
+    began: u64,
+) -> Result<u8, Fault> {
+    let made = match look_after(watcher, group, began) {
+        Ok(turn) => Ok(turn),
+        Err(fault) => {
+            if is_away(&fault) || is_own(&fault) {
+                return Err(fault);
+            }
+            Err(fault)
+        }
+    };
+    if let Ok(Some(turn)) = &made {
+        group.counts.add_claimed(&turn.ran);
+    }
+    if *pause > 0 {
+        print_back(watcher.rt, watcher.options.json)?;
+        *pause = 0;
+    }
+    group.tell(watcher.rt, &watcher.policy.policy, made)
 }
 
 /// Whether Redis cannot be reached, or does not answer, or has not read its data yet.
@@ -121,9 +167,12 @@ fn is_own(fault: &Fault) -> bool {
 
 /// Looks at a group at the node that has its key, by a connection of its own: so a group that moves, or a connection
 /// that is lost, is nothing special.
-fn look_after(watcher: &Watcher<'_>, group: &mut Watched) -> Result<Option<Turn>, Fault> {
+fn look_after(
+    watcher: &Watcher<'_>,
+    group: &mut Watched,
+    began: u64,
+) -> Result<Option<Turn>, Fault> {
     let alloc = watcher.rt.alloc();
-    let began = millis(watcher.rt);
     let mut place = watcher.reach.node(watcher.rt)?;
     let mut asked = asked_of(alloc, watcher.options, group)?;
     let mut moves = 0;
@@ -145,15 +194,8 @@ fn look_after(watcher: &Watcher<'_>, group: &mut Watched) -> Result<Option<Turn>
 
 /// What is asked of a group, of which nobody is known to be dead.
 fn asked_of(alloc: Global, options: &Options<'_>, group: &Watched) -> Result<Asked, AllocError> {
-    Ok(Asked {
-        key: group.key.copy(alloc)?,
-        group: group.group.copy(alloc)?,
-        dead: Vec::new(alloc),
-        claimable: claimable(options),
-        seen_within: options.seen_within,
-        spare: options.spare,
-        together: TOGETHER,
-    })
+    let key = group.key.copy(alloc)?;
+    Ok(asked_by(options, key, group.group.copy(alloc)?, Vec::new(alloc)))
 }
 
 /// Finds the dead of a group, and gives others what these have left. `None` if nobody is dead.
@@ -165,10 +207,8 @@ fn recover(
 ) -> Result<Option<Turn>, Fault> {
     let alloc = watcher.rt.alloc();
     let after = watcher.watching.dead_after;
-    let dead = match find_dead(wire, alloc, &asked.key, &asked.group, after) {
-        Ok(dead) => dead,
-        Err(fault) => return Err(live_fault(alloc, fault, wire.script())),
-    };
+    let found = find_dead(wire, alloc, &asked.key, &asked.group, after);
+    let dead = wire.told(alloc, found)?;
     if dead.is_empty() {
         return Ok(None);
     }
@@ -220,42 +260,18 @@ fn run_counted(
     for before in 0..options.tries {
         let tries = before.saturating_add(1);
         let is_last = tries >= options.tries;
-        match run(wire, alloc, policy, asked, terms) {
-            Ok(ran) => {
-                if is_last || !is_stale(&ran) {
-                    return Ok((tries, ran));
-                }
-            }
-            Err(fault) => {
-                if is_last || !is_changed(&fault) {
-                    return Err(live_fault(alloc, fault, wire.script()));
-                }
-            }
+        let made = run(wire, alloc, policy, asked, terms);
+        if is_last || !is_to_repeat(&made) {
+            return Ok((tries, wire.told(alloc, made)?));
         }
     }
     Err(Fault::Changed)
 }
 
-/// Whether the group changed while it was looked up.
-fn is_changed(fault: &LiveFault) -> bool {
-    match fault {
-        LiveFault::Changed => true,
+/// Whether the group changed while it was looked up, or was not as it had been looked up.
+fn is_to_repeat(made: &Result<Ran, LiveFault>) -> bool {
+    match made {
+        Ok(Ran::Stale { .. }) | Err(LiveFault::Changed) => true,
         _ => false,
-    }
-}
-
-/// Whether the group was not as it had been looked up.
-fn is_stale(ran: &Ran) -> bool {
-    match ran {
-        Ran::Stale { .. } => true,
-        _ => false,
-    }
-}
-
-/// The milliseconds of a clock that is never set.
-fn millis(rt: &HostRuntime) -> u64 {
-    match rt.monotonic() {
-        Ok(time) => u64::try_from(time.as_millis()).unwrap_or(u64::MAX),
-        Err(_) => 0,
     }
 }

@@ -64,6 +64,12 @@ fn groups_in<'a>(alloc: Global, words: &[&'a str]) -> Result<Vec<(&'a str, &'a s
         match key {
             None => key = Some(*word),
             Some(first) => {
+                if groups
+                    .iter()
+                    .any(|(key, group)| *key == first && *group == *word)
+                {
+                    return Err(Fault::Asked("KEY GROUP: a group is named twice"));
+                }
                 groups.push((first, *word))?;
                 key = None;
             }
@@ -102,6 +108,12 @@ pub(crate) fn watcher<'a>(
         ))?
         .arg(giving_up(alloc))?
         .arg(spare(alloc))?
+        .arg(
+            Arg::new(alloc, "json")
+                .long("json")
+                .help("Print JSON, a line for each turn in which something happened")
+                .action(ArgAction::SetTrue),
+        )?
         .arg(
             Arg::new(alloc, "GROUPS")
                 .value_name("KEY GROUP")

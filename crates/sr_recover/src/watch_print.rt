@@ -1,12 +1,15 @@
 //! What `watch` tells: a line for each turn at a group in which something happened, and what hinders it, once.
+use crate::action::{name_of, printed_of, status_of_ran};
+use crate::clock::seconds;
 use crate::fault::Fault;
+use crate::json_lines::{Members, members_of_fault, members_of_redis, members_of_turn, print_at};
+use crate::metrics::Counts;
 use crate::print::{print_name, print_number, say};
 use sr_bytes::Name;
 use sr_live::{Asked, Planned, Ran};
 use sr_policy::Policy;
-use std::alloc::Global;
+use std::alloc::{AllocError, Global};
 use std::io::Write;
-use std::rt::Clock;
 
 /// A turn at a group of which somebody is dead.
 #[derive(Drop)]
@@ -34,18 +37,29 @@ pub(crate) struct Watched {
     hindrance: Vec<u8>,
     /// Whether it was told that too few places can be left free.
     is_without_spare: bool,
+    /// Whether standard output has JSON.
+    is_json: bool,
+    /// What was done at it.
+    pub(crate) counts: Counts,
 }
 
 impl Watched {
     /// A group of which nothing was told.
-    pub(crate) fn new(alloc: Global, key: Name, group: Name) -> Watched {
-        Watched {
-            key,
-            group,
+    pub(crate) fn new(
+        alloc: Global,
+        key: &str,
+        group: &str,
+        is_json: bool,
+    ) -> Result<Watched, AllocError> {
+        Ok(Watched {
+            key: name_of(alloc, key)?,
+            group: name_of(alloc, group)?,
+            counts: Counts::new(alloc, key, group)?,
             noted: Vec::new(alloc),
             hindrance: Vec::new(alloc),
             is_without_spare: false,
-        }
+            is_json,
+        })
     }
 
     /// Whether it is to be told now that too few places can be left free.
@@ -67,51 +81,37 @@ impl Watched {
                 self.hindrance = Vec::new(rt.alloc());
                 Ok(0)
             }
-            Ok(Some(turn)) => match self.tell_turn(rt, policy, &turn) {
-                Err(Fault::Output | Fault::Memory) if is_done(&turn.ran) => {
-                    Err(Fault::OutputOfDone)
-                }
-                told => told,
-            },
+            Ok(Some(turn)) => {
+                let told = self.tell_turn(rt, policy, &turn);
+                printed_of(&turn.ran, told)?;
+                Ok(status_of_ran(&turn.ran).code())
+            }
             Err(fault) => self.tell_fault(rt, &fault),
         }
     }
 
-    /// Tells of a turn in which somebody was dead.
-    fn tell_turn(&mut self, rt: &HostRuntime, policy: &Policy, turn: &Turn) -> Result<u8, Fault> {
+    /// Tells of a turn in which somebody was dead: if it moved entries, or if something else hindered it than the last
+    /// one. What is gone stays with the dead, and is found again in each turn.
+    fn tell_turn(&mut self, rt: &HostRuntime, policy: &Policy, turn: &Turn) -> Result<(), Fault> {
         self.note_dead(rt, policy, turn.asked.dead.as_slice())?;
-        let mut line = begun(rt.alloc(), turn)?;
-        let alloc = rt.alloc();
-        match &turn.ran {
-            Ran::Done {
-                planned,
-                claimed,
-                gap,
-            } if *claimed > 0 => {
-                add_done(&mut line, planned, (*claimed, *gap), turn)?;
-                self.hindrance = Vec::new(alloc);
-                print_line(rt, line.as_slice())?;
-                Ok(0)
-            }
-            Ran::Done { planned, .. } => {
-                // What is gone stays with the dead, and is found again in each turn.
-                add_gone(&mut line, planned)?;
-                let is_told = !planned.verdict.gone().is_empty();
-                self.print_once(rt, line, is_told)?;
-                Ok(0)
-            }
-            Ran::Impossible(planned) => {
-                add_shortage(&mut line, planned)?;
-                self.print_once(rt, line, true)?;
-                Ok(3)
-            }
-            Ran::Stale { what, .. } => {
-                say(&mut line, b", stale ")?;
-                print_name(&mut line, alloc, what.as_slice())?;
-                say(&mut line, b", nothing was changed")?;
-                self.print_once(rt, line, true)?;
-                Ok(4)
-            }
+        let line = line_of(rt.alloc(), turn)?;
+        if has_moved(&turn.ran) {
+            self.hindrance = Vec::new(rt.alloc());
+            return self.print_turn(rt, turn, line.as_slice());
+        }
+        if has_hindrance(&turn.ran) && self.hindrance.as_slice() != line.as_slice() {
+            self.print_turn(rt, turn, line.as_slice())?;
+        }
+        self.hindrance = line;
+        Ok(())
+    }
+
+    /// Prints what came of a turn on standard output: this line, or an object.
+    fn print_turn(&self, rt: &HostRuntime, turn: &Turn, line: &[u8]) -> Result<(), Fault> {
+        if self.is_json {
+            print_object(rt, members_of_turn(rt.alloc(), turn)?)
+        } else {
+            print_timed(rt, &mut rt.stdout(), line)
         }
     }
 
@@ -136,16 +136,8 @@ impl Watched {
         Ok(())
     }
 
-    /// Prints a line on standard output, unless it is the last one that was told.
-    fn print_once(&mut self, rt: &HostRuntime, line: Vec<u8>, is_told: bool) -> Result<(), Fault> {
-        if is_told && self.hindrance.as_slice() != line.as_slice() {
-            print_line(rt, line.as_slice())?;
-        }
-        self.hindrance = line;
-        Ok(())
-    }
-
-    /// Tells of a fault on standard error, unless it is the last one that was told. If a plan was sent, it is told.
+    /// Tells of a fault, on standard error and as an object, unless it is the last one that was told. If a plan was
+    /// sent, it is told.
     fn tell_fault(&mut self, rt: &HostRuntime, fault: &Fault) -> Result<u8, Fault> {
         let alloc = rt.alloc();
         let mut line = Vec::new(alloc);
@@ -155,6 +147,9 @@ impl Watched {
         let code = fault.code();
         if code == 5 || self.hindrance.as_slice() != line.as_slice() {
             print_timed(rt, &mut rt.stderr(), line.as_slice())?;
+            if self.is_json {
+                print_object(rt, members_of_fault(alloc, &self.key, &self.group, fault)?)?;
+            }
         }
         self.hindrance = line;
         Ok(code)
@@ -162,21 +157,47 @@ impl Watched {
 }
 
 /// Whether entries were moved.
-fn is_done(ran: &Ran) -> bool {
+fn has_moved(ran: &Ran) -> bool {
     match ran {
         Ran::Done { claimed, .. } => *claimed > 0,
-        _ => false,
+        Ran::Impossible(_) | Ran::Stale { .. } => false,
     }
 }
 
-/// A line on a turn: the key, the group, and the dead.
-fn begun(alloc: Global, turn: &Turn) -> Result<Vec<u8>, Fault> {
+/// Whether entries stay with the dead although they were to be moved.
+fn has_hindrance(ran: &Ran) -> bool {
+    match ran {
+        Ran::Done { planned, .. } => !planned.verdict.gone().is_empty(),
+        Ran::Impossible(_) | Ran::Stale { .. } => true,
+    }
+}
+
+/// The line on a turn: the key, the group, the dead, and what came of it.
+fn line_of(alloc: Global, turn: &Turn) -> Result<Vec<u8>, Fault> {
     let mut line = Vec::new(alloc);
     add_group(&mut line, alloc, &turn.asked.key, &turn.asked.group)?;
     say(&mut line, b": dead")?;
     for name in &turn.asked.dead {
         say(&mut line, b" ")?;
         print_name(&mut line, alloc, name.as_slice())?;
+    }
+    match &turn.ran {
+        Ran::Done {
+            planned,
+            claimed,
+            gap,
+        } => {
+            if *claimed > 0 {
+                add_done(&mut line, planned, (*claimed, *gap), turn)?;
+            }
+            add_gone(&mut line, planned)?;
+        }
+        Ran::Impossible(planned) => add_shortage(&mut line, planned)?,
+        Ran::Stale { what, .. } => {
+            say(&mut line, b", stale ")?;
+            print_name(&mut line, alloc, what.as_slice())?;
+            say(&mut line, b", nothing was changed")?;
+        }
     }
     Ok(line)
 }
@@ -188,7 +209,7 @@ fn add_group(line: &mut Vec<u8>, alloc: Global, key: &Name, group: &Name) -> Res
     print_name(line, alloc, group.as_slice())
 }
 
-/// Adds how many entries were claimed and at which gap, what they cost, how many are gone, and how it was done.
+/// Adds how many entries were claimed and at which gap, what they cost, and how it was done.
 fn add_done(
     line: &mut Vec<u8>,
     planned: &Planned,
@@ -200,8 +221,7 @@ fn add_done(
     print_number(line, b", cost ", planned.verdict.total().unwrap_or(0))?;
     print_number(line, b", gap ", gap)?;
     print_number(line, b", tries ", turn.tries)?;
-    print_number(line, b", ms ", turn.millis)?;
-    add_gone(line, planned)
+    print_number(line, b", ms ", turn.millis)
 }
 
 /// Adds how many entries are gone, if there are any.
@@ -223,19 +243,32 @@ fn add_shortage(line: &mut Vec<u8>, planned: &Planned) -> Result<(), Fault> {
 }
 
 /// Tells that Redis is away, and why.
-pub(crate) fn print_away(rt: &HostRuntime, fault: &Fault) -> Result<(), Fault> {
+pub(crate) fn print_away(rt: &HostRuntime, fault: &Fault, is_json: bool) -> Result<(), Fault> {
+    print_fault(rt, fault)?;
+    if is_json {
+        print_object(rt, members_of_redis(rt.alloc(), Some(fault))?)?;
+    }
+    Ok(())
+}
+
+/// Tells that Redis is there again.
+pub(crate) fn print_back(rt: &HostRuntime, is_json: bool) -> Result<(), Fault> {
+    print_timed(rt, &mut rt.stderr(), b"redis: it is back")?;
+    if is_json {
+        print_object(rt, members_of_redis(rt.alloc(), None)?)?;
+    }
+    Ok(())
+}
+
+/// Prints a fault on standard error.
+pub(crate) fn print_fault(rt: &HostRuntime, fault: &Fault) -> Result<(), Fault> {
     let text = format!(in rt.alloc(); "{fault}")?;
     print_timed(rt, &mut rt.stderr(), text.as_bytes())
 }
 
-/// Tells that Redis is there again.
-pub(crate) fn print_back(rt: &HostRuntime) -> Result<(), Fault> {
-    print_timed(rt, &mut rt.stderr(), b"redis: it is back")
-}
-
-/// Prints a line on standard output.
-fn print_line(rt: &HostRuntime, line: &[u8]) -> Result<(), Fault> {
-    print_timed(rt, &mut rt.stdout(), line)
+/// Prints an object on standard output, with the time.
+fn print_object(rt: &HostRuntime, members: Members) -> Result<(), Fault> {
+    print_at(&mut rt.stdout(), rt.alloc(), seconds(rt), members)
 }
 
 /// Prints a line behind the time, in seconds since 1970, by one write.
@@ -246,12 +279,4 @@ fn print_timed<W: Write>(rt: &HostRuntime, out: &mut W, line: &[u8]) -> Result<(
     say(&mut text, line)?;
     say(&mut text, b"\n")?;
     say(out, text.as_slice())
-}
-
-/// The seconds since 1970, by the system's clock; 0 if it cannot be read.
-fn seconds(rt: &HostRuntime) -> u64 {
-    match rt.since_1970() {
-        Ok(time) => time.as_secs(),
-        Err(_) => 0,
-    }
 }

@@ -3,8 +3,9 @@ ghost use Rattle.std.specs.Prelude.{None};
 ghost use Rattle.sr_peer.specs.Exchange.{IsOfConnection};
 
 use crate::errors::advice_for;
-use crate::fault::{Fault, peer_fault, text_of, why};
+use crate::fault::{Fault, live_fault, peer_fault, text_of, why};
 use crate::place::Place;
+use sr_live::LiveFault;
 use sr_peer::{Part, Peer, PeerFault, append_header, append_number, append_word, ask};
 use std::alloc::{AllocError, Global};
 use std::io::{Error, ErrorKind, Read, Write};
@@ -56,6 +57,14 @@ impl Wire {
     /// The word by which a script was called, if it was by the last request.
     pub(crate) fn script(&self) -> &'static str {
         if self.is_eval { "EVAL" } else { "EVALSHA" }
+    }
+
+    /// What came of a look-up or a run on this connection, with what its fault is to the user.
+    pub(crate) fn told<T>(&self, alloc: Global, made: Result<T, LiveFault>) -> Result<T, Fault> {
+        match made {
+            Ok(value) => Ok(value),
+            Err(fault) => Err(live_fault(alloc, fault, self.script())),
+        }
     }
 }
 
