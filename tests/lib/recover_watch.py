@@ -142,8 +142,10 @@ def found_dead(bench, proxy):
 
 
 def asked_calls(bench, proxy):
-    """One call tells that nobody is silent. Each silent one costs one more, and without old entries nothing else."""
-    for setting, times, wanted in ((OLD_TWO, dict.fromkeys(DEAD, AFTER - 1), 1), (TWO, dict.fromkeys(DEAD, AFTER), 4)):
+    """Two calls tell that nobody is silent. Each silent one that has entries costs one more, and without old entries nothing else."""
+    left = [*TWO, *(["XGROUP", "CREATECONSUMER", "s", "g", f"left{at}"] for at in range(9))]
+    silent = dict.fromkeys([*DEAD, *(b"left%d" % at for at in range(9))], AFTER)
+    for setting, times, wanted in ((OLD_TWO, dict.fromkeys(DEAD, AFTER - 1), 2), (TWO, silent, 5), (left, silent, 5)):
         bench.begin(setting)
         before = bench.dump()
         proxy.begin(has_idle(times))
@@ -155,7 +157,7 @@ def asked_calls(bench, proxy):
     proxy.begin()
     found = once(bench, after=10**12, groups=[word for name in names for word in (name, "g")], port=proxy.port)
     print(f"watch: {GROUPS} groups by {len(proxy.calls)} calls: {1000 * found.seconds:.0f} ms behind a proxy", flush=True)
-    bench.check(f"{GROUPS} groups", ((0, b"", b""), GROUPS), (found[:3], len(proxy.calls)))
+    bench.check(f"{GROUPS} groups", ((0, b"", b""), 2 * GROUPS), (found[:3], len(proxy.calls)))
 
 
 def comes_back(bench, proxy):

@@ -13,13 +13,13 @@ pub const SCRIPT: &str =
 --   live    for each its name, its limit, its soft limit or `-`, how many entries the plan gives it, how many of these
 --           without a fee, the price of its first tier, that of its second (0 if it has none), and their ids
 --
--- Compared: these rows are pending for the dead, as idle as asked for and delivered at most as often, and no others (but
--- those that have become as idle since then, if any time is asked for), and none of their entries is deleted: if as many entries were removed as
--- had been, none was since, and none is read. What was gone does not matter, since no plan moves it; nor does what is
--- pending before the first entry of the stream, which is gone. Each live consumer has room for what it is given, and as
--- many of its entries are without a fee. Then the plan is still an assignment at the total that it had. No plan of this
--- moment costs less than it by more than the gap, which is price times free places, summed over all tiers; at a gap of
--- 0 it is still cheapest.
+-- Compared: these rows are pending for the dead, as idle as asked for and delivered at most as often, and no others
+-- (but those that have become as idle since then, if any time is asked for), and none of their entries is deleted: if
+-- as many were removed as had been, none was since, and none is read. What was gone does not matter, since no plan
+-- moves it; nor does what is pending before the first entry of the stream, which is gone. Each live consumer has room
+-- for what it is given, and as many of its entries are without a fee. Then the plan is still an assignment at the total
+-- that it had. No plan of this moment costs less than it by more than the gap, which is price times free places, summed
+-- over all tiers; at a gap of 0 it is still cheapest.
 --
 -- Answers:  done, how many entries were claimed, the gap
 --           stale, and then  group NAME    there is no such group, or no such key
@@ -141,8 +141,8 @@ end
 -- stream is gone, and there may be much of it, so it is asked for only if the rest is not as it was: then for what has
 -- changed.
 local function change_of(group, last, claimable, stream, dead)
-  local is_same = are_pending(group, stream.first, last, claimable, dead) or are_pending(group, '-', last, claimable, dead)
-  if not is_same then
+  local from_first = are_pending(group, stream.first, last, claimable, dead)
+  if not from_first and not are_pending(group, '-', last, claimable, dead) then
     return 'pending', dead.name
   end
   for _, row in ipairs(stream.is_whole and {} or dead.rows) do

@@ -42,12 +42,13 @@ abbrev pub AreListed : Text → Text → Claimable → List Listing → List Exc
 AreListed key group claimable [] talk listed = (talk ≡ []) × (listed ≡ [])
 AreListed key group claimable (one ∷ listings) talk listed =
     (own : List Exchange) × (others : List Exchange) × (ids : List Id) × (rest : List (Id × Text))
-    × ListsAs one.goes_on key group claimable one.name one.last own ids × AreListed key group claimable listings others rest
-    × (talk ≡ own ++ others) × (listed ≡ map (λ id. (id, one.name)) ids ++ rest)
+    × ListsAs one.goes_on key group claimable one.name one.last own ids
+    × AreListed key group claimable listings others rest × (talk ≡ own ++ others)
+    × (listed ≡ map (λ id. (id, one.name)) ids ++ rest)
 
 -- one more page was listed
-pub record ListsNext (key group : Text) (claimable : Claimable) (one now : Listing) (talk : List Exchange) (ids : List Id)
-    : Type 0 where
+pub record ListsNext (key group : Text) (claimable : Claimable) (one now : Listing) (talk : List Exchange)
+    (ids : List Id) : Type 0 where
   pub parts : List Part
   pub entries : List Delivered
   pub was_open : one.goes_on ≡ true
