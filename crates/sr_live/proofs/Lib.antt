@@ -20,3 +20,4 @@ pub mod SpareLemmas
 pub mod NearLemmas
 pub mod GivenLemmas
 pub mod SpareLawLemmas
+pub mod StarsLemmas

@@ -12,5 +12,6 @@ pub mod Rounds
 pub mod Said
 pub mod Server
 pub mod Spare
+pub mod Stars
 pub mod Words
 pub mod steps

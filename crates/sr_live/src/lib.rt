@@ -18,6 +18,7 @@ mod script;
 mod server;
 mod snapshot;
 mod spare;
+mod stars;
 mod words;
 
 pub use bounds::{at_most_worse, fits_with_spare, holds_while_near, still_cheapest};
@@ -30,4 +31,5 @@ pub use looking::look;
 pub use rounds::{Planned, Ran, Terms, plan, run};
 pub use server::shows_as_the_server;
 pub use snapshot::{SnapshotFault, is_seen, number_in, snapshot_of};
+pub use stars::key_for;
 pub use words::{Limits, script_words};

@@ -4,7 +4,7 @@ use crate::fault::{Fault, unreadable};
 use crate::print::say;
 use crate::wire::Wire;
 use sr_bytes::Name;
-use sr_live::{Asked, look_idles};
+use sr_live::{Asked, key_for, look_idles};
 use sr_policy::Policy;
 use std::alloc::{AllocError, Global};
 use std::fs;
@@ -127,9 +127,10 @@ fn names_of<'a>(
             names.push(name.as_str())?;
         }
     }
+    let keys = keys_of(alloc, limits)?;
     for (name, idle) in idles {
         if is_seen(asked, *idle) && !is_dead(asked, name.as_slice()) {
-            if let Some(name) = stood_for(limits, name) {
+            if let Some(name) = stood_for(limits, keys.as_slice(), name) {
                 names.push(name)?;
             }
         }
@@ -151,33 +152,35 @@ fn is_seen(asked: &Asked, idle: u64) -> bool {
 }
 
 /// The name as a text, if one that ends in `*` stands for it.
-fn stood_for<'a>(limits: &Table, name: &'a Name) -> Option<&'a str> {
+fn stood_for<'a>(limits: &Table, keys: &[&[u8]], name: &'a Name) -> Option<&'a str> {
     let Ok(text) = str::from_utf8(name.as_slice()) else {
         return None;
     };
     if limits.contains_key(text) && !text.ends_with(STAR) {
         return None;
     }
-    number_for(limits, text)?;
+    key_for(keys, text.as_bytes())?;
     Some(text)
 }
 
-/// The number of a consumer: that of its whole name, or else of the longest beginning that it has.
-fn number_for<'a>(numbers: &'a Table, consumer: &str) -> Option<&'a Value> {
-    if let Some(number) = numbers.get(consumer) {
-        return Some(number);
+/// The names in a table, in its order.
+fn keys_of(alloc: Global, numbers: &Table) -> Result<Vec<&[u8]>, AllocError> {
+    let mut keys = Vec::new(alloc);
+    for (name, _number) in numbers.iter() {
+        keys.push(name.as_bytes())?;
     }
-    let mut longest = 0;
-    let mut found = None;
-    for (name, number) in numbers.iter() {
-        if let Some(start) = name.as_str().strip_suffix(STAR) {
-            if consumer.starts_with(start) && start.len() >= longest {
-                longest = start.len();
-                found = Some(number);
-            }
+    Ok(keys)
+}
+
+/// The number of a consumer: that of the name, among those of the table, that is for it.
+fn number_for<'a>(numbers: &'a Table, keys: &[&[u8]], consumer: &str) -> Option<&'a Value> {
+    let at = key_for(keys, consumer.as_bytes())?;
+    for (place, (_name, number)) in numbers.iter().enumerate() {
+        if place == at {
+            return Some(number);
         }
     }
-    found
+    None
 }
 
 /// A policy file in which just these names have numbers.
@@ -211,8 +214,9 @@ fn expanded_classes(alloc: Global, classes: &Table, names: &[&str]) -> Result<Ta
 /// The numbers of those of these names that have one.
 fn expanded_numbers(alloc: Global, numbers: &Table, names: &[&str]) -> Result<Table, AllocError> {
     let mut expanded = Table::new(alloc);
+    let keys = keys_of(alloc, numbers)?;
     for name in names {
-        if let Some(number) = number_for(numbers, name) {
+        if let Some(number) = number_for(numbers, keys.as_slice(), name) {
             drop(expanded.insert(String::from_str(alloc, name)?, number.clone()?)?);
         }
     }
