@@ -13,7 +13,6 @@ STAYS = 3 << 20  # bytes by which the server may grow in the rounds after them: 
 WITHIN = 24 << 20  # and by all of them
 
 LATE = 2_000_000  # PINGs that are sent before any is read
-LATER = 100 << 20  # bytes that stay of them at most: the C library gives back in pieces of 64 MiB
 
 BYTES = 4 << 20  # of records, as --keep-bytes has it
 MANY = 100_000  # records, so that their number is no bound
@@ -21,6 +20,7 @@ ENTRIES = 16, 1 << 16  # of a stream, and bytes of each: a MiB
 RANGES = 400  # that are asked for
 BY_DEFAULT = 64 << 20  # bytes of records, if no number is given
 BESIDE = 32 << 20  # bytes that the server takes beside them: the last reply, and what memory that is used again does not give back
+LATER = BY_DEFAULT + BESIDE + (64 << 20)  # bytes that stay of very many PINGs at most: the C library gives back in pieces of 64 MiB
 DOUBLE = 2  # records that are not let go yet, and new ones
 
 ASKED = 3_000  # PINGs, one after the other, once none or very many records are kept
