@@ -110,7 +110,7 @@ def page(tally):
     """The errors that docs/LIVE.md lists are these, and MOVED, which is followed."""
     with open(LIVE_PAGE, encoding="utf-8") as file:
         text = file.read()
-    listed = re.search(r"Nothing was carried out if Redis answers the script with(.*?)\n\n", text, re.DOTALL)
+    listed = re.search(r"Nothing was carried out after (.*?)\n\n", text, re.DOTALL)
     starts = re.findall(r"`([^`]+)`", listed[1].partition("After any other error")[0]) if listed else []
     texts = [text.decode() for text, _ in WITHOUT_A_WRITE] + ["MOVED 1 127.0.0.1:7001"]
     tried = {start: any(text.startswith(start) for text in texts) for start in starts}
